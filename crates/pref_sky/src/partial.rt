@@ -136,7 +136,8 @@ impl Partial {
     /// not seen to dominate it, of which each step compares it with up to 32 entries of one level; for each level that something comes to,
     /// at most one comparison for each pair of an entry that comes and one that is held or came there, and a list of 16 bytes an entry.
     /// Once 48 entries are held, signatures spare most comparisons: a new entry is signed then, and again with all others each time that a
-    /// good eighth more are held. Copied is each new entry that is not seen to be below the cut, once, and now and then all that are held.
+    /// good eighth more are held. Copied is each new entry that is not seen to be below the cut, once, and all that are held each time that as
+    /// many again and 2,048 are held no more.
     /// Memory: these copies and lists.
     ///
     /// Where the order names [groups](pref_term::Dominance::groups), all this goes for the entries of one part: the cells

@@ -178,7 +178,8 @@ impl Partitions {
         Ok(ranked)
     }
 
-    /// Sees that items are signed by scales that suit the order and serve where these come: else what is held is copied to another pool, signed anew.
+    /// Sees that items are signed by scales that suit the order and serve where these come: else what is held is signed anew, where it stands, or in
+    /// another pool where most of this one is held no more.
     fn renew<D: Dominance>(
         &mut self,
         alloc: Global,
@@ -197,10 +198,17 @@ impl Partitions {
             return Ok(());
         }
         let scales = self.pool.scales_beside(alloc, dominance, held, coming)?;
-        let mut pool = Pool::with_room(alloc, scales, held)?;
-        let parts = take_parts(alloc, &mut pool, &self.pool.entries, &self.parts)?;
-        self.pool = pool;
-        self.parts = parts;
+        if self.pool.is_sparse(held) {
+            let mut pool = Pool::with_room(alloc, scales, held)?;
+            let parts = take_parts(alloc, &mut pool, &self.pool.entries, &self.parts)?;
+            self.pool = pool;
+            self.parts = parts;
+            return Ok(());
+        }
+        self.pool.scales = scales;
+        self.pool.held_when_signed = held;
+        self.pool.look_at = next_look(self.pool.entries.len());
+        self.pool.sign_parts(&mut self.parts);
         Ok(())
     }
 

@@ -11,7 +11,7 @@
 //! Entry 3 is held no more: as many levels as are asked for are above it. What moves from level to level is an item
 //! of 16 bytes, and most items are compared by their signatures alone, without a look at their entries.
 
-ghost use Rattle.std.specs.Prelude.{◌≡◌, ◌++◌, ◌∷◌, [], true, ℕ, length, IfOk};
+ghost use Rattle.std.specs.Prelude.{◌≡◌, ◌++◌, ◌∷◌, [], true, ℕ, length, vec_len, IfOk};
 ghost use Rattle.pref_sky.specs.Best.{is_beaten};
 ghost use Rattle.pref_sky.specs.Items.{AreAllItems, AreInPool, AreItems, HasGrown, IsItem, entries_at, levels_at, parts_at, signature_by};
 ghost use Rattle.pref_sky.specs.Levels.{entry_order};
@@ -93,6 +93,11 @@ impl Pool {
         self.entries.len() < self.look_at && dominance.suits(&self.scales)
     }
 
+    /// Whether more than half of the pool and `SPARE` entries are held no more, where so many are.
+    pub(crate) fn is_sparse(&self, held: usize) -> bool {
+        self.entries.len() / 2 > held.saturating_add(SPARE)
+    }
+
     /// Whether so many held entries are too few for signatures to be worth their cost: one in 64 of those that come is counted with
     /// them. Any answer is right.
     fn are_few(held: usize, coming: usize) -> bool {
@@ -104,7 +109,7 @@ impl Pool {
     pub(crate) fn serves<D: Dominance>(&self, dominance: &D, held: usize, coming: usize) -> bool
         ensures { result ≡ true → Suit (D.order dominance.now) self.now.scales }
     {
-        if !dominance.suits(&self.scales) || self.entries.len() / 2 > held.saturating_add(SPARE) {
+        if !dominance.suits(&self.scales) || self.is_sparse(held) {
             return false;
         }
         if self.scales.is_none() {
@@ -172,6 +177,38 @@ impl Pool {
             }
         }
         false
+    }
+
+    /// Signs items by the scales, where they stand.
+    fn sign(&self, items: &mut Vec<Item>)
+        requires { (rule : Entry → ℕ) × AreItems rule self.now.entries.items items.old.items }
+        ensures { AreItems (signature_by self.now.scales) self.now.entries.items items.new.items × (entries_at self.now.entries.items items.new.items ≡ entries_at self.now.entries.items items.old.items) }
+    {
+        for place in 0..items.len() {
+            let item = items[place];
+            items[place].signature = signature_of(&self.scales, &self.entries[item.place]);
+        }
+    }
+
+    /// Signs the items of levels by the scales, where they stand.
+    fn sign_levels(&self, levels: &mut Vec<Vec<Item>>)
+        requires { (rule : Entry → ℕ) × AreAllItems rule self.now.entries.items levels.old.items }
+        ensures { AreAllItems (signature_by self.now.scales) self.now.entries.items levels.new.items × (levels_at self.now.entries.items levels.new.items ≡ levels_at self.now.entries.items levels.old.items) }
+    {
+        for place in 0..levels.len() {
+            self.sign(&mut levels[place]);
+        }
+    }
+
+    /// Signs the items of parts by the scales, where they stand. Takes no memory.
+    pub(crate) fn sign_parts(&self, parts: &mut Vec<Vec<Vec<Item>>>)
+        requires { (rule : Entry → ℕ) × AreInPool rule self.now.entries.items parts.old.items }
+        ensures long { vec_len parts.new ≡ vec_len parts.old }
+        ensures signed { AreInPool (signature_by self.now.scales) self.now.entries.items parts.new.items × (parts_at self.now.entries.items parts.new.items ≡ parts_at self.now.entries.items parts.old.items) }
+    {
+        for place in 0..parts.len() {
+            self.sign_levels(&mut parts[place]);
+        }
     }
 }
 

@@ -1,0 +1,26 @@
+use Rattle.pref_sky.proofs.Common.{◌≡◌, ◌∙◌, ◌<◌, [], get_or, get_or_default, length, length-set, sym, ap, subst, arith, Item, IsItem, entry_at, signature_by}
+use Rattle.std.proofs.Math.Seq.{map-set_same}
+use Rattle.std.proofs.lemmas.List.Elements.{All-set, AllWithin-more_set}
+use Rattle.pref_sky.proofs.pool.Pool.sign.Goals as goal
+
+pub loop-place-preserved : goal.loop-place-preserved
+loop-place-preserved c =
+    let inv = c.loop-place.invariant in
+    let pool = c.args.self.now.entries.items in
+    let rule = signature_by c.args.self.now.scales in
+    let items = c.loop-place.items.items in
+    let i = c.loop-place.place in
+    let old : Item = c.index_mut.result.now in
+    let new : Item = record { signature = c.signature_of.result; place = old.place } in
+    let inside : i < length items = omega (arith, c.loop-place-test.true, c.len-place-end.ensures, c.args.items.now.ok.0, inv.long) in
+    let was : old ≡ get_or items i old = c.index_mut.ensures.value in
+    let within : old.place < length pool = subst (λ (x : Item). x.place < length pool) (sym was) (inv.within i old inside) in
+    let read : c.index-item.result.now ≡ old = c.index-item.ensures ∙ (get_or_default items i c.index-item.result.now old inside ∙ sym was) in
+    let here : c.index.result.now ≡ entry_at pool old.place =
+    c.index.ensures ∙ (ap (λ (x : Item). get_or pool x.place c.index.result.now) read ∙ get_or_default pool old.place c.index.result.now (record { id = 0; row = [] }) within) in
+    record {
+      long = length-set items i new ∙ inv.long;
+      entries = map-set_same (λ (x : Item). entry_at pool x.place) items i new old (ap (λ (x : Item). entry_at pool x.place) was) ∙ inv.entries;
+      within = All-set (λ (x : Item). x.place < length pool) items i new within inv.within;
+      signed = AllWithin-more_set items i new inside (IsItem rule pool) inv.signed (record { within = within; word = c.signature_of.type_inv; signed = c.signature_of.ensures ∙ ap rule here });
+    }
