@@ -178,7 +178,7 @@ impl<J: BoardBrand> Publisher<J> {
         }
     }
 
-    /// The published store: the published one, since between two calls nothing is pending.
+    /// The published store. It is the newest, since between two calls no change is pending.
     fn store(&self) -> &Store
         ensures left { result.now ≡ contents_at J.opening self.now }
         ensures legal { IsLegalFrom J.opening self.now }

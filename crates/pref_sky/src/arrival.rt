@@ -1,4 +1,4 @@
-//! New entries of parts: each in its part, with the levels that it is seen to be below.
+//! New entries of partitions: each in its partition, with the levels that it is seen to be below.
 
 ghost use Rattle.std.specs.Prelude.{◌≡◌, ◌≤◌, ◌<◌, All, length, IfOk};
 ghost use Rattle.pref_sky.specs.Made.{HaveArrived};
@@ -13,7 +13,7 @@ use crate::signatures::signature_of;
 use pref_term::{Dominance, hash_with};
 use std::alloc::{AllocError, Global};
 
-/// A new entry: its part, how many levels there it is seen to be below, and its item.
+/// A new entry: its partition, how many levels there it is seen to be below, and its item.
 #[derive(Clone, Copy)]
 pub(crate) struct Arrival {
     pub(crate) part: usize,
@@ -21,7 +21,7 @@ pub(crate) struct Arrival {
     pub(crate) item: Item,
 }
 
-/// The part that holds an entry: a hash of its cells in these columns says which.
+/// The partition that holds an entry: a hash of its cells in these columns says which.
 fn partition_of(columns: &[usize], entry: &Entry) -> usize
     requires { All (λ col. col < 16) columns.now }
     ensures number { result ≡ partition_of columns.now entry.now }
@@ -68,7 +68,7 @@ fn start_of<D: Dominance>(
     low
 }
 
-/// Puts the entries that are not seen to be below the cut into the pool. Gives their arrivals, in order of part, then of the level at which they start.
+/// Puts the entries that are not seen to be below the cut into the pool. Gives their arrivals, in order of partition, then of the level at which they start.
 /// After an `Err` the pool holds some of them.
 pub(crate) fn arrivals_of<D: Dominance>(
     alloc: Global,

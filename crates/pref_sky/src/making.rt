@@ -1,4 +1,4 @@
-//! What an addition makes of the levels of a part: they are made anew beside those that there are, as far as something comes to them.
+//! What an addition makes of the levels of a partition: they are made anew beside those that there are, as far as something comes to them.
 //!
 //! ```text
 //! Two items come, a to level 1 and b to level 2; a dominates q, and q dominates t.
@@ -31,7 +31,7 @@ use crate::pool::Pool;
 use pref_term::Dominance;
 use std::alloc::{AllocError, Global};
 
-/// The first levels of a part as they are to be: those from the place `first` on are new, and those before it stand empty in place of
+/// The first levels of a partition as they are to be: those from the place `first` on are new, and those before it stand empty in place of
 /// levels that stay as they are.
 #[derive(Drop)]
 pub(crate) struct Made {
@@ -87,7 +87,7 @@ fn empty_levels(alloc: Global, count: usize) -> Result<Vec<Vec<Item>>, AllocErro
     Ok(levels)
 }
 
-/// Makes the levels of a part anew as these come to it: from the one at which the first starts, as far down as something comes. Of what
+/// Makes the levels of a partition anew as these come to it: from the one at which the first starts, as far down as something comes. Of what
 /// comes to a level, with what is held there, the best stay, and the others go down.
 pub(crate) fn made_of<D: Dominance>(
     alloc: Global,

@@ -21,7 +21,7 @@ pub(crate) enum Held {
     Nothing,
     /// In the order of two chains, where the order of the first addition is their product.
     Sorted(SortedEntries),
-    /// In parts, which the order never compares with each other.
+    /// In partitions, which the order never compares with each other.
     Partitioned(Partitions),
 }
 
@@ -56,7 +56,7 @@ impl Model for Partial {
     ghost invariant = { λ a. HaveDifferentIds (map entry_of (ranked_held a.held)) };
 }
 
-/// What is held after the first addition: entries in the order of two chains where the order is their product, and else parts where it
+/// What is held after the first addition: entries in the order of two chains where the order is their product, and else partitions where it
 /// compares rows within groups alone.
 fn hold_first<D: Dominance>(
     alloc: Global,
@@ -116,7 +116,7 @@ impl Partial {
 
     /// The entries that are held, with their levels, in order of level, then id.
     ///
-    /// Cost: one copy of them, and a sort of each level by id; where there are groups, for each level a look at 1,024 parts. Where the order is a product
+    /// Cost: one copy of them, and a sort of each level by id; where there are groups, for each level a look at 1,024 partitions. Where the order is a product
     /// of two chains their levels are found now, by a search by halves among the levels for each entry. Memory: the
     /// list alone, and of two chains a copy of what is held. `Err` is out of memory.
     pub fn ranked(&self, alloc: Global) -> Result<Vec<Ranked>, AllocError>
@@ -140,8 +140,8 @@ impl Partial {
     /// many again and 2,048 are held no more.
     /// Memory: these copies and lists.
     ///
-    /// Where the order names [groups](pref_term::Dominance::groups), all this goes for the entries of one part: the cells
-    /// of its group tell in which of 1,024 parts an entry is, and it meets no others.
+    /// Where the order names [groups](pref_term::Dominance::groups), all this goes for the entries of one partition: the cells
+    /// of its group tell in which of 1,024 partitions an entry is, and it meets no others.
     ///
     /// Where the order is a product of two [chains](pref_term::Dominance::chains), new entries are put behind the others as they are, but for those
     /// that one of the last level is seen to dominate, by a search by halves. Once they are an eighth of what is held, and 64, all are

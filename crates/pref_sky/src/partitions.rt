@@ -1,4 +1,4 @@
-//! Levels of entries in parts that the order never compares with each other.
+//! Levels of entries in partitions that the order never compares with each other.
 
 ghost use Rattle.std.specs.Prelude.{◌≡◌, ◌≤◌, ◌<◌, ◌++◌, ◌-◌, ◌^◌, [], ℕ, suc, List, All, length, map, take, drop, vec_len, IfOk, OnErr, OnOk};
 ghost use Rattle.pref_sky.specs.Made.{AreComing, AreDealt, ArePartsMade, ArePut, FitIn, HaveArrived, coming_to};
@@ -18,7 +18,7 @@ use crate::pool::{Pool, next_look, take_parts};
 use pref_term::Dominance;
 use std::alloc::{AllocError, Global};
 
-/// How many parts there are where the order compares rows within groups alone.
+/// How many partitions there are where the order compares rows within groups alone.
 const PARTITIONS: usize = 1024;
 
 /// How many entries a piece of an addition has, at most.
@@ -27,7 +27,7 @@ const PIECE: usize = 1024;
 /// How many entries the first piece has, at most.
 const FIRST: usize = 128;
 
-/// How many items parts have together.
+/// How many items partitions have together.
 fn count_in(parts: &[Vec<Vec<Item>>]) -> usize {
     let mut count: usize = 0;
     for levels in parts {
@@ -38,7 +38,7 @@ fn count_in(parts: &[Vec<Vec<Item>>]) -> usize {
     count
 }
 
-/// How many levels the deepest part has.
+/// How many levels the deepest partition has.
 fn deepest(parts: &[Vec<Vec<Item>>]) -> usize
     ensures { (pool : List Entry) → result ≡ depth (parts_at pool parts.now) }
 {
@@ -62,7 +62,7 @@ fn empty_parts(alloc: Global, columns: &[usize]) -> Result<Vec<Vec<Vec<Item>>>, 
     Ok(parts)
 }
 
-/// How many of these, which are in order of it, come to a part.
+/// How many of these, which are in order of it, come to a partition.
 fn count_coming(arrivals: &[Arrival], part: usize) -> usize
     requires dealt { AreDealt arrivals.now }
     requires first { All (λ a. part ≤ a.part) arrivals.now }
@@ -77,7 +77,7 @@ fn count_coming(arrivals: &[Arrival], part: usize) -> usize
     count
 }
 
-/// Puts what was made into the parts. Takes no memory.
+/// Puts what was made into the partitions. Takes no memory.
 fn put_all(parts: &mut Vec<Vec<Vec<Item>>>, all: Vec<Made>)
     requires { FitIn parts.old.items all.items }
     ensures { ArePut all.items parts.old.items parts.new.items }
@@ -109,7 +109,7 @@ fn push_items(
     Ok(())
 }
 
-/// Puts the entries at one level of all parts, unordered, behind those of the levels before it.
+/// Puts the entries at one level of all partitions, unordered, behind those of the levels before it.
 fn push_parts(
     ranked: &mut Vec<Ranked>,
     pool: &[Entry],
@@ -135,7 +135,7 @@ fn sort_behind(ranked: &mut Vec<Ranked>, start: usize)
     ranked[start..].sort_unstable_by_key(|entry| entry.id);
 }
 
-/// Levels of entries, in parts by the cells of some columns. The entries of all are in one pool.
+/// Levels of entries, in partitions by the cells of some columns. The entries of all are in one pool.
 #[derive(Drop)]
 pub(crate) struct Partitions {
     pub(crate) columns: Vec<usize>,
@@ -165,7 +165,7 @@ impl Partitions {
         })
     }
 
-    /// The entries of all parts, in order of level, then id.
+    /// The entries of all partitions, in order of level, then id.
     pub(crate) fn ranked(&self, alloc: Global) -> Result<Vec<Ranked>, AllocError>
         ensures { IfOk result (λ ranked. ranked.items ≡ ranked_parts (parts_at self.now.pool.entries.items self.now.parts.items)) }
     {
@@ -237,7 +237,7 @@ impl Partitions {
         )
     }
 
-    /// Makes the levels of each part anew to which something comes.
+    /// Makes the levels of each partition anew to which something comes.
     fn made<D: Dominance>(
         &self,
         alloc: Global,
@@ -266,7 +266,7 @@ impl Partitions {
         Ok(all)
     }
 
-    /// Adds entries, each to its part, as [`Partial::add`](crate::Partial::add) does. The order compares rows within
+    /// Adds entries, each to its partition, as [`Partial::add`](crate::Partial::add) does. The order compares rows within
     /// groups of these columns alone.
     pub(crate) fn add<D: Dominance>(
         &mut self,

@@ -3,9 +3,9 @@
 //! ```text
 //! pool        0    1    2    3    4    5            entries, as they came, or as they were held when the pool was made anew
 //!
-//! part 0      level 1: items of 5 and 2             an item is the place of an entry here, and the entry's signature
+//! partition 0 level 1: items of 5 and 2             an item is the place of an entry here, and the entry's signature
 //!             level 2: the item of 0
-//! part 1      level 1: items of 1 and 4
+//! partition 1 level 1: items of 1 and 4
 //! ```
 //!
 //! Entry 3 is held no more: as many levels as are asked for are above it. What moves from level to level is an item
@@ -44,7 +44,7 @@ const ROOM: usize = 64;
 const NEAR: usize = 32;
 
 /// How many entries there are to be when it is looked again how many of them are held: an eighth more than are there, and 16, since to look
-/// costs a step for each part. Any number is right.
+/// costs a step for each partition. Any number is right.
 pub(crate) fn next_look(count: usize) -> usize {
     count.saturating_add(count / 8).saturating_add(16)
 }
@@ -200,7 +200,7 @@ impl Pool {
         }
     }
 
-    /// Signs the items of parts by the scales, where they stand. Takes no memory.
+    /// Signs the items of partitions by the scales, where they stand. Takes no memory.
     pub(crate) fn sign_parts(&self, parts: &mut Vec<Vec<Vec<Item>>>)
         requires { (rule : Entry → ℕ) × AreInPool rule self.now.entries.items parts.old.items }
         ensures long { vec_len parts.new ≡ vec_len parts.old }
@@ -252,7 +252,7 @@ fn take_levels(
     Ok(taken)
 }
 
-/// Puts the entries of the items of parts behind those of another pool, and signs them by its scales. Gives the parts of their items there.
+/// Puts the entries of the items of partitions behind those of another pool, and signs them by its scales. Gives the partitions of their items there.
 pub(crate) fn take_parts(
     alloc: Global,
     pool: &mut Pool,
