@@ -12,7 +12,7 @@ TOP = Path(__file__).resolve().parent.parent
 BLOCK = re.compile(r"^(?:pub(?:\(\w+\))? )?(?:impl|(trait))\b(.*)$")
 HEAD = re.compile(r"^( *)(?:pub(?:\(\w+\))? )?(?:const )?fn (\w+)\b")
 CLAUSE = re.compile(r"^ *(requires|ensures)(?: (\w+))? \{")
-INVARIANT = re.compile(r"the invariant (?:`\w+` )?of `(\w+)`")
+INVARIANT = re.compile(r"the invariant (?:`(\w+)` )?of `(\w+)`")
 QUOTED = re.compile(r"`([^`]+)`")
 IN_PARENTHESES = re.compile(r"\(([^()]*)\)")
 
@@ -80,7 +80,9 @@ def words():
 def faults(crate, line):
     """What a line `# clause: ` names that is not there."""
     outside = IN_PARENTHESES.sub("", line)
-    yield from (f"its clause is the invariant of no type of {crate}: {name}" for name in INVARIANT.findall(outside) if not has_type(crate, name))
+    for field, name in INVARIANT.findall(outside):
+        if not has_type(crate, name) or field and field not in words():
+            yield f"its clause is the invariant of no type of {crate}: {field} of {name}"
     named = []
     for quoted in QUOTED.findall(INVARIANT.sub("", outside)):
         if not any(function.has(quoted) for function in named):
@@ -91,3 +93,5 @@ def faults(crate, line):
     inside = " ".join(IN_PARENTHESES.findall(line))
     yield from (f"its clause has what stands in no code or definition: {quoted}" for quoted in QUOTED.findall(inside)
                 if not {*re.findall(r"\w+", quoted)} <= words())
+    if outside.strip() and not named and not INVARIANT.search(outside):
+        yield f"its clause names no function of {crate}"

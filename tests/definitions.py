@@ -19,7 +19,7 @@ from textwrap import fill
 TOP = Path(__file__).resolve().parent.parent
 DOCUMENT = TOP / "docs/DEFINITIONS.md"
 CRATES = ["pref_table", "pref_term", "pref_sky", "pref_core", "pref_share", "pref_script"]
-SPOKEN_OF = {"read_input", "write_told", "LiveTable"}
+SPOKEN_OF = {"read_input", "write_result", "LiveTable"}
 
 HEAD = re.compile(r"(?:(?:abbrev|unfoldable|pub|record|data)\s+)+([^\s:(]+)")
 IMPORT = re.compile(r"use Rattle\.(\w+)\.specs\.([\w.]+?)(?:\.\{([^}]*)\}| as (\w+))(?=[\s;]|$)")

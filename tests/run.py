@@ -36,6 +36,7 @@ KILOBYTES_A_PROOF = 3_000_000
 EMPTY_EDITS = {
     re.compile(r"rt: (.*): BAD EDIT"): "no edit, since it cannot be applied, compiled or read",
     re.compile(r"rt: (.*): refused, as it must be \(only by a limit of the prover"): "refused only by a limit of the prover, so by no clause",
+    re.compile(r"rt: (.*): refused, as it must be \(only because a proof file names"): "refused only since a proof names what it took away, so by no clause",
 }
 PASSED = re.compile(r"(\d+) passed, \d+ failed")
 SKIPPED_TESTS = re.compile(r"\((\d+) tests\)$")
