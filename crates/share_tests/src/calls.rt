@@ -17,6 +17,9 @@ use test_runs::{
     Turn, act_of, refused_text, reply_text,
 };
 
+/// The reply to a call of a client that there is not.
+const NO_SUCH_CLIENT: &str = "refused 1: no such client";
+
 /// What is returned to one call of a client.
 fn returned<J: BoardBrand, R: Wait>(
     rt: &R,
@@ -33,7 +36,7 @@ fn returned<J: BoardBrand, R: Wait>(
 }
 
 /// What is returned to the clients of a board, one call after the other, is what their turns say. A board has no client of another
-/// number, so the turns of such are left out.
+/// number, so the turns of such have to say so.
 fn check_turns<J: BoardBrand, R: Wait + Abort>(
     rt: &R,
     alloc: Global,
@@ -45,6 +48,8 @@ fn check_turns<J: BoardBrand, R: Wait + Abort>(
         if let Some(client) = clients.get_mut(usize::from(turn.0).wrapping_sub(1)) {
             let text = returned(rt, alloc, board, client, turn.1)?;
             assert_same(rt, number, &text.as_str(), &turn.2);
+        } else {
+            assert_same(rt, number, &NO_SUCH_CLIENT, &turn.2);
         }
     }
     Ok(())
@@ -115,7 +120,7 @@ fn begun_and_checked<J: BoardBrand, R: Wait + Abort>(
 }
 
 /// The same on a new board.
-fn told_after_a_drop<J: BoardBrand, R: Wait + Abort>(
+fn begun_on_a_new_board<J: BoardBrand, R: Wait + Abort>(
     rt: &R,
     alloc: Global,
     name: BoardName,
@@ -132,14 +137,14 @@ fn told_after_a_drop<J: BoardBrand, R: Wait + Abort>(
     begun
 }
 
-/// The query of a client that is dropped stays open, so the other is told what it is told where the query is never ended.
+/// The query of a client that is dropped stays open: the other is returned what it is where the query is never ended.
 #[test]
 fn dropped_open(rt: HostRuntime) -> Result<(), Fail> {
     let alloc = rt.alloc();
     let run = &AN_OPEN_QUERY_KEEPS_ITS_VERSION;
     let opening = run.opening_rows(alloc)?;
     let (_begin, turns) = run.turns.split_first().ok_or("a begin")?;
-    let blocks = told_after_a_drop::<Brand, _>(
+    let blocks = begun_on_a_new_board::<Brand, _>(
         &rt,
         alloc,
         BoardName::new(),
