@@ -72,7 +72,7 @@ fn eight_clients_ask_at_eight_stamps(rt: HostRuntime) -> Result<(), Fail> {
 }
 
 #[test]
-fn the_sequential_table_tells_the_same_of_an_open_query(rt: HostRuntime) -> Result<(), Fail> {
+fn an_open_query_keeps_its_version(rt: HostRuntime) -> Result<(), Fail> {
     check_run(&rt, rt.alloc(), &AN_OPEN_QUERY_KEEPS_ITS_VERSION)
 }
 

@@ -24,7 +24,7 @@ pub record IsKept (contents : Contents) : Type 0 where
   pub state : State
   pub stands : StandsFor contents state
 
--- the zones that its slots belong to
+-- what its slots are used for
 abbrev pub uses_of : Contents → List SlotUse
 uses_of contents = map (use_of contents.callers) contents.slots
 

@@ -11,7 +11,7 @@ use Rattle.pref_core.specs.declared.store.slot_sets.SlotUse.{SlotUse}
 use Rattle.pref_core.specs.declared.store.slot_sets.SlotUse.TheVariants.{Free, Live, Ended}
 use Rattle.pref_core.specs.Slots.{is_needed}
 
--- the zones in their order
+-- the uses in their order
 abbrev pub number_of : SlotUse → ℕ
 number_of Free = 0
 number_of Live = 1
@@ -27,7 +27,7 @@ abbrev pub number_at : List ℕ → ℕ → ℕ
 number_at [] position = 0
 number_at (bound ∷ bounds) position = if nat_lt position bound then 0 else suc (number_at bounds position)
 
--- the zone of a position
+-- the use of a position
 abbrev pub use_at : List ℕ → ℕ → SlotUse
 use_at bounds position = numbered (number_at bounds position)
 
@@ -53,7 +53,7 @@ pub record IsInverse (order positions : List ℕ) : Type 0 where
   pub within : (p : ℕ) → p < length order → slice_index positions p < length order
   pub back : (p : ℕ) → p < length order → slice_index order (slice_index positions p) ≡ p
 
--- and each zone is up to its bound
+-- and the positions of each use are up to its bound
 pub record IsArranged (order positions bounds : List ℕ) : Type 0 where
   pub inverse : IsInverse order positions
   pub few : length order ≤ 65536
@@ -74,7 +74,7 @@ abbrev pub kept_from : ℕ → List Caller → Option Version → SlotUse
 kept_from keeper [] slot = Free
 kept_from keeper (caller ∷ callers) slot = if is_needed (option_to_list caller.at_begin) slot then Ended keeper else kept_from (suc keeper) callers slot
 
--- the zone that a slot belongs to
+-- what a slot is used for
 abbrev pub use_of : List Caller → Option Version → SlotUse
 use_of callers None = Free
 use_of callers (Some version) = elim version.death [ None ↦ Live | Some death ↦ kept_from 0 callers (Some version) ]
@@ -84,7 +84,7 @@ abbrev pub is_spare : List ℕ → Option Version → Bool
 is_spare begins None = true
 is_spare begins (Some version) = is_some version.death && not (is_needed begins (Some version))
 
--- where the query of a caller ends, what it kept is in another zone, and all else as it was
+-- where the query of a caller ends, what it kept is of another use, and all else as it was
 abbrev pub MayBecome : ℕ → SlotUse → SlotUse → Type 0
 MayBecome keeper before after = (is_kept_by keeper after ≡ false) × ((before ≡ after) ⊎ (before ≡ Ended keeper))
 

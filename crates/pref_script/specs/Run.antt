@@ -48,7 +48,7 @@ Wrote sink returned (Err why) = (returned ≡ Err why) × WroteAll sink (text_of
 abbrev pub ReadAll : Source → (List ℕ → Type 0) → Type 0
 ReadAll source P = (bytes : List ℕ) × Consumes source.had source.left bytes × IsAtEnd source.left × (length bytes ≤ 16777216) × P bytes
 
--- what a run read and wrote, by how it ended, where Tells says which text or which fault an input may give
+-- what a run read and wrote, by how it ended, where Prints says which text or which fault an input may give
 abbrev pub Ran : (List ℕ → Result (List ℕ) RunFault → Type 0) → Source → Sink → Result (Unit {0}) RunFault → Type 0
 Ran Prints source sink (Ok done) = ReadAll source (λ bytes. (text : List ℕ) × Prints bytes (Ok text) × WroteAll sink text)
 Ran Prints source sink (Err fault.Read) = (source.failed ≡ true) × NothingWritten sink

@@ -149,7 +149,7 @@ impl<J: BoardBrand> Model for Prefix<J> {
 }
 
 impl<J: BoardBrand> Prefix<J> {
-    /// The history of a token that was seen on this board.
+    /// The history of a witness that was seen on this board.
     pub(crate) fn of(len: u64, seen: &Witness) -> Prefix<J>
         requires len { len ≡ length seen.now.log }
         requires book { seen.now.book ≡ J.book }
@@ -163,7 +163,7 @@ impl<J: BoardBrand> Prefix<J> {
         }
     }
 
-    /// The token that shows it.
+    /// The witness that shows it.
     pub(crate) fn witness(&self) -> Witness
         ensures log { result.log ≡ self.now }
         ensures book { result.book ≡ J.book }

@@ -11,7 +11,7 @@ use left_right::{Absorb, reader};
 use pref_core::{BoxedOp, Store};
 use std::alloc::AllocError;
 
-/// A store, and the token of the history that made it.
+/// A store, and the witness of the history that made it.
 #[derive(Drop)]
 pub struct Published {
     pub store: Store,
@@ -19,7 +19,7 @@ pub struct Published {
     pub seen: Witness,
 }
 
-/// An operation that joined the history, and the token of the history that it ends.
+/// An operation that joined the history, and the witness of the history that it ends.
 #[derive(Drop)]
 pub struct Stamp {
     pub op: BoxedOp,
@@ -47,7 +47,7 @@ impl Absorb<Stamp> for Published {
     }
 }
 
-/// The opening of a board, and a token of its book. No value of it is made.
+/// The opening of a board, and a witness of its book. No value of it is made.
 pub struct Base {
     pub opening: Store,
     pub seen: Witness,

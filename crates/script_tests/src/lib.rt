@@ -1,5 +1,5 @@
 //! The tests of pref_script, through its public items. Whole scripts with what the program prints are files of tests/scripts, at the top of
-//! the repository.
+//! the repository, and the runs of test_runs.
 //!
 //! They are in a crate of their own because a crate that holds tests is proved twice.
 #![tactic(auto)]

@@ -1,7 +1,7 @@
 //! Runs whose replies are known from outside, and what their tests share: the acts of the clients, and the texts of the replies.
 //!
 //! The tests of pref_core, pref_share and pref_script read the same runs: by a machine, by the clients of a board, and as scripts.
-//! Only they may end the process, so what compares is there.
+//! Only crates of tests may end the process, so what compares replies is in those.
 #![tactic(auto)]
 
 mod acts;

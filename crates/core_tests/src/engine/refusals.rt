@@ -59,7 +59,7 @@ fn text_in_the_end(
     reply_text(alloc, &told_in_the_end(rt, alloc, machine, event))
 }
 
-/// What clients do one after the other, and what they are told.
+/// What clients do one after the other, and what is returned to them.
 static TURNS: [Turn; 12] = [
     (1, Does::Begins, "begun 2"),
     (1, Does::Scans, "left 1"),

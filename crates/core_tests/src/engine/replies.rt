@@ -14,7 +14,7 @@ fn returned(alloc: Global, machine: &mut Machine, event: Event) -> Result<String
     reply_text(alloc, &machine.reply(alloc, event)?)
 }
 
-/// What clients do, and what they are told.
+/// What clients do, and what is returned to them.
 static TURNS: [Turn; 5] = [
     (2, Does::Gets(1), "row 1: 5"),
     (1, Does::Scans, "refused 4: no query"),

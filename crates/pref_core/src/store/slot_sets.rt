@@ -3,7 +3,7 @@
 //! ```text
 //! Six slots: rows in 0, 3 and 5; slot 2 holds an ended version that the open query of client 1 needs.
 //!
-//! zone         free    live       ended, for client 1    ended, for client 2 ..
+//! use          free    live       ended, for client 1    ended, for client 2 ..
 //! order        1  4  | 0  3  5  | 2                    |
 //! bounds             2          5                      6                      6 ..
 //! positions    of slots 0 to 5:   2  0  5  3  1  4
@@ -31,7 +31,7 @@ use crate::store::version::Version;
 use std::alloc::{AllocError, Global};
 use std::marker::Model;
 
-/// How many zones there are: the free places, those with a row, and for each client those that its query keeps.
+/// How many uses there are: the free places, those with a row, and for each client those that its query keeps.
 const USES: usize = MOST_CLIENTS as usize + 2;
 
 /// What a slot is used for: nothing, a row of the table, or an ended version that an open query needs.
@@ -44,7 +44,7 @@ pub(crate) enum SlotUse {
 }
 
 impl SlotUse {
-    /// Its number among all zones, in the order of their places.
+    /// Its number among all uses, in the order of their places.
     #[inline(always)]
     fn number(self) -> usize
         ensures { result ≡ number_of self }
@@ -57,9 +57,9 @@ impl SlotUse {
     }
 }
 
-/// All places in an order of their zones, and for each place its position there.
+/// All places in an order of their uses, and for each place its position there.
 ///
-/// A zone is up to its bound, from the bound of the zone before it on. Two lists that are each other's inverse
+/// The places of a use are up to its bound, from the bound of the use before it on. Two lists that are each other's inverse
 /// are the sparse sets of (Briggs, Torczon 1993).
 #[derive(Drop)]
 pub(crate) struct SlotSets {
@@ -168,7 +168,7 @@ impl SlotSets {
         }
     }
 
-    /// A place of one zone is used for another one.
+    /// A place of one use gets another.
     #[inline(always)]
     pub(crate) fn put(&mut self, place: u32, from: SlotUse, to: SlotUse)
         requires there { slice_get self.old place ≡ Some from }
@@ -184,7 +184,7 @@ impl SlotSets {
         }
     }
 
-    /// A place goes down to a zone.
+    /// A place goes down to a use.
     #[inline(always)]
     fn lower_to(&mut self, place: u32, from: usize, to: usize)
         requires there { slice_get self.old place ≡ Some (numbered from) }
@@ -196,7 +196,7 @@ impl SlotSets {
         }
     }
 
-    /// A place goes up to a zone.
+    /// A place goes up to a use.
     #[inline(always)]
     fn raise_to(&mut self, place: u32, from: usize, to: usize)
         requires there { slice_get self.old place ≡ Some (numbered from) }
@@ -208,7 +208,7 @@ impl SlotSets {
         }
     }
 
-    /// A place goes down to the zone before its own.
+    /// A place goes down to the use before its own.
     fn lower(&mut self, place: u32, to: usize)
         requires there { slice_get self.old place ≡ Some (numbered (suc to)) }
         requires few { to < 9 }
@@ -219,7 +219,7 @@ impl SlotSets {
         self.bounds[to] = first + 1;
     }
 
-    /// A place goes up to the zone behind its own.
+    /// A place goes up to the use behind its own.
     fn raise(&mut self, place: u32, from: usize)
         requires there { slice_get self.old place ≡ Some (numbered from) }
         requires few { from < 9 }
