@@ -1,8 +1,14 @@
 -- Commands that are played one after the other.
-use Rattle.pref_script.proofs.Common.{◌≡◌, ◌∙◌, ℕ, ℤ, ◌+◌, List, [], ◌∷◌, ◌++◌, length, Ok, sym, ap, refl, subst, arith, append_assoc, append-nil, Limits, System, opened, replies, step, Event}
+use Rattle.pref_script.proofs.Common.{◌≡◌, ◌∙◌, ℕ, ℤ, ◌+◌, List, [], ◌∷◌, ◌++◌, length, Ok, Err, OnOk, Result, sym, ap, refl, subst, arith, append_assoc, append-nil, Limits, System, opened, replies, step, Event}
 use Rattle.pref_script.proofs.Common.{Command, refused, runs, commands_in, commands_of, accepted_events, command_lines, raw_lines, without_line_end, refused_line, reply_lines, Refusal}
-use Rattle.pref_core.specs.Systems.{Replies, Running, StandsForSystem}
+use Rattle.pref_core.proofs.RepliesLaws.{does_replies, replied_refused}
+use Rattle.pref_core.specs.MachineParts.{reply_of}
+use Rattle.pref_core.specs.Systems.{Does, Replies, Running, StandsForSystem, as_reply}
+use Rattle.pref_core.specs.declared.event.Act.{Act}
+use Rattle.pref_core.specs.declared.fault.CoreFault.{CoreFault}
+use Rattle.pref_core.specs.declared.fault.CoreFault.TheVariants.{OutOfMemory}
 use Rattle.pref_core.specs.declared.event.Reply.{Reply}
+use Rattle.pref_core.specs.declared.event.Reply.TheVariants.{Refused}
 use Rattle.pref_script.specs.Playing.{Plays, PrintsAll, printed_from}
 use Rattle.pref_script.proofs.ScriptFacts.{lines_none}
 
@@ -30,6 +36,30 @@ plays_event width before after event reply old new answers added = record {
             rw added (append_assoc old (reply_lines width event.client reply) rest ∙ ap (λ (r : Reply). old ++ (reply_lines width event.client r ++ rest)) says.0);
       };
 }
+
+both_ok : {A E P Q R : Type 0} (result : Result A E) → (P → Q → R) → OnOk result P → OnOk result Q → OnOk result R
+both_ok (Ok value) f p q = f p q
+both_ok (Err e) f p q = tt
+
+-- an act that is done by a call of its own
+pub plays_done : {A E : Type 0} (kind : A → Reply) (value : A) (result : Result A CoreFault) (width : ℕ) (before after : Running) (event : Event) (act : Act) (old new : List ℕ) (pushed : Result (Unit {0}) E)
+    → event.act ≡ act → result ≡ Ok value → Does before event.client act (as_reply kind result) after → OnOk pushed (new ≡ old ++ reply_lines width event.client (kind value))
+    → OnOk pushed (Plays width before (runs event ∷ []) old new after)
+plays_done {A} kind value result width before after event act old new pushed is done does added =
+    let returned = as_reply kind result in
+    let same = ap (λ (r : Result A CoreFault). reply_of (as_reply kind r)) (sym done) in
+    let replies = does_replies before after event returned _ (subst (λ (a : Act). Does before event.client a returned after) (sym is) does) same in
+    both_ok pushed (λ text _. plays_event width before after event (kind value) old new replies text) added added
+
+-- one that is refused so
+pub plays_failed : {A E : Type 0} (kind : A → Reply) (fault : CoreFault) (result : Result A CoreFault) (width : ℕ) (before after : Running) (event : Event) (act : Act) (old new : List ℕ) (pushed : Result (Unit {0}) E)
+    → event.act ≡ act → result ≡ Err fault → Does before event.client act (as_reply kind result) after → OnOk pushed (fault ≡ OutOfMemory → ⊥) → OnOk pushed (new ≡ old ++ reply_lines 0 event.client (Refused fault))
+    → OnOk pushed (Plays width before (runs event ∷ []) old new after)
+plays_failed {A} kind fault result width before after event act old new pushed is failed does other added =
+    let returned = as_reply kind result in
+    let replies = λ (known : fault ≡ OutOfMemory → ⊥).
+    does_replies before after event returned _ (subst (λ (a : Act). Does before event.client a returned after) (sym is) does) (replied_refused fault known ∙ ap (λ (r : Result A CoreFault). reply_of (as_reply kind r)) (sym failed)) in
+    both_ok pushed (λ known text. plays_event width before after event (Refused fault) old new (replies known) text) other added
 
 -- what was told so far, and what is left to be told from here on, is what all are told
 pub record PlayingFrom (width : ℕ) (limits : Limits) (system : System) (all : List Command) (text : List ℕ) (now : Running) (rest : List Command) : Type 0 where

@@ -155,7 +155,7 @@ fn push_levels(out: &mut String, width: usize, rows: &[Ranked]) -> Result<(), Al
 }
 
 /// Appends what most replies are: a client's number, what became of its command, and a number.
-fn push_line(out: &mut String, client: u8, what: &str, number: u64) -> Result<(), AllocError>
+pub fn push_line(out: &mut String, client: u8, what: &str, number: u64) -> Result<(), AllocError>
     ensures { OnOk result (string_bytes out.new ≡ string_bytes out.old ++ (decimal client <> what.now <> decimal number <> codes "\n")) }
 {
     push_number(out, u64::from(client))?;
@@ -163,6 +163,16 @@ fn push_line(out: &mut String, client: u8, what: &str, number: u64) -> Result<()
     push_number(out, number)?;
     out.push('\n')?;
     Ok(())
+}
+
+/// Appends the line of a client's act that is refused. It stays a call of its own, since it is rare.
+#[inline(never)]
+pub fn push_refused_act(out: &mut String, client: u8, why: CoreFault) -> Result<(), AllocError>
+    ensures { OnOk result (string_bytes out.new ≡ string_bytes out.old ++ reply_lines 0 client (Reply.Refused why)) }
+{
+    write!(out, "{client} refused ")?;
+    push_core_fault(out, why)?;
+    write!(out, "\n")
 }
 
 /// Appends the line or the lines of a reply to a client. Rows are printed over the width of the table.
@@ -202,10 +212,6 @@ pub fn push_reply(
             Ok(())
         }
         Reply::Room(room) => push_line(out, client, " room ", u64::from(*room)),
-        Reply::Refused(why) => {
-            write!(out, "{client} refused ")?;
-            push_core_fault(out, *why)?;
-            write!(out, "\n")
-        }
+        Reply::Refused(why) => push_refused_act(out, client, *why),
     }
 }
