@@ -37,6 +37,7 @@ pub use Rattle.pref_core.specs.Rows.{Row}
 pub use Rattle.pref_core.specs.Scans.{IsScanned, NextIsNew, Scan, Scans, begin, levels_for, next_block}
 pub use Rattle.pref_core.specs.SlotSets.{IsArranged, IsInverse, MayBecome, free_at, is_free_use, is_kept_by, is_spare, kept_from, moved_order, moved_positions, number_at, number_of, numbered, rotated}
 pub use Rattle.pref_core.specs.SlotSets.{use_at, use_of}
+pub use Rattle.pref_core.specs.StampedSlots.{StampedSlots}
 pub use Rattle.pref_core.specs.Slots.{AreDifferent, Contents, EndsBy, IsWithin, Shows, ShowsBegin, StandsFor, StandsForClient, begins, block_of, caller_begun, caller_calls, is_needed, is_visible}
 pub use Rattle.pref_core.specs.Slots.{line, new_version, opening_contents, opening_slots, seen, slot_key, stamps, visible}
 pub use Rattle.pref_core.specs.Stability.{IsStable, ends_query, is_end}

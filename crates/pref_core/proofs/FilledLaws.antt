@@ -1,6 +1,6 @@
 -- The rows that a call begins, in their slots, one after the other.
 use Rattle.pref_core.proofs.Common.{◌≡◌, ℕ, suc, ◌+◌, ◌^◌, ◌<◌, Bool, true, false, not, ◌&&◌, ◌||◌, cond, eqb, nat_eq, List, [], ◌∷◌, ◌++◌, map, length, drop, set, Option, Some, None, is_some}
-use Rattle.pref_core.proofs.Common.{slice_get, get_or, unwrap_or, refl, sym, ap, ap₂, ◌∙◌, subst, arith, ⊎_elim, AllByRecursion, length-map, length-set, map-set, set-set, map-set_same, option_map}
+use Rattle.pref_core.proofs.Common.{slice_get, get_or, unwrap_or, refl, sym, ap, ap₂, ◌∙◌, subst, arith, ⊎_elim, AllByRecursion, length-map, map-set, set-set, map-set_same, option_map}
 use Rattle.pref_core.proofs.Common.{slice_get_within, slice_get-get_or, slice_get-map, le-leb, eqb-true, ne_eqb, cases_eq, or_parts, and_parts, true≢false, Version, SlotUse, Free, Ended, Live, Entry}
 use Rattle.pref_core.proofs.Common.{among, has, Op, Call, Update, Outcome, State, ended, begun, begins_row, added, missing, success_outcome, is_change, succeeds, Contents, StandsFor, IsWithin, EndsBy}
 use Rattle.pref_core.proofs.Common.{is_visible, begins, stamps, new_version, visible, close, close_at, grown, is_free, filled, outcome_at, is_next, slots_after, used, is_free_use, free_at, use_of}
@@ -252,7 +252,6 @@ module _ (contents : Contents) (zones : List SlotUse) (links : List ℕ) (id pla
   pub end_tracked : (zone : SlotUse) (zones_new : List SlotUse) (links_new : List ℕ) → zone ≡ use_of contents.callers last → zones_new ≡ set zones place zone → AreLinks (set (ids_of contents.stamp contents.slots) place None) links_new
       → IsTracked (with_slots (set contents.slots place last) contents) zones_new links_new
   end_tracked zone zones_new links_new is returned linked = record {
-    few = let long = length-set contents.slots place last in let few = h.few in omega arith;
     seats = h.seats;
     within = subst (AllByRecursion (IsWithin contents.next_id contents.stamp)) (sym end_slots) (within_closed (id ∷ []) contents.next_id contents.stamp contents.slots h.within);
     listed = closed_zones contents.callers contents.slots zones zones_new place last zone h.listed is returned;
@@ -282,7 +281,6 @@ module _ (contents : Contents) (zones : List SlotUse) (links : List ℕ) (id pla
       ap (shown contents.stamp) is ∙ (fresh ∙ (ap Some (same ∙ sym named) ∙ sym (ap (shown contents.stamp) (here new) ∙ before))) in
       let ids_same = map-set_same (shown contents.stamp) contents.slots place new new id_here in
       record {
-        few = let long = length-set contents.slots place new in let few = h.few in omega arith;
         seats = h.seats;
         within = subst (λ r. AllByRecursion (IsWithin contents.next_id contents.stamp) (set contents.slots place r)) (sym is) (within-set contents.next_id contents.stamp contents.slots place (new_version contents.stamp entry) (low, omega arith, tt) h.within);
         listed = h.listed ∙ sym (map-set_same (use_of contents.callers) contents.slots place new new zone);
@@ -295,7 +293,6 @@ pub begin_tracked : (contents : Contents) (zones : List SlotUse) (links : List �
     → has (visible contents.stamp contents.slots) entry.id ≡ false → entry.id < contents.next_id → entry.id < 2 ^ 64 → row ≡ new_version contents.stamp entry → zones_new ≡ set zones place Live → AreLinks (set (ids_of contents.stamp contents.slots) place (Some entry.id)) links_new
     → IsTracked (with_slots (set contents.slots place row) contents) zones_new links_new
 begin_tracked contents zones links entry place row zones_new links_new h free absent low small is returned linked = record {
-  few = let long = length-set contents.slots place row in let few = h.few in omega arith;
   seats = h.seats;
   within = subst (λ r. AllByRecursion (IsWithin contents.next_id contents.stamp) (set contents.slots place r)) (sym is) (within-set contents.next_id contents.stamp contents.slots place (new_version contents.stamp entry) (low, omega arith, tt) h.within);
   listed = filled_zones contents.callers contents.slots zones zones_new place row entry contents.stamp h.listed is returned;

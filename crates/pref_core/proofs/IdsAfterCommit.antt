@@ -1,5 +1,5 @@
 -- How the ids that a store's slots show go along with a commit.
-use Rattle.pref_core.proofs.Common.{◌≡◌, ℕ, suc, ◌+◌, ◌^◌, ◌≤◌, true, false, eqb, List, [], ◌∷◌, map, set, Option, Some, None, refl, sym, ap, ap₂, ◌∙◌, subst, arith, AllByRecursion, map-set}
+use Rattle.pref_core.proofs.Common.{◌≡◌, ℕ, suc, ◌+◌, ◌^◌, ◌≤◌, true, eqb, List, [], ◌∷◌, map, set, Option, Some, None, refl, sym, ap, ap₂, ◌∙◌, subst, arith, AllByRecursion, map-set}
 use Rattle.pref_core.proofs.Common.{length_permutation, le-leb, true≢false, Version, SlotUse, Call, Entry, State, changes_of, ended, begun, added, missing, is_formed, Contents, StandsFor, IsWithin}
 use Rattle.pref_core.proofs.Common.{EndsBy, visible, new_version, close, IsBounded, row_at, IsPlaceOf, shown, ids_of, id_at, AreIds, AreLinks, IsTracked, AreFresh}
 use Rattle.pref_core.proofs.BoundsLaws.{next_id-small}
@@ -45,7 +45,6 @@ ids_next next now (slot ∷ slots) h = ap₂ ◌∷◌ (shown_next next now slot
 pub tracked_next : (contents : Contents) (zones : List SlotUse) (links : List ℕ) (more : ℕ) → IsTracked contents zones links
     → IsTracked (record { slots = contents.slots; stamp = suc contents.stamp; next_id = contents.next_id + more; callers = contents.callers }) zones links
 tracked_next contents zones links more h = record {
-  few = h.few;
   seats = h.seats;
   within = within-more contents.next_id (contents.next_id + more) (suc contents.stamp) contents.slots (omega arith)
       (subst (AllByRecursion (IsWithin contents.next_id (suc contents.stamp))) (close_none (suc contents.stamp) contents.slots) (within-close [] contents.next_id contents.stamp contents.slots h.within));

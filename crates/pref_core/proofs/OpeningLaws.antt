@@ -71,7 +71,7 @@ opening_stands clients empty rows = record {
     different : slot_keys (opening_slots 0 rows ++ replicate empty None) ≡ slot_keys (opening_slots 0 rows)
     different = filter_map-append slot_key (opening_slots 0 rows) (replicate empty None) ∙ ap (λ l. slot_keys (opening_slots 0 rows) ++ l) (slot_keys-empty empty) ∙ append-nil _
 
-length-opening_slots : (before : ℕ) (rows : List Row) → length (opening_slots before rows) ≡ length rows
+pub length-opening_slots : (before : ℕ) (rows : List Row) → length (opening_slots before rows) ≡ length rows
 length-opening_slots before [] = refl
 length-opening_slots before (row ∷ rows) = ap suc (length-opening_slots (suc before) rows)
 

@@ -30,7 +30,6 @@ uses_of contents = map (use_of contents.callers) contents.slots
 
 -- At each step of a commit no version is ahead, and the lists beside the slots go along with them.
 pub record IsTracked (contents : Contents) (zones : List SlotUse) (links : List ℕ) : Type 0 where
-  pub few : length contents.slots ≤ 65536
   pub seats : length contents.callers ≤ 8
   pub within : AllByRecursion (IsWithin contents.next_id contents.stamp) contents.slots
   pub listed : zones ≡ uses_of contents

@@ -16,6 +16,7 @@ pub mod Systems
 pub mod Laws
 pub mod Bounds
 pub mod MachineParts
+pub mod StampedSlots
 pub mod SlotSets
 pub mod ContentsInvariant
 pub mod IdChains

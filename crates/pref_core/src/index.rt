@@ -14,7 +14,6 @@ use crate::call::Planned;
 use crate::changes::LentChange;
 use crate::store::Store;
 use crate::store::contents::Contents;
-use crate::store::reads::stands_at;
 use indexmap::IndexMap;
 use std::alloc::{AllocError, Global};
 use std::marker::Model;
@@ -151,7 +150,7 @@ fn move_slot(map: &mut IndexMap<u64, usize>, contents: &Contents, id: u64, slot:
     ensures moved { Points map.old.entries id (Some slot) map.new.entries }
     ensures room { spare map.old ≤ spare map.new }
 {
-    if !stands_at(&contents.slots, slot, contents.stamp, id) {
+    if !contents.slots.stands_at(slot, id) {
         set_slot(map, id, slot as usize);
     }
 }

@@ -21,11 +21,11 @@ pub(crate) mod applying;
 pub(crate) mod caller;
 pub(crate) mod contents;
 pub(crate) mod id_chains;
+pub(crate) mod legality;
 pub(crate) mod needs;
-pub(crate) mod opening;
 pub(crate) mod planning;
-pub(crate) mod reads;
 pub(crate) mod slot_sets;
+pub(crate) mod stamped_slots;
 pub mod version;
 
 ghost use Rattle.std.specs.Prelude.{◌≡◌, ◌-◌, ◌<◌, length, true, Err, IfOk, IfErr, OnOk, OnErr, option_map, ◌↔◌, ◌⊎◌};
@@ -109,7 +109,7 @@ impl Store {
     pub fn stamp(&self) -> u64
         ensures { result ≡ self.now.stamp }
     {
-        self.contents.stamp
+        self.contents.slots.stamp()
     }
 
     /// The id of the next row.
@@ -132,7 +132,7 @@ impl Store {
     pub fn get(&self, id: u64) -> Option<Row>
         ensures { (state : State) → StandsFor self.now state → result ≡ option_map (λ line. line.row) (line_of state.table id) }
     {
-        self.contents.row_in(self.contents.place_of(None, id))
+        self.contents.row(None, id)
     }
 
     /// The row of this id, found by an index of this store: looks at the id's home, and at the index where another row
@@ -141,15 +141,14 @@ impl Store {
         requires { IsIndexOf self.now index.now }
         ensures { (state : State) → StandsFor self.now state → result ≡ option_map (λ line. line.row) (line_of state.table id) }
     {
-        self.contents
-            .row_in(self.contents.place_of(Some(index), id))
+        self.contents.row(Some(index), id)
     }
 
     /// The index of this store.
     pub(crate) fn index(&self, alloc: Global) -> Result<Index, AllocError>
         ensures { IfOk result (λ index. IsIndexOf self.now index) }
     {
-        reads::index_rows(alloc, &self.contents.slots, self.contents.stamp)
+        self.contents.slots.index(alloc)
     }
 
     /// The entries that the slots of a block show at a stamp: those from `block` times `size` up to before the next
@@ -163,11 +162,7 @@ impl Store {
     ) -> Result<Vec<Entry>, AllocError>
         ensures { IfOk result (λ v. v.items ≡ entries (visible stamp (block_of block size self.now.slots))) }
     {
-        reads::entries_at(
-            alloc,
-            reads::block(&self.contents.slots, block, size),
-            stamp,
-        )
+        self.contents.slots.entries(alloc, block, size, stamp)
     }
 
     /// How many more versions there is room for: the slots without those that the table or an open query needs.

@@ -17,42 +17,11 @@
 
 ghost use Rattle.std.specs.Prelude.{◌≡◌, ◌<◌, ◌≤◌, ◌^◌, length, IfOk, IfSome, IfNone, Some, None, slice_set};
 ghost use Rattle.pref_core.specs.Indexes.{IsPlaceOf};
-ghost use Rattle.pref_core.specs.IdChains.{home_of, ids_of, id_at, is_above, AreIds, AreLinks, IsBefore, opening_ids};
+ghost use Rattle.pref_core.specs.IdChains.{home_of, ids_of, id_at, AreIds, AreLinks, IsBefore, opening_ids};
 
-use crate::store::reads::stands_at;
-use crate::store::version::Version;
+use crate::store::stamped_slots::StampedSlots;
 use std::alloc::{AllocError, Global};
 use std::marker::Model;
-
-/// The home of an id: the slot that an opening row has, and a new version where it is free.
-pub(crate) fn home_of(slots: &[Option<Version>], id: u64) -> u32
-    requires some { 0 < length slots.now }
-    requires few { length slots.now ≤ 65536 }
-    ensures home { result ≡ home_of (length slots.now) id }
-    ensures inside { result < length slots.now }
-{
-    (id.saturating_sub(1) % slots.len() as u64) as u32
-}
-
-/// The id of the row that is at a place in the table at this stamp.
-fn id_at(slots: &[Option<Version>], stamp: u64, place: u32) -> Option<u64>
-    ensures { result ≡ id_at (ids_of stamp slots.now) place }
-{
-    match slots.get(place as usize) {
-        Some(Some(version)) if version.is_visible_at(stamp) => Some(version.id),
-        _ => None,
-    }
-}
-
-/// Whether a row of a greater id is there.
-fn is_above(slots: &[Option<Version>], stamp: u64, place: u32, id: u64) -> bool
-    ensures { result ≡ is_above id (id_at (ids_of stamp slots.now) place) }
-{
-    match id_at(slots, stamp, place) {
-        Some(other) => id < other,
-        None => false,
-    }
-}
 
 /// A link of each slot, and behind them one of each home: to the place of that row of the home which has the next
 /// smaller id. Where there is none it is the capacity, which is no place. (this project)
@@ -95,18 +64,14 @@ impl IdChains {
         Ok(IdChains { next })
     }
 
-    /// The place of the row of this id in the table at this stamp.
-    pub(crate) fn find(&self, slots: &[Option<Version>], stamp: u64, id: u64) -> Option<u32>
-        requires few { length slots.now ≤ 65536 }
-        requires links { AreLinks (ids_of stamp slots.now) self.now }
-        ensures { IsPlaceOf stamp id slots.now result }
+    /// The place of the row of this id in the table.
+    pub(crate) fn find(&self, slots: &StampedSlots, id: u64) -> Option<u32>
+        requires { AreLinks (ids_of slots.now.stamp slots.now.slots) self.now }
+        ensures { IsPlaceOf slots.now.stamp id slots.now.slots result }
     {
-        if slots.is_empty() {
-            return None;
-        }
-        let node = before(&self.next, slots, stamp, id);
+        let node = before(&self.next, slots, id);
         let place = self.next[node as usize];
-        if stands_at(slots, place, stamp, id) {
+        if slots.stands_at(place, id) {
             Some(place)
         } else {
             None
@@ -114,35 +79,30 @@ impl IdChains {
     }
 
     /// A row of this id is about to begin at this place.
-    pub(crate) fn add(&mut self, slots: &[Option<Version>], stamp: u64, id: u64, place: u32)
-        requires few { length slots.now ≤ 65536 }
-        requires links { AreLinks (ids_of stamp slots.now) self.old }
-        requires ids { AreIds (2 ^ 64) (id_at (ids_of stamp slots.now)) }
-        requires place { place < length slots.now }
-        requires empty { id_at (ids_of stamp slots.now) place ≡ None }
-        requires absent { IsPlaceOf stamp id slots.now None }
-        ensures { AreLinks (slice_set (ids_of stamp slots.now) place (Some id)) self.new }
+    pub(crate) fn add(&mut self, slots: &StampedSlots, id: u64, place: u32)
+        requires links { AreLinks (ids_of slots.now.stamp slots.now.slots) self.old }
+        requires ids { AreIds (2 ^ 64) (id_at (ids_of slots.now.stamp slots.now.slots)) }
+        requires place { place < length slots.now.slots }
+        requires empty { id_at (ids_of slots.now.stamp slots.now.slots) place ≡ None }
+        requires absent { IsPlaceOf slots.now.stamp id slots.now.slots None }
+        ensures { AreLinks (slice_set (ids_of slots.now.stamp slots.now.slots) place (Some id)) self.new }
     {
-        let node = before(&self.next, slots, stamp, id);
+        let node = before(&self.next, slots, id);
         self.next[place as usize] = self.next[node as usize];
         self.next[node as usize] = place;
     }
 
     /// The row of this id is about to end: takes it out of its chain, and returns its place.
-    pub(crate) fn take(&mut self, slots: &[Option<Version>], stamp: u64, id: u64) -> Option<u32>
-        requires few { length slots.now ≤ 65536 }
-        requires links { AreLinks (ids_of stamp slots.now) self.old }
-        requires ids { AreIds (2 ^ 64) (id_at (ids_of stamp slots.now)) }
-        ensures place { IsPlaceOf stamp id slots.now result }
-        ensures some { IfSome result (λ place. AreLinks (slice_set (ids_of stamp slots.now) place None) self.new) }
+    pub(crate) fn take(&mut self, slots: &StampedSlots, id: u64) -> Option<u32>
+        requires links { AreLinks (ids_of slots.now.stamp slots.now.slots) self.old }
+        requires ids { AreIds (2 ^ 64) (id_at (ids_of slots.now.stamp slots.now.slots)) }
+        ensures place { IsPlaceOf slots.now.stamp id slots.now.slots result }
+        ensures some { IfSome result (λ place. AreLinks (slice_set (ids_of slots.now.stamp slots.now.slots) place None) self.new) }
         ensures none { IfNone result (self.new ≡ self.old) }
     {
-        if slots.is_empty() {
-            return None;
-        }
-        let node = before(&self.next, slots, stamp, id);
+        let node = before(&self.next, slots, id);
         let place = self.next[node as usize];
-        if !stands_at(slots, place, stamp, id) {
+        if !slots.stands_at(place, id) {
             return None;
         }
         self.next[node as usize] = self.next[place as usize];
@@ -151,15 +111,13 @@ impl IdChains {
 }
 
 /// The last home or place before this id on the chain of its home.
-fn before(next: &[u32], slots: &[Option<Version>], stamp: u64, id: u64) -> u32
-    requires some { 0 < length slots.now }
-    requires few { length slots.now ≤ 65536 }
-    requires links { AreLinks (ids_of stamp slots.now) next.now }
-    ensures before { IsBefore (2 ^ 64) (length slots.now) (home_of (length slots.now)) (id_at (ids_of stamp slots.now)) id result }
+fn before(next: &[u32], slots: &StampedSlots, id: u64) -> u32
+    requires { AreLinks (ids_of slots.now.stamp slots.now.slots) next.now }
+    ensures before { IsBefore (2 ^ 64) (length slots.now.slots) (home_of (length slots.now.slots)) (id_at (ids_of slots.now.stamp slots.now.slots)) id result }
     ensures inside { result < length next.now }
 {
-    let mut node = slots.len() as u32 + home_of(slots, id);
-    'along: while is_above(slots, stamp, next[node as usize], id) {
+    let mut node = slots.capacity() + slots.home_of(id);
+    'along: while slots.is_above(next[node as usize], id) {
         node = next[node as usize];
     }
     node

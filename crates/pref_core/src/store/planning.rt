@@ -1,14 +1,15 @@
-//! What becomes of a call.
+//! What becomes of a call, and where its rows go.
 
-ghost use Rattle.std.specs.Prelude.{IfSome, true, is_some, length, ◌≡◌, ◌<◌, ◌⊎◌};
+ghost use Rattle.std.specs.Prelude.{ℕ, IfSome, IfNone, Some, true, false, is_some, length, ◌≡◌, ◌<◌, ◌⊎◌};
 ghost use Rattle.pref_core.specs.Indexes.{IsIndexOf};
-ghost use Rattle.pref_core.specs.ContentsInvariant.{IsKept, IsFreed, FindsFreed, FitAtOnce, uses_of};
+ghost use Rattle.pref_core.specs.ContentsInvariant.{IsKept, IsFreed, FindsFreed, FitAtOnce, is_open, uses_of};
 ghost use Rattle.pref_core.specs.IdChains.{home_of};
-ghost use Rattle.pref_core.specs.Operations.{outcome_at, placed, Plans, PlansIn};
+ghost use Rattle.pref_core.specs.Operations.{outcome_at, placed, used, grown, Plans, PlansIn};
 ghost use Rattle.pref_core.specs.Planned.{op_or_fault};
 ghost use Rattle.pref_core.specs.SlotSets.{free_at};
 ghost use Rattle.pref_core.specs.Slots.{StandsFor};
 ghost use Rattle.pref_core.specs.State.{State, ended, is_change, is_formed, succeeds, success_outcome};
+ghost use Rattle.pref_core.specs.Table.{among};
 
 use crate::call::slot_list::is_listed;
 use crate::call::{Call, LentCall, Op, Outcome, Planned, QueryState, SlotList};
@@ -18,8 +19,7 @@ use crate::index::Index;
 use crate::store::Store;
 use crate::store::caller::caller_of;
 use crate::store::contents::Contents;
-use crate::store::id_chains::home_of;
-use crate::store::reads::stands_at;
+use crate::store::slot_sets::any_but;
 
 impl Store {
     /// Plans a call, whose rows are found by an index where there is one.
@@ -155,9 +155,6 @@ impl Contents {
         requires index { IfSome index (λ index. IsIndexOf self.now index.now) }
         ensures { IfSome result (λ slots. FitAtOnce self.now call.now slots) }
     {
-        if self.slots.is_empty() {
-            return None;
-        }
         let mut homes = SlotList::NONE;
         let mut next_id = self.next_id;
         for at in 0..call.count() {
@@ -178,10 +175,9 @@ impl Contents {
     /// The slot that is tried first for a row of this id: its home, or any free one where that is not free and the row is
     /// a lone new one.
     fn slot_to_try(&self, id: u64, is_lone: bool) -> u32
-        requires { 0 < length self.now.slots }
         ensures { (result ≡ home_of (length self.now.slots) id) ⊎ (free_at (uses_of self.now) result ≡ true) }
     {
-        let home = home_of(&self.slots, id);
+        let home = self.slots.home_of(id);
         if is_lone && !self.places.is_free(home) {
             if let Some(place) = self.places.any_free_but(&SlotList::NONE) {
                 return place;
@@ -211,7 +207,7 @@ impl Contents {
                     used += 1;
                 }
                 (LentChange::Set(id, _), Some(place))
-                    if stands_at(&self.slots, *place, self.stamp, id) && self.frees(*place) => {
+                    if self.slots.stands_at(*place, id) && self.frees(*place) => {
                     used += 1;
                 }
                 (LentChange::Remove(id), _) if self.place_of(index, id).is_some() => {}
@@ -235,11 +231,37 @@ impl Contents {
         };
         if call.begins_row() {
             let needed = self.size_after(freed, call);
-            if needed > self.slots.len() {
+            if needed > self.slots.capacity() as usize {
                 return Outcome::Full(needed as u64);
             }
         }
         success_outcome(self.next_id, call)
+    }
+
+    /// How many versions are needed after a call that ends rows, by the slots that they leave free.
+    fn size_after(&self, freed: &SlotList, call: &LentCall<'_>) -> usize
+        requires { IsFreed self.now (ended call.now) freed.now }
+        ensures { result ≡ used (grown call.now self.now) }
+    {
+        let free = self.free() as usize + freed.as_slice().len();
+        self.slots.capacity() as usize + call.begun() - free
+    }
+
+    /// A slot for a row of this id, beside those that were chosen: its home where that can be used, so that a row that
+    /// had to move comes home, else one that an ended row leaves free, else any.
+    fn choose(&self, freed: &SlotList, chosen: &SlotList, id: u64) -> Option<u32>
+        ensures found { IfSome result (λ place. (is_open (uses_of self.now) freed.now place ≡ true) × (among chosen.now place ≡ false)) }
+        ensures none { IfNone result ((place : ℕ) → is_open (uses_of self.now) freed.now place ≡ true → among chosen.now place ≡ true) }
+        ensures home { let home = home_of (length self.now.slots) id in 0 < length self.now.slots → is_open (uses_of self.now) freed.now home ≡ true → among chosen.now home ≡ false → result ≡ Some home }
+    {
+        let home = self.slots.home_of(id);
+        if self.is_open(freed, home) && !chosen.has(home) {
+            return Some(home);
+        }
+        if let Some(place) = any_but(freed.as_slice(), chosen) {
+            return Some(place);
+        }
+        self.places.any_free_but(chosen)
     }
 }
 

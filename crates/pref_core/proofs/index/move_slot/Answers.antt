@@ -1,4 +1,4 @@
-use Rattle.pref_core.proofs.Common.{Some, sym, ap, ◌∙◌, subst, slot_of, row_at, IsPlaceOf, Contents}
+use Rattle.pref_core.proofs.Common.{Some, sym, ◌∙◌, subst, slot_of, IsPlaceOf, Contents}
 use Rattle.pref_core.proofs.IdsAfterCommit.{place_known}
 use Rattle.pref_core.proofs.IndexLaws.{points_still}
 use Rattle.pref_core.proofs.index.move_slot.Goals as goal
@@ -8,6 +8,6 @@ returns-else-not-stands_at-clause-moved c =
     let now = c.contents.inside in
     let index = c.args.map.now.entries in
     points_still index c.args.id (Some c.args.slot)
-    (place_known now.stamp c.args.id c.args.slot now.slots.items (slot_of index c.args.id) c.contents.invariant.ids
-    (ap (λ l. row_at now.stamp c.args.id l c.args.slot) (sym c.deref.ensures.value) ∙ sym c.stands_at.ensures ∙ c.if-not-stands_at.false)
+    (place_known now.slots.stamp c.args.id c.args.slot now.slots.slots (slot_of index c.args.id) c.contents.invariant.ids
+    (sym c.stands_at.ensures ∙ c.if-not-stands_at.false)
     (subst (λ (s : Contents). IsPlaceOf s.stamp c.args.id s.slots (slot_of index c.args.id)) (sym c.contents.view_is) c.requires.index))

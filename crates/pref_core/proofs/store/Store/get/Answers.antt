@@ -1,10 +1,5 @@
-use Rattle.pref_core.proofs.Common.{◌∙◌, ap, subst, Contents, IsPlaceOf, row_in}
-use Rattle.pref_core.proofs.LineOfLaws.{row_of_place}
+use Rattle.pref_core.proofs.Common.{sym, subst, Contents, StandsFor}
 use Rattle.pref_core.proofs.store.Store.get.Goals as goal
 
 pub returns : goal.returns
-returns c state h =
-    let now = c.args.self.now in
-    let place = c.place_of.result in
-    c.row_in.ensures ∙ ap (λ (s : Contents). row_in s.slots place) c.self.view_is
-    ∙ row_of_place now.slots now.stamp state.table c.args.id place h.table (subst (λ (s : Contents). IsPlaceOf s.stamp c.args.id s.slots place) c.self.view_is c.place_of.ensures)
+returns c state h = c.row.ensures state (subst (λ (s : Contents). StandsFor s state) (sym c.self.view_is) h)

@@ -1,70 +1,62 @@
-use Rattle.pref_core.proofs.Common.{◌≡◌, ℕ, ◌<◌, ◌≤◌, true, List, [], ◌∷◌, length, map, set, get_or, Option, Some, None, unwrap_or, sym, ap, ap₂, ◌∙◌, subst, arith, slice_get, common_steps}
-use Rattle.pref_core.proofs.Common.{get_or-set_same, slice_get-get_or, Version, row_at, IsPlaceOf, IsTracked, with_slots, ids_of, AreLinks, close, number_of, use_of, Contents}
-use Rattle.std.specs.Prelude.{option_map}
-use Rattle.pref_core.proofs.LinksOfSlots.{within_at}
+use Rattle.pref_core.proofs.Common.{◌≡◌, ◌<◌, ◌≤◌, [], ◌∷◌, length, length-set, map, get_or, Some, sym, ap, ap₂, ◌∙◌, subst, arith, slice_get, slice_get_within}
+use Rattle.pref_core.proofs.Common.{get_or-set_same, Version, IsPlaceOf, IsTracked, StampedSlots, with_slots, close, number_of, use_of, Contents}
 use Rattle.pref_core.proofs.UsesAfterQuery.{zone_few}
 use Rattle.pref_core.proofs.FilledLaws.{end_none, end_alive, end_slots, end_tracked}
-use Rattle.pref_core.proofs.IdChainsLaws.{row_shown}
 use Rattle.pref_core.proofs.SlotUseLaws.{row_version}
 use Rattle.pref_core.proofs.store.contents.Contents.end_row.Goals.{In-Some}
 use Rattle.pref_core.proofs.store.contents.Contents.end_row.Goals as goal
 
-shown : (c : In-Some) → row_at c.self.inside.stamp c.args.id c.self.inside.slots.items c.in-Some.place ≡ true
-shown c = ap (λ l. row_at c.self.inside.stamp c.args.id l c.in-Some.place) (sym c.deref.ensures.value) ∙ c.in-Some.ensures.place
-
-inside : (c : In-Some) → c.in-Some.place < length c.self.inside.slots.items
-inside c =
-    let now = c.self.inside in
-    within_at now.stamp now.slots.items c.in-Some.place c.args.id (row_shown now.stamp c.args.id now.slots.items c.in-Some.place (shown c))
-
 -- the version that ends
-found : (c : In-Some) → (version : Version) × (slice_get c.self.inside.slots.items c.in-Some.place ≡ Some (Some version))
-found c = let now = c.self.inside in row_version now.stamp c.args.id now.slots.items c.in-Some.place (shown c)
+found : (c : In-Some) → (version : Version) × (slice_get c.self.inside.slots.slots c.in-Some.place ≡ Some (Some version))
+found c = let slots = c.self.inside.slots in row_version slots.stamp c.args.id slots.slots c.in-Some.place c.in-Some.ensures.place
 
--- its slot then
-ended : (slots : List (Option Version)) (place stamp : ℕ) (version : Version) (slot last : Option Version) → place < length slots → slice_get slots place ≡ Some (Some version)
-    → slot ≡ get_or slots place slot → last ≡ option_map (λ (v : Version). record v { death = Some stamp }) slot → last ≡ Some (record version { death = Some stamp })
-ended slots place stamp version slot last room at is returned =
-    returned ∙ ap (option_map (λ (v : Version). record v { death = Some stamp })) (is ∙ ap (λ o. unwrap_or o slot) (sym (slice_get-get_or slots place slot room) ∙ at))
+inside : (c : In-Some) → c.in-Some.place < length c.self.inside.slots.slots
+inside c = slice_get_within c.self.inside.slots.slots c.in-Some.place (Some (found c).0) (found c).1
 
 pub returns-in_default : goal.returns-in_default
 returns-in_default c =
     let now = c.self.inside in
-    end_none _ now.places now.links c.args.id c.self.invariant
-    (subst (λ l. IsPlaceOf now.stamp c.args.id l None) c.deref.ensures.value (subst (IsPlaceOf now.stamp c.args.id c.deref.result.now) c.in_default.is c.take.ensures.place))
+    end_none _ now.places now.links c.args.id c.self.invariant (subst (IsPlaceOf now.slots.stamp c.args.id now.slots.slots) c.in_default.is c.take.ensures.place)
     ∙ ap (λ (s : Contents). with_slots (map (close (c.args.id ∷ []) s.stamp) s.slots) s) c.self.view_is
 
-pub index_mut-requires : goal.index_mut-requires
-index_mut-requires c = let room = inside (goal.at.index_mut-requires c).In-Some in grind (arith, common_steps, room)
+pub end-requires : goal.end-requires
+end-requires c = inside (goal.at.end-requires c).In-Some
 
-pub index-requires : goal.index-requires
-index-requires c = let room = inside (goal.at.index-requires c).In-Some in grind (arith, common_steps, room)
+pub bounds-slots-place : goal.bounds-slots-place
+bounds-slots-place c =
+    let some = (goal.at.bounds-slots-place c).In-Some in
+    let room = inside some in
+    let same = ap length (c.as_slice-slots.ensures ∙ ap (λ (s : StampedSlots). s.slots) (c.end.ensures (found some).0 (found some).1)) in
+    let long = length-set c.self.inside.slots.slots c.in-Some.place (Some (record (found some).0 { death = Some c.self.inside.slots.stamp })) in
+    omega arith
 
 pub put-requires : goal.put-requires
 put-requires c =
     let now = c.self.inside in
     let some = (goal.at.put-requires c).In-Some in
     record {
-      there = end_alive _ now.places now.links c.args.id c.in-Some.place (found some).0 c.self.invariant (shown some) (found some).1;
-      few = (omega arith, subst (λ zone. number_of zone < 10) (sym c.use_of-zone.ensures) (zone_few _ _ (subst (λ callers. length callers ≤ 8) (sym c.deref-2.ensures.value) c.self.invariant.seats)));
+      there = end_alive _ now.places now.links c.args.id c.in-Some.place (found some).0 c.self.invariant c.in-Some.ensures.place (found some).1;
+      few = (omega arith, subst (λ zone. number_of zone < 10) (sym c.use_of-zone.ensures) (zone_few _ _ (subst (λ callers. length callers ≤ 8) (sym c.deref.ensures.value) c.self.invariant.seats)));
     }
 
 pub invariant_of-self-2 : goal.invariant_of-self-2
 invariant_of-self-2 c =
     let now = c.self.inside in
-    let contents : Contents = record { slots = now.slots.items; stamp = now.stamp; next_id = now.next_id; callers = now.callers.items } in
+    let contents : Contents = record { slots = now.slots.slots; stamp = now.slots.stamp; next_id = now.next_id; callers = now.callers.items } in
     let some = (goal.at.invariant_of-self-2 c).In-Some in
-    let last = ended now.slots.items c.in-Some.place now.stamp (found some).0 c.index_mut.result.now c.end.new.slot (inside some) (found some).1 c.index_mut.ensures.value c.end.ensures in
-    let linked = subst (λ l. AreLinks (set (ids_of now.stamp l) c.in-Some.place None) c.take.new.self) c.deref.ensures.value c.in-Some.ensures.some in
-    let zone = c.use_of-zone.ensures ∙ ap₂ (λ callers slot. use_of callers slot) c.deref-2.ensures.value (c.index.ensures ∙ get_or-set_same now.slots.items c.in-Some.place c.end.new.slot _ (inside some) ∙ last) in
-    subst (λ r. IsTracked (with_slots (set now.slots.items c.in-Some.place r) contents) c.put.new.self c.take.new.self) (sym last)
-    (end_tracked contents now.places now.links c.args.id c.in-Some.place (found some).0 c.self.invariant (shown some) (found some).1 c.use_of-zone.result c.put.new.self c.take.new.self zone c.put.ensures linked)
+    let version = (found some).0 in
+    let last = Some (record version { death = Some now.slots.stamp }) in
+    let returned = c.end.ensures version (found some).1 in
+    let slot = c.index-slots-place.is ∙ ap (λ l. get_or l c.in-Some.place c.index-slots-place.result) (c.as_slice-slots.ensures ∙ ap (λ (s : StampedSlots). s.slots) returned) ∙ get_or-set_same now.slots.slots c.in-Some.place last c.index-slots-place.result (inside some) in
+    let zone = c.use_of-zone.ensures ∙ ap₂ (λ callers slot. use_of callers slot) c.deref.ensures.value slot in
+    subst (λ (s : StampedSlots). IsTracked (record { slots = s.slots; stamp = s.stamp; next_id = now.next_id; callers = now.callers.items }) c.put.new.self c.take.new.self) (sym returned)
+    (end_tracked contents now.places now.links c.args.id c.in-Some.place version c.self.invariant c.in-Some.ensures.place (found some).1 c.use_of-zone.result c.put.new.self c.take.new.self zone c.put.ensures c.in-Some.ensures.some)
 
 pub returns : goal.returns
 returns c =
     let now = c.self.inside in
-    let contents : Contents = record { slots = now.slots.items; stamp = now.stamp; next_id = now.next_id; callers = now.callers.items } in
+    let contents : Contents = record { slots = now.slots.slots; stamp = now.slots.stamp; next_id = now.next_id; callers = now.callers.items } in
     let some = (goal.at.returns c).In-Some in
-    ap (λ r. with_slots (set now.slots.items c.in-Some.place r) contents) (ended now.slots.items c.in-Some.place now.stamp (found some).0 c.index_mut.result.now c.end.new.slot (inside some) (found some).1 c.index_mut.ensures.value c.end.ensures)
-    ∙ ap (λ l. with_slots l contents) (end_slots contents now.places now.links c.args.id c.in-Some.place (found some).0 c.self.invariant (shown some) (found some).1)
+    ap (λ (s : StampedSlots). record { slots = s.slots; stamp = s.stamp; next_id = now.next_id; callers = now.callers.items }) (c.end.ensures (found some).0 (found some).1)
+    ∙ ap (λ l. with_slots l contents) (end_slots contents now.places now.links c.args.id c.in-Some.place (found some).0 c.self.invariant c.in-Some.ensures.place (found some).1)
     ∙ ap (λ (s : Contents). with_slots (map (close (c.args.id ∷ []) s.stamp) s.slots) s) c.self.view_is

@@ -35,7 +35,7 @@ loop-at-preserved c =
           let more = w.used-is in
           let slot = slice_get-get_or places used place (ltb-true _ _ (sym w.in-Set-Some.ensures'.lookup.0)) ∙ ap Some (sym w.in-Set-Some.ensures'.lookup.1) in
           let stamp = ap (λ (s : Contents). s.stamp) c.self.view_is in
-          let slots = w.deref.ensures.value ∙ ap (λ (s : Contents). s.slots) c.self.view_is in
+          let slots = ap (λ (s : Contents). s.slots) c.self.view_is in
           let stands = sym (λ i. row_at (stamp i) id (slots i) place) ∙ sym w.stands_at.ensures ∙ w.if-stands_at.true in
           record {
             fits = subst (FitsUpTo now call places (at + 1)) (sym more)

@@ -1,4 +1,4 @@
-use Rattle.pref_core.proofs.Common.{◌+◌, ◌-◌, ◌++◌, length, replicate, Option, None, arith, refl, ap, ◌∙◌, subst, Version, IsKept, AreLinks, opening_slots}
+use Rattle.pref_core.proofs.Common.{◌+◌, ◌-◌, ◌++◌, length, replicate, Option, None, arith, refl, ap, sym, ◌∙◌, subst, Version, IsKept, AreLinks, StampedSlots, ids_of, opening_slots}
 use Rattle.pref_core.proofs.UsesAfterQuery.{zones_opened}
 use Rattle.pref_core.proofs.IdsAfterCommit.{known_ids}
 use Rattle.pref_core.proofs.OpeningChains.{opening_is}
@@ -9,23 +9,27 @@ pub invariant_of-result : goal.invariant_of-result
 invariant_of-result c =
     let capacity = c.capacity-capacity.result in
     let rows = c.args.rows.now in
-    let slots = c.in_ok-slots.slots.items in
-    let kept : IsKept (record { slots = slots; stamp = length rows; next_id = length rows + 1; callers = c.in_ok-callers.callers.items })
-    = opened_kept c.clients.result capacity rows _ (omega arith) c.capacity-capacity.ensures.range.1 c.clients.ensures.range.1 c.in_ok-slots.ensures refl refl c.in_ok-callers.ensures in
+    let slots = c.in_ok-slots.slots in
+    let opened = ap (λ (s : StampedSlots). s.slots) c.in_ok-slots.ensures in
+    let stamp = ap (λ (s : StampedSlots). s.stamp) c.in_ok-slots.ensures in
+    let kept : IsKept (record { slots = slots.slots; stamp = slots.stamp; next_id = length rows + 1; callers = c.in_ok-callers.callers.items })
+    = opened_kept c.clients.result capacity rows _ (omega arith) c.capacity-capacity.ensures.range.1 c.clients.ensures.range.1 opened stamp refl c.in_ok-callers.ensures in
     record {
-      few = kept.bounded.slots;
       seats = kept.bounded.callers;
       within = kept.stands.within;
-      listed = zones_opened c.in_ok-callers.callers.items capacity rows slots c.in_ok-places.places c.in_ok-slots.ensures c.in_ok-places.ensures;
-      linked = subst (λ ids. AreLinks ids c.in_ok-links.links) (opening_is capacity rows slots (omega arith) c.in_ok-slots.ensures) c.in_ok-links.ensures;
+      listed = zones_opened c.in_ok-callers.callers.items capacity rows slots.slots c.in_ok-places.places opened c.in_ok-places.ensures;
+      linked = subst (λ ids. AreLinks ids c.in_ok-links.links) (opening_is capacity rows slots.slots (omega arith) opened ∙ ap (λ n. ids_of n slots.slots) (sym stamp)) c.in_ok-links.ensures;
       ids = known_ids _ kept.state kept.bounded kept.stands;
     }
 
 pub returns-clause-opening : goal.returns-clause-opening
 returns-clause-opening c =
-    let slots = c.in_ok-slots.ensures ∙ ap (λ n. opening_slots 0 c.args.rows.now ++ replicate {A = Option Version} (n - length c.args.rows.now) None) c.capacity-capacity.ensures.value in
+    let slots = ap (λ (s : StampedSlots). s.slots) c.in_ok-slots.ensures ∙ ap (λ n. opening_slots 0 c.args.rows.now ++ replicate {A = Option Version} (n - length c.args.rows.now) None) c.capacity-capacity.ensures.value in
+    let stamp = ap (λ (s : StampedSlots). s.stamp) c.in_ok-slots.ensures in
     let callers = c.in_ok-callers.ensures ∙ ap (λ n. replicate n (record { calls = 0; at_begin = None })) c.clients.ensures.value in
-    (λ i. record { slots = slots i; stamp = length c.args.rows.now; next_id = length c.args.rows.now + 1; callers = callers i })
+    (λ i. record { slots = slots i; stamp = stamp i; next_id = length c.args.rows.now + 1; callers = callers i })
 
 pub returns-clause-kept : goal.returns-clause-kept
-returns-clause-kept c = opened_kept c.clients.result c.capacity-capacity.result c.args.rows.now _ (omega arith) c.capacity-capacity.ensures.range.1 c.clients.ensures.range.1 c.in_ok-slots.ensures refl refl c.in_ok-callers.ensures
+returns-clause-kept c =
+    opened_kept c.clients.result c.capacity-capacity.result c.args.rows.now _ (omega arith) c.capacity-capacity.ensures.range.1 c.clients.ensures.range.1
+    (ap (λ (s : StampedSlots). s.slots) c.in_ok-slots.ensures) (ap (λ (s : StampedSlots). s.stamp) c.in_ok-slots.ensures) refl c.in_ok-callers.ensures

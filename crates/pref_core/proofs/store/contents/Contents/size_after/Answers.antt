@@ -10,5 +10,5 @@ returns c =
     let same = ap length c.as_slice.ensures.same in
     let less = freed_less now (ended call) c.args.freed.now c.requires in
     let long = ap (λ (s : Contents). length s.slots) c.self.view_is in
-    size_is now call c.args.freed.now (c.len.result + c.begun.result - freed) freed c.begun.result
-    c.requires (c.begun.ensures.count now.next_id) (omega (arith, c.free.ensures.value, same)) (grind (arith, common_steps, c.free.ensures.value, same, less, long))
+    size_is now call c.args.freed.now (c.capacity.result + c.begun.result - freed) freed c.begun.result
+    c.requires (c.begun.ensures.count now.next_id) (omega (arith, c.free.ensures.value, same)) (grind (arith, common_steps, c.free.ensures.value, c.capacity.ensures.value, same, less, long))

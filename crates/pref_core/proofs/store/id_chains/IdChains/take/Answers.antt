@@ -6,23 +6,25 @@ use Rattle.pref_core.proofs.store.id_chains.IdChains.take.Goals as goal
 pub returns-then-not-stands_at-clause-place : goal.returns-then-not-stands_at-clause-place
 returns-then-not-stands_at-clause-place c =
     let same = ap length c.deref.ensures.value in
-    let some : 0 < length c.args.slots.now = grind (arith, common_steps, c.is_empty.ensures, c.if-is_empty.false) in
+    let links = subst (AreLinks (ids_of c.args.slots.now.stamp c.args.slots.now.slots)) (sym c.self.view_is) c.requires.links in
+    let long = long_at c.args.slots.now.stamp c.args.slots.now.slots c.self.inside.next.items links in
+    let some : 0 < length c.args.slots.now.slots = let inside = c.before-node.ensures.inside in omega (arith, same) in
     let at = c.index-place.ensures ∙ get_or_default_zero c.self.inside.next.items c.before-node.result _ (let inside = c.before-node.ensures.inside in omega (arith, same)) in
-    nowhere c.args.stamp c.args.id c.args.slots.now c.self.inside.next.items c.before-node.result some (subst (AreLinks (ids_of c.args.stamp c.args.slots.now)) (sym c.self.view_is) c.requires.links) c.before-node.ensures.before
-    (ap (row_at c.args.stamp c.args.id c.args.slots.now) (sym at) ∙ sym c.stands_at.ensures ∙ c.if-not-stands_at.true)
+    nowhere c.args.slots.now.stamp c.args.id c.args.slots.now.slots c.self.inside.next.items c.before-node.result some links c.before-node.ensures.before
+    (ap (row_at c.args.slots.now.stamp c.args.id c.args.slots.now.slots) (sym at) ∙ sym c.stands_at.ensures ∙ c.if-not-stands_at.true)
 
 pub index-requires : goal.index-requires
 index-requires c =
-    let links = subst (AreLinks (ids_of c.args.stamp c.args.slots.now)) (sym c.self.view_is) c.requires.links in
-    let long = long_at c.args.stamp c.args.slots.now c.self.inside.next.items links in
+    let links = subst (AreLinks (ids_of c.args.slots.now.stamp c.args.slots.now.slots)) (sym c.self.view_is) c.requires.links in
+    let long = long_at c.args.slots.now.stamp c.args.slots.now.slots c.self.inside.next.items links in
     let there = sym c.stands_at.ensures ∙ c.if-not-stands_at.false in
-    let room = within_at c.args.stamp c.args.slots.now c.index-place.result.now c.args.id (row_shown c.args.stamp c.args.id c.args.slots.now c.index-place.result.now there) in
+    let room = within_at c.args.slots.now.stamp c.args.slots.now.slots c.index-place.result.now c.args.id (row_shown c.args.slots.now.stamp c.args.id c.args.slots.now.slots c.index-place.result.now there) in
     grind (arith, common_steps, long, room)
 
 pub returns-clause-some : goal.returns-clause-some
 returns-clause-some c =
-    let links = subst (AreLinks (ids_of c.args.stamp c.args.slots.now)) (sym c.self.view_is) c.requires.links in
+    let links = subst (AreLinks (ids_of c.args.slots.now.stamp c.args.slots.now.slots)) (sym c.self.view_is) c.requires.links in
     let same = ap length c.deref.ensures.value in
     let there = sym c.stands_at.ensures ∙ c.if-not-stands_at.false in
-    links_removed c.args.stamp c.args.id c.args.slots.now c.self.inside.next.items c.index-place.result.now c.before-node.result c.index.result.now links c.requires.ids there
-    c.before-node.ensures.before (let inside = c.before-node.ensures.inside in omega (arith, same)) (c.index.ensures ∙ get_or_default_zero c.self.inside.next.items c.index-place.result.now _ (let long = long_at c.args.stamp c.args.slots.now c.self.inside.next.items links in let room = within_at c.args.stamp c.args.slots.now c.index-place.result.now c.args.id (row_shown c.args.stamp c.args.id c.args.slots.now c.index-place.result.now there) in omega arith))
+    links_removed c.args.slots.now.stamp c.args.id c.args.slots.now.slots c.self.inside.next.items c.index-place.result.now c.before-node.result c.index.result.now links c.requires.ids there
+    c.before-node.ensures.before (let inside = c.before-node.ensures.inside in omega (arith, same)) (c.index.ensures ∙ get_or_default_zero c.self.inside.next.items c.index-place.result.now _ (let long = long_at c.args.slots.now.stamp c.args.slots.now.slots c.self.inside.next.items links in let room = within_at c.args.slots.now.stamp c.args.slots.now.slots c.index-place.result.now c.args.id (row_shown c.args.slots.now.stamp c.args.id c.args.slots.now.slots c.index-place.result.now there) in omega arith))

@@ -1,5 +1,5 @@
 use Rattle.pref_core.proofs.Common.{◌≡◌, ◌++◌, drop, replicate, None, opening_slots}
-use Rattle.pref_core.proofs.store.opening.opening.Given as goal
+use Rattle.pref_core.proofs.store.stamped_slots.StampedSlots.new.Given as goal
 
 abbrev pub invariant-loop-row : goal.invariant-loop-row
 invariant-loop-row l = record {
