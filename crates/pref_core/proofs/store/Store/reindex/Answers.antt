@@ -1,11 +1,7 @@
-use Rattle.pref_core.proofs.Common.{and_right, ◌≡◌, true, Result, Ok, Err, OnOk, sym, ◌∙◌, subst, Contents, IsKept, PointsAll, placed_rows, op_of, changes_of, is_change, succeeds, is_next}
+use Rattle.pref_core.proofs.Common.{and_right, ◌≡◌, true, OnOk, sym, ◌∙◌, subst, Contents, IsKept, PointsAll, placed_rows, op_of, changes_of, is_change, succeeds, is_next}
+use Rattle.std.proofs.lemmas.Result.{on_ok_weaker}
 use Rattle.pref_core.proofs.IndexLaws.{indexed, indexed_still}
 use Rattle.pref_core.proofs.store.Store.reindex.Goals as goal
-
--- what an `Ok` is known of gives what is wanted of it
-on_ok : {T E P Q : Type 0} (result : Result T E) → (P → Q) → OnOk result P → OnOk result Q
-on_ok (Ok value) f p = f p
-on_ok (Err fault) f p = p
 
 pub follow-requires-clause-next : goal.follow-requires-clause-next
 follow-requires-clause-next c = subst (λ (s : Contents). is_next s (op_of c.args.op.now) ≡ true) (sym c.self.view_is) c.requires.plan.next
@@ -16,7 +12,7 @@ returns-then-succeeds-clause-after c =
     let op = op_of c.args.op.now in
     let kept = subst IsKept c.self.view_is c.self.invariant in
     let placed = subst (λ (s : Contents). OnOk c.follow.result (PointsAll c.args.index.now (placed_rows s.next_id (changes_of op.call) op.slots) c.follow.new.self)) c.self.view_is c.follow.ensures.placed in
-    on_ok c.follow.result (indexed now kept.stands.within op c.args.index.now c.follow.new.self c.requires.plan.next c.requires.plan.fits (sym c.succeeds.ensures ∙ c.if-succeeds.true) c.requires.index) placed
+    on_ok_weaker c.follow.result (indexed now kept.stands.within op c.args.index.now c.follow.new.self c.requires.plan.next c.requires.plan.fits (sym c.succeeds.ensures ∙ c.if-succeeds.true) c.requires.index) placed
 
 pub returns-else-succeeds-clause-after : goal.returns-else-succeeds-clause-after
 returns-else-succeeds-clause-after c =
