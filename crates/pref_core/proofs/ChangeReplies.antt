@@ -1,4 +1,4 @@
--- What a machine tells at each act is the system's reply: changes and begins.
+-- What a machine returns at each act is the system's reply: changes and begins.
 use Rattle.pref_core.proofs.Common.{◌≡◌, ℕ, ◌^◌, Bool, true, false, cond, nat_lt, List, Option, Some, None, is_some, Ok, Err, Result, inl, refl, sym, ap, ◌∙◌, subst, option_map, Question, Call}
 use Rattle.pref_core.proofs.Common.{CallInsert, CallUpdate, CallDelete, CallCommit, Begin, Finish, Abandon, Outcome, Added, Done, NoSuchRow, Full, Op, CoreFault, NoSuchClient, Spent, QueryOpen, Act}
 use Rattle.pref_core.proofs.Common.{ActBegin, Reply, Begun, Limits, AreAllowed, blocks, State, is_change, seat, with_seat, refusal, refusal_of, refusal_by_query, begun_after, outcome, Open, Member}
@@ -16,8 +16,8 @@ abbrev pub running_of : Contents → Limits → List (Option Scan) → Running
 running_of contents limits scans = record { contents = contents; limits = limits; scans = scans }
 
 -- a refusal that changes nothing
-pub refused_tells : (running : Running) (system : System) (right : Step) (act : Act) (fault : CoreFault) → StandsForSystem running system → right ≡ refused fault system → Returns running right act (Err fault) running
-refused_tells running system right act fault h is = subst (λ r. Returns running r act (Err fault) running) (sym is) (inl (refl, h))
+pub refused_returns : (running : Running) (system : System) (right : Step) (act : Act) (fault : CoreFault) → StandsForSystem running system → right ≡ refused fault system → Returns running right act (Err fault) running
+refused_returns running system right act fault h is = subst (λ r. Returns running r act (Err fault) running) (sym is) (inl (refl, h))
 
 -- nobody is refused whatever it does
 pub nobody_steps : (limits : Limits) (system : System) (client : ℕ) (act : Act) → seat client system.members ≡ None → step limits system (record { client = client; act = act }) ≡ refused NoSuchClient system
@@ -33,7 +33,7 @@ let_in_steps member system right h = ap (λ b. cond b right (refused Spent syste
 pub refused_does : (old : Running) (client : ℕ) (act : Act) (call : Call) (fault : CoreFault)
     → ((system : System) (member : Member) (q : Option Open) → refusal_of (Some member.calls) (is_some (option_map snapshot q)) call ≡ Some fault → step_of old.limits system client member act q ≡ refused fault system)
     → PlansAlways old.contents client call (Err fault) → Does old client act (Err fault) old
-refused_does old client act call fault refuses plans = record { limits = refl; tells = λ system h. refused_tells old system _ act fault h (go system (plans (state_of system) h.store) (seat client system.members) refl) }
+refused_does old client act call fault refuses plans = record { limits = refl; returns = λ system h. refused_returns old system _ act fault h (go system (plans (state_of system) h.store) (seat client system.members) refl) }
   where
     go : (system : System) → refusal (state_of system) client call ≡ Some fault → (o : Option Member) → seat client system.members ≡ o
         → elim o as (λ x. Step) [ None ↦ refused NoSuchClient system | Some member ↦ step_of old.limits system client member act member.query ] ≡ refused fault system
@@ -49,6 +49,10 @@ numbered_refused system member call right fault open_ e = go (nat_lt member.call
     go : (b : Bool) → cond b (refusal_by_query (is_some (option_map snapshot member.query)) call) (Some Spent) ≡ Some fault → cond b right (refused Spent system) ≡ refused fault system
     go true h = open_ fault h
     go false h = ap (λ f. refused f system) (same_Some Spent fault h)
+
+-- A call that is planned is not refused.
+pub plan_accepts : (system : System) (contents : Contents) (client : ℕ) (call : Call) (op : Op) → PlansIn (state_of system) contents client call (Ok op) → refusal (state_of system) client call ≡ None
+plan_accepts system contents client call op plan = (λ i. refusal (state_of system) (sym plan.0 i) (sym plan.1 i)) ∙ plan.2.next.accepted
 
 -- What comes of a planned change.
 record Comes (running : Running) (system : System) (client : ℕ) (call : Call) (done : Reply) (op : Op) : Type 0 where
@@ -69,7 +73,7 @@ comes running system client call done op h plans = record {
     plan = plans (state_of system) h.store
 
     accepted : refusal (state_of system) client call ≡ None
-    accepted = (λ i. refusal (state_of system) (sym plan.0 i) (sym plan.1 i)) ∙ plan.2.next.accepted
+    accepted = plan_accepts system running.contents client call op plan
 
     there : IsThere system client
     there = IsThere-from system client call accepted
@@ -92,9 +96,9 @@ adding_not_refused running system client call done op quiet adding h plans = ap 
     go (Full size) adding = absurd (cc)
 
 -- Changes.
-pub change_tells : (running : Running) (system : System) (client : ℕ) (call : Call) (done : Reply) (op : Op) (new : Contents) (act : Act) → is_change call ≡ true → is_refusal done ≡ false → StandsForSystem running system → PlansAlways running.contents client call (Ok op) → new ≡ applied running.contents op
+pub change_returns : (running : Running) (system : System) (client : ℕ) (call : Call) (done : Reply) (op : Op) (new : Contents) (act : Act) → is_change call ≡ true → is_refusal done ≡ false → StandsForSystem running system → PlansAlways running.contents client call (Ok op) → new ≡ applied running.contents op
     → Returns running (change_of running.limits system client call done) act (reply_for op.outcome done) (running_of new running.limits running.scans)
-change_tells running system client call done op new act c quiet h plans is = subst (λ r. Returns running r act (reply_for op.outcome done) after) (sym change_comes.is) (tell op.outcome stands)
+change_returns running system client call done op new act c quiet h plans is = subst (λ r. Returns running r act (reply_for op.outcome done) after) (sym change_comes.is) (by_outcome op.outcome stands)
   where
     after : Running
     after = running_of new running.limits running.scans
@@ -116,15 +120,15 @@ change_tells running system client call done op new act c quiet h plans is = sub
         (subst (λ o. StandsForSystem (running_of (applied running.contents op) running.limits running.scans) (changed o done op.call (counted_with change_comes.who.query op.client change_comes.who system)).next) (sym outcome_is)
         (changed_stands running system op change_comes.who done (ap (λ n. seat n system.members) plan.0 ∙ change_comes.at) h plan.2 (ap is_change plan.1 ∙ c)))))
 
-    tell : (o : Outcome) → StandsForSystem after (changed o done call (counted_with change_comes.who.query client change_comes.who system)).next
+    by_outcome : (o : Outcome) → StandsForSystem after (changed o done call (counted_with change_comes.who.query client change_comes.who system)).next
         → Returns running (changed o done call (counted_with change_comes.who.query client change_comes.who system)) act (reply_for o done) after
-    tell (Added id) s = (refl, quiet, s)
-    tell Done s = (refl, quiet, s)
-    tell (NoSuchRow id) s = inl (refl, s)
-    tell (Full size) s = inl (refl, s)
+    by_outcome (Added id) s = (refl, quiet, s)
+    by_outcome Done s = (refl, quiet, s)
+    by_outcome (NoSuchRow id) s = inl (refl, s)
+    by_outcome (Full size) s = inl (refl, s)
 
 pub change_not : (old : Running) (client : ℕ) (call : Call) (done : Reply) (fault : CoreFault) → is_change call ≡ true → PlansAlways old.contents client call (Err fault) → Changes old client call done (Err fault) old
-change_not old client call done fault c plans = record { limits = refl; tells = λ system h act wants. refused_tells old system _ act fault h (go system (plans (state_of system) h.store) (seat client system.members) refl) }
+change_not old client call done fault c plans = record { limits = refl; returns = λ system h act wants. refused_returns old system _ act fault h (go system (plans (state_of system) h.store) (seat client system.members) refl) }
   where
     no_early : (call : Call) (b : Bool) (early : CoreFault) → is_change call ≡ true → refusal_by_query b call ≡ Some early → ⊥
     no_early (CallInsert row) true early c e = cc
@@ -146,16 +150,16 @@ change_not old client call done fault c plans = record { limits = refl; tells = 
         (λ early e. absurd (no_early call (is_some (option_map snapshot member.query)) early c e)) (sym (refusal_there system client member call at) ∙ returned)
 
 -- A query begins.
-pub begin_tells : (running : Running) (system : System) (client : ℕ) (ask : Question) (op : Op) (new : Contents) (stamp : ℕ) → AreAllowed running.limits → stamp ≡ running.contents.stamp → StandsForSystem running system → PlansAlways running.contents client Begin (Ok op) → new ≡ applied running.contents op
+pub begin_returns : (running : Running) (system : System) (client : ℕ) (ask : Question) (op : Op) (new : Contents) (stamp : ℕ) → AreAllowed running.limits → stamp ≡ running.contents.stamp → StandsForSystem running system → PlansAlways running.contents client Begin (Ok op) → new ≡ applied running.contents op
     → Returns running (step running.limits system (record { client = client; act = ActBegin ask })) (ActBegin ask) (Ok (Begun (blocks running.limits))) (running_of new running.limits (with_seat client (Some (begin ask stamp running.limits)) running.scans))
-begin_tells running system client ask op new stamp allowed now h plans is =
+begin_returns running system client ask op new stamp allowed now h plans is =
     subst (λ r. Returns running r (ActBegin ask) (Ok (Begun (blocks running.limits))) (running_of new running.limits (with_seat client (Some (begin ask stamp running.limits)) running.scans))) (sym right) (refl, refl, stands)
   where
     plan : PlansIn (state_of system) running.contents client Begin (Ok op)
     plan = plans (state_of system) h.store
 
     accepted : refusal (state_of system) client Begin ≡ None
-    accepted = (λ i. refusal (state_of system) (sym plan.0 i) (sym plan.1 i)) ∙ plan.2.next.accepted
+    accepted = plan_accepts system running.contents client Begin op plan
 
     there : IsThere system client
     there = IsThere-from system client Begin accepted

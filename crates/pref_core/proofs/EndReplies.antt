@@ -1,4 +1,4 @@
--- What a machine tells at each act is the system's reply: ends of queries, and reads.
+-- What a machine returns at each act is the system's reply: ends of queries, and reads.
 use Rattle.pref_core.proofs.Common.{◌≡◌, ℕ, ◌-◌, ◌<◌, ◌^◌, Bool, true, false, cond, nat_lt, length, Option, Some, None, is_some, Ok, Err, Result, ⊎_elim, inl, inr, refl, sym, ap, ◌∙◌, subst, arith}
 use Rattle.pref_core.proofs.Common.{List, Does, option_map, Ranked, answer_of, Call, Finish, Abandon, Op, CoreFault, NoSuchClient, Spent, NoQuery, NotDone, MissingRow, OutOfMemory, ActFinish}
 use Rattle.pref_core.proofs.Common.{ActAbandon, ActGet, ActRoom, Reply, Answer, Abandoned, Found, Room, Refused, Row, Line, line_of, entries, State, Snapshot, is_change, seat, with_seat, refusal}
@@ -8,7 +8,7 @@ use Rattle.std.specs.Global.{Vec}
 use Rattle.pref_core.specs.MachineParts.{numbered}
 use Rattle.pref_core.proofs.QueryLaws.{follows_answered}
 use Rattle.pref_core.proofs.SystemsLaws.{refusal_nobody, IsThere-from, IsLetIn, IsLetIn-from, queried_stands, query_shows}
-use Rattle.pref_core.proofs.ChangeReplies.{PlansAlways, running_of, refused_does, refused_tells, somebody_steps, let_in_steps}
+use Rattle.pref_core.proofs.ChangeReplies.{PlansAlways, plan_accepts, running_of, refused_does, refused_returns, somebody_steps, let_in_steps}
 use Rattle.pref_core.proofs.ScanReplies.{IsAsking-from, IsIdle-from, nobody_there, some_left, no_left}
 
 -- A call that ends a query is refused where there is none.
@@ -52,7 +52,7 @@ record Ends (running : Running) (system : System) (client : ℕ) (call : Call) (
 ends : (running : Running) (system : System) (client : ℕ) (call : Call) (op : Op) (new : Contents) → is_change call ≡ false → ((found : Option Snapshot) → None ≡ begun_after (state_of system) call found) → StandsForSystem running system → PlansAlways running.contents client call (Ok op) → new ≡ applied running.contents op → Ends running system client call new
 ends running system client call op new c gone h plans is =
     let plan = plans (state_of system) h.store in
-    let accepted = (λ i. refusal (state_of system) (sym plan.0 i) (sym plan.1 i)) ∙ plan.2.next.accepted in
+    let accepted = plan_accepts system running.contents client call op plan in
     let there = IsThere-from system client call accepted in
     record {
       who = there.who;
@@ -69,7 +69,7 @@ pub abandon_does : (old : Running) (client : ℕ) (op : Op) (new : Contents) (sc
     → Does old client ActAbandon (Ok Abandoned) (running_of new old.limits scans)
 abandon_does old client op new scans plans is placed = record {
   limits = refl;
-  tells = λ system h.
+  returns = λ system h.
       let end = ends old system client Abandon op new refl (λ f. refl) h plans is in
       subst (λ r. Returns old r ActAbandon (Ok Abandoned) (running_of new old.limits scans))
       (sym (somebody_steps old.limits system client ActAbandon end.who end.at ∙ go system end.who end.who.query end.let_in.unspent end.let_in.allowed))
@@ -84,7 +84,7 @@ abandon_does old client op new scans plans is placed = record {
 -- A query finishes.
 pub finish_does : (old : Running) (client : ℕ) (op : Op) (new : Contents) (scans : List (Option Scan)) (ranked : Vec Ranked) → PlansAlways old.contents client Finish (Ok op) → new ≡ applied old.contents op → scans ≡ with_seat client None old.scans
     → AnswersAt (seat client old.scans) (Ok ranked) → Does old client ActFinish (Ok (Answer ranked.items)) (running_of new old.limits scans)
-finish_does old client op new scans ranked plans is placed says = record { limits = refl; tells = λ system h. go system h (seat client old.scans) refl says }
+finish_does old client op new scans ranked plans is placed says = record { limits = refl; returns = λ system h. go system h (seat client old.scans) refl says }
   where
     go : (system : System) → StandsForSystem old system → (o : Option (Option Scan)) → seat client old.scans ≡ o → AnswersAt o (Ok ranked)
         → Returns old (step old.limits system (record { client = client; act = ActFinish })) ActFinish (Ok (Answer ranked.items)) (running_of new old.limits scans)
@@ -111,7 +111,7 @@ pub finish_not_done : (running : Running) (system : System) (client : ℕ) (op :
 finish_not_done running system client op fault h plans says = go (seat client running.scans) refl says
   where
     accepted : refusal (state_of system) client Finish ≡ None
-    accepted = let plan = plans (state_of system) h.store in (λ i. refusal (state_of system) (sym plan.0 i) (sym plan.1 i)) ∙ plan.2.next.accepted
+    accepted = plan_accepts system running.contents client Finish op (plans (state_of system) h.store)
 
     nobody : seat client system.members ≡ None → ⊥
     nobody at = let refused_here : Some NoSuchClient ≡ None = sym (refusal_nobody system client Finish at) ∙ accepted in cc
@@ -136,7 +136,7 @@ finish_not_done running system client op fault h plans says = go (seat client ru
         (λ (e : (fault ≡ NotDone held.left) × (0 < held.left)).
         let some : 0 < asks.query.left = let s = e.1 in omega arith in
         subst (λ f. Returns running (step running.limits system (record { client = client; act = ActFinish })) ActFinish (Err f) running) (sym (e.0 ∙ ap NotDone same_left))
-        (refused_tells running system _ ActFinish (NotDone asks.query.left) h (steps ∙ ap by_left (some_left asks.query.left some))))
+        (refused_returns running system _ ActFinish (NotDone asks.query.left) h (steps ∙ ap by_left (some_left asks.query.left some))))
         (λ (e : (fault ≡ OutOfMemory) × (held.left ≡ 0)).
         inr (e.0, refl, ap (λ (right : Step). is_refusal right.reply) (steps ∙ ap by_left (no_left asks.query.left (sym same_left ∙ e.1))), refl))
         says
@@ -154,26 +154,26 @@ somebody_there running system client h t = go (seat client running.scans) (seat 
     go (Some place) None e t s = absurd s
     go (Some place) (Some member) e t s = record { who = member; at = e }
 
-abbrev pub told_get : ℕ → Option Row → Result Reply CoreFault
-told_get id None = Err (MissingRow id)
-told_get id (Some row) = Ok (Found id row)
+abbrev pub found_or_missing : ℕ → Option Row → Result Reply CoreFault
+found_or_missing id None = Err (MissingRow id)
+found_or_missing id (Some row) = Ok (Found id row)
 
-pub get_tells : (running : Running) (system : System) (client id : ℕ) (row : Option Row) → StandsForSystem running system → is_some (seat client running.scans) ≡ true
+pub get_returns : (running : Running) (system : System) (client id : ℕ) (row : Option Row) → StandsForSystem running system → is_some (seat client running.scans) ≡ true
     → ((state : State) → StandsFor running.contents state → row ≡ option_map (λ (l : Line). l.row) (line_of state.table id))
-    → Returns running (step running.limits system (record { client = client; act = ActGet id })) (ActGet id) (told_get id row) running
-get_tells running system client id row h some says =
+    → Returns running (step running.limits system (record { client = client; act = ActGet id })) (ActGet id) (found_or_missing id row) running
+get_returns running system client id row h some says =
     let there = somebody_there running system client h some in
-    subst (λ r. Returns running r (ActGet id) (told_get id row) running) (sym (somebody_steps running.limits system client (ActGet id) there.who there.at))
-    (subst (λ o. Returns running (record { reply = elim (line_of system.table id) as (λ x. Reply) [ None ↦ Refused (MissingRow id) | Some line ↦ Found id line.row ]; next = system }) (ActGet id) (told_get id o) running) (sym (says (state_of system) h.store)) (go (line_of system.table id)))
+    subst (λ r. Returns running r (ActGet id) (found_or_missing id row) running) (sym (somebody_steps running.limits system client (ActGet id) there.who there.at))
+    (subst (λ o. Returns running (record { reply = elim (line_of system.table id) as (λ x. Reply) [ None ↦ Refused (MissingRow id) | Some line ↦ Found id line.row ]; next = system }) (ActGet id) (found_or_missing id o) running) (sym (says (state_of system) h.store)) (go (line_of system.table id)))
   where
-    go : (o : Option Line) → Returns running (record { reply = elim o as (λ x. Reply) [ None ↦ Refused (MissingRow id) | Some line ↦ Found id line.row ]; next = system }) (ActGet id) (told_get id (option_map (λ (l : Line). l.row) o)) running
+    go : (o : Option Line) → Returns running (record { reply = elim o as (λ x. Reply) [ None ↦ Refused (MissingRow id) | Some line ↦ Found id line.row ]; next = system }) (ActGet id) (found_or_missing id (option_map (λ (l : Line). l.row) o)) running
     go None = inl (refl, h)
     go (Some line) = (refl, refl, h)
 
-pub room_tells : (running : Running) (system : System) (client room : ℕ) → StandsForSystem running system → is_some (seat client running.scans) ≡ true
+pub room_returns : (running : Running) (system : System) (client room : ℕ) → StandsForSystem running system → is_some (seat client running.scans) ≡ true
     → ((state : State) → StandsFor running.contents state → room ≡ length running.contents.slots - length (needed state))
     → Returns running (step running.limits system (record { client = client; act = ActRoom })) ActRoom (Ok (Room room)) running
-room_tells running system client room h some says =
+room_returns running system client room h some says =
     let there = somebody_there running system client h some in
     subst (λ r. Returns running r ActRoom (Ok (Room room)) running) (sym (somebody_steps running.limits system client ActRoom there.who there.at))
     (ap Room (says (state_of system) h.store ∙ ap (λ n. n - length (needed (state_of system))) h.capacity), refl, h)

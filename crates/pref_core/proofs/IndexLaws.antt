@@ -141,8 +141,8 @@ module _ (contents : Contents) (op : Op) (next : is_next contents op ≡ true) w
       returned = outcome_of (length contents.slots) (begins_row op.call) (missing (ended op.call) (visible contents.stamp contents.slots)) (used (grown op.call contents)) (success_outcome contents.next_id op.call)
 
   -- The outcome adds a row just where the call does.
-  pub adds_told : succeeds op.outcome ≡ true → adds op.outcome ≡ nat_lt 0 (added op.call)
-  adds_told done = go (is_change op.call) refl
+  pub adds_iff_added : succeeds op.outcome ≡ true → adds op.outcome ≡ nat_lt 0 (added op.call)
+  adds_iff_added done = go (is_change op.call) refl
     where
       by : (b : Bool) → adds (cond b (Added contents.next_id) Done) ≡ b
       by true = refl
@@ -212,7 +212,7 @@ module _ (contents : Contents) (within : AllByRecursion (IsWithin contents.next_
 
 -- A row is added only by a call that adds one.
 pub adds_planned : (contents : Contents) (op : Op) → is_next contents op ≡ true → adds op.outcome ≡ true → nat_lt 0 (added op.call) ≡ true
-adds_planned contents op next h = sym (adds_told contents op next (succeeding op.outcome h)) ∙ h
+adds_planned contents op next h = sym (adds_iff_added contents op next (succeeding op.outcome h)) ∙ h
   where
     succeeding : (o : Outcome) → adds o ≡ true → succeeds o ≡ true
     succeeding (Added id) a = refl

@@ -69,36 +69,36 @@ wants_none limits system event = go (seat event.client system.members)
     go (Some member) = step_wants_none limits system event.client member event.act member.query
 
 -- What an act returns, as a reply.
-told_replies : (before after : Running) (system : System) (event : Event) (returned : Result Reply CoreFault) → Returns before (step before.limits system event) event.act returned after
+returned_replies : (before after : Running) (system : System) (event : Event) (returned : Result Reply CoreFault) → Returns before (step before.limits system event) event.act returned after
     → MatchResult (reply_of returned) (λ reply. (reply ≡ (step before.limits system event).reply) × StandsForSystem after (step before.limits system event).next)
     (λ _. (may_want_memory event.act ≡ true) × (is_refusal (step before.limits system event).reply ≡ false) × (after ≡ before))
-told_replies before after system event (Ok reply) says = (says.0, says.2)
-told_replies before after system event (Err OutOfMemory) says = ⊎_elim
+returned_replies before after system event (Ok reply) says = (says.0, says.2)
+returned_replies before after system event (Err OutOfMemory) says = ⊎_elim
     (λ (said : (Refused OutOfMemory ≡ (step before.limits system event).reply) × StandsForSystem after (step before.limits system event).next). absurd (wants_none before.limits system event said.0))
     (λ (want : (OutOfMemory ≡ OutOfMemory) × (may_want_memory event.act ≡ true) × (is_refusal (step before.limits system event).reply ≡ false) × (after ≡ before)). (want.1, want.2, want.3))
     says
-told_replies before after system event (Err fault) says = ⊎_elim
+returned_replies before after system event (Err fault) says = ⊎_elim
     (λ (said : (Refused fault ≡ (step before.limits system event).reply) × StandsForSystem after (step before.limits system event).next). said)
     (λ (want : (fault ≡ OutOfMemory) × (may_want_memory event.act ≡ true) × (is_refusal (step before.limits system event).reply ≡ false) × (after ≡ before)). let e = want.0 in absurd (cc))
     says
 
 pub does_replies : (before after : Running) (event : Event) (returned : Result Reply CoreFault) (result : Result Reply AllocError) → Does before event.client event.act returned after → result ≡ reply_of returned → Replies before event result after
-does_replies before after event returned result does is = subst (λ r. Replies before event r after) (sym is) (record { limits = does.limits; tells = λ system h. told_replies before after system event returned (does.tells system h) })
+does_replies before after event returned result does is = subst (λ r. Replies before event r after) (sym is) (record { limits = does.limits; returns = λ system h. returned_replies before after system event returned (does.returns system h) })
 
 pub steps_replies : (before after : Running) (event : Event) (stepped : Result Reply StepFault) (returned : Result Reply CoreFault) (result : Result Reply AllocError) → Steps before event stepped after → returned ≡ without_event stepped → result ≡ reply_of returned → Replies before event result after
 steps_replies before after event stepped returned result steps alike is =
-    subst (λ r. Replies before event r after) (sym (is ∙ ap reply_of alike)) (record { limits = steps.limits; tells = λ system h. told_replies before after system event (without_event stepped) (steps.tells system h) })
+    subst (λ r. Replies before event r after) (sym (is ∙ ap reply_of alike)) (record { limits = steps.limits; returns = λ system h. returned_replies before after system event (without_event stepped) (steps.returns system h) })
 
 -- the reply to a refusal that is not for want of memory
 pub replied_refused : (fault : CoreFault) → (fault ≡ OutOfMemory → ⊥) → Ok (Refused fault) ≡ reply_of (Err fault)
 replied_refused OutOfMemory other = absurd (other refl)
 replied_refused fault other = refl
 
--- what is told as a reply is the system's
+-- what is returned as a reply is the system's
 pub replies_step : (before after : Running) (system : System) (event : Event) (returned : Result Reply AllocError) (reply : Reply) → StandsForSystem before system → Replies before event returned after → returned ≡ Ok reply
     → (reply ≡ (step before.limits system event).reply) × StandsForSystem after (step before.limits system event).next
 replies_step before after system event (Ok said) reply h replies e =
-    let says = replies.tells system h in
+    let says = replies.returns system h in
     let same : said ≡ reply = cc in
     (sym same ∙ says.0, says.1)
 replies_step before after system event (Err none) reply h replies e = absurd (cc)
@@ -123,7 +123,7 @@ reply_is_not_added : (before : List Reply) (returned : Result Reply AllocError) 
 reply_is_not_added before returned (Ok done) after adds refused = absurd (cc)
 reply_is_not_added before returned (Err fault) after adds refused = adds
 
--- and what was told is the beginning of all replies
+-- and what was returned is the beginning of all replies
 pub stopped_replies : (before : List Reply) (returned : Result Reply AllocError) (result : Result (Unit {0}) AllocError) (after rest whole : List Reply) → AddsReply before returned result after → is_err result ≡ true → before ++ rest ≡ whole
     → (after ≡ before) × (after ≡ take (length after) whole)
 stopped_replies before returned result after rest whole adds refused so_far =

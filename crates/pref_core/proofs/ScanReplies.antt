@@ -1,11 +1,11 @@
--- What a machine tells at each act is the system's reply: scans.
+-- What a machine returns at each act is the system's reply: scans.
 use Rattle.pref_core.proofs.Common.{◌≡◌, ℕ, ◌-◌, ◌<◌, true, false, cond, nat_lt, List, Option, Some, None, Ok, Err, Result, ⊎_elim, inr, refl, sym, ap, ◌∙◌, subst, arith, option_map, lt-ltb, le-ltb}
 use Rattle.pref_core.proofs.Common.{CoreFault, NoSuchClient, NoQuery, AllScanned, OutOfMemory, ActScan, Left, seat, with_seat, Open, Member, System, Step, snapshot, refused, scanned_with, one_less}
 use Rattle.pref_core.proofs.Common.{scan, step, Scan, Scans, Running, Follows, StandsForQuery, StandsForMember, StandsForSystem, Returns, as_reply, is_refusal, NextIsNewAt, ScansOne, ScansAt, step_of}
 use Rattle.pref_core.proofs.SeatLaws.{with_seat_self}
 use Rattle.pref_core.proofs.QueryLaws.{next_is_new, follows_scanned}
 use Rattle.pref_core.proofs.SystemsLaws.{scanned_stands, query_shows}
-use Rattle.pref_core.proofs.ChangeReplies.{running_of, refused_tells, nobody_steps, somebody_steps}
+use Rattle.pref_core.proofs.ChangeReplies.{running_of, refused_returns, nobody_steps, somebody_steps}
 
 -- what an open query's place and the client's query are
 pub record IsAsking (running : Running) (system : System) (client : ℕ) (held : Scan) : Type 0 where
@@ -95,30 +95,30 @@ scan_one running system client held result scans h at says = go result says.new 
         let shows = query_shows running system client asks.who asks.query h asks.at asks.is in
         let follows = follows_scanned running.contents.slots held new asks.query shows asks.follows says.1 in
         let stands = scanned_stands running system client asks.who new (one_less asks.query) asks.at (ap (option_map snapshot) asks.is) h follows in
-        let tells : left ≡ asks.query.left - 1 = omega arith in
+        let same : left ≡ asks.query.left - 1 = omega arith in
         subst (λ r. Returns running r ActScan (Ok (Left left)) (running_of running.contents running.limits scans)) (sym (where_some some))
-        (ap Left tells, refl, subst (λ l. StandsForSystem (running_of running.contents running.limits l) (scanned_with (one_less asks.query) client asks.who system)) (sym placed) stands)
+        (ap Left same, refl, subst (λ l. StandsForSystem (running_of running.contents running.limits l) (scanned_with (one_less asks.query) client asks.who system)) (sym placed) stands)
     go (Err fault) new says placed =
         let same : scans ≡ running.scans = placed ∙ ap (λ s. with_seat client (Some s) running.scans) says.0 ∙ with_seat_self client running.scans (Some held) at in
         subst (λ l. Returns running (step running.limits system (record { client = client; act = ActScan })) ActScan (Err fault) (running_of running.contents running.limits l)) (sym same)
         (⊎_elim
         (λ (e : (fault ≡ AllScanned) × (held.left ≡ 0)). subst (λ f. Returns running (step running.limits system (record { client = client; act = ActScan })) ActScan (Err f) running) (sym e.0)
-        (refused_tells running system _ ActScan AllScanned h (steps ∙ ap (λ b. cond b (record { reply = Left (asks.query.left - 1); next = scanned_with (one_less asks.query) client asks.who system }) (refused AllScanned system)) (no_left asks.query.left (sym same_left ∙ e.1)))))
+        (refused_returns running system _ ActScan AllScanned h (steps ∙ ap (λ b. cond b (record { reply = Left (asks.query.left - 1); next = scanned_with (one_less asks.query) client asks.who system }) (refused AllScanned system)) (no_left asks.query.left (sym same_left ∙ e.1)))))
         (λ (e : (fault ≡ OutOfMemory) × (0 < held.left)).
         let some : 0 < asks.query.left = omega (arith, same_left, e.1) in
         inr (e.0, refl, ap (λ (right : Step). is_refusal right.reply) (where_some some), refl))
         says.1)
 
-pub scan_tells : (running : Running) (system : System) (client : ℕ) (result : Result ℕ CoreFault) (scans : List (Option Scan)) → StandsForSystem running system
+pub scan_returns : (running : Running) (system : System) (client : ℕ) (result : Result ℕ CoreFault) (scans : List (Option Scan)) → StandsForSystem running system
     → ScansAt (seat client running.scans) running.contents.slots client running.scans result scans
     → Returns running (step running.limits system (record { client = client; act = ActScan })) ActScan (as_reply Left result) (running_of running.contents running.limits scans)
-scan_tells running system client result scans h = go (seat client running.scans) refl
+scan_returns running system client result scans h = go (seat client running.scans) refl
   where
     refuses : (fault : CoreFault) → result ≡ Err fault → scans ≡ running.scans → step running.limits system (record { client = client; act = ActScan }) ≡ refused fault system
         → Returns running (step running.limits system (record { client = client; act = ActScan })) ActScan (as_reply Left result) (running_of running.contents running.limits scans)
     refuses fault returned same is =
         subst (λ l. Returns running (step running.limits system (record { client = client; act = ActScan })) ActScan (as_reply Left result) (running_of running.contents running.limits l)) (sym same)
-        (subst (λ r. Returns running (step running.limits system (record { client = client; act = ActScan })) ActScan (as_reply Left r) running) (sym returned) (refused_tells running system _ ActScan fault h is))
+        (subst (λ r. Returns running (step running.limits system (record { client = client; act = ActScan })) ActScan (as_reply Left r) running) (sym returned) (refused_returns running system _ ActScan fault h is))
 
     go : (o : Option (Option Scan)) → seat client running.scans ≡ o → ScansAt o running.contents.slots client running.scans result scans → Returns running (step running.limits system (record { client = client; act = ActScan })) ActScan (as_reply Left result) (running_of running.contents running.limits scans)
     go None at says = refuses NoSuchClient says.0 says.1 (nobody_steps running.limits system client ActScan (nobody_there running system client h at))

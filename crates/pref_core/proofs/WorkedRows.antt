@@ -79,11 +79,11 @@ a_full_table_takes_a_commit = refl
 pub an_id_that_a_commit_adds_is_not_there_yet : replies (setup 4 4) (map row (1 ∷ [])) (by 1 (Commit (Add (row 5) ∷ Set 2 (row 6) ∷ [])) ∷ by 1 (Insert (row 9)) ∷ []) ≡ Refused (NoSuchRow 2) ∷ Inserted 2 ∷ []
 an_id_that_a_commit_adds_is_not_there_yet = refl
 
-pub a_missing_row_is_told_before_a_full_table : replies (setup 2 2) (map row (1 ∷ 2 ∷ [])) (by 1 (Commit (Add (row 5) ∷ Remove 9 ∷ Remove 8 ∷ [])) ∷ []) ≡ Refused (NoSuchRow 9) ∷ []
-a_missing_row_is_told_before_a_full_table = refl
+pub a_missing_row_is_named_before_a_full_table : replies (setup 2 2) (map row (1 ∷ 2 ∷ [])) (by 1 (Commit (Add (row 5) ∷ Remove 9 ∷ Remove 8 ∷ [])) ∷ []) ≡ Refused (NoSuchRow 9) ∷ []
+a_missing_row_is_named_before_a_full_table = refl
 
-pub the_second_naming_is_told : commit_of (Remove 1 ∷ Remove 1 ∷ []) ≡ Err (Twice 2)
-the_second_naming_is_told = refl
+pub the_second_naming_is_refused : commit_of (Remove 1 ∷ Remove 1 ∷ []) ≡ Err (Twice 2)
+the_second_naming_is_refused = refl
 
 pub adds_name_no_id : commit_of (Add (row 1) ∷ Set 5 (row 2) ∷ Add (row 1) ∷ Remove 5 ∷ Remove 5 ∷ []) ≡ Err (Twice 4)
 adds_name_no_id = refl
@@ -91,5 +91,5 @@ adds_name_no_id = refl
 pub no_change_is_no_commit : commit_of [] ≡ Err ChangeCount
 no_change_is_no_commit = refl
 
-pub the_count_is_told_before_a_second_naming : commit_of (Remove 1 ∷ Remove 1 ∷ Remove 2 ∷ Remove 3 ∷ Remove 4 ∷ Remove 5 ∷ Remove 6 ∷ Remove 7 ∷ Remove 8 ∷ []) ≡ Err ChangeCount
-the_count_is_told_before_a_second_naming = refl
+pub the_count_is_refused_before_a_second_naming : commit_of (Remove 1 ∷ Remove 1 ∷ Remove 2 ∷ Remove 3 ∷ Remove 4 ∷ Remove 5 ∷ Remove 6 ∷ Remove 7 ∷ Remove 8 ∷ []) ≡ Err ChangeCount
+the_count_is_refused_before_a_second_naming = refl

@@ -76,7 +76,7 @@ change_of limits system client call done = elim (seat client system.members) [
 -- a change, done: what it returns, and what it leaves, where this is its reply if it succeeds
 pub record Changes (before : Running) (client : ℕ) (call : Call) (done : Reply) (result : Result Reply CoreFault) (after : Running) : Type 0 where
   pub limits : after.limits ≡ before.limits
-  pub tells : (system : System) → StandsForSystem before system → (act : Act) → (nat_lt 0 (added call) ≡ true → may_want_memory act ≡ true)
+  pub returns : (system : System) → StandsForSystem before system → (act : Act) → (nat_lt 0 (added call) ≡ true → may_want_memory act ≡ true)
       → Returns before (change_of before.limits system client call done) act result after
 
 -- what a change returns by its outcome, where this is its reply if it succeeds

@@ -79,7 +79,7 @@ as_reply kind (Err fault) = Err fault
 -- A client's act, done: what is returned is the system's reply, in each system that what runs represents.
 pub record Does (before : Running) (client : ℕ) (act : Act) (result : Result Reply CoreFault) (after : Running) : Type 0 where
   pub limits : after.limits ≡ before.limits
-  pub tells : (system : System) → StandsForSystem before system → Returns before (step before.limits system (record { client = client; act = act })) act result after
+  pub returns : (system : System) → StandsForSystem before system → Returns before (step before.limits system (record { client = client; act = act })) act result after
 
 -- the fault alone
 abbrev pub without_event : Result Reply StepFault → Result Reply CoreFault
@@ -88,12 +88,12 @@ without_event result = elim result [ Ok returned ↦ Ok returned | Err fault ↦
 -- A step is the system's, in each system that what runs represents, and a refusal hands the event back.
 pub record Steps (before : Running) (event : Event) (result : Result Reply StepFault) (after : Running) : Type 0 where
   pub limits : after.limits ≡ before.limits
-  pub tells : (system : System) → StandsForSystem before system → Returns before (step before.limits system event) event.act (without_event result) after
+  pub returns : (system : System) → StandsForSystem before system → Returns before (step before.limits system event) event.act (without_event result) after
   pub handed_back : MatchResult result (λ returned. Unit {0}) (λ fault. fault.event ≡ event)
 
 -- A reply is the system's, in each system that what runs represents, refusals too; or it is out of memory where that reply is no refusal, and nothing has changed.
 pub record Replies (before : Running) (event : Event) (result : Result Reply AllocError) (after : Running) : Type 0 where
   pub limits : after.limits ≡ before.limits
-  pub tells : (system : System) → StandsForSystem before system → MatchResult result
+  pub returns : (system : System) → StandsForSystem before system → MatchResult result
       (λ reply. (reply ≡ (step before.limits system event).reply) × StandsForSystem after (step before.limits system event).next)
       (λ _. (may_want_memory event.act ≡ true) × (is_refusal (step before.limits system event).reply ≡ false) × (after ≡ before))

@@ -27,7 +27,7 @@ unfolding command_lines accepted_events
 plays_event width before after event reply old new answers added = record {
   limits = answers.limits;
   plays = λ system h.
-      let says = answers.tells system h in
+      let says = answers.returns system h in
       let right = step before.limits system event in record {
         next = right.next;
         stands = says.1;
