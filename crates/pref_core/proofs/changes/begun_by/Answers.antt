@@ -3,9 +3,6 @@ use Rattle.pref_core.proofs.ChangeCounts.{drop_item, one_begins}
 use Rattle.pref_core.proofs.changes.begun_by.Goals.{then-begins, else-begins}
 use Rattle.pref_core.proofs.changes.begun_by.Goals as goal
 
-pub overflow_add-begun : goal.overflow_add-begun
-overflow_add-begun c = let few = c.loop-change.invariant.few in let inside = c.loop-change-test.true in omega arith
-
 pub loop-change-preserved : goal.loop-change-preserved
 loop-change-preserved c = record {
   total = λ next_id.

@@ -25,6 +25,3 @@ returns c =
     let placed = with_items_is c.self.inside.queries c.set.new.queries long ∙ c.set.ensures ∙ ap (with_seat c.args.client None) c.deref_mut.ensures.value in
     subst (λ r. Does r c.args.client ActAbandon (Ok Abandoned) (running_of c.perform.new.self c.self.inside.setup (with_items c.self.inside.queries c.set.new.queries).items)) c.self.view_is
     (abandon_does _ c.args.client (op_of c.in-Ok.op) c.perform.new.self _ (subst (λ call. PlansAlways c.self.inside.store c.args.client call (Ok (op_of c.in-Ok.op))) c.abandon-call.ensures c.in-Ok.ensures.state) c.perform.ensures.exact placed)
-
-pub perform-requires : goal.perform-requires
-perform-requires c = plan_itself c.self.inside.store c.args.client c.abandon-call.result (op_of c.in-Ok.op) c.in-Ok.ensures.exact

@@ -7,8 +7,3 @@ returns-in-Err c =
     subst (λ r. Does r c.args.client (ActBegin c.args.ask) (Err c.in-Err.fault) r) c.self.view_is
     (begin_not (running_of c.self.inside.store c.self.inside.setup c.self.inside.queries.items) c.args.client c.args.ask c.in-Err.fault
     (subst (λ call. PlansAlways c.self.inside.store c.args.client call (Err c.in-Err.fault)) c.begin-call.ensures c.in-Err.ensures.state))
-
-pub begin_planned-requires : goal.begin_planned-requires
-begin_planned-requires c =
-    subst (λ (r : Running). IsPlan r.contents c.args.client Begin (op_of c.in-Ok.op)) c.self.view_is
-    (subst (λ call. IsPlan c.self.inside.store c.args.client call (op_of c.in-Ok.op)) c.begin-call.ensures c.in-Ok.ensures.exact)

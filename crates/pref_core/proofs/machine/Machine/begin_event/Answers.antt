@@ -7,12 +7,3 @@ pub returns-in-Err : goal.returns-in-Err
 returns-in-Err c =
     subst (λ r. Steps r c.args.event (Err (record { fault = c.in-Err.fault; event = c.args.event })) r) c.self.view_is
     (begin_steps_not (running_of c.self.inside.store c.self.inside.setup c.self.inside.queries.items) c.args.event c.in-Err.fault c.requires (subst (λ call. PlansAlways c.self.inside.store c.args.event.client call (Err c.in-Err.fault)) c.begin-call.ensures c.in-Err.ensures.state))
-
-pub begin_planned-requires : goal.begin_planned-requires
-begin_planned-requires c =
-    subst (λ (r : Running). IsPlan r.contents c.args.event.client Begin (op_of c.in-Ok.op)) c.self.view_is
-    (subst (λ call. IsPlan c.self.inside.store c.args.event.client call (op_of c.in-Ok.op)) c.begin-call.ensures c.in-Ok.ensures.exact)
-
-pub returns : goal.returns
-returns c =
-    steps_does c.args.self.now c.begin_planned.new.self c.args.event (ActBegin c.in-Begin.ask) (Ok (Begun c.begin_planned.result)) (Ok (Begun c.begin_planned.result)) c.in-Begin.is c.begin_planned.ensures refl tt

@@ -25,8 +25,3 @@ returns c =
     let after = running_of c.perform.new.self c.self.inside.setup (with_items c.self.inside.queries c.set.new.queries).items in
     subst (λ r. Does r c.args.client (ActBegin c.args.ask) (Ok (Begun c.blocks-2.result)) after) c.self.view_is
     (subst (λ n. Does (running_of c.self.inside.store c.self.inside.setup c.self.inside.queries.items) c.args.client (ActBegin c.args.ask) (Ok (Begun n)) after) (sym c.blocks-2.ensures.value) (done (goal.at.returns c).After-blocks-2))
-
-pub perform-requires : goal.perform-requires
-perform-requires c =
-    plan_itself c.self.inside.store c.args.client Begin (op_of c.args.op.now)
-    (subst (λ (r : Running). IsPlan r.contents c.args.client Begin (op_of c.args.op.now)) (sym c.self.view_is) c.requires)

@@ -10,12 +10,6 @@ returns-in-Err c done quiet =
     subst (λ r. Changes r c.args.client c.args.call.now done (Err c.in-Err.fault) r) c.self.view_is
     (change_not (running_of c.self.inside.store c.self.inside.setup c.self.inside.queries.items) c.args.client c.args.call.now done c.in-Err.fault c.requires c.in-Err.ensures.state)
 
-pub reindex-requires-clause-plan : goal.reindex-requires-clause-plan
-reindex-requires-clause-plan c = plan_itself c.self.inside.store c.args.client c.args.call.now (op_of c.in-Ok.op) c.in-Ok.ensures.exact
-
-pub perform-requires : goal.perform-requires
-perform-requires c = plan_itself c.self.inside.store c.args.client c.args.call.now (op_of c.in-Ok.op) c.in-Ok.ensures.exact
-
 pub returns-in_err-reindex : goal.returns-in_err-reindex
 returns-in_err-reindex c done quiet =
     let old = running_of c.self.inside.store c.self.inside.setup c.self.inside.queries.items in

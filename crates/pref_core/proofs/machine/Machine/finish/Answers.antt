@@ -41,6 +41,3 @@ returns c =
     let after = running_of c.perform.new.self c.self.inside.setup (with_items c.self.inside.queries c.set.new.queries).items in
     subst (λ r. Does r c.args.client ActFinish (Ok (Answer c.of.result)) after) c.self.view_is
     (subst (λ l. Does (running_of c.self.inside.store c.self.inside.setup c.self.inside.queries.items) c.args.client ActFinish (Ok (Answer l)) after) (sym c.of.ensures) (done (goal.at.returns c).After-of))
-
-pub perform-requires : goal.perform-requires
-perform-requires c = plan_itself c.self.inside.store c.args.client c.finish-call.result (op_of c.in-Ok.op) c.in-Ok.ensures.exact

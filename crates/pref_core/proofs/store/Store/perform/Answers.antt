@@ -16,8 +16,5 @@ step-requires-clause-next c = ap (λ s. is_next s (op_of c.args.op.now)) c.self.
 pub invariant_of-self : goal.invariant_of-self
 invariant_of-self c = kept_stepped c.self.inside.contents (op_of c.args.op.now) c.step.new.self.slots c.step.new.self c.self.invariant (next c) c.step.ensures.slots c.step.ensures.rest
 
-pub returns-clause-exact : goal.returns-clause-exact
-returns-clause-exact c = exact c
-
 pub returns-clause-state : goal.returns-clause-state
 returns-clause-state c state h = subst (AppliesIn state c.args.self.now (op_of c.args.op.now)) (sym (exact c)) (applies_in c.args.self.now state (op_of c.args.op.now) h)

@@ -51,8 +51,3 @@ loop-at-preserved c =
       ]);
       few = omega arith;
     }
-
-pub returns : goal.returns
-returns c =
-    all_chosen c.args.self.now c.args.call.now c.loop-at.chosen c.requires.change c.requires.succeeds
-    (subst (λ l. ChosenUpTo c.args.self.now c.args.call.now (begun_by c.loop-at.next_id l) c.loop-at.chosen) (drop_all c.loop-at.at (changes_of c.args.call.now) (omega arith)) c.loop-at.invariant.chosen)

@@ -37,10 +37,6 @@ invariant_of-self c =
     let now = c.self.inside in
     subst (λ (s : Contents). IsTracked s now.places now.links) (sym (begins (goal.at.invariant_of-self c).After-added)) (tracked_next c.args.self.now now.places now.links (added c.args.op.now.call.now) (tracked (goal.at.invariant_of-self c).After-added))
 
-pub begin_rows-requires-clause-fits : goal.begin_rows-requires-clause-fits
-begin_rows-requires-clause-fits c =
-    ap is_some (commit_filled c.args.self.now _ c.end_rows.new.self (op_of c.args.op.now) c.self.inside.next_id (begins (goal.at.begin_rows-requires-clause-fits c).After-added) (ap (λ (s : Contents). s.next_id) c.self.view_is) c.end_rows.ensures c.requires.change c.requires.succeeds) ∙ c.requires.fits
-
 pub begin_rows-requires-clause-fresh : goal.begin_rows-requires-clause-fresh
 begin_rows-requires-clause-fresh c =
     commit_fresh c.args.self.now _ c.end_rows.new.self c.requires.kept.state (op_of c.args.op.now) c.self.inside.next_id (begins (goal.at.begin_rows-requires-clause-fresh c).After-added) (ap (λ (s : Contents). s.next_id) c.self.view_is) c.end_rows.ensures

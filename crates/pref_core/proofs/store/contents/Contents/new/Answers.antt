@@ -22,13 +22,6 @@ invariant_of-result c =
       ids = known_ids _ kept.state kept.bounded kept.stands;
     }
 
-pub returns-clause-opening : goal.returns-clause-opening
-returns-clause-opening c =
-    let slots = ap (λ (s : StampedSlots). s.slots) c.in_ok-slots.ensures ∙ ap (λ n. opening_slots 0 c.args.rows.now ++ replicate {A = Option Version} (n - length c.args.rows.now) None) c.capacity-capacity.ensures.value in
-    let stamp = ap (λ (s : StampedSlots). s.stamp) c.in_ok-slots.ensures in
-    let callers = c.in_ok-callers.ensures ∙ ap (λ n. replicate n (record { calls = 0; at_begin = None })) c.clients.ensures.value in
-    (λ i. record { slots = slots i; stamp = stamp i; next_id = length c.args.rows.now + 1; callers = callers i })
-
 pub returns-clause-kept : goal.returns-clause-kept
 returns-clause-kept c =
     opened_kept c.clients.result c.capacity-capacity.result c.args.rows.now _ (omega arith) c.capacity-capacity.ensures.range.1 c.clients.ensures.range.1

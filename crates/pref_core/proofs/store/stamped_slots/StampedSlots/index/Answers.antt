@@ -3,9 +3,6 @@ use Rattle.pref_core.proofs.IndexedRows.{IsPlaceUpTo, place_at_end, place_past, 
 use Rattle.pref_core.proofs.store.stamped_slots.StampedSlots.index.Goals.{in-Some+then-is_visible_at+in_ok-put, in-Some+else-is_visible_at, in_default}
 use Rattle.pref_core.proofs.store.stamped_slots.StampedSlots.index.Goals as goal
 
-pub loop-place-init : goal.loop-place-init
-loop-place-init c id = subst (λ index. IsPlaceUpTo c.self.inside.stamp id c.as_slice-slots.result.now 0 (slot_of index id)) (sym c.in_ok-index.ensures) (λ k l. absurd (omega arith))
-
 pub loop-place-preserved : goal.loop-place-preserved
 loop-place-preserved c id = elim c.match-slots-place.branch [
   | in-Some+then-is_visible_at+in_ok-put w ↦

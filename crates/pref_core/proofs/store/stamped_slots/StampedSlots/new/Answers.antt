@@ -10,10 +10,3 @@ invariant_of-result c =
     = let same = ap length c.loop-empty.invariant in let both = length-append (opening_slots 0 rows) empty in
     let first = length-opening_slots 0 rows in let rest = length-replicate {A = Option Version} c.loop-empty._empty None in omega arith in
     (omega arith, omega arith)
-
-pub returns : goal.returns
-returns c =
-    let rows = c.args.rows.now in
-    let all : c.loop-empty._empty ≡ c.args.capacity - length rows = omega arith in
-    let made : c.loop-row.made ≡ length rows = let made = c.loop-row.invariant.made in omega arith in
-    (λ i. record { slots = (c.loop-empty.invariant ∙ ap (λ n. opening_slots 0 rows ++ replicate {A = Option Version} n None) all) i; stamp = made i })
