@@ -46,11 +46,6 @@ one_begins next (Set id row) rest false e = absurd (cc)
 one_begins next (Remove id) rest true e = absurd (cc)
 one_begins next (Remove id) rest false e = refl
 
-pub one_adds : (change : Change) (rest : List Change) → added_by (change ∷ rest) ≡ added_by (change ∷ []) + added_by rest
-one_adds (Add row) rest = omega arith
-one_adds (Set id row) rest = omega arith
-one_adds (Remove id) rest = omega arith
-
 -- changes begin a row where the rows that they begin are more than none
 pub begins_some : (next : ℕ) (changes : List Change) → nat_lt 0 (length (begun_by next changes)) ≡ begins_any changes
 begins_some next [] = refl

@@ -1,6 +1,6 @@
 -- The test of an op at slots is legality in the state that they stand for.
-use Rattle.pref_core.proofs.Common.{◌≡◌, ℕ, suc, Bool, true, false, not, cond, List, length, Option, Some, None, Ok, Err, Result, is_some, refl, sym, ap, ◌∙◌, and_from, eq-eqb, Version, Caller, Call}
-use Rattle.pref_core.proofs.Common.{CoreFault, Op, State, after, seat, refusal_of, is_formed, Contents, StandsFor, caller_calls, IsNext, IsLegal, IsPlan, is_next, slots_after, stepped, applied}
+use Rattle.pref_core.proofs.Common.{◌≡◌, ℕ, Bool, true, false, not, cond, List, length, Option, Some, None, Ok, Err, Result, is_some, refl, sym, ap, ◌∙◌, and_from, Version, Call}
+use Rattle.pref_core.proofs.Common.{CoreFault, Op, State, after, Contents, StandsFor, caller_calls, IsNext, IsLegal, is_next, slots_after, stepped, applied}
 use Rattle.pref_core.proofs.Common.{same_number, same_outcome, outcome_at, refusal_at, Plans, PlansIn, AppliesIn}
 use Rattle.pref_core.proofs.OutcomeLaws.{same_calls, same_refusal, same_outcome_at}
 use Rattle.pref_core.proofs.AppliedLaws.{IsAllowed-from, stepped_stands}
@@ -12,17 +12,6 @@ is_next-from contents state op h next =
     let number : same_number (caller_calls contents op.client) op.number ≡ true = ap (λ n. same_number n op.number) (same_calls contents state op.client h) ∙ next.number in
     let returned : outcome_at contents op.call ≡ op.outcome = same_outcome_at contents state op.call next.formed h ∙ sym next.outcome in
     and_from _ _ (and_from _ _ (and_from _ _ (ap (λ o. not (is_some o)) accepted) number) (ap (same_outcome op.outcome) returned ∙ same_outcome_refl op.outcome)) next.formed
-
--- what is planned for a caller that is let in
-pub is_next-planned : (contents : Contents) (op : Op) (caller : Caller) → seat op.client contents.callers ≡ Some caller → refusal_of (Some caller.calls) (is_some caller.at_begin) op.call ≡ None → op.number ≡ suc caller.calls → op.outcome ≡ outcome_at contents op.call
-    → is_formed op.call ≡ true → is_next contents op ≡ true
-is_next-planned contents op caller at accepted number returned formed = and_from _ _ (and_from _ _ (and_from _ _ (ap (λ o. not (is_some o)) lets_in) counts) (ap (same_outcome op.outcome) (sym returned) ∙ same_outcome_refl op.outcome)) formed
-  where
-    lets_in : refusal_at contents op.client op.call ≡ None
-    lets_in = ap (λ (o : Option Caller). refusal_of (elim o as (λ x. Option ℕ) [ None ↦ None | Some found ↦ Some found.calls ]) (is_some (elim o as (λ x. Option ℕ) [ None ↦ None | Some found ↦ found.at_begin ])) op.call) at ∙ accepted
-
-    counts : same_number (caller_calls contents op.client) op.number ≡ true
-    counts = ap (λ (o : Option Caller). same_number (elim o as (λ x. Option ℕ) [ None ↦ None | Some found ↦ Some found.calls ]) op.number) at ∙ eq-eqb (suc caller.calls) op.number (sym number)
 
 pub IsNext-from : (contents : Contents) (state : State) (op : Op) → StandsFor contents state → is_next contents op ≡ true → IsNext (length contents.slots) state op
 IsNext-from contents state op h next =
@@ -59,7 +48,3 @@ applies_in contents state op h = (applied_stands contents state op h, applied_no
 pub plans_in : (contents : Contents) (state : State) (client : ℕ) (call : Call) (result : Result Op CoreFault) → StandsFor contents state → Plans contents client call result → PlansIn state contents client call result
 plans_in contents state client call (Ok op) h plan = (plan.by, plan.what, record { next = IsNext-from contents state op h plan.next; fits = plan.fits })
 plans_in contents state client call (Err fault) h plan = sym (same_refusal contents state client call h) ∙ plan
-
--- A plan is one of the client and the call that it says.
-pub plan_itself : (contents : Contents) (client : ℕ) (call : Call) (op : Op) → IsPlan contents client call op → IsPlan contents op.client op.call op
-plan_itself contents client call op plan = record { by = refl; what = refl; next = plan.next; fits = plan.fits }

@@ -1,6 +1,6 @@
 -- One event more, and its reply.
 use Rattle.pref_core.proofs.Common.{◌≡◌, ℕ, suc, ◌-◌, ◌<◌, ◌^◌, nat_lt, Bool, cond, Option, Some, None, MatchResult, List, [], ◌∷◌, ◌++◌, length, get_or, drop, take, true, false, Ok, Err, Result}
-use Rattle.pref_core.proofs.Common.{is_err, ⊎_elim, refl, sym, ap, ◌∙◌, subst, arith, append_assoc, ltb-false, length_push, take_all, drop-cons, take-append_seam, Call, Outcome, Added, Done}
+use Rattle.pref_core.proofs.Common.{is_err, ⊎_elim, refl, sym, ap, ◌∙◌, subst, arith, append_assoc, ltb-false, length_push, take_all, drop-cons, Call, Outcome, Added, Done}
 use Rattle.pref_core.proofs.Common.{NoSuchRow, Full, Act, Get, Event, Reply, Abandoned, Answer, Begun, Committed, Deleted, Found, Inserted, Left, Refused, Updated, CoreFault, NoSuchClient, Spent}
 use Rattle.pref_core.proofs.Common.{QueryOpen, NoQuery, AllScanned, NotDone, OutOfMemory, MissingRow, Limits, blocks, seat, Line, entries, line_of, answer_of, Member, Open, Step, System, changed}
 use Rattle.pref_core.proofs.Common.{counted_with, finish, one_less, refused, replies_from, scan, scanned_with, step, committed_of, Does, Replies, Running, StandsForSystem, Steps, Returns, is_refusal}
@@ -117,18 +117,6 @@ one_reply_more limits system returned events yielded event reply whole turn is s
 pub reply_is_added : (before : List Reply) (returned : Result Reply AllocError) (result : Result (Unit {0}) AllocError) (after : List Reply) → AddsReply before returned result after → is_err result ≡ false → AddedReply before returned after
 reply_is_added before returned (Ok done) after adds ok = adds
 reply_is_added before returned (Err fault) after adds ok = absurd (cc)
-
--- where it was, none is
-reply_is_not_added : (before : List Reply) (returned : Result Reply AllocError) (result : Result (Unit {0}) AllocError) (after : List Reply) → AddsReply before returned result after → is_err result ≡ true → after ≡ before
-reply_is_not_added before returned (Ok done) after adds refused = absurd (cc)
-reply_is_not_added before returned (Err fault) after adds refused = adds
-
--- and what was returned is the beginning of all replies
-pub stopped_replies : (before : List Reply) (returned : Result Reply AllocError) (result : Result (Unit {0}) AllocError) (after rest whole : List Reply) → AddsReply before returned result after → is_err result ≡ true → before ++ rest ≡ whole
-    → (after ≡ before) × (after ≡ take (length after) whole)
-stopped_replies before returned result after rest whole adds refused so_far =
-    let same = reply_is_not_added before returned result after adds refused in
-    (same, subst (λ (l : List Reply). l ≡ take (length l) whole) (sym same) (sym (ap (take (length before)) (sym so_far) ∙ take-append_seam before rest)))
 
 -- one reply to each event
 replies_count : (limits : Limits) (system : System) (events : List Event) → length (replies_from limits system events) ≡ length events

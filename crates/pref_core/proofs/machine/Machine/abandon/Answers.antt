@@ -1,5 +1,4 @@
 use Rattle.pref_core.proofs.Common.{◌≡◌, Ok, Err, None, length, arith, refl, subst, ◌∙◌, ap, with_items, with_items_is, with_seat, Does, IsPlan, op_of, Abandon, ActAbandon, Abandoned}
-use Rattle.pref_core.proofs.LegalLaws.{plan_itself}
 use Rattle.pref_core.proofs.ChangeReplies.{PlansAlways, running_of}
 use Rattle.pref_core.proofs.EndReplies.{abandon_does, abandon_not}
 use Rattle.pref_core.proofs.MachineActs.{in_order_quiet}

@@ -1,4 +1,4 @@
-use Rattle.pref_core.proofs.Common.{Err, subst, ActBegin, Begin, IsPlan, Running, Does, op_of}
+use Rattle.pref_core.proofs.Common.{Err, subst, ActBegin, Does}
 use Rattle.pref_core.proofs.ChangeReplies.{begin_not, PlansAlways, running_of}
 use Rattle.pref_core.proofs.machine.Machine.begin.Goals as goal
 

@@ -1,6 +1,6 @@
-use Rattle.pref_core.proofs.Common.{Ok, Err, refl, subst, ActBegin, Begun, Begin, IsPlan, Running, Steps, op_of}
+use Rattle.pref_core.proofs.Common.{Err, subst, Steps}
 use Rattle.pref_core.proofs.ChangeReplies.{PlansAlways, running_of}
-use Rattle.pref_core.proofs.MachineActs.{begin_steps_not, steps_does}
+use Rattle.pref_core.proofs.MachineActs.{begin_steps_not}
 use Rattle.pref_core.proofs.machine.Machine.begin_event.Goals as goal
 
 pub returns-in-Err : goal.returns-in-Err

@@ -1,5 +1,4 @@
 use Rattle.pref_core.proofs.Common.{◌≡◌, Ok, Some, length, arith, refl, sym, subst, ◌∙◌, with_items, with_items_is, with_seat, Begin, ActBegin, Begun, blocks, IsPlan, Running, Does, op_of}
-use Rattle.pref_core.proofs.LegalLaws.{plan_itself}
 use Rattle.pref_core.proofs.ChangeReplies.{running_of}
 use Rattle.pref_core.proofs.MachineActs.{begin_does, in_order_quiet}
 use Rattle.pref_core.proofs.machine.Machine.begin_planned.Goals.{After-blocks-2}

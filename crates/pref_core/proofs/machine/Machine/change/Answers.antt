@@ -1,6 +1,5 @@
 use Rattle.pref_core.proofs.Common.{◌≡◌, nat_lt, true, Err, refl, sym, subst, rules, OutOfMemory, IsIndexOf, op_of, added, Abandoned, as_reply, Changes}
 use Rattle.pref_core.proofs.ChangeReplies.{change_not, running_of}
-use Rattle.pref_core.proofs.LegalLaws.{plan_itself}
 use Rattle.pref_core.proofs.MachineActs.{change_done, change_unmade, in_order_changed}
 use Rattle.pref_core.proofs.IndexLaws.{adds_planned}
 use Rattle.pref_core.proofs.machine.Machine.change.Goals as goal

@@ -1,6 +1,5 @@
 use Rattle.pref_core.proofs.Common.{◌≡◌, Ok, Err, None, length, arith, refl, sym, subst, ◌∙◌, ap, rules, with_items, with_items_is, with_seat, seat, Does, as_reply, AnswersAt, IsPlan, op_of, Finish}
 use Rattle.pref_core.proofs.Common.{ActFinish, Answer}
-use Rattle.pref_core.proofs.LegalLaws.{plan_itself}
 use Rattle.pref_core.proofs.ChangeReplies.{PlansAlways, running_of}
 use Rattle.pref_core.proofs.EndReplies.{finish_does, finish_not}
 use Rattle.pref_core.proofs.MachineActs.{finish_early, in_order_quiet}

@@ -1,7 +1,7 @@
-use Rattle.pref_core.proofs.Common.{◌+◌, ◌++◌, [], ◌∷◌, drop, sym, ap, ◌∙◌, subst, arith, Inside, IsBounded, begun_by, added_by, is_open, uses_of, Contents, changes_of, change_of, drop_all}
+use Rattle.pref_core.proofs.Common.{◌+◌, ◌++◌, [], ◌∷◌, drop, sym, ap, ◌∙◌, subst, arith, Inside, IsBounded, begun_by, added_by, is_open, uses_of, Contents, changes_of, change_of}
 use Rattle.pref_core.proofs.BoundsLaws.{next_id-small}
 use Rattle.pref_core.proofs.ChangesLaws.{begun_at, added_one}
-use Rattle.pref_core.proofs.ChosenSlots.{ChosenUpTo, none_chosen, chosen_few, choose_one, one_left, all_chosen}
+use Rattle.pref_core.proofs.ChosenSlots.{ChosenUpTo, none_chosen, chosen_few, choose_one, one_left}
 use Rattle.pref_core.proofs.store.Store.places_for.Goals.{in-Some+in-Some-choose, in_default}
 use Rattle.pref_core.proofs.store.Store.places_for.Goals as goal
 

@@ -1,8 +1,8 @@
-use Rattle.pref_core.proofs.Common.{◌≡◌, suc, ◌+◌, set, Some, sym, ap, ap₂, ◌∙◌, subst, is_some, arith, Entry, row_at, IsTracked, StampedSlots, KeepSlots, replaced, Contents, new_version, added, changes_of, op_of}
+use Rattle.pref_core.proofs.Common.{◌≡◌, suc, ◌+◌, set, Some, sym, ap, ap₂, ◌∙◌, subst, arith, Entry, row_at, IsTracked, StampedSlots, KeepSlots, replaced, Contents, new_version, added, changes_of, op_of}
 use Rattle.pref_core.proofs.BoundsLaws.{stamp-small, next_id-small, added-small}
 use Rattle.pref_core.proofs.AppliedLaws.{IsAllowed-from}
 use Rattle.pref_core.proofs.ChangesLaws.{formed_apart}
-use Rattle.pref_core.proofs.FilledLaws.{begun_commit, commit_fresh, commit_filled, commit_replaced}
+use Rattle.pref_core.proofs.FilledLaws.{begun_commit, commit_fresh, commit_replaced}
 use Rattle.pref_core.proofs.IdsAfterCommit.{tracked_next}
 use Rattle.pref_core.proofs.ReplacedLaws.{commit_kept}
 use Rattle.pref_core.proofs.store.contents.Contents.commit.Goals.{After-added}

@@ -1,4 +1,4 @@
-use Rattle.pref_core.proofs.Common.{◌+◌, ◌-◌, ◌++◌, length, replicate, Option, None, arith, refl, ap, sym, ◌∙◌, subst, Version, IsKept, AreLinks, StampedSlots, ids_of, opening_slots}
+use Rattle.pref_core.proofs.Common.{◌+◌, length, arith, refl, ap, sym, ◌∙◌, subst, IsKept, AreLinks, StampedSlots, ids_of}
 use Rattle.pref_core.proofs.UsesAfterQuery.{zones_opened}
 use Rattle.pref_core.proofs.IdsAfterCommit.{known_ids}
 use Rattle.pref_core.proofs.OpeningChains.{opening_is}

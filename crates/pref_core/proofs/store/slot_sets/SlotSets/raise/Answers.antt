@@ -1,4 +1,4 @@
-use Rattle.pref_core.proofs.Common.{◌≡◌, refl, ◌-◌, ◌<◌, ◌∙◌, suc, ap, map, length, get_or, slice_get, subst, set, arith, sym, with_items_is, numbered, use_at, IsInverse, moved_order, moved_positions}
+use Rattle.pref_core.proofs.Common.{◌≡◌, refl, ◌-◌, ◌∙◌, suc, ap, map, length, get_or, slice_get, set, arith, with_items_is, numbered, use_at, moved_order, moved_positions}
 use Rattle.pref_core.proofs.SlotSetsLaws.{arranged_same, bound_some, raises}
 use Rattle.pref_core.proofs.store.slot_sets.SlotSets.raise.Goals as goal
 

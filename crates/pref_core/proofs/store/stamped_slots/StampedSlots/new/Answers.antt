@@ -1,4 +1,4 @@
-use Rattle.pref_core.proofs.Common.{◌≡◌, ◌-◌, ◌++◌, length, replicate, Option, None, ap, ◌∙◌, arith, length-append, length-replicate, Version, opening_slots}
+use Rattle.pref_core.proofs.Common.{◌≡◌, length, replicate, Option, None, ap, arith, length-append, length-replicate, Version, opening_slots}
 use Rattle.pref_core.proofs.OpeningLaws.{length-opening_slots}
 use Rattle.pref_core.proofs.store.stamped_slots.StampedSlots.new.Goals as goal
 
