@@ -1,8 +1,8 @@
 -- No number of a store comes near its type's end.
-use Rattle.pref_core.proofs.Common.{sum_by-set, slice_get_within, get_or_from_slice_get, ◌≡◌, ℕ, zero, suc, ◌+◌, ◌^◌, ◌<◌, ◌≤◌, Bool, true, false, cond, ◌&&◌, nat_lt, List, [], ◌∷◌, map, length}
-use Rattle.pref_core.proofs.Common.{Option, Some, None, is_some, slice_get, slice_set, refl, sym, ap, ◌∙◌, arith, AllByRecursion, sum_by, length-map, length-set, ltb-true, All-from_recursion}
-use Rattle.pref_core.proofs.Common.{sum_by-le, Entry, Version, Caller, Call, Insert, Update, Delete, Commit, Begin, Finish, Abandon, Spent, Op, seat, with_seat, is_change, succeeds, ended, begun}
-use Rattle.pref_core.proofs.Common.{added, refusal_of, refusal_by_query, is_formed, Contents, stamps, new_version, is_free, filled, close, slots_after, begin_after, callers_after, is_next, stepped}
+use Rattle.pref_core.proofs.Common.{sum_by-set, slice_get_within, get_or_from_slice_get, ◌≡◌, ℕ, zero, suc, ◌+◌, ◌^◌, ◌<◌, ◌≤◌, Bool, true, false, cond, ◌&&◌, List, [], ◌∷◌, map, length}
+use Rattle.pref_core.proofs.Common.{Option, Some, None, is_some, slice_get, slice_set, refl, sym, ap, ◌∙◌, arith, AllByRecursion, sum_by, length-map, length-set, All-from_recursion}
+use Rattle.pref_core.proofs.Common.{sum_by-le, Entry, Version, Caller, Call, Insert, Update, Delete, Commit, Begin, Finish, Abandon, Op, seat, with_seat, is_change, succeeds, ended, begun}
+use Rattle.pref_core.proofs.Common.{added, refusal_of, is_formed, Contents, stamps, new_version, is_free, filled, close, slots_after, begin_after, callers_after, is_next, stepped}
 use Rattle.pref_core.proofs.Common.{grown, IsBounded}
 use Rattle.pref_core.proofs.AppliedLaws.{IsAllowed, IsAllowed-from}
 use Rattle.pref_core.proofs.ChangesLaws.{commit_length}
@@ -62,11 +62,7 @@ callers_count callers (suc k) new found at few same = record {
 
 -- a caller that is let in has made fewer calls than may be made
 pub few_calls : (calls : ℕ) (b : Bool) (call : Call) → refusal_of (Some calls) b call ≡ None → calls < 2 ^ 56
-few_calls calls b call h = go (nat_lt calls (2 ^ 56)) refl h
-  where
-    go : (t : Bool) → nat_lt calls (2 ^ 56) ≡ t → cond t (refusal_by_query b call) (Some Spent) ≡ None → calls < 2 ^ 56
-    go true e h = ltb-true _ _ e
-    go false e h = absurd (cc)
+few_calls calls b call h = grind (arith)
 
 callers_after-counts : (contents : Contents) (op : Op) → IsAllowed contents op → CountsOne contents.callers (callers_after contents.stamp contents.callers op.client op.call)
 callers_after-counts contents op allowed = go (seat op.client contents.callers) refl allowed.accepted

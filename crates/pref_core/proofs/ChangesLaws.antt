@@ -1,7 +1,7 @@
 -- The changes of a commit: which ids they name, and that the rows that they begin have ids of their own.
 use Rattle.pref_core.proofs.Common.{◌≡◌, ℕ, zero, suc, ◌+◌, ◌<◌, ◌≤◌, Bool, true, false, not, ◌||◌, cond, eqb, List, [], ◌∷◌, ◌++◌, map, length, take, drop, add-one, slice_get, Option, Some, None}
-use Rattle.pref_core.proofs.Common.{is_some, refl, sym, ap, ◌∙◌, subst, arith, ⊎_elim, ◌⊎◌, inl, inr, nat_lt, nat_le, append-nil, take_more, slice_get_within, get_or_from_slice_get, and_parts}
-use Rattle.pref_core.proofs.Common.{or_parts, or_cases, or_right, eqb-true, eq-eqb, leb-true, Change, Add, Set, Remove, Call, Insert, Update, Delete, Commit, Begin, Finish, Abandon, ended_by}
+use Rattle.pref_core.proofs.Common.{is_some, refl, sym, ap, ◌∙◌, subst, arith, ⊎_elim, ◌⊎◌, inl, inr, append-nil, take_more, slice_get_within, get_or_from_slice_get, and_parts}
+use Rattle.pref_core.proofs.Common.{or_parts, or_cases, or_right, eqb-true, eq-eqb, Change, Add, Set, Remove, Call, Insert, Update, Delete, Commit, Begin, Finish, Abandon, ended_by}
 use Rattle.pref_core.proofs.Common.{begun_by, added_by, twice_from, twice, is_change_count, is_commit, Line, among, has, missing, ended, is_formed, AreFresh, Entry, false_from_ne_true}
 use Rattle.pref_core.proofs.Common.{list_any-append}
 
@@ -10,9 +10,7 @@ none_is None e = refl
 none_is (Some x) e = absurd (cc)
 
 pub commit_length : (commit : List Change) → is_commit commit ≡ true → length commit ≤ 8
-commit_length commit h =
-    let count = (and_parts (is_change_count commit) (not (is_some (twice commit))) h).0 in
-    leb-true _ _ (and_parts (nat_lt 0 (length commit)) (nat_le (length commit) 8) count).1
+commit_length commit h = grind (arith)
 
 -- no id comes twice
 abbrev pub AreApart : List ℕ → Type 0

@@ -1,6 +1,6 @@
 -- The slots of the rows that a call begins, chosen one after the other.
 use Rattle.pref_core.proofs.Common.{◌≡◌, ℕ, suc, ◌+◌, ◌<◌, ◌≤◌, Bool, true, false, ◌&&◌, cond, List, [], ◌∷◌, ◌++◌, map, length, Option, Some, None, Result, Ok, Err, is_some, slice_set, refl, sym, ap}
-use Rattle.pref_core.proofs.Common.{◌∙◌, subst, arith, count_by, length-map, length-append, append-nil, append_assoc, le-ltb, Version, Call, Op, NoSuchRow, Entry, Change, Add, Set, Remove, begun_by}
+use Rattle.pref_core.proofs.Common.{◌∙◌, subst, arith, count_by, length-map, length-append, append-nil, append_assoc, Version, Call, Op, Entry, Change, Add, Set, Remove, begun_by}
 use Rattle.pref_core.proofs.Common.{begins_any, among, changes_of, ended, begun, begins_row, is_change, missing, success_outcome, succeeds, Contents, begins, new_version, visible, close, filled}
 use Rattle.pref_core.proofs.Common.{placed, used, grown, is_free, outcome_at, outcome_of, is_free_use, IsFreed, FindsFreed, is_open, uses_of}
 use Rattle.pref_core.proofs.ChangesLaws.{begun_few}
@@ -24,24 +24,13 @@ size_is contents call freed size free begun_rows h rows is returned =
 pub freed_less : (contents : Contents) (ids freed : List ℕ) → IsFreed contents ids freed → count_by is_free_use (uses_of contents) + length freed ≤ length contents.slots
 freed_less contents ids freed h = let all = h.counted in omega arith
 
--- The outcome of a change that misses no row.
-pub outcome_missing : (contents : Contents) (call : Call) (id : ℕ) → is_change call ≡ true → missing (ended call) (visible contents.stamp contents.slots) ≡ Some id → NoSuchRow id ≡ outcome_at contents call
-outcome_missing contents call id c none = rw (c, none) refl
-
 -- A call that misses a row does nothing.
 pub missing_quiet : (contents : Contents) (op : Op) (freed : Result (List ℕ) ℕ) → FindsFreed contents (ended op.call) freed → ((places : List ℕ) → freed ≡ Ok places → ⊥) → op.outcome ≡ outcome_at contents op.call → (is_change op.call && succeeds op.outcome) ≡ false
 missing_quiet contents op (Ok places) finds not returned = absurd (not places refl)
-missing_quiet contents op (Err id) finds not returned = go (is_change op.call) refl
-  where
-    go : (b : Bool) → is_change op.call ≡ b → (is_change op.call && succeeds op.outcome) ≡ false
-    go false c = ap (λ b. b && succeeds op.outcome) c
-    go true c = ap (λ b. b && succeeds op.outcome) c ∙ ap succeeds (returned ∙ sym (outcome_missing contents op.call id c finds))
+missing_quiet contents op (Err id) finds not returned = grind (arith)
 
 pub outcome_fits : (contents : Contents) (call : Call) (size : ℕ) → is_change call ≡ true → missing (ended call) (visible contents.stamp contents.slots) ≡ None → begins_row call ≡ true → size ≡ used (grown call contents) → size ≤ length contents.slots → success_outcome contents.next_id call ≡ outcome_at contents call
-outcome_fits contents call size c none row is small =
-    let less : used (grown call contents) ≤ length contents.slots = omega arith in
-    let within = le-ltb (length contents.slots) (used (grown call contents)) less in
-    rw (c, none, row, within) refl
+outcome_fits contents call size c none row is small = grind (arith)
 
 pub outcome_other : (contents : Contents) (call : Call) → is_change call ≡ true → missing (ended call) (visible contents.stamp contents.slots) ≡ None → begins_row call ≡ false → success_outcome contents.next_id call ≡ outcome_at contents call
 outcome_other contents call c none row = rw (c, none, row) refl

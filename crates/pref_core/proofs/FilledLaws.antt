@@ -2,7 +2,7 @@
 use Rattle.pref_core.proofs.Common.{◌≡◌, ℕ, suc, ◌+◌, ◌^◌, ◌<◌, Bool, true, false, not, ◌&&◌, ◌||◌, cond, eqb, nat_eq, List, [], ◌∷◌, ◌++◌, map, length, drop, set, Option, Some, None, is_some}
 use Rattle.pref_core.proofs.Common.{slice_get, get_or, unwrap_or, refl, sym, ap, ap₂, ◌∙◌, subst, arith, ⊎_elim, AllByRecursion, length-map, map-set, set-set, map-set_same, option_map}
 use Rattle.pref_core.proofs.Common.{slice_get_within, slice_get-get_or, slice_get-map, le-leb, eqb-true, ne_eqb, cases_eq, or_parts, and_parts, true≢false, Version, SlotUse, Free, Ended, Live, Entry}
-use Rattle.pref_core.proofs.Common.{among, has, Op, Call, Update, Outcome, State, ended, begun, begins_row, added, missing, success_outcome, is_change, succeeds, Contents, StandsFor, IsWithin, EndsBy}
+use Rattle.pref_core.proofs.Common.{among, has, Op, Call, Update, Outcome, State, ended, begun, begins_row, added, missing, success_outcome, is_change, succeeds, Contents, StandsFor, IsWithin}
 use Rattle.pref_core.proofs.Common.{is_visible, begins, stamps, new_version, visible, close, close_at, grown, is_free, filled, outcome_at, is_next, slots_after, used, is_free_use, free_at, use_of}
 use Rattle.pref_core.proofs.Common.{is_row, row_at, IsPlaceOf, shown, ids_of, id_at, AreIds, AreLinks, IsTracked, AreFresh, with_slots, are_free, same_Some}
 use Rattle.pref_core.proofs.AppliedLaws.{IsAllowed-from, succeeds-missing}
@@ -221,11 +221,7 @@ end_none contents zones links id h absent = ap (λ l. with_slots l contents) (sy
 
 -- a version that stands in the table has no end
 no_end : (next made id : ℕ) (version : Version) → IsWithin next made (Some version) → is_row made id (Some version) ≡ true → version.death ≡ None
-no_end next made id version within row = go version.death within.2 (and_parts (eqb version.id id) (is_visible made version) row).1
-  where
-    go : (death : Option ℕ) → EndsBy made death → is_visible made (record version { death = death }) ≡ true → death ≡ None
-    go None ends v = refl
-    go (Some death) ends v = absurd (let w = rw (le-leb version.birth made within.1, le-leb death made ends) at v in cc)
+no_end next made id version within row = grind (arith)
 
 module _ (contents : Contents) (zones : List SlotUse) (links : List ℕ) (id place : ℕ) (version : Version) (h : IsTracked contents zones links) (row : row_at contents.stamp id contents.slots place ≡ true) (at : slice_get contents.slots place ≡ Some (Some version)) where
   abbrev last : Option Version
@@ -350,11 +346,7 @@ commit_fresh now start closed state op first is next ends stands legal c s =
 
 pub commit_filled : (now start closed : Contents) (op : Op) (first : ℕ) → start ≡ begun_commit now (added op.call) → first ≡ now.next_id → closed ≡ with_slots (map (close (ended op.call) start.stamp) start.slots) start
     → is_change op.call ≡ true → succeeds op.outcome ≡ true → filled (stamps closed) closed.stamp op.slots (begun first op.call) closed.slots ≡ slots_after now op
-commit_filled now start closed op first is next ends c s =
-    ap (λ (e : Contents). filled (stamps e) e.stamp op.slots (begun first op.call) e.slots) ends
-    ∙ ap (λ (b : Contents). filled (stamps b) b.stamp op.slots (begun first op.call) (map (close (ended op.call) b.stamp) b.slots)) is
-    ∙ ap (λ n. filled (suc now.stamp ∷ begins now.callers) (suc now.stamp) op.slots (begun n op.call) (map (close (ended op.call) (suc now.stamp)) now.slots)) next
-    ∙ sym (ap (λ b. cond b (filled (suc now.stamp ∷ begins now.callers) (suc now.stamp) op.slots (begun now.next_id op.call) (map (close (ended op.call) (suc now.stamp)) now.slots)) (filled (stamps now) now.stamp op.slots [] now.slots)) (ap (λ b. b && succeeds op.outcome) c ∙ s))
+commit_filled now start closed op first is next ends c s = grind (arith)
 
 -- An update whose row stays in its slot writes this slot alone.
 pub commit_replaced : (now : Contents) (zones : List SlotUse) (links : List ℕ) (op : Op) (entry : Entry) (place : ℕ) → IsTracked now zones links → op.call ≡ Update entry.id entry.row → op.slots ≡ place ∷ []

@@ -1,10 +1,9 @@
 -- The slots of a change that are known by a look at them alone.
-use Rattle.pref_core.proofs.Common.{◌≡◌, ℕ, suc, ◌+◌, ◌≤◌, Bool, true, false, not, ◌&&◌, ◌||◌, cond, eqb, nat_lt, List, [], ◌∷◌, ◌++◌, length, take, drop, Option, Some, None, is_some, slice_get, ◌⊎◌}
-use Rattle.pref_core.proofs.Common.{inl, inr, ⊎_elim, refl, sym, ap, ap₂, ◌∙◌, subst, arith, eqb-true, or_cases, or_from, or_left, true≢false, append-nil, Call, Outcome, Added, Done, Op, Change, Add}
+use Rattle.pref_core.proofs.Common.{◌≡◌, ℕ, suc, ◌+◌, ◌≤◌, Bool, true, false, not, ◌&&◌, ◌||◌, cond, eqb, List, [], ◌∷◌, ◌++◌, length, take, drop, Option, Some, None, is_some, slice_get, ◌⊎◌}
+use Rattle.pref_core.proofs.Common.{inl, inr, ⊎_elim, refl, sym, ap, ap₂, ◌∙◌, subst, arith, eqb-true, or_cases, or_from, or_left, true≢false, append-nil, Call, Op, Change, Add}
 use Rattle.pref_core.proofs.Common.{Set, Remove, Version, Row, ended_by, begun_by, begins_any, row_at, IsPlaceOf, IsKept, FitAtOnce, are_free, frees_at, uses_of, filled, is_free, is_next, outcome_at}
-use Rattle.pref_core.proofs.Common.{placed, slots_after, used, grown, free_at, Contents, begins, visible, added, begins_row, begun, changes_of, ended, success_outcome, is_change, is_formed, missing}
+use Rattle.pref_core.proofs.Common.{slots_after, used, grown, free_at, Contents, begins, visible, begins_row, begun, changes_of, ended, success_outcome, is_change, is_formed, missing}
 use Rattle.pref_core.proofs.Common.{succeeds, Line, among, false_from_ne_true, drop_all}
-use Rattle.pref_core.proofs.AppliedLaws.{IsAllowed-from}
 use Rattle.pref_core.proofs.ChangesLaws.{AreApart, among_append, among_inside, drop_at, ended_so_far, formed_apart, take_at}
 use Rattle.pref_core.proofs.ChosenSlots.{ChosenUpTo, all_chosen, closed_slots, outcome_fits, outcome_other, stamps_next}
 use Rattle.pref_core.proofs.ChangeCounts.{ended_next, one_begins}
@@ -14,11 +13,7 @@ use Rattle.pref_core.proofs.PlanLaws.{plan_is_not_full}
 use Rattle.pref_core.proofs.SlotUseLaws.{has_row_at}
 
 granted_succeeds : (next_id : ℕ) (call : Call) → succeeds (success_outcome next_id call) ≡ true
-granted_succeeds next_id call = go (nat_lt 0 (added call))
-  where
-    go : (b : Bool) → succeeds (cond b (Added next_id) Done) ≡ true
-    go true = refl
-    go false = refl
+granted_succeeds next_id call = grind (arith)
 
 -- Slots for all rows that a change begins, which misses none: it succeeds.
 chosen_at_once : (contents : Contents) (call : Call) (slots : List ℕ) → is_change call ≡ true → is_formed call ≡ true → missing (ended call) (visible contents.stamp contents.slots) ≡ None → ChosenUpTo contents call [] slots → FitAtOnce contents call slots
@@ -179,8 +174,4 @@ fits_all contents call slots at used c formed done long h = chosen_at_once conte
 
 -- Its slots fit an op of it that is next.
 pub next_fits : (contents : Contents) (op : Op) → FitAtOnce contents op.call op.slots → is_next contents op ≡ (is_next contents op && is_some (slots_after contents op))
-next_fits contents op h = go (is_next contents op) refl
-  where
-    go : (b : Bool) → is_next contents op ≡ b → b ≡ (b && is_some (slots_after contents op))
-    go false next = refl
-    go true next = sym (ap (λ (o : Outcome). is_some (placed contents op.call op.slots o)) (IsAllowed-from contents op next).outcome ∙ h.placed)
+next_fits contents op h = grind (arith)

@@ -1,6 +1,6 @@
 -- Links, as a row is looked for, added and removed.
-use Rattle.pref_core.proofs.Common.{◌≡◌, ℕ, zero, suc, ◌+◌, ◌<◌, ◌≤◌, ◌⊎◌, ◌&&◌, Bool, true, false, cond, eqb, List, [], ◌∷◌, length, Option, Some, None, refl, sym, ap, ◌∙◌, subst, arith, ⊎_elim, inl}
-use Rattle.pref_core.proofs.Common.{inr, cases_eq, cases_lt, ltb-true, ltb-false, eqb-true, eq-eqb, and_parts, Version, is_visible, row_at, ids_of, id_at, is_above, AreIds, LeadsTo, IsNode, AreLinked}
+use Rattle.pref_core.proofs.Common.{◌≡◌, ℕ, zero, suc, ◌+◌, ◌<◌, ◌≤◌, ◌⊎◌, true, false, List, [], ◌∷◌, length, Option, Some, None, refl, sym, ap, ◌∙◌, subst, arith, ⊎_elim, inl}
+use Rattle.pref_core.proofs.Common.{inr, cases_eq, cases_lt, ltb-true, ltb-false, Version, row_at, ids_of, id_at, is_above, AreIds, LeadsTo, IsNode, AreLinked}
 use Rattle.pref_core.proofs.Common.{IsOnWay, rank, IsBefore, same_Some, none-some}
 use Rattle.pref_core.specs.IdChains.{IsNext}
 
@@ -43,19 +43,13 @@ id_within (x ∷ ids) (suc place) id at = let less = id_within ids place id at i
 pub shows_row : (stamp id : ℕ) (slots : List (Option Version)) (place : ℕ) → id_at (ids_of stamp slots) place ≡ Some id → row_at stamp id slots place ≡ true
 shows_row stamp id [] place at = absurd (cc)
 shows_row stamp id (None ∷ slots) zero at = absurd (cc)
-shows_row stamp id (Some version ∷ slots) zero at = go (is_visible stamp version) refl at
-  where
-    go : (b : Bool) → is_visible stamp version ≡ b → cond b (Some version.id) None ≡ Some id → (eqb version.id id && is_visible stamp version) ≡ true
-    go true e f = rw (eq-eqb version.id id (same_Some version.id id f), e) refl
-    go false e f = absurd (none-some id f)
+shows_row stamp id (Some version ∷ slots) zero at = grind (arith)
 shows_row stamp id (slot ∷ slots) (suc place) at = shows_row stamp id slots place at
 
 pub row_shown : (stamp id : ℕ) (slots : List (Option Version)) (place : ℕ) → row_at stamp id slots place ≡ true → id_at (ids_of stamp slots) place ≡ Some id
 row_shown stamp id [] place at = absurd (cc)
 row_shown stamp id (None ∷ slots) zero at = absurd (cc)
-row_shown stamp id (Some version ∷ slots) zero at =
-    let parts = and_parts (eqb version.id id) (is_visible stamp version) at in
-    ap (λ b. cond b (Some version.id) None) parts.1 ∙ ap Some (eqb-true version.id id parts.0)
+row_shown stamp id (Some version ∷ slots) zero at = grind (arith)
 row_shown stamp id (slot ∷ slots) (suc place) at = row_shown stamp id slots place at
 
 -- The row of an id stands behind the last node before it, or nowhere.
@@ -74,43 +68,12 @@ place_behind limit capacity homes ids links id node place linked inside before a
 -- A node of an id's home that is not the last one before it has a greater bound than that one, which is a row's.
 other_node : (limit capacity : ℕ) (homes : ℕ → ℕ) (ids : ℕ → Option ℕ) (id node b n : ℕ) (before : IsBefore limit capacity homes ids id node) → AreIds limit ids
     → IsNode limit capacity homes ids (homes id) b n → (n ≡ node → ⊥) → id < b → (ids node ≡ Some before.bound) × (homes before.bound ≡ homes id) × (before.bound < b)
-other_node limit capacity homes ids id node b n before known is apart less = ⊎_elim home_case row_case is
-  where
-    home_case : (n ≡ capacity + homes id) × (b ≡ limit) → (ids node ≡ Some before.bound) × (homes before.bound ≡ homes id) × (before.bound < b)
-    home_case p = ⊎_elim
-        (λ (q : (node ≡ capacity + homes id) × (before.bound ≡ limit)). absurd (apart (p.0 ∙ sym q.0)))
-        (λ (q : (ids node ≡ Some before.bound) × (homes before.bound ≡ homes id)). (q.0, q.1, (let small = known.small node before.bound q.0 in let whole = p.1 in omega arith)))
-        before.is
-
-    row_case : (ids n ≡ Some b) × (homes b ≡ homes id) → (ids node ≡ Some before.bound) × (homes before.bound ≡ homes id) × (before.bound < b)
-    row_case p = ⊎_elim
-        (λ (q : (node ≡ capacity + homes id) × (before.bound ≡ limit)). absurd (let small = known.small n b p.0 in let whole = q.1 in let low = before.below n b p.0 p.1 (omega arith) in omega arith))
-        (λ (q : (ids node ≡ Some before.bound) × (homes before.bound ≡ homes id)). (
-          q.0,
-          q.1,
-          ⊎_elim
-              (λ (same : b ≡ before.bound). absurd (apart (known.once n node b p.0 (q.0 ∙ ap Some (sym same)))))
-              (λ (differ : b ≡ before.bound → ⊥). ⊎_elim
-              (λ (g : b < before.bound). absurd (let low = before.below n b p.0 p.1 g in omega arith))
-              (λ (l : before.bound ≤ b). (let t : before.bound < b = omega (arith, differ) in t))
-              (cases_lt b before.bound))
-              (cases_eq b before.bound),
-        ))
-        before.is
+other_node limit capacity homes ids id node b n before known is apart less = grind (arith)
 
 -- What a node is called is its own.
 one_node : (limit capacity : ℕ) (homes : ℕ → ℕ) (ids : ℕ → Option ℕ) (home other bound b node : ℕ) → ((place id : ℕ) → ids place ≡ Some id → place < capacity)
     → IsNode limit capacity homes ids home bound node → IsNode limit capacity homes ids other b node → (home ≡ other) × (bound ≡ b)
-one_node limit capacity homes ids home other bound b node within is also = ⊎_elim
-    (λ (p : (node ≡ capacity + home) × (bound ≡ limit)). ⊎_elim
-    (λ (q : (node ≡ capacity + other) × (b ≡ limit)). (let x = p.0 in let y = q.0 in omega arith, p.1 ∙ sym q.1))
-    (λ (q : (ids node ≡ Some b) × (homes b ≡ other)). absurd (let x = p.0 in let y = within node b q.0 in omega arith))
-    also)
-    (λ (p : (ids node ≡ Some bound) × (homes bound ≡ home)). ⊎_elim
-    (λ (q : (node ≡ capacity + other) × (b ≡ limit)). absurd (let x = q.0 in let y = within node bound p.0 in omega arith))
-    (λ (q : (ids node ≡ Some b) × (homes b ≡ other)). let same = same_Some bound b (sym p.0 ∙ q.0) in (sym p.1 ∙ ap homes same ∙ q.1, same))
-    also)
-    is
+one_node limit capacity homes ids home other bound b node within is also = grind (arith)
 
 -- A row that is added behind the last node before its id.
 pub added : (limit capacity : ℕ) (homes : ℕ → ℕ) (ids after : ℕ → Option ℕ) (links linked_after : ℕ → ℕ) (id place node : ℕ) → AreIds limit ids → ((p i : ℕ) → ids p ≡ Some i → p < capacity)

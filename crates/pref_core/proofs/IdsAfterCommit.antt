@@ -1,7 +1,7 @@
 -- How the ids that a store's slots show go along with a commit.
-use Rattle.pref_core.proofs.Common.{◌≡◌, ℕ, suc, ◌+◌, ◌^◌, ◌≤◌, true, eqb, List, [], ◌∷◌, map, set, Option, Some, None, refl, sym, ap, ap₂, ◌∙◌, subst, arith, AllByRecursion, map-set}
+use Rattle.pref_core.proofs.Common.{◌≡◌, ℕ, suc, ◌+◌, ◌^◌, true, eqb, List, [], ◌∷◌, map, set, Option, Some, None, refl, sym, ap, ap₂, ◌∙◌, subst, arith, AllByRecursion, map-set}
 use Rattle.pref_core.proofs.Common.{length_permutation, le-leb, true≢false, Version, SlotUse, Call, Entry, State, changes_of, ended, begun, added, missing, is_formed, Contents, StandsFor, IsWithin}
-use Rattle.pref_core.proofs.Common.{EndsBy, visible, new_version, close, IsBounded, row_at, IsPlaceOf, shown, ids_of, id_at, AreIds, AreLinks, IsTracked, AreFresh}
+use Rattle.pref_core.proofs.Common.{visible, new_version, close, IsBounded, row_at, IsPlaceOf, shown, ids_of, id_at, AreIds, AreLinks, IsTracked, AreFresh}
 use Rattle.pref_core.proofs.BoundsLaws.{next_id-small}
 use Rattle.pref_core.proofs.ChangesLaws.{begun_fresh, found_all, formed_apart}
 use Rattle.pref_core.proofs.IndexedRows.{ended_place}
@@ -31,11 +31,7 @@ place_known stamp id place slots (Some found) known at is = ap Some (known.once 
 -- At the next stamp the slots show the same, before a slot is written.
 shown_next : (next now : ℕ) (slot : Option Version) → IsWithin next now slot → shown (suc now) slot ≡ shown now slot
 shown_next next now None h = refl
-shown_next next now (Some version) h = at_death version.death h.2
-  where
-    at_death : (death : Option ℕ) → EndsBy now death → shown (suc now) (Some (record version { death = death })) ≡ shown now (Some (record version { death = death }))
-    at_death None ends = rw (le-leb version.birth (suc now) (let low : version.birth ≤ now = h.1 in omega arith), le-leb version.birth now h.1) refl
-    at_death (Some death) ends = rw (le-leb version.birth (suc now) (let low : version.birth ≤ now = h.1 in omega arith), le-leb version.birth now h.1, le-leb death (suc now) (let low : death ≤ now = ends in omega arith), le-leb death now ends) refl
+shown_next next now (Some version) h = grind (arith)
 
 ids_next : (next now : ℕ) (slots : List (Option Version)) → AllByRecursion (IsWithin next now) slots → ids_of (suc now) slots ≡ ids_of now slots
 ids_next next now [] h = refl

@@ -1,7 +1,7 @@
 -- An index follows the store through each op that is done.
 use Rattle.pref_core.proofs.Common.{drop, slice_get, ◌≡◌, ℕ, suc, ◌+◌, ◌<◌, Bool, true, false, ◌&&◌, ◌||◌, cond, eqb, nat_lt, List, [], ◌∷◌, map, length, set, Option, Some, None, is_some, refl, sym}
-use Rattle.pref_core.proofs.Common.{ap, ◌∙◌, subst, arith, AllByRecursion, eqb-true, ne_eqb, or_right, true≢false, Version, Change, Add, Set, Remove, Call, Insert, Update, Delete, Commit, Begin}
-use Rattle.pref_core.proofs.Common.{Finish, Abandon, Outcome, Added, Done, NoSuchRow, Full, Op, Entry, Row, ended_by, begun_by, added_by, among, has, missing, success_outcome, is_change, succeeds}
+use Rattle.pref_core.proofs.Common.{ap, ◌∙◌, subst, arith, AllByRecursion, eqb-true, ne_eqb, true≢false, Version, Change, Add, Set, Remove, Call, Insert, Update, Delete, Commit, Begin}
+use Rattle.pref_core.proofs.Common.{Finish, Abandon, Outcome, Added, Done, Op, Entry, Row, ended_by, begun_by, added_by, among, has, missing, success_outcome, is_change, succeeds}
 use Rattle.pref_core.proofs.Common.{added, begins_row, changes_of, ended, begun, outcome_of, Contents, IsWithin, visible, begins, new_version, close, is_free, filled, used, grown, slots_after}
 use Rattle.pref_core.proofs.Common.{is_next, applied, slot_of, Points, PointsAll, given, placed_rows, adds, IsPlaceOf, IsIndexOf}
 use Rattle.pref_core.proofs.AppliedLaws.{IsAllowed-from}
@@ -98,11 +98,7 @@ module _ (ns : List ℕ) (made id : ℕ) where
 -- A call that succeeds has the outcome that is granted.
 granted_is : (capacity : ℕ) (begins : Bool) (m : Option ℕ) (size : ℕ) (success_outcome : Outcome) → succeeds (outcome_of capacity begins m size success_outcome) ≡ true → outcome_of capacity begins m size success_outcome ≡ success_outcome
 granted_is capacity begins (Some id) size success_outcome s = absurd (cc)
-granted_is capacity begins None size success_outcome s = go (begins && nat_lt capacity size) s
-  where
-    go : (b : Bool) → succeeds (cond b (Full size) success_outcome) ≡ true → cond b (Full size) success_outcome ≡ success_outcome
-    go true s = absurd (cc)
-    go false s = refl
+granted_is capacity begins None size success_outcome s = grind (arith)
 
 -- a call that is no commit changes nothing
 no_changes : (call : Call) → is_change call ≡ false → changes_of call ≡ []
@@ -212,13 +208,7 @@ module _ (contents : Contents) (within : AllByRecursion (IsWithin contents.next_
 
 -- A row is added only by a call that adds one.
 pub adds_planned : (contents : Contents) (op : Op) → is_next contents op ≡ true → adds op.outcome ≡ true → nat_lt 0 (added op.call) ≡ true
-adds_planned contents op next h = sym (adds_iff_added contents op next (succeeding op.outcome h)) ∙ h
-  where
-    succeeding : (o : Outcome) → adds o ≡ true → succeeds o ≡ true
-    succeeding (Added id) a = refl
-    succeeding Done a = absurd (cc)
-    succeeding (NoSuchRow id) a = absurd (cc)
-    succeeding (Full size) a = absurd (cc)
+adds_planned contents op next h = grind (arith)
 
 -- What is left of the rows that are placed: ..
 pub record PlacesRest (contents : Contents) (next : ℕ) (changes : List Change) (slots : List ℕ) (index : Pairs) (all : ℕ → Option ℕ) : Type 0 where
@@ -228,37 +218,12 @@ pub record PlacesRest (contents : Contents) (next : ℕ) (changes : List Change)
 -- .. one more is added, ..
 pub adds_one : (contents : Contents) (next slot : ℕ) (row : Row) (rest : List Change) (slots : List ℕ) (index new : Pairs) (all : ℕ → Option ℕ) → PlacesRest contents next (Add row ∷ rest) (slot ∷ slots) index all → Points index next (Some slot) new
     → PlacesRest contents (next + 1) rest slots new all
-adds_one contents next slot row rest slots index new all h points = record {
-  gives = λ id. ap (λ n. given (placed_rows n rest slots) id (slot_of new id)) one ∙ ap (given (placed_rows (suc next) rest slots) id) (points id) ∙ h.gives id;
-  olds = record {
-    apart = h.olds.apart;
-    below = λ id ends. let low = h.olds.below id ends in omega arith;
-    there = h.olds.there;
-    placed = λ id ends. subst (IsPlaceOf contents.stamp id contents.slots) (sym (points id ∙ ap (λ b. cond b (Some slot) (slot_of index id)) (differs id ends))) (h.olds.placed id ends);
-  };
-}
-  where
-    one : next + 1 ≡ suc next
-    one = omega arith
-
-    differs : (id : ℕ) → among (ended_by rest) id ≡ true → eqb next id ≡ false
-    differs id ends = ne_eqb next id (λ (same : next ≡ id). let low = h.olds.below id ends in omega arith)
+adds_one contents next slot row rest slots index new all h points = grind (arith)
 
 -- .. or another slot is given to a row that is there, or none.
 pub moves_one : (contents : Contents) (next id : ℕ) (slot : Option ℕ) (rest : List Change) (slots : List ℕ) (index new : Pairs) (all : ℕ → Option ℕ) → ((other : ℕ) → given ((id, slot) ∷ placed_rows next rest slots) other (slot_of index other) ≡ all other)
     → AreThere contents next (id ∷ ended_by rest) index → Points index id slot new → PlacesRest contents next rest slots new all
-moves_one contents next id slot rest slots index new all gives olds points = record {
-  gives = λ other. ap (given (placed_rows next rest slots) other) (points other) ∙ gives other;
-  olds = record {
-    apart = olds.apart.1;
-    below = λ other ends. olds.below other (or_right (eqb id other) (among (ended_by rest) other) ends);
-    there = λ other ends. olds.there other (or_right (eqb id other) (among (ended_by rest) other) ends);
-    placed = λ other ends. subst (IsPlaceOf contents.stamp other contents.slots) (sym (points other ∙ ap (λ b. cond b slot (slot_of index other)) (differs other ends))) (olds.placed other (or_right (eqb id other) (among (ended_by rest) other) ends));
-  };
-}
-  where
-    differs : (other : ℕ) → among (ended_by rest) other ≡ true → eqb id other ≡ false
-    differs other ends = ne_eqb id other (λ (same : id ≡ other). true≢false (sym ends ∙ ap (among (ended_by rest)) (sym same) ∙ olds.apart.0))
+moves_one contents next id slot rest slots index new all gives olds points = grind (arith)
 
 -- the rows of the changes from a place on, whose first sets one
 pub rest_there : (contents : Contents) (next : ℕ) (index : Pairs) (changes : List Change) (at id : ℕ) (row : Row) → slice_get changes at ≡ Some (Set id row) → AreThere contents next (ended_by (drop at changes)) index → AreThere contents next (id ∷ ended_by (drop (at + 1) changes)) index
@@ -266,8 +231,4 @@ rest_there contents next index changes at id row here = subst (λ l. AreThere co
 
 -- what an index has already
 pub points_still : (index : Pairs) (id : ℕ) (slot : Option ℕ) → slot_of index id ≡ slot → Points index id slot index
-points_still index id slot e other = go (eqb id other) refl
-  where
-    go : (b : Bool) → eqb id other ≡ b → slot_of index other ≡ cond b slot (slot_of index other)
-    go true same = ap (slot_of index) (sym (eqb-true id other same)) ∙ e
-    go false differ = refl
+points_still index id slot e other = grind (arith)

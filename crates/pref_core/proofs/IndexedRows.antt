@@ -1,7 +1,7 @@
 -- The index of a store, after an op.
-use Rattle.pref_core.proofs.Common.{and_right, ◌≡◌, ℕ, zero, suc, ◌+◌, ◌<◌, ◌≤◌, Bool, true, false, not, ◌&&◌, cond, eqb, List, [], ◌∷◌, map, length, set, Option, Some, None, slice_get, refl, sym, ap}
-use Rattle.pref_core.proofs.Common.{◌∙◌, subst, arith, ⊎_elim, AllByRecursion, le-leb, eqb-true, eq-eqb, cases_eq, true≢false, Version, among, Entry, is_visible, new_version, is_needed, IsWithin}
-use Rattle.pref_core.proofs.Common.{EndsBy, close, close_at, is_free, slot_of, Points, is_row, row_at, IsPlaceOf, false_from_ne_true}
+use Rattle.pref_core.proofs.Common.{and_right, ◌≡◌, ℕ, zero, suc, ◌+◌, ◌<◌, ◌≤◌, Bool, true, false, eqb, List, [], ◌∷◌, map, length, set, Option, Some, None, slice_get, refl, sym, ap}
+use Rattle.pref_core.proofs.Common.{◌∙◌, arith, ⊎_elim, AllByRecursion, le-leb, eq-eqb, cases_eq, true≢false, Version, among, Entry, is_visible, new_version, IsWithin}
+use Rattle.pref_core.proofs.Common.{close, is_free, slot_of, Points, is_row, row_at, IsPlaceOf, false_from_ne_true}
 use Rattle.pref_core.proofs.SlotUseLaws.{has_row_at, has_nowhere}
 
 -- what a slot shows of an id
@@ -11,33 +11,12 @@ row_of stamp id o = elim o [ None ↦ false | Some slot ↦ is_row stamp id slot
 -- A commit that doesn't end the id's row leaves it where it is.
 is_row-close : (next now id : ℕ) (ids : List ℕ) (slot : Option Version) → IsWithin next now slot → among ids id ≡ false → is_row (suc now) id (close ids (suc now) slot) ≡ is_row now id slot
 is_row-close next now id ids None h out = refl
-is_row-close next now id ids (Some version) h out = go (eqb version.id id) refl
-  where
-    at_death : (chosen : Bool) → chosen ≡ false → (death : Option ℕ) → EndsBy now death
-        → is_visible (suc now) (record version { death = close_at (suc now) chosen death }) ≡ is_visible now (record version { death = death })
-    at_death true e death ends = absurd (cc)
-    at_death false e None ends = rw (le-leb version.birth (suc now) (let low : version.birth ≤ now = h.1 in omega arith), le-leb version.birth now h.1) refl
-    at_death false e (Some death) ends =
-        rw (le-leb version.birth (suc now) (let low : version.birth ≤ now = h.1 in omega arith), le-leb version.birth now h.1, le-leb death (suc now) (let low : death ≤ now = ends in omega arith), le-leb death now ends) refl
-
-    go : (b : Bool) → eqb version.id id ≡ b → (b && is_visible (suc now) (record version { death = close_at (suc now) (among ids version.id) version.death })) ≡ (b && is_visible now version)
-    go false e = refl
-    go true e = at_death (among ids version.id) (ap (among ids) (eqb-true _ _ e) ∙ out) version.death h.2
+is_row-close next now id ids (Some version) h out = grind (arith)
 
 -- A commit that ends it leaves it nowhere.
 is_row-ended : (next now id : ℕ) (ids : List ℕ) (slot : Option Version) → IsWithin next now slot → among ids id ≡ true → is_row (suc now) id (close ids (suc now) slot) ≡ false
 is_row-ended next now id ids None h out = refl
-is_row-ended next now id ids (Some version) h out = go (eqb version.id id) refl
-  where
-    at_death : (chosen : Bool) → chosen ≡ true → (death : Option ℕ) → EndsBy now death
-        → is_visible (suc now) (record version { death = close_at (suc now) chosen death }) ≡ false
-    at_death false e death ends = absurd (cc)
-    at_death true e None ends = rw (le-leb version.birth (suc now) (let low : version.birth ≤ now = h.1 in omega arith), le-leb (suc now) (suc now) (omega arith)) refl
-    at_death true e (Some death) ends = rw (le-leb version.birth (suc now) (let low : version.birth ≤ now = h.1 in omega arith), le-leb death (suc now) (let low : death ≤ now = ends in omega arith)) refl
-
-    go : (b : Bool) → eqb version.id id ≡ b → (b && is_visible (suc now) (record version { death = close_at (suc now) (among ids version.id) version.death })) ≡ false
-    go false e = refl
-    go true e = at_death (among ids version.id) (ap (among ids) (eqb-true _ _ e) ∙ out) version.death h.2
+is_row-ended next now id ids (Some version) h out = grind (arith)
 
 pub row_at-close : (next now id : ℕ) (ids : List ℕ) (slots : List (Option Version)) (k : ℕ) → AllByRecursion (IsWithin next now) slots → among ids id ≡ false → row_at (suc now) id (map (close ids (suc now)) slots) k ≡ row_at now id slots k
 row_at-close next now id ids [] k h out = refl
@@ -53,11 +32,7 @@ row_at-ended next now id ids (slot ∷ slots) (suc k) h out = row_at-ended next 
 free_row : (now id : ℕ) (ns : List ℕ) (slots : List (Option Version)) (place : ℕ) → is_free (now ∷ ns) slots place ≡ true → row_at now id slots place ≡ false
 free_row now id ns [] place h = refl
 free_row now id ns (None ∷ slots) zero h = refl
-free_row now id ns (Some version ∷ slots) zero h = go (is_visible now version) refl h
-  where
-    go : (b : Bool) → is_visible now version ≡ b → not (is_needed (now ∷ ns) (Some version)) ≡ true → (eqb version.id id && is_visible now version) ≡ false
-    go true e f = absurd (let w = rw e at f in cc)
-    go false e f = rw e (and_right (eqb version.id id) false refl)
+free_row now id ns (Some version ∷ slots) zero h = grind (arith)
 free_row now id ns (slot ∷ slots) (suc place) h = free_row now id ns slots place h
 
 is_row-new_version : (made : ℕ) (fresh : Entry) → is_row made fresh.id (new_version made fresh) ≡ true
@@ -119,8 +94,4 @@ row_at-empty stamp id slots place at = ap (row_of stamp id) at
 -- a slot that shows one
 pub place_put : (stamp id : ℕ) (slots : List (Option Version)) (count : ℕ) (version : Version) (old new : List (ℕ × ℕ)) → slice_get slots count ≡ Some (Some version) → is_visible stamp version ≡ true
     → Points old version.id (Some count) new → IsPlaceUpTo stamp id slots count (slot_of old id) → IsPlaceUpTo stamp id slots (count + 1) (slot_of new id)
-place_put stamp id slots count version old new at shown points h = go (eqb version.id id) refl
-  where
-    go : (b : Bool) → eqb version.id id ≡ b → IsPlaceUpTo stamp id slots (count + 1) (slot_of new id)
-    go true e = subst (IsPlaceUpTo stamp id slots (count + 1)) (sym (points id ∙ ap (λ b. cond b (Some count) (slot_of old id)) e)) (ap (row_of stamp id) at ∙ rw (e, shown) refl)
-    go false e = subst (IsPlaceUpTo stamp id slots (count + 1)) (sym (points id ∙ ap (λ b. cond b (Some count) (slot_of old id)) e)) (place_past stamp id slots count (slot_of old id) (ap (row_of stamp id) at ∙ rw e refl) h)
+place_put stamp id slots count version old new at shown points h = grind (arith)

@@ -1,7 +1,7 @@
 -- The links of a store as it is opened.
 use Rattle.pref_core.proofs.Common.{◌≡◌, ℕ, zero, suc, ◌+◌, ◌-◌, ◌%◌, ◌^◌, ◌<◌, ◌≤◌, ◌++◌, Bool, true, false, cond, nat_lt, List, [], ◌∷◌, map, length, replicate, get_or, slice_index, Option, Some}
-use Rattle.pref_core.proofs.Common.{None, refl, sym, ap, ap₂, ◌∙◌, subst, arith, ⊎_elim, range_with_len, ltb-true, ltb-false, lt-ltb, le-ltb, le-leb, length-append, length-replicate, get_or-replicate}
-use Rattle.pref_core.proofs.Common.{get_or-append-add, get_or-map-range_with_len, length-map-range_with_len, Version, Row, opening_slots, shown, ids_of, home_of, id_at, LeadsTo, AreLinked, AreLinks}
+use Rattle.pref_core.proofs.Common.{None, refl, sym, ap, ap₂, ◌∙◌, subst, arith, range_with_len, ltb-true, ltb-false, lt-ltb, le-ltb, le-leb, length-append, length-replicate, get_or-replicate}
+use Rattle.pref_core.proofs.Common.{get_or-append-add, get_or-map-range_with_len, length-map-range_with_len, Version, Row, opening_slots, shown, ids_of, home_of, id_at, AreLinked, AreLinks}
 use Rattle.pref_core.proofs.Common.{opening_ids, opening_link, same_Some}
 use Rattle.std.proofs.Math.Nat.{mod-eq_of_lt}
 use Rattle.std.proofs.Math.ListN.{get_or-append}
@@ -10,42 +10,7 @@ opened : (limit capacity rows : ℕ) (homes : ℕ → ℕ) (ids : ℕ → Option
     → ((place id : ℕ) → ids place ≡ Some id → (id ≡ place + 1) × (place < rows)) → ((place : ℕ) → place < rows → ids place ≡ Some (place + 1)) → ids capacity ≡ None
     → ((place : ℕ) → place < capacity → homes (place + 1) ≡ place) → ((n : ℕ) → n < capacity → links n ≡ capacity) → ((home : ℕ) → home < capacity → links (capacity + home) ≡ opening_link capacity rows home)
     → AreLinked limit capacity homes ids links
-opened limit capacity rows homes ids links few big known there past own ends firsts home b n less is = ⊎_elim home_case row_case is
-  where
-    own_place : (place id : ℕ) → ids place ≡ Some id → homes id ≡ home → (place ≡ home) × (id ≡ home + 1) × (place < rows)
-    own_place place id at same =
-        let here = known place id at in
-        let e : place ≡ home = sym (own place (let low = here.1 in omega arith)) ∙ ap homes (sym here.0) ∙ same in
-        (e, (let f = here.0 in omega arith), here.1)
-
-    home_case : (n ≡ capacity + home) × (b ≡ limit) → LeadsTo capacity homes ids home b (links n) (ids (links n))
-    home_case p = go (nat_lt home rows) refl
-      where
-        go : (t : Bool) → nat_lt home rows ≡ t → LeadsTo capacity homes ids home b (links n) (ids (links n))
-        go true e =
-            let low = ltb-true home rows e in
-            let link : links n ≡ home = ap links p.0 ∙ firsts home less ∙ ap (λ t. cond t home capacity) e in
-            subst (LeadsTo capacity homes ids home b (links n)) (sym (ap ids link ∙ there home low)) (record {
-              same = own home less;
-              less = let whole = p.1 in omega arith;
-              most = λ place id at same near. let is_own = (own_place place id at same).1 in omega arith;
-            })
-        go false e =
-            let high = ltb-false home rows e in
-            let link : links n ≡ capacity = ap links p.0 ∙ firsts home less ∙ ap (λ t. cond t home capacity) e in
-            subst (LeadsTo capacity homes ids home b (links n)) (sym (ap ids link ∙ past)) (record {
-              past = omega arith;
-              none = λ place id at same. absurd (let mine = own_place place id at same in let x = mine.0 in let y = mine.2 in omega arith);
-            })
-
-    row_case : (ids n ≡ Some b) × (homes b ≡ home) → LeadsTo capacity homes ids home b (links n) (ids (links n))
-    row_case p =
-        let here = known n b p.0 in
-        let link : links n ≡ capacity = ends n (let low = here.1 in omega arith) in
-        subst (LeadsTo capacity homes ids home b (links n)) (sym (ap ids link ∙ past)) (record {
-          past = omega arith;
-          none = λ place id at same. let other = (own_place place id at same).1 in let mine = (own_place n b p.0 p.1).1 in omega arith;
-        })
+opened limit capacity rows homes ids links few big known there past own ends firsts home b n less is = grind (arith)
 
 id_of_range : (f : ℕ → Option ℕ) (from count place : ℕ) → place < count → id_at (map f (range_with_len from count)) place ≡ f (from + place)
 id_of_range f from zero place l = absurd (omega arith)

@@ -20,17 +20,7 @@ high capacity first i l = rw (le-ltb i (capacity - first) l) refl
 
 -- what is below the capacity, and turned back
 back : (capacity first i : ℕ) → first ≤ capacity → i < capacity → (rotated capacity first i < capacity) × (rotated capacity (capacity - first) (rotated capacity first i) ≡ i)
-back capacity first i f l = go (nat_lt i (capacity - first)) refl
-  where
-    go : (b : Bool) → nat_lt i (capacity - first) ≡ b → (rotated capacity first i < capacity) × (rotated capacity (capacity - first) (rotated capacity first i) ≡ i)
-    go true e =
-        let here = ltb-true _ _ e in
-        let is = low capacity first i here in
-        (omega arith, ap (rotated capacity (capacity - first)) is ∙ high capacity (capacity - first) (first + i) (omega arith) ∙ (let done : (first + i) - (capacity - (capacity - first)) ≡ i = omega arith in done))
-    go false e =
-        let here = ltb-false _ _ e in
-        let is = high capacity first i here in
-        (omega arith, ap (rotated capacity (capacity - first)) is ∙ low capacity (capacity - first) (i - (capacity - first)) (omega arith) ∙ (let done : (capacity - first) + (i - (capacity - first)) ≡ i = omega arith in done))
+back capacity first i f l = grind (arith)
 
 long : (capacity first : ℕ) → length (all capacity first) ≡ capacity
 long capacity first = length-map-range_with_len (rotated capacity first) 0 capacity

@@ -1,5 +1,5 @@
 -- Whether a call is full, and the slots of its rows.
-use Rattle.pref_core.proofs.Common.{◌≡◌, ℕ, suc, ◌≤◌, Bool, true, false, cond, nat_lt, List, [], ◌∷◌, map, length, Option, Some, None, refl, ap, ap₂, arith, ltb-false, eq-eqb, length-map, Version}
+use Rattle.pref_core.proofs.Common.{◌≡◌, ℕ, suc, ◌≤◌, true, false, List, [], ◌∷◌, map, length, Option, Some, None, refl, ap, ap₂, arith, eq-eqb, length-map, Version}
 use Rattle.pref_core.proofs.Common.{Call, Outcome, Added, Done, NoSuchRow, Full, ended, begun, success_outcome, succeeds, outcome_of, Contents, begins, close, filled, grown, used, close_at}
 use Rattle.pref_core.proofs.Common.{same_outcome}
 use Rattle.pref_core.proofs.SlotsForAll.{filled_fits, count_grown}
@@ -7,11 +7,7 @@ use Rattle.pref_core.proofs.SlotsForAll.{filled_fits, count_grown}
 -- What is needed after a change that succeeds is no more than the capacity.
 pub succeeds-fits : (capacity : ℕ) (m : Option ℕ) (size : ℕ) (success_outcome : Outcome) → succeeds (outcome_of capacity true m size success_outcome) ≡ true → size ≤ capacity
 succeeds-fits capacity (Some id) size success_outcome h = absurd (cc)
-succeeds-fits capacity None size success_outcome h = go (nat_lt capacity size) refl h
-  where
-    go : (b : Bool) → nat_lt capacity size ≡ b → succeeds (cond b (Full size) success_outcome) ≡ true → size ≤ capacity
-    go true e h = absurd (cc)
-    go false e h = ltb-false _ _ e
+succeeds-fits capacity None size success_outcome h = grind (arith)
 
 -- A change that has slots for its rows isn't full.
 pub plan_is_not_full : (contents : Contents) (call : Call) (places : List ℕ) (after : List (Option Version)) → filled (suc contents.stamp ∷ begins contents.callers) (suc contents.stamp) places (begun contents.next_id call) (map (close (ended call) (suc contents.stamp)) contents.slots) ≡ Some after

@@ -149,11 +149,7 @@ follows_answered slots scan query ranked shows h none says =
 
 -- The blocks, one after the other, are the slots.
 first_blocks_taken : (n size : ℕ) (slots : List (Option Version)) → first_blocks n size slots ≡ take (n * size) slots
-first_blocks_taken zero size slots = take_zero slots ∙ ap (λ n. take n slots) (sym (zero_blocks size))
-  where
-    take_zero : (xs : List (Option Version)) → ◌≡◌ {A = List (Option Version)} [] (take 0 xs)
-    take_zero [] = refl
-    take_zero (x ∷ xs) = refl
+first_blocks_taken zero size slots = grind (arith)
 first_blocks_taken (suc n) size slots =
     ap (λ l. l ++ block_of n size slots) (first_blocks_taken n size slots) ∙ sym (take-add (n * size) size slots) ∙ ap (λ k. take k slots) (let e : n * size + size ≡ suc n * size = omega arith in e)
 

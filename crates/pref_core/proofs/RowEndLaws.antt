@@ -2,9 +2,8 @@
 use Rattle.pref_core.proofs.Common.{◌≡◌, ℕ, zero, suc, ◌^◌, Bool, true, false, ◌&&◌, ◌||◌, eqb, List, [], ◌∷◌, map, set, Option, Some, None, slice_get, refl, sym, ap, ap₂, ◌∙◌, subst, arith, ⊎_elim}
 use Rattle.pref_core.proofs.Common.{AllByRecursion, option_map, map-set, slice_get-map, le-leb, and_parts, eqb-true, eq-eqb, cases_eq, true≢false, Version, Caller, SlotUse, Live, Entry, among}
 use Rattle.pref_core.proofs.Common.{is_visible, new_version, IsWithin, EndsBy, close, close_at, use_of, is_row, row_at, IsPlaceOf, shown, ids_of, id_at, AreIds, AreLinks, false_from_ne_true}
-use Rattle.pref_core.proofs.SlotKeys.{eqb_comm}
 use Rattle.pref_core.proofs.StabilityLaws.{slice_get-set_same, slice_get-set_other}
-use Rattle.pref_core.proofs.SlotUseLaws.{holds_there, live_by, close_idle, has_row_at}
+use Rattle.pref_core.proofs.SlotUseLaws.{holds_there, has_row_at}
 use Rattle.pref_core.proofs.IdChainsLaws.{shows_row, row_shown}
 
 -- lists are equal where they are at each place
@@ -17,15 +16,7 @@ same_at_each (x ∷ xs) (y ∷ ys) h = let first : x ≡ y = let e = h zero in c
 -- a slot that doesn't show the id's row stays
 idle : (next made id : ℕ) (slot : Option Version) → IsWithin next made slot → is_row made id slot ≡ false → close (id ∷ []) made slot ≡ slot
 idle next made id None w r = refl
-idle next made id (Some version) w r = close_idle (id ∷ []) made (Some version) (go version.death w.2 r)
-  where
-    left : (b : Bool) → (b && true) ≡ false → b ≡ false
-    left true e = e
-    left false e = refl
-
-    go : (death : Option ℕ) → EndsBy made death → (eqb version.id id && is_visible made (record version { death = death })) ≡ false → live_by (id ∷ []) version.id death ≡ false
-    go (Some death) ends e = refl
-    go None ends e = ap (λ b. b || false) (eqb_comm id version.id ∙ left (eqb version.id id) (rw (le-leb version.birth made w.1) at e))
+idle next made id (Some version) w r = grind (arith)
 
 module _ (next made id : ℕ) (slots : List (Option Version)) (within : AllByRecursion (IsWithin next made) slots) where
   stays : (k : ℕ) → (row_at made id slots k ≡ true → ⊥) → slice_get (map (close (id ∷ []) made) slots) k ≡ slice_get slots k
@@ -60,11 +51,7 @@ module _ (next made id : ℕ) (slots : List (Option Version)) (within : AllByRec
 
 -- A version of a row is in no query's way: it has not ended.
 pub row_alive : (next made id : ℕ) (callers : List Caller) (version : Version) → IsWithin next made (Some version) → is_row made id (Some version) ≡ true → use_of callers (Some version) ≡ Live
-row_alive next made id callers version w r = go version.death w.2 (and_parts (eqb version.id id) (is_visible made version) r).1
-  where
-    go : (death : Option ℕ) → EndsBy made death → is_visible made (record version { death = death }) ≡ true → use_of callers (Some (record version { death = death })) ≡ Live
-    go None ends v = refl
-    go (Some death) ends v = absurd (let w = rw (le-leb version.birth made w.1, le-leb death made ends) at v in cc)
+row_alive next made id callers version w r = grind (arith)
 
 -- Nothing is ahead of the commit that ends rows.
 pub within_closed : (ids : List ℕ) (next made : ℕ) (slots : List (Option Version)) → AllByRecursion (IsWithin next made) slots → AllByRecursion (IsWithin next made) (map (close ids made) slots)
@@ -81,17 +68,7 @@ within_closed ids next made (Some version ∷ slots) h = ((h.0.0, h.0.1, go (amo
 row_back : (ids : List ℕ) (made x : ℕ) (slots : List (Option Version)) (p : ℕ) → row_at made x (map (close ids made) slots) p ≡ true → row_at made x slots p ≡ true
 row_back ids made x [] p r = absurd (cc)
 row_back ids made x (None ∷ slots) zero r = absurd (cc)
-row_back ids made x (Some version ∷ slots) zero r = go (among ids version.id) version.death r
-  where
-    none : (a b : Bool) → (a && (b && false)) ≡ true → ⊥
-    none true true e = cc
-    none true false e = cc
-    none false b e = cc
-
-    go : (chosen : Bool) (death : Option ℕ) → (eqb version.id x && is_visible made (record version { death = close_at made chosen death })) ≡ true → (eqb version.id x && is_visible made (record version { death = death })) ≡ true
-    go chosen (Some death) e = e
-    go false None e = e
-    go true None e = absurd (none (eqb version.id x) _ (rw (le-leb made made (omega arith)) at e))
+row_back ids made x (Some version ∷ slots) zero r = grind (arith)
 row_back ids made x (slot ∷ slots) (suc p) r = row_back ids made x slots p r
 
 pub ids_closed : (ids : List ℕ) (made : ℕ) (slots : List (Option Version)) → AreIds (2 ^ 64) (id_at (ids_of made slots)) → AreIds (2 ^ 64) (id_at (ids_of made (map (close ids made) slots)))

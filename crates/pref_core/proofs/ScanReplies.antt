@@ -1,7 +1,7 @@
 -- What a machine returns at each act is the system's reply: scans.
 use Rattle.pref_core.proofs.Common.{◌≡◌, ℕ, ◌-◌, ◌<◌, true, false, cond, nat_lt, List, Option, Some, None, Ok, Err, Result, ⊎_elim, inr, refl, sym, ap, ◌∙◌, subst, arith, option_map, lt-ltb, le-ltb}
 use Rattle.pref_core.proofs.Common.{CoreFault, NoSuchClient, NoQuery, AllScanned, OutOfMemory, ActScan, Left, seat, with_seat, Open, Member, System, Step, snapshot, refused, scanned_with, one_less}
-use Rattle.pref_core.proofs.Common.{scan, step, Scan, Scans, Running, Follows, StandsForQuery, StandsForMember, StandsForSystem, Returns, as_reply, is_refusal, NextIsNewAt, ScansOne, ScansAt, step_of}
+use Rattle.pref_core.proofs.Common.{scan, step, Scan, Scans, Running, Follows, StandsForSystem, Returns, as_reply, is_refusal, NextIsNewAt, ScansOne, ScansAt, step_of}
 use Rattle.pref_core.proofs.SeatLaws.{with_seat_self}
 use Rattle.pref_core.proofs.QueryLaws.{next_is_new, follows_scanned}
 use Rattle.pref_core.proofs.SystemsLaws.{scanned_stands, query_shows}
@@ -16,15 +16,7 @@ pub record IsAsking (running : Running) (system : System) (client : ℕ) (held :
   pub follows : Follows running.contents.slots held query
 
 pub IsAsking-from : (running : Running) (system : System) (client : ℕ) (held : Scan) → StandsForSystem running system → seat client running.scans ≡ Some (Some held) → IsAsking running system client held
-IsAsking-from running system client held h at = go (seat client system.members) refl (subst (λ o. StandsForMember running.contents.slots o (seat client system.members)) at (h.members client))
-  where
-    query_of : (member : Member) → seat client system.members ≡ Some member → (q : Option Open) → member.query ≡ q → StandsForQuery running.contents.slots (Some held) q → IsAsking running system client held
-    query_of member e None f s = absurd s
-    query_of member e (Some query) f s = record { who = member; at = e; query = query; is = f; follows = s }
-
-    go : (o : Option Member) → seat client system.members ≡ o → StandsForMember running.contents.slots (Some (Some held)) o → IsAsking running system client held
-    go None e s = absurd s
-    go (Some member) e s = query_of member e member.query refl s
+IsAsking-from running system client held h at = grind (arith)
 
 -- a client without a query
 pub record IsIdle (system : System) (client : ℕ) : Type 0 where
@@ -33,22 +25,10 @@ pub record IsIdle (system : System) (client : ℕ) : Type 0 where
   pub is : who.query ≡ None
 
 pub IsIdle-from : (running : Running) (system : System) (client : ℕ) → StandsForSystem running system → seat client running.scans ≡ Some None → IsIdle system client
-IsIdle-from running system client h at = go (seat client system.members) refl (subst (λ o. StandsForMember running.contents.slots o (seat client system.members)) at (h.members client))
-  where
-    query_of : (member : Member) → seat client system.members ≡ Some member → (q : Option Open) → member.query ≡ q → StandsForQuery running.contents.slots None q → IsIdle system client
-    query_of member e None f s = record { who = member; at = e; is = f }
-    query_of member e (Some query) f s = absurd s
-
-    go : (o : Option Member) → seat client system.members ≡ o → StandsForMember running.contents.slots (Some None) o → IsIdle system client
-    go None e s = absurd s
-    go (Some member) e s = query_of member e member.query refl s
+IsIdle-from running system client h at = grind (arith)
 
 pub nobody_there : (running : Running) (system : System) (client : ℕ) → StandsForSystem running system → seat client running.scans ≡ None → seat client system.members ≡ None
-nobody_there running system client h at = go (seat client system.members) (subst (λ o. StandsForMember running.contents.slots o (seat client system.members)) at (h.members client))
-  where
-    go : (o : Option Member) → StandsForMember running.contents.slots None o → o ≡ None
-    go None s = refl
-    go (Some member) s = absurd s
+nobody_there running system client h at = grind (arith)
 
 -- The next block of a query shows nothing that it holds.
 pub next_is_new_at : (running : Running) (system : System) (client : ℕ) → StandsForSystem running system → NextIsNewAt (seat client running.scans) running.contents.slots

@@ -50,9 +50,7 @@ filled_fits made ns places begun slots after e =
 -- one place more
 pub filled_snoc : (ns : List ℕ) (made : ℕ) (places : List ℕ) (begun : List Entry) (slots now : List (Option Version)) (place : ℕ) (fresh : Entry) → filled ns made places begun slots ≡ Some now → is_free ns now place ≡ true
     → filled ns made (places ++ place ∷ []) (begun ++ fresh ∷ []) slots ≡ Some (slice_set now place (new_version made fresh))
-filled_snoc ns made [] [] slots now place fresh e f =
-    let same : slots ≡ now = cc in
-    ap (λ b. cond b (Some (slice_set slots place (new_version made fresh))) None) (ap (λ l. is_free ns l place) same ∙ f) ∙ ap (λ l. Some (slice_set l place (new_version made fresh))) same
+filled_snoc ns made [] [] slots now place fresh e f = search
 filled_snoc ns made (first ∷ places) (entry ∷ rest) slots now place fresh e f =
     go (is_free ns slots first) e (λ h. filled_snoc ns made places rest (slice_set slots first (new_version made entry)) now place fresh h f)
   where

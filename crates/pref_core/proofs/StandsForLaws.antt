@@ -3,7 +3,7 @@ use Rattle.pref_core.proofs.Common.{◌≡◌, ℕ, suc, ◌<◌, ◌≤◌, fal
 use Rattle.pref_core.proofs.Common.{IsPermutation, IsPermutation-refl, IsPermutation-trans, IsPermutation-sym, or_parts, Version, Caller, Line, among, without, Entry, Client, Snapshot, seen, visible}
 use Rattle.pref_core.proofs.Common.{is_needed, begins, IsWithin, Shows, ShowsBegin, StandsForClient, new_version, close}
 use Rattle.pref_core.proofs.Permutations.{IsPermutation-filter}
-use Rattle.pref_core.proofs.VisibleLaws.{visible_set-same, visible_set-new, visible_close-before, visible_close-after, seen_born-before}
+use Rattle.pref_core.proofs.VisibleLaws.{visible_set-same, visible_set-new, visible_close-before, visible_close-after}
 use Rattle.pref_core.proofs.TableLaws.{IsOrdered-filter}
 
 -- versions of these ids end
@@ -20,10 +20,7 @@ Shows-close-before ids now stamp slots table h shows = record {
 }
 
 pub Shows-new_version-before : (stamp made : ℕ) (fresh : Entry) (slots : List (Option Version)) (table : List Line) → stamp < made → Shows slots stamp table → Shows (new_version made fresh ∷ slots) stamp table
-Shows-new_version-before stamp made fresh slots table h shows = record {
-  lines = rw (seen_born-before stamp made fresh h) shows.lines;
-  ordered = shows.ordered;
-}
+Shows-new_version-before stamp made fresh slots table h shows = grind (arith)
 
 -- a slot that shows nothing is used again
 visible_set : (stamp : ℕ) (slots : List (Option Version)) (place : ℕ) (old new : Option Version) → slice_get slots place ≡ Some old → seen stamp old ≡ None → IsPermutation (visible stamp (new ∷ slots)) (visible stamp (slice_set slots place new))

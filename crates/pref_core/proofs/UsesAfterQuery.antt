@@ -1,7 +1,7 @@
 -- What becomes of the zones where an open query begins or ends.
-use Rattle.pref_core.proofs.Common.{◌≡◌, ℕ, zero, suc, ◌+◌, ◌-◌, ◌^◌, ◌<◌, ◌≤◌, ◌⊎◌, inl, inr, Bool, true, false, cond, nat_lt, List, [], ◌∷◌, ◌++◌, map, length, set, replicate, Option, Some, None}
-use Rattle.pref_core.proofs.Common.{is_some, slice_get, refl, sym, ap, ap₂, ◌∙◌, subst, arith, AllByRecursion, AllZip, option_to_list, length-set, slice_get_within, le-leb, ne_eqb, Version, Caller}
-use Rattle.pref_core.proofs.Common.{SlotUse, Free, Ended, Live, Call, Insert, Update, Delete, Commit, Begin, Finish, Abandon, QueryOpen, Spent, Op, Row, refusal_of, after, Contents, is_needed}
+use Rattle.pref_core.proofs.Common.{◌≡◌, ℕ, zero, suc, ◌+◌, ◌-◌, ◌<◌, ◌≤◌, ◌⊎◌, inl, inr, Bool, true, false, cond, List, [], ◌∷◌, ◌++◌, map, length, set, replicate, Option, Some, None}
+use Rattle.pref_core.proofs.Common.{is_some, slice_get, refl, sym, ap, ap₂, ◌∙◌, subst, arith, AllByRecursion, AllZip, option_to_list, length-set, slice_get_within, ne_eqb, Version, Caller}
+use Rattle.pref_core.proofs.Common.{SlotUse, Free, Ended, Live, Call, Insert, Update, Delete, Commit, Begin, Finish, Abandon, Op, Row, refusal_of, after, Contents, is_needed}
 use Rattle.pref_core.proofs.Common.{StandsFor, IsWithin, EndsBy, opening_slots, begin_after, callers_after, refusal_at, is_next, slots_after, stepped, applied, is_end, kept_from, use_of, number_of}
 use Rattle.pref_core.proofs.Common.{is_kept_by, MayBecome, IsBounded, IsKept, uses_of}
 use Rattle.pref_core.proofs.AppliedLaws.{stepped_stands}
@@ -11,9 +11,7 @@ use Rattle.pref_core.proofs.BoundsLaws.{IsBounded-stepped}
 kept_still : (keeper : ℕ) (callers : List Caller) (k : ℕ) (found new : Caller) (slot : Option Version) → slice_get callers k ≡ Some found → is_needed (option_to_list new.at_begin) slot ≡ is_needed (option_to_list found.at_begin) slot
     → kept_from keeper (set callers k new) slot ≡ kept_from keeper callers slot
 kept_still keeper [] k found new slot at e = absurd (cc)
-kept_still keeper (first ∷ callers) zero found new slot at e =
-    let same : first ≡ found = cc in
-    ap (λ b. cond b (Ended keeper) (kept_from (suc keeper) callers slot)) (e ∙ ap (λ (c : Caller). is_needed (option_to_list c.at_begin) slot) (sym same))
+kept_still keeper (first ∷ callers) zero found new slot at e = search
 kept_still keeper (first ∷ callers) (suc k) found new slot at e = ap (λ z. cond (is_needed (option_to_list first.at_begin) slot) (Ended keeper) z) (kept_still (suc keeper) callers k found new slot at e)
 
 abbrev SeesStill : ℕ → ℕ → Caller → Caller → Type 0
@@ -34,19 +32,11 @@ zones_still next now callers k found new (slot ∷ slots) at still h = ap₂ ◌
 
 -- No ended version is seen now.
 sees_begun : (next now : ℕ) (found new : Caller) → found.at_begin ≡ None → new.at_begin ≡ Some now → SeesStill next now found new
-sees_begun next now found new none some version h d = ap (λ b. is_needed (option_to_list b) (Some version)) some ∙ hidden version.death h.2 d ∙ sym (ap (λ b. is_needed (option_to_list b) (Some version)) none)
-  where
-    hidden : (death : Option ℕ) → EndsBy now death → is_some death ≡ true → is_needed (now ∷ []) (Some (record version { death = death })) ≡ false
-    hidden None ends d = absurd (cc)
-    hidden (Some death) ends d = rw (le-leb version.birth now h.1, le-leb death now ends) refl
+sees_begun next now found new none some version h d = grind (arith)
 
 begin_closed : (calls : ℕ) (b : Option ℕ) → refusal_of (Some calls) (is_some b) Begin ≡ None → b ≡ None
 begin_closed calls None h = refl
-begin_closed calls (Some n) h = absurd (go (nat_lt calls (2 ^ 56)) h)
-  where
-    go : (t : Bool) → cond t (Some QueryOpen) (Some Spent) ≡ None → ⊥
-    go true h = cc
-    go false h = cc
+begin_closed calls (Some n) h = grind (arith)
 
 -- Every call that doesn't end a query leaves the zones.
 pub zones_kept : (contents : Contents) (client : ℕ) (call : Call) → refusal_at contents client call ≡ None → is_end call ≡ false → AllByRecursion (IsWithin contents.next_id contents.stamp) contents.slots

@@ -1,7 +1,7 @@
 -- What slots show, and how a write of one slot changes it.
-use Rattle.pref_core.proofs.Common.{◌≡◌, ℕ, zero, suc, ◌<◌, ◌≤◌, Bool, true, false, not, cond, List, [], ◌∷◌, map, Option, Some, None, slice_get, slice_set, refl, ap, arith, nat_lt, cons_option}
+use Rattle.pref_core.proofs.Common.{◌≡◌, ℕ, zero, suc, ◌<◌, ◌≤◌, true, false, not, cond, List, [], ◌∷◌, map, Option, Some, None, slice_get, slice_set, refl, ap, arith, nat_lt, cons_option}
 use Rattle.pref_core.proofs.Common.{AllByRecursion, IsPermutation, IsPermutation-refl, IsPermutation-trans, IsPermutation-cons, le-leb, lt-leb, Version, Line, among, put, without, Entry, seen}
-use Rattle.pref_core.proofs.Common.{visible, line, IsWithin, EndsBy, new_version, close, close_at}
+use Rattle.pref_core.proofs.Common.{visible, IsWithin, new_version, close}
 use Rattle.pref_core.proofs.Permutations.{IsPermutation-over}
 
 -- a write of a slot that shows nothing, by one that shows nothing
@@ -32,12 +32,7 @@ put_permutes shown (next ∷ rest) =
 -- what a version that ends at a later stamp shows before: the same
 pub seen_close-before : (ids : List ℕ) (now stamp : ℕ) (slot : Option Version) → stamp ≤ now → seen stamp (close ids (suc now) slot) ≡ seen stamp slot
 seen_close-before ids now stamp None h = refl
-seen_close-before ids now stamp (Some version) h = before (among ids version.id) version.death
-  where
-    before : (chosen : Bool) (death : Option ℕ) → seen stamp (Some (record version { death = close_at (suc now) chosen death })) ≡ seen stamp (Some (record version { death = death }))
-    before chosen (Some death) = refl
-    before false None = refl
-    before true None = rw (lt-leb (suc now) stamp (omega arith)) refl
+seen_close-before ids now stamp (Some version) h = grind (arith)
 
 pub visible_close-before : (ids : List ℕ) (now stamp : ℕ) (slots : List (Option Version)) → stamp ≤ now → visible stamp (map (close ids (suc now)) slots) ≡ visible stamp slots
 visible_close-before ids now stamp [] h = refl
@@ -51,15 +46,7 @@ kept ids (Some shown) = cond (not (among ids shown.id)) (Some shown) None
 -- what it shows from then on: the line, where its id isn't chosen
 pub seen_close-after : (ids : List ℕ) (next now : ℕ) (slot : Option Version) → IsWithin next now slot → seen (suc now) (close ids (suc now) slot) ≡ kept ids (seen now slot)
 seen_close-after ids next now None h = refl
-seen_close-after ids next now (Some version) h = at_death version.death h.2
-  where
-    at_death : (death : Option ℕ) → EndsBy now death → seen (suc now) (Some (record version { death = close_at (suc now) (among ids version.id) death })) ≡ kept ids (seen now (Some (record version { death = death })))
-    at_death (Some death) ends = rw (le-leb version.birth (suc now) (omega arith), le-leb version.birth now h.1, le-leb death (suc now) (omega arith), le-leb death now ends) refl
-    at_death None ends = rw (le-leb version.birth now h.1) (chosen (among ids version.id))
-      where
-        chosen : (b : Bool) → seen (suc now) (Some (record version { death = close_at (suc now) b None })) ≡ cond (not b) (Some (line version)) None
-        chosen true = rw (le-leb version.birth (suc now) (omega arith), le-leb (suc now) (suc now) (omega arith)) refl
-        chosen false = rw (le-leb version.birth (suc now) (omega arith)) refl
+seen_close-after ids next now (Some version) h = grind (arith)
 
 pub visible_close-after : (ids : List ℕ) (next now : ℕ) (slots : List (Option Version)) → AllByRecursion (IsWithin next now) slots → visible (suc now) (map (close ids (suc now)) slots) ≡ without ids (visible now slots)
 visible_close-after ids next now [] h = refl

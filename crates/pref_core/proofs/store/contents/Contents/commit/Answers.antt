@@ -1,4 +1,4 @@
-use Rattle.pref_core.proofs.Common.{◌≡◌, suc, ◌+◌, set, Some, sym, ap, ap₂, ◌∙◌, subst, arith, Entry, row_at, IsTracked, StampedSlots, KeepSlots, replaced, Contents, new_version, added, changes_of, op_of}
+use Rattle.pref_core.proofs.Common.{◌≡◌, ◌+◌, set, Some, sym, ap, ◌∙◌, subst, arith, Entry, row_at, IsTracked, KeepSlots, replaced, Contents, new_version, added, changes_of, op_of}
 use Rattle.pref_core.proofs.BoundsLaws.{stamp-small, next_id-small, added-small}
 use Rattle.pref_core.proofs.AppliedLaws.{IsAllowed-from}
 use Rattle.pref_core.proofs.ChangesLaws.{formed_apart}
@@ -13,14 +13,7 @@ tracked c = subst (λ (s : Contents). IsTracked s c.self.inside.places c.self.in
 
 -- the contents as the commit begins
 begins : (c : After-added) → (record { slots = c.advance.new.self.slots; stamp = c.advance.new.self.stamp; next_id = c.self.inside.next_id + c.added.result; callers = c.self.inside.callers.items }) ≡ begun_commit c.args.self.now (added c.args.op.now.call.now)
-begins c =
-    let slots = ap (λ (s : StampedSlots). s.slots) c.advance.ensures ∙ ap (λ (s : Contents). s.slots) c.self.view_is in
-    let same = ap (λ (s : Contents). s.stamp) c.self.view_is in
-    let more = ap (λ (s : StampedSlots). s.stamp) c.advance.ensures in
-    let stamp : c.advance.new.self.stamp ≡ suc c.args.self.now.stamp = omega (arith, same, more) in
-    let next = ap₂ (λ a b. a + b) (ap (λ (s : Contents). s.next_id) c.self.view_is) c.added.ensures in
-    let callers = ap (λ (s : Contents). s.callers) c.self.view_is in
-    (λ i. record { slots = slots i; stamp = stamp i; next_id = next i; callers = callers i })
+begins c = grind (arith)
 
 pub advance-requires : goal.advance-requires
 advance-requires c = let small = stamp-small _ c.requires.kept.bounded in let same = ap (λ (s : Contents). s.stamp) c.self.view_is in omega (arith, same)
