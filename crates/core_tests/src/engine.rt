@@ -1,5 +1,6 @@
 //! Runs whose replies are known from outside, through `replay`, `Machine` and `Store`.
 
+mod boxed;
 mod calls;
 mod commits;
 mod copies;

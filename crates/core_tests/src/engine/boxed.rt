@@ -1,0 +1,69 @@
+//! Calls in boxes: an op with one is done as the op with a call of its own.
+
+use crate::same::assert_same;
+use pref_core::{BoxedCall, BoxedCommit, BoxedOp, Call, Change, Commit, Store};
+use pref_table::Schema;
+use std::alloc::Global;
+use std::process::Abort;
+use std::test::Fail;
+use test_runs::{columns, row, rows_of, setup_of};
+
+/// A call of each kind, as it is and in a box. Each is done where the ones before it are.
+fn calls(alloc: Global, schema: &Schema) -> Result<Vec<(Call, BoxedCall)>, Fail> {
+    let new = row(schema, 5)?;
+    let commit = Commit::of(&[Change::Remove(1), Change::Add(new)])?;
+    let mut calls = Vec::new(alloc);
+    calls.push((Call::Insert(new), BoxedCall::insert(new)))?;
+    calls.push((Call::Update(2, new), BoxedCall::update(2, new)))?;
+    calls.push((Call::Begin, BoxedCall::begin()))?;
+    let boxed = BoxedCommit::new(alloc, commit)?;
+    calls.push((Call::Commit(commit), BoxedCall::commit(boxed)))?;
+    calls.push((Call::Finish, BoxedCall::finish()))?;
+    calls.push((Call::Delete(3), BoxedCall::delete(3)))?;
+    calls.push((Call::Begin, BoxedCall::begin()))?;
+    calls.push((Call::Abandon, BoxedCall::abandon()))?;
+    Ok(calls)
+}
+
+/// The stamp, how many calls client 1 has made, the room, and the value of row 2.
+fn standing(store: &Store) -> (u64, u64, u32, Option<i64>) {
+    let value = store.get(2).map(|row| row.cell(0));
+    (store.stamp(), store.last(1), store.room(), value)
+}
+
+/// Does a call of client 1 in a store by its op, and in another by the op with the call in a box: then they stand alike.
+fn is_done_alike(
+    rt: &impl Abort,
+    number: usize,
+    (store, other): (&mut Store, &mut Store),
+    call: Call,
+    boxed: BoxedCall,
+) -> Result<(), Fail> {
+    let op = store.plan(1, call)?;
+    let boxed = BoxedOp {
+        client: op.client,
+        number: op.number,
+        call: boxed,
+        slots: op.slots,
+        outcome: op.outcome,
+    };
+    store.apply(&op);
+    let lent = boxed.call.lend();
+    other.apply_planned(&boxed.planned(&lent));
+    assert_same(rt, number, &standing(other), &standing(store));
+    assert_same(rt, number, &other.last(1), &op.number);
+    Ok(())
+}
+
+#[test]
+fn an_op_with_its_call_in_a_box_is_done_alike(rt: HostRuntime) -> Result<(), Fail> {
+    let alloc = rt.alloc();
+    let schema = columns(alloc)?;
+    let setup = setup_of(2, 4, 2, 1)?;
+    let mut store = Store::new(alloc, &setup, &rows_of(alloc, &[4, 6])?)?;
+    let mut other = store.copy(alloc)?;
+    for (number, (call, boxed)) in calls(alloc, &schema)?.into_iter().enumerate() {
+        is_done_alike(&rt, number, (&mut store, &mut other), call, boxed)?;
+    }
+    Ok(())
+}
