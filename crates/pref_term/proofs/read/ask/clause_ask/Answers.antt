@@ -1,8 +1,8 @@
-use Rattle.pref_term.proofs.Common.{rules, ◌≡◌, Option, refl, sym, subst, length, arith, ◌∷◌, option_map, IfOk-weaker, ahead, preference_of, AsksClause, ReadsClause, FitsWidth, Question, Best, Term}
+use Rattle.pref_term.proofs.Common.{rules, ◌≡◌, Option, refl, sym, subst, length, arith, ◌∷◌, option_map, IfOk-weaker, ahead, preference_of, ReadsClause, FitsWidth, Question, Best, Term}
 use Rattle.pref_term.proofs.Common.{meant, ap}
 use Rattle.pref_term.proofs.LedLemmas.{err_exit, unless_map}
 use Rattle.pref_term.proofs.AskLemmas.{is_ask, fits_width}
-use Rattle.pref_term.proofs.DistinctLemmas.{clause_asks, clause_asks_nothing, product_is_clause}
+use Rattle.pref_term.proofs.DistinctLemmas.{product_is_clause}
 use Rattle.pref_term.proofs.read.ask.clause_ask.Goals as goal
 
 pub returns-in_err-product-clause-err : goal.returns-in_err-product-clause-err
@@ -14,14 +14,6 @@ new-requires c =
     is_ask c.args.schema.now (preference_of c.in-Some.term) c.in_ok-product.field-0.group.items Best r.product_known r.group_known (omega arith, omega arith) c.args.distinct
     (λ _. record { mode = refl; preference = product_is_clause c.args.schema.now (r.first ∷ r.others) (preference_of c.in-Some.term) r.product_is })
 
-pub returns-clause-ok : goal.returns-clause-ok
-returns-clause-ok c =
-    let r = subst (λ (o : Option Term). ReadsClause c.args.schema.now (ahead c.args.cursor) (option_map preference_of o) c.in_ok-product.field-0.group.items) c.in-Some.is c.in_ok-product.ensures.ok in
-    IfOk-weaker c.map_err.result (λ (a : Question). a ≡ record { preference = preference_of c.in-Some.term; group = c.in_ok-product.field-0.group.items; mode = Best; distinct = c.args.distinct }) _
-    (λ a is. subst (AsksClause c.args.schema.now c.args.distinct (ahead c.args.cursor)) (sym is)
-    (clause_asks c.args.schema.now c.args.distinct (ahead c.args.cursor) (preference_of c.in-Some.term) c.in_ok-product.field-0.group.items r))
-    (search rules)
-
 pub returns-clause-known : goal.returns-clause-known
 returns-clause-known c =
     let r = subst (λ (o : Option Term). ReadsClause c.args.schema.now (ahead c.args.cursor) (option_map preference_of o) c.in_ok-product.field-0.group.items) c.in-Some.is c.in_ok-product.ensures.ok in
@@ -29,8 +21,3 @@ returns-clause-known c =
     (λ a is. subst (FitsWidth (length c.args.schema.now)) (sym is)
     (fits_width c.args.schema.now (preference_of c.in-Some.term) c.in_ok-product.field-0.group.items Best r.product_known r.group_known c.args.distinct))
     (search rules)
-
-pub returns-in_default-clause-err : goal.returns-in_default-clause-err
-returns-in_default-clause-err c =
-    let r = subst (λ (o : Option Term). ReadsClause c.args.schema.now (ahead c.args.cursor) (option_map preference_of o) c.in_ok-product.field-0.group.items) c.in_default.is c.in_ok-product.ensures.ok in
-    clause_asks_nothing c.args.schema.now c.args.distinct (ahead c.args.cursor) c.in_ok-product.field-0.group.items r

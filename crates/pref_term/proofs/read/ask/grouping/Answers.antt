@@ -1,14 +1,7 @@
-use Rattle.pref_term.proofs.Common.{Some, sym, ap, ◌∙◌, IfOk-weaker, ahead}
+use Rattle.pref_term.proofs.Common.{Some, sym, ap, ◌∙◌, ahead}
 use Rattle.pref_term.proofs.LedLemmas.{if_err_map}
-use Rattle.pref_term.proofs.AskLemmas.{grouping_read, grouping_fails}
+use Rattle.pref_term.proofs.AskLemmas.{grouping_fails}
 use Rattle.pref_term.proofs.read.ask.grouping.Goals as goal
-
-pub returns-clause-ok : goal.returns-clause-ok
-returns-clause-ok c =
-    let w = c.in_ok-letters in
-    IfOk-weaker c.group_columns.result _ _
-    (λ columns h. grouping_read c.args.schema.now w.letters.now (ahead c.args.cursor) (ahead w.by.next) columns.items (w.by.at, w.ensures.ok) (sym c.in-Some-By.ensures ∙ ap Some c.in-Some-By.field-0-is) h)
-    c.group_columns.ensures.ok
 
 pub returns-clause-err : goal.returns-clause-err
 returns-clause-err c =
