@@ -1,13 +1,12 @@
 -- The order of an ask: within its groups, by its preference; and which rows it keeps one of. (skyline with DIFF and DISTINCT; psel on a grouped table)
-use Rattle.std.proofs.Common.{◌≡◌, Bool, true, false, List, ℤ, refl, sym, ap, ◌∙◌}
+use Rattle.std.proofs.Common.{◌≡◌, true, List, ℤ, ◌++◌, arith}
 use Rattle.std.specs.Prelude.{◌&&◌}
-use Rattle.pref_term.specs.Better.{better, in_same_group, same}
+use Rattle.pref_term.specs.Better.{in_same_group}
+use Rattle.pref_term.specs.Columns.{columns_in}
 use Rattle.pref_term.specs.Order.{IsRowOrder, IsStrictOrder, RowOrder, StandAlike}
-use Rattle.std.proofs.lemmas.Bool.{and_from, and_parts}
-use Rattle.std.specs.Cmp.Derive.{one_truth}
-use Rattle.pref_term.specs.OrderLaws.{question_order}
+use Rattle.pref_term.specs.OrderLaws.{as_good_on, better_is, group_back, group_on, same_is}
 use Rattle.pref_term.specs.Question.{Question, IsAsk, alike, over, twins}
-use Rattle.pref_term.specs.TwinLaws.{clause_twins, twins_alike, twins_back, twins_have_twins, twins_on}
+use Rattle.pref_term.specs.TwinLaws.{clause_twins, twins_alike, twins_back, twins_on}
 
 -- the order of an ask
 abbrev pub order_of : Question → RowOrder
@@ -15,16 +14,20 @@ order_of q = record { over = over q; twin = twins q }
 
 -- no row dominates itself, and dominance is transitive
 pub order_of_is_strict : (q : Question) → IsStrictOrder (order_of q).over
-order_of_is_strict q = record { irreflexive = (question_order q).not_self; transitive = (question_order q).on }
+order_of_is_strict q =
+    let p = q.preference in
+    record {
+      irreflexive = λ a. grind (arith, better_is p a a);
+      transitive = λ a b c h k. grind (arith, better_is p a b, better_is p b c, better_is p a c, as_good_on p a b c, as_good_on p b c a, group_on q.group a b c);
+    }
 
 -- rows of one group that are the same are alike in it
 pub order_of_alike : (q : Question) (a b : List ℤ) → alike q a b ≡ true → StandAlike (order_of q).over a b
 order_of_alike q a b h =
-    let order = question_order q in
-    let back = order.alike_back a b h in
+    let p = q.preference in
     record {
-      above = λ c. one_truth (over q c a) (over q c b) (λ k. order.before_alike c a b k h) (λ k. order.before_alike c b a k back);
-      below = λ c. one_truth (over q a c) (over q b c) (λ k. order.alike_before b a c back k) (λ k. order.alike_before a b c h k);
+      above = λ c. grind (arith, better_is p c a, better_is p c b, same_is p a b, as_good_on p c a b, as_good_on p c b a, as_good_on p a b c, as_good_on p b a c, group_on q.group c a b, group_on q.group c b a, group_back q.group a b);
+      below = λ c. grind (arith, better_is p a c, better_is p b c, same_is p a b, as_good_on p a b c, as_good_on p b a c, as_good_on p c a b, as_good_on p c b a, group_on q.group a b c, group_on q.group b a c, group_back q.group a b);
     }
 
 -- it is a row order: its twins are of one group, and the same
@@ -36,28 +39,25 @@ order_of_is_row_order q = record {
   alike = λ a b h. order_of_alike q a b (twins_alike q a b h);
 }
 
--- and the same rows are their twins, since an ask that keeps one of equal rows is a skyline clause
-pub order_of_twins_alike : (q : Question) → IsAsk q → (a b : List ℤ) → alike q a b ≡ true → StandAlike (order_of q).twin a b
-order_of_twins_alike q known a b h = go q.distinct refl
-  where
-    go : (d : Bool) → q.distinct ≡ d → StandAlike (order_of q).twin a b
-    go true keeps =
-        twins_have_twins (order_of q) (order_of_is_row_order q) a b
-        (and_from q.distinct _ keeps (sym (clause_twins q a b (known.clause keeps).preference) ∙ h))
-    go false all = record { above = λ c. rw all refl; below = λ c. rw all refl }
-
 -- twins are just the rows of one group that are the same, where of equal rows one is kept
 pub order_of_twins_are_alike : (q : Question) → IsAsk q → (a b : List ℤ) → (order_of q).twin a b ≡ (q.distinct && alike q a b)
-order_of_twins_are_alike q known a b = go q.distinct refl
-  where
-    go : (d : Bool) → q.distinct ≡ d → (order_of q).twin a b ≡ (q.distinct && alike q a b)
-    go true keeps = ap (λ t. q.distinct && t) (sym (clause_twins q a b (known.clause keeps).preference))
-    go false all = rw all refl
+order_of_twins_are_alike q known a b =
+    let same_rows : q.distinct ≡ true → alike q a b ≡ in_same_group (q.group ++ columns_in q.preference) a b = λ keeps. clause_twins q a b (known.clause keeps).preference in
+    grind (arith, same_rows)
+
+-- and the same rows are their twins, since an ask that keeps one of equal rows is a skyline clause
+pub order_of_twins_alike : (q : Question) → IsAsk q → (a b : List ℤ) → alike q a b ≡ true → StandAlike (order_of q).twin a b
+order_of_twins_alike q known a b h =
+    let twins_are = order_of_twins_are_alike q known a b in
+    record {
+      above = λ c. grind (arith, twins_are, twins_back q a b, twins_on q c a b, twins_on q c b a);
+      below = λ c. grind (arith, twins_are, twins_back q a b, twins_on q a b c, twins_on q b a c);
+    }
 
 -- a row dominates rows of its own group alone
 pub order_of_stays_in_groups : (q : Question) (a b : List ℤ) → (order_of q).over a b ≡ true → in_same_group q.group a b ≡ true
-order_of_stays_in_groups q a b h = (and_parts (in_same_group q.group a b) (better q.preference a b) h).0
+order_of_stays_in_groups q a b h = grind arith
 
 -- and twins are of one group
 pub twins_stay_in_groups : (q : Question) (a b : List ℤ) → (order_of q).twin a b ≡ true → in_same_group q.group a b ≡ true
-twins_stay_in_groups q a b h = (and_parts (in_same_group q.group a b) (same q.preference a b) (twins_alike q a b h)).0
+twins_stay_in_groups q a b h = grind (arith, twins_alike q a b h)
