@@ -1,8 +1,8 @@
 -- A preference that is a product of two chains, perhaps with a tie, is that of its keys in these.
-use Rattle.pref_term.proofs.Common.{◌≡◌, ◌<◌, ℤ, Bool, true, false, not, if◌then◌else◌, List, [], ◌∷◌, ◌++◌, refl, sym, ap, ◌∙◌, ◌&&◌, false≢true, append-nil, All-append, All-nil, All-same}
+use Rattle.pref_term.proofs.Common.{◌≡◌, arith, ◌<◌, ℤ, Bool, true, false, not, if◌then◌else◌, List, [], ◌∷◌, ◌++◌, refl, sym, ap, ◌∙◌, ◌&&◌, false≢true, append-nil, All-append, All-nil, All-same}
 use Rattle.pref_term.proofs.Common.{in_same_group, AreChainsOf, AreInRow, IsProductOf, by_chain, by_chains, chain_keys, is_chain, is_paired, keys_behind, ReadsBelow, order_of}
 use Rattle.pref_term.proofs.Common.{order_of_twins_are_alike, by_key, key_for, is_better, is_same, and_parts, Preference, scored, pareto, prior, reverse, Question, IsAsk, alike, in_priority}
-use Rattle.pref_term.proofs.Common.{in_product, walked, Key, Relation, Better, Same, cond_both}
+use Rattle.pref_term.proofs.Common.{in_product, walked, Key, Relation, Same, cond_both}
 use Rattle.pref_term.specs.declared.chains.Chains.{Chains}
 use Rattle.pref_term.specs.declared.chains.Role.{Role}
 use Rattle.pref_term.specs.declared.chains.Role.TheVariants.{First, Second, Tie}
@@ -10,21 +10,17 @@ use Rattle.pref_term.proofs.KeyLaws.{directed, directed_priority, directed_produ
 use Rattle.pref_term.proofs.WalkLaws.{walked-better, walked-same}
 
 priority_same : (r : Relation) → in_priority r Same ≡ r
-priority_same Better = refl
-priority_same _ = refl
+priority_same r = grind arith
 
 priority-assoc : (r s t : Relation) → in_priority (in_priority r s) t ≡ in_priority r (in_priority s t)
-priority-assoc Better s t = refl
-priority-assoc _ s t = refl
+priority-assoc r s t = grind arith
 
 -- p & ((q * r) & s) is the product of p & q and p & r, with the tie s
 chain_before : (r s t u : Relation) → in_priority (in_product (in_priority r s) (in_priority r t)) u ≡ in_priority r (in_priority (in_product s t) u)
-chain_before Better s t u = refl
-chain_before _ s t u = refl
+chain_before r s t u = grind arith
 
 product_itself : (r : Relation) → in_product r r ≡ r
-product_itself Better = refl
-product_itself _ = refl
+product_itself r = grind arith
 
 chain-append : (xs ys : List Key) (a b : List ℤ) → by_chain (xs ++ ys) a b ≡ in_priority (by_chain xs a b) (by_chain ys a b)
 chain-append [] ys a b = refl

@@ -1,60 +1,30 @@
 -- The key law: keys compare rows as scores do; and the product of the keys that lead a preference without a priority is its order.
-use Rattle.pref_term.proofs.Common.{◌≡◌, ◌<◌, ℤ, pos, Bool, true, false, not, int_lt, if◌then◌else◌, List, [], ◌∷◌, ◌++◌, refl, sym, ap, subst, ◌∙◌, arith, ◌^◌, ◌-◌, ◌-ℤ◌, ◌+ℤ◌, neg_ℤ, unsigned_abs}
-use Rattle.pref_term.proofs.Common.{All, list_any, int_eq, false≢true, ints, All-append, All-cons, All-nil, cell, missed, outside, score, sets_before, ReadsBelow, column, by_key, by_keys, is_number}
+use Rattle.pref_term.proofs.Common.{◌≡◌, ◌<◌, ℤ, pos, Bool, true, false, not, List, [], ◌∷◌, ◌++◌, refl, sym, ap, subst, ◌∙◌, arith, ◌^◌, ◌-ℤ◌, ◌+ℤ◌, neg_ℤ, unsigned_abs}
+use Rattle.pref_term.proofs.Common.{All, false≢true, ints, All-append, All-cons, All-nil, cell, missed, outside, score, sets_before, ReadsBelow, column, by_key, by_keys, is_number}
 use Rattle.pref_term.proofs.Common.{is_product, key_for, leading, opposed, and_parts, Base, low, high, around, between, one_of, layered, Preference, scored, pareto, prior, reverse, by_scores}
-use Rattle.pref_term.proofs.Common.{in_priority, in_product, walked, Key, Relation, Better, Worse, Same}
+use Rattle.pref_term.proofs.Common.{in_priority, in_product, walked, Key, Relation, Same}
 
 -- how a preference, or its converse, compares two rows
 abbrev pub directed : Bool → Preference → List ℤ → List ℤ → Relation
 directed false p a b = walked p a b
 directed true p a b = walked p b a
 
-alike_scores : (x y u v : ℤ) → int_lt x y ≡ int_lt u v → int_lt y x ≡ int_lt v u → by_scores x y ≡ by_scores u v
-alike_scores x y u v h k = rw (h, k) refl
-
-lt_raised : (x y : ℤ) → int_lt (x +ℤ pos (2 ^ 63)) (y +ℤ pos (2 ^ 63)) ≡ int_lt x y
-lt_raised x y = grind (arith, ints)
-
-lt_opposed : (x y : ℤ) → int_lt (pos (2 ^ 64 - 1) -ℤ x) (pos (2 ^ 64 - 1) -ℤ y) ≡ int_lt y x
-lt_opposed x y = grind (arith, ints)
-
-lt_negated : (x y : ℤ) → int_lt (neg_ℤ x) (neg_ℤ y) ≡ int_lt y x
-lt_negated x y = grind (arith, ints)
-
 raised : (x y : ℤ) → by_scores (x +ℤ pos (2 ^ 63)) (y +ℤ pos (2 ^ 63)) ≡ by_scores x y
-raised x y = alike_scores (x +ℤ pos (2 ^ 63)) (y +ℤ pos (2 ^ 63)) x y (lt_raised x y) (lt_raised y x)
+raised x y = grind (arith, ints)
 
 turned : (x y : ℤ) → by_scores (opposed true x) (opposed true y) ≡ by_scores y x
-turned x y = alike_scores (opposed true x) (opposed true y) y x (lt_opposed x y) (lt_opposed y x)
+turned x y = grind (arith, ints)
 
 negated : (x y : ℤ) → by_scores (neg_ℤ x) (neg_ℤ y) ≡ by_scores y x
-negated x y = alike_scores (neg_ℤ x) (neg_ℤ y) y x (lt_negated x y) (lt_negated y x)
+negated x y = grind (arith, ints)
 
 -- a distance from a centre is one from a range of one value
-below_centre : (c v : ℤ) → int_lt v c ≡ true → (c -ℤ v) ≡ pos (unsigned_abs (v -ℤ c))
-below_centre c v h = grind (arith, ints)
-
-above_centre : (c v : ℤ) → int_lt v c ≡ false → int_lt c v ≡ true → (v -ℤ c) ≡ pos (unsigned_abs (v -ℤ c))
-above_centre c v h k = grind (arith, ints)
-
-at_centre : (c v : ℤ) → int_lt v c ≡ false → int_lt c v ≡ false → pos 0 ≡ pos (unsigned_abs (v -ℤ c))
-at_centre c v h k = grind (arith, ints)
-
 pub centred : (c v : ℤ) → outside c c v ≡ pos (unsigned_abs (v -ℤ c))
-centred c v = go (int_lt v c) (int_lt c v) refl refl
-  where
-    go : (p q : Bool) → int_lt v c ≡ p → int_lt c v ≡ q → (if p then c -ℤ v else if q then v -ℤ c else pos 0) ≡ pos (unsigned_abs (v -ℤ c))
-    go true q e f = below_centre c v e
-    go false true e f = above_centre c v e f
-    go false false e f = at_centre c v e f
+centred c v = grind (arith, ints)
 
 -- one set is a list of sets
 one_missed : (set : List ℤ) (v : ℤ) → pos (sets_before (set ∷ []) v) ≡ missed set v
-one_missed set v = go (list_any (int_eq v) set) refl
-  where
-    go : (p : Bool) → list_any (int_eq v) set ≡ p → pos (sets_before (set ∷ []) v) ≡ (if p then pos 0 else pos 1)
-    go true e = rw e refl
-    go false e = rw e refl
+one_missed set v = grind (arith, ints)
 
 -- where the keys of a base term compare rows as its scores do, those of its converse do so too
 both_ways : (t : Base) (x y : ℤ) (a b : List ℤ) → by_scores x y ≡ by_scores (score t a) (score t b) → by_scores y x ≡ by_scores (score t b) (score t a)
@@ -116,15 +86,10 @@ leading_numbers (prior p q) s h = absurd (false≢true h)
 leading_numbers (reverse p) s h = leading_numbers p (not s) h
 
 product-assoc : (r s t : Relation) → in_product (in_product r s) t ≡ in_product r (in_product s t)
-product-assoc Better Better Better = refl
-product-assoc Better Worse Better = refl
-product-assoc Worse Better Better = refl
-product-assoc Worse Worse Better = refl
-product-assoc _ _ _ = refl
+product-assoc r s t = grind arith
 
 product_same : (r : Relation) → in_product r Same ≡ r
-product_same Better = refl
-product_same _ = refl
+product_same r = grind arith
 
 keys-append : (xs ys : List Key) (a b : List ℤ) → by_keys (xs ++ ys) a b ≡ in_product (by_keys xs a b) (by_keys ys a b)
 keys-append [] ys a b = refl

@@ -1,9 +1,10 @@
 -- Of two rows of which the first is over the second, or its twin, the first reaches no mark that the second does not reach.
-use Rattle.pref_term.proofs.Common.{not-true, ◌≡◌, ℕ, ℤ, pos, List, [], ◌∷◌, Bool, true, false, map, not, inl, inr, refl, sym, ap, ◌∙◌, subst, arith, if◌then◌else◌, All, bit_and, int_lt, ◌==◌}
-use Rattle.pref_term.proofs.Common.{flat_map, int_eq, false≢true, Decides-int_eq, ints, All-append, All-cons, All-contains, All-nil, order_of, better, in_same_group, cell, same, from_zero, key_for}
+use Rattle.std.specs.Prelude.{◌||◌}
+use Rattle.pref_term.proofs.Common.{◌≡◌, ℕ, ℤ, pos, List, [], ◌∷◌, Bool, true, false, map, not, inl, inr, sym, ap, ◌∙◌, subst, arith, All, bit_and, int_lt, ◌==◌}
+use Rattle.pref_term.proofs.Common.{flat_map, int_eq, Decides-int_eq, ints, All-append, All-cons, All-contains, All-nil, order_of, better, in_same_group, cell, same, from_zero, key_for}
 use Rattle.pref_term.proofs.Common.{keyed, leading, opposed, is_better, is_same, and_parts, Preference, scored, pareto, prior, reverse, Question, Suit, bits_by, is_within, hash_with, scale_column}
-use Rattle.pref_term.proofs.Common.{signature, twins_alike, by_scores, in_priority, in_product, walked, Key, Relation, Better, Worse, Same, Neither}
-use Rattle.pref_term.specs.RelationLaws.{lower_once}
+use Rattle.pref_term.proofs.Common.{signature, twins_alike, by_scores, in_priority, in_product, walked, Key, Relation}
+use Rattle.pref_term.specs.RelationLaws.{priority-better, priority-same, product-better, product-same, scores-better, scores-same}
 use Rattle.pref_term.specs.Leading.{Suits}
 use Rattle.pref_term.specs.declared.signature.scale.Scale.{Scale}
 use Rattle.pref_term.specs.declared.signature.scale.Scale.TheVariants.{Marks, Hashes}
@@ -13,43 +14,17 @@ use Rattle.pref_term.proofs.WalkLaws.{walked-better, walked-same}
 
 -- ---- rows of which the first is better, or the same
 
-fits : Relation → Bool
-fits Better = true
-fits Worse = false
-fits Same = true
-fits Neither = false
-
-better_fits : (r : Relation) → is_better r ≡ true → fits r ≡ true
-unfolding fits
-better_fits Better h = refl
-better_fits _ h = cc
-
-same_fits : (r : Relation) → is_same r ≡ true → fits r ≡ true
-unfolding fits
-same_fits Same h = refl
-same_fits _ h = cc
+abbrev fits : Relation → Bool
+fits r = is_better r || is_same r
 
 product_fits : (r s : Relation) → fits (in_product r s) ≡ true → (fits r ≡ true) × (fits s ≡ true)
-unfolding fits
-product_fits Same s h = (refl, h)
-product_fits Neither s h = absurd (false≢true h)
-product_fits Better Better h = (refl, refl)
-product_fits Worse Better h = (h, refl)
-product_fits _ _ h = (cc, cc)
+product_fits r s h = (grind (arith, product-better r s, product-same r s), grind (arith, product-better r s, product-same r s))
 
 priority_fits : (r s : Relation) → fits (in_priority r s) ≡ true → fits r ≡ true
-unfolding fits
-priority_fits Better s h = refl
-priority_fits _ s h = cc
+priority_fits r s h = grind (arith, priority-better r s, priority-same r s)
 
 scores_fit : (x y : ℤ) → fits (by_scores x y) ≡ true → int_lt y x ≡ false
-unfolding fits
-scores_fit x y h = go (int_lt x y) (int_lt y x) refl refl h
-  where
-    go : (p q : Bool) → int_lt x y ≡ p → int_lt y x ≡ q → fits (if p then Better else if q then Worse else Same) ≡ true → int_lt y x ≡ false
-    go true q e f h = lower_once x y e
-    go false true e f h = absurd (false≢true h)
-    go false false e f h = f
+scores_fit x y h = grind (arith, ints, scores-better x y, scores-same x y)
 
 -- the second row has no smaller key
 Keeps : List ℤ → List ℤ → Key → Type 0
@@ -80,16 +55,13 @@ bits_as (Hashes c masks) a b e =
 
 -- ---- a scale
 
-up : (x y v : ℤ) → int_lt y x ≡ false → int_lt x v ≡ false → int_lt y v ≡ false
-up x y v h k = grind (arith, ints)
-
 -- where the second row has no smaller key, it reaches each mark that the first reaches
 reached : (k : Key) (marks : List ℕ) (a b : List ℤ) → Keeps a b k
     → Implied (map (λ mark. not (int_lt (keyed k a) (pos mark))) marks) (map (λ mark. not (int_lt (keyed k b) (pos mark))) marks)
 unfolding Keeps
 reached k marks a b keeps =
     implied_map (λ mark. not (int_lt (keyed k a) (pos mark))) (λ mark. not (int_lt (keyed k b) (pos mark)))
-    (λ mark h. ap not (up (keyed k a) (keyed k b) (pos mark) keeps (not-true (int_lt (keyed k a) (pos mark)) h))) marks
+    (λ mark h. grind (arith, ints)) marks
 
 suiting : (keys : List Key) (group : List ℕ) (scale : Scale) (a b : List ℤ) → All (Keeps a b) keys → in_same_group group a b ≡ true
     → Suits keys group scale → Implied (bits_by scale a) (bits_by scale b)
@@ -105,11 +77,10 @@ suiting keys group (Hashes c masks) a b keeps near (inr led) = absurd led
 pub suiting_cuts : (q : Question) (scales : List Scale) → All (Suits (leading q.preference false) q.group) scales → Suit (order_of q) scales
 suiting_cuts q scales suit = record {
   over = λ a b h.
-      let both = and_parts (in_same_group q.group a b) (better q.preference a b) h in
-      within a b (better_fits (walked q.preference a b) (walked-better q.preference a b ∙ both.1)) both.0;
+      within a b (grind (arith, walked-better q.preference a b)) (and_parts (in_same_group q.group a b) (better q.preference a b) h).0;
   twin = λ a b h.
       let both = and_parts (in_same_group q.group a b) (same q.preference a b) (twins_alike q a b h) in
-      within a b (same_fits (walked q.preference a b) (walked-same q.preference a b ∙ both.1)) both.0;
+      within a b (grind (arith, walked-same q.preference a b)) both.0;
 }
   where
     within : (a b : List ℤ) → fits (walked q.preference a b) ≡ true → in_same_group q.group a b ≡ true → is_within (signature scales a) (signature scales b) ≡ true
