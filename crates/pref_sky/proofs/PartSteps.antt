@@ -2,9 +2,10 @@
 use Rattle.pref_sky.proofs.Common.{◌≡◌, ℕ, ◌≤◌, ◌<◌, ◌+◌, Bool, false, nat_tests, deals_before, eqb, eq-eqb, inl, inr, List, ◌++◌, length, get_or, take, drop, filter, sym, ◌∙◌, ap, subst, arith}
 use Rattle.pref_sky.proofs.Common.{length-take, length-drop, get_or-drop, All, IsNonDecreasingBy, eqb-true, false_from_ne_true, get_or-take, get_or_default, take-append-drop, filter-append}
 use Rattle.pref_sky.proofs.Common.{IsNonDecreasingBy-from_all_adjacent, Arrival, AreDealt, AreInOrderOfStart, coming_to, Among, [], ◌∷◌, set, ltb, refl, lt-ltb, ltb-true, length-set, All-drop}
-use Rattle.pref_sky.proofs.Common.{All-push, Entry, Made, AreComing, StartsAt, levels_at, items_at, AreInOrderOfPart, AreLevelsMade, ArePut, IsPartMade, LeaveAlone, new_levels, replaced}
+use Rattle.pref_sky.proofs.Common.{All-push, append_assoc, Fits, Entry, Made, AreComing, StartsAt, levels_at, items_at, AreInOrderOfPart, AreLevelsMade, ArePut, IsPartMade, LeaveAlone, new_levels, replaced}
 use Rattle.pref_sky.proofs.ListLaws.{all_among, filter_parted, from_filter, none_pass, among_all, in_left, in_right, in_either, in_order_across, in_order_joined}
-use Rattle.pref_sky.proofs.PoolLaws.{Levels, Part, in_set_here, in_set_other}
+use Rattle.pref_sky.specs.Made.{FitIn}
+use Rattle.pref_sky.proofs.PoolLaws.{Levels, Part, in_here, in_set_here, in_set_other}
 
 -- the parts do not fall, nor do the starts within one
 parts_stay : (a b : Arrival) → deals_before b a ≡ false → a.part ≤ b.part
@@ -132,25 +133,42 @@ module _ (over : Entry → Entry → Bool) (cut : ℕ) (rule : Entry → ℕ) (p
           };
         }
 
--- one part more is put
-module _ (first now : List Part) (done : List Made) (putting : ArePut done first now) (made : Made) (once : AreInOrderOfPart (done ++ made ∷ [])) where
+-- the next of those that are made: there is a part for it, which is as it was
+module _ {first now : List Part} {all done left later : List Made} {made : Made} (fit : FitIn first all) (put : ArePut done first now) (next : left ≡ made ∷ later) (whole : done ++ left ≡ all) {slot : Part} (at : slot ≡ get_or now made.part slot) where
+  in_order : done ++ made ∷ later ≡ all
+  in_order = ap (λ l. done ++ l) (sym next) ∙ whole
+
+  of_all : Among made all
+  of_all = subst (Among made) in_order (in_right done (made ∷ later) made (inl refl))
+
   not_yet : LeaveAlone done made.part
   not_yet =
+      let once : AreInOrderOfPart (done ++ made ∷ later) = subst AreInOrderOfPart (sym in_order) fit.once in
       among_all (λ (m : Made). m.part ≡ made.part → ⊥) done
-      (λ m among same. omega (arith, same, ltb-true m.part made.part (in_order_across (λ (a b : Made). ltb a.part b.part) done (made ∷ []) once m made among (inl refl))))
+      (λ m among same. omega (arith, same, ltb-true m.part made.part (in_order_across (λ (a b : Made). ltb a.part b.part) done (made ∷ later) once m made among (inl refl))))
 
-  pub still_there : items_at made.part now ≡ items_at made.part first
-  still_there = putting.others made.part not_yet
+  inside : made.part < length now
+  inside = omega (arith, put.long, all_among (λ (m : Made). m.part < length first) all fit.part made of_all)
 
-  pub putting_more : (new : Part) → made.part < length now → new.items ≡ replaced made.first (new_levels made) (items_at made.part first) → ArePut (done ++ made ∷ []) first (set now made.part new)
-  putting_more new there is =
+  as_it_was : slot.items ≡ items_at made.part first
+  as_it_was = sym (in_here made.part now slot inside at) ∙ put.others made.part not_yet
+
+  pub next_fits : Fits made slot.items
+  next_fits = subst (Fits made) (sym as_it_was) (all_among (λ (m : Made). Fits m (items_at m.part first)) all fit.fits made of_all)
+
+  -- and one more is put
+  pub put_more : (new : Part) → new.items ≡ replaced made.first (new_levels made) slot.items → ArePut (done ++ made ∷ []) first (set now made.part new)
+  put_more new is =
       let IsPut : Made → Type 0 = λ m. items_at m.part (set now made.part new) ≡ replaced m.first (new_levels m) (items_at m.part first) in
       record {
         made = All-push IsPut done made
             (among_all IsPut done (λ m among.
             in_set_other made.part m.part now new (all_among (λ (x : Made). x.part ≡ made.part → ⊥) done not_yet m among)
-            ∙ all_among (λ (x : Made). items_at x.part now ≡ replaced x.first (new_levels x) (items_at x.part first)) done putting.made m among))
-            (in_set_here made.part now new there ∙ is);
-        others = λ part alone. in_set_other made.part part now new (λ same. alone_last done made part alone (sym same)) ∙ putting.others part (alone_before done made part alone);
-        long = length-set now made.part new ∙ putting.long;
+            ∙ all_among (λ (x : Made). items_at x.part now ≡ replaced x.first (new_levels x) (items_at x.part first)) done put.made m among))
+            (in_set_here made.part now new inside ∙ (is ∙ ap (replaced made.first (new_levels made)) as_it_was));
+        others = λ part alone. in_set_other made.part part now new (λ same. alone_last done made part alone (sym same)) ∙ put.others part (alone_before done made part alone);
+        long = length-set now made.part new ∙ put.long;
       }
+
+  pub whole_still : (done ++ made ∷ []) ++ later ≡ all
+  whole_still = append_assoc done (made ∷ []) later ∙ in_order
