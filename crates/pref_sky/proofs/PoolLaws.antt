@@ -2,6 +2,9 @@
 use Rattle.pref_sky.proofs.Common.{◌≡◌, ℕ, zero, suc, ◌<◌, List, [], ◌∷◌, length, get_or, set, refl, sym, ◌∙◌, ap, subst, arith, All, Vec, Global, Entry, Item, AreAllItems, AreInPool, levels_at}
 use Rattle.pref_sky.proofs.Common.{items_at, parts_at, held_at, ◌≤◌, ◌+◌, ◌++◌, map, take, append-nil, append_assoc, length-append, Bool, true, get_or_append_left, map-append, get_or-append_seam}
 use Rattle.pref_sky.proofs.Common.{Pool, AreItems, HasGrown, IsItem, entries_at, entry_at, is_beaten, IsBehind, signature_by, length-set, get_or-set_same}
+use Rattle.std.proofs.Math.Seq.{map-set_same}
+use Rattle.std.proofs.lemmas.List.Elements.{All-set, AllWithin-more_set}
+use Rattle.std.specs.List.{AllWithin}
 use Rattle.pref_sky.proofs.ListLaws.{front_more, all_among, map_agree_among}
 
 abbrev pub Levels : Type 0
@@ -140,3 +143,22 @@ none_held pool (part ∷ others) none (suc n) = none_held pool others (λ k d in
 
 pub none_in_pool : (rule : Entry → ℕ) (pool : List Entry) (parts : List (Vec (Vec Item Global) Global)) → All (λ (part : Vec (Vec Item Global) Global). part.items ≡ []) parts → AreInPool rule pool parts
 none_in_pool rule pool parts none = λ k d inside. subst (AreAllItems rule pool) (sym (none k d inside)) (λ j level there. absurd (omega (arith, there)))
+
+-- ---- one after the other is signed
+
+-- the first n are signed, and all are what they were but for their signatures
+pub record AreSigned {A B : Type 0} (f : A → B) (Ready Signed : A → Type 0) (first now : List A) (n : ℕ) : Type 0 where
+  pub long : length now ≡ length first
+  pub entries : map f now ≡ map f first
+  pub ready : All Ready now
+  pub signed : AllWithin Signed now 0 n
+
+pub signed_more : {A B : Type 0} {f : A → B} {Ready Signed : A → Type 0} {first now : List A} {i : ℕ} → AreSigned f Ready Signed first now i → i < length now → (old new : A) → old ≡ get_or now i old → f new ≡ f old → Ready new → Signed new
+    → AreSigned f Ready Signed first (set now i new) (i + 1)
+signed_more {f = f} {Ready = Ready} {Signed = Signed} {now = now} {i = i} so_far inside old new is same ready signed =
+    record {
+      long = length-set now i new ∙ so_far.long;
+      entries = map-set_same f now i new old (same ∙ ap f is) ∙ so_far.entries;
+      ready = All-set Ready now i new ready so_far.ready;
+      signed = AllWithin-more_set now i new inside Signed so_far.signed signed;
+    }

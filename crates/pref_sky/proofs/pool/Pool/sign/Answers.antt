@@ -1,6 +1,5 @@
-use Rattle.pref_sky.proofs.Common.{◌≡◌, ◌∙◌, ◌<◌, [], get_or, get_or_default, length, length-set, sym, ap, subst, arith, Item, IsItem, entry_at, signature_by}
-use Rattle.std.proofs.Math.Seq.{map-set_same}
-use Rattle.std.proofs.lemmas.List.Elements.{All-set, AllWithin-more_set}
+use Rattle.pref_sky.proofs.Common.{◌≡◌, ◌∙◌, ◌<◌, [], get_or, get_or_default, length, refl, sym, ap, subst, arith, Item, IsItem, entry_at, signature_by}
+use Rattle.pref_sky.proofs.PoolLaws.{signed_more}
 use Rattle.pref_sky.proofs.pool.Pool.sign.Goals as goal
 
 pub loop-place-preserved : goal.loop-place-preserved
@@ -14,13 +13,8 @@ loop-place-preserved c =
     let new : Item = record { signature = c.signature_of.result; place = old.place } in
     let inside : i < length items = omega (arith, c.loop-place-test.true, c.len-place-end.ensures, c.args.items.now.ok.0, inv.long) in
     let was : old ≡ get_or items i old = c.index_mut.ensures.value in
-    let within : old.place < length pool = subst (λ (x : Item). x.place < length pool) (sym was) (inv.within i old inside) in
+    let within : old.place < length pool = subst (λ (x : Item). x.place < length pool) (sym was) (inv.ready i old inside) in
     let read : c.index-item.result.now ≡ old = c.index-item.ensures ∙ (get_or_default items i c.index-item.result.now old inside ∙ sym was) in
     let here : c.index.result.now ≡ entry_at pool old.place =
     c.index.ensures ∙ (ap (λ (x : Item). get_or pool x.place c.index.result.now) read ∙ get_or_default pool old.place c.index.result.now (record { id = 0; row = [] }) within) in
-    record {
-      long = length-set items i new ∙ inv.long;
-      entries = map-set_same (λ (x : Item). entry_at pool x.place) items i new old (ap (λ (x : Item). entry_at pool x.place) was) ∙ inv.entries;
-      within = All-set (λ (x : Item). x.place < length pool) items i new within inv.within;
-      signed = AllWithin-more_set items i new inside (IsItem rule pool) inv.signed (record { within = within; word = c.signature_of.type_inv; signed = c.signature_of.ensures ∙ ap rule here });
-    }
+    signed_more inv inside old new was refl within (record { within = within; word = c.signature_of.type_inv; signed = c.signature_of.ensures ∙ ap rule here })
