@@ -3,7 +3,7 @@ use Rattle.pref_sky.proofs.Common.{◌≡◌, ℕ, ◌<◌, ◌≤◌, ◌+◌, 
 use Rattle.pref_sky.proofs.Common.{cases_lt, sum_by-IsPermutation, sum_by-cons, sum_by-append, sum_by-swap_remove, RowOrder, StandAlike, Entry, Item, IsAntichain, item_order, IsClear, IsDecided}
 use Rattle.pref_sky.proofs.Common.{Sifted, Among, cond, ◌⊎◌, refl, subst, length-append, sum_by, both_ways, false_from_ne_true, IsStrictOrder, is_beaten, Parted, Passing, nil_from_length}
 use Rattle.std.specs.List.{AllWithin}
-use Rattle.pref_sky.proofs.ListLaws.{in_either, any_from, any_none, in_left, among_if, among_or, is_item, long_by, none_by, some_of, sum_by-ones, count_append}
+use Rattle.pref_sky.proofs.ListLaws.{in_either, any_from, any_gives, any_none, in_left, among_if, among_or, is_item, long_by, none_by, some_of, sum_by-ones, count_append}
 use Rattle.pref_sky.proofs.Merges.{unbeaten_over}
 
 -- the first so many of a list are clear
@@ -15,8 +15,8 @@ abbrev pub AreDecided : List Item → Item → ℕ → ℕ → Type 0
 AreDecided xs e from to = (k : ℕ) (d : Item) → from ≤ k → k < to → IsDecided e.signature (get_or xs k d)
 
 -- nothing went out so far
-pub sifted_none : (over : Item → Item → Bool) (e : Item) (old rest : List Item) → Sifted over e old old rest rest
-sifted_none over e old rest = record { gone = []; behind = sym (append-nil rest); bag = λ f. omega arith; below = λ x m. absurd m }
+pub sifted_none : {over : Item → Item → Bool} {e : Item} {old : List Item} (rest : List Item) → Sifted over e old old rest rest
+sifted_none rest = record { gone = []; behind = sym (append-nil rest); bag = λ f. omega arith; below = λ x m. absurd m }
 
 -- where one of a list that is apart stands as an item does, all of it is clear of the item
 pub clear_if_alike : {E : Type 0} (over : E → E → Bool) (xs : List E) (y e : E) → Among y xs → StandAlike over y e → IsAntichain over xs → IsClear over xs e
@@ -72,11 +72,16 @@ apart_with_one over strict e P apart clear x y mx my =
       | inr same ↦ ap (λ v. over v y) same ∙ elim my [ inl b ↦ (clear y b).1 | inr too ↦ ap (over e) too ∙ strict.irreflexive e ]
     ]
 
-module _ (over : Item → Item → Bool) (held : List Item) (window : ℕ) (input best : List Item) (before : ℕ) where
+module _ {over : Item → Item → Bool} {held : List Item} {window : ℕ} {input best : List Item} {before : ℕ} {left early late overflow rest : List Item} {e : Item} (p : Passing over held window input best (e ∷ left) before early late overflow rest) where
+  pub early_apart : IsAntichain over held → IsAntichain over early
+  early_apart apart x y mx my = (p.decided apart).apart x y (inr (inl mx)) (inr (inl my))
+
+  pub late_apart : IsAntichain over held → IsAntichain over late
+  late_apart apart x y mx my = (p.decided apart).apart x y (inr (inr mx)) (inr (inr my))
+
   -- what the next item dominates went out of the window
-  pub pass_sifted : (left early late overflow rest early_now late_now more most : List Item) (e : Item) → Sifted over e early early_now rest more → Sifted over e late late_now more most
-      → Passing over held window input best (e ∷ left) before early late overflow rest → Passing over held window input best (e ∷ left) before early_now late_now overflow most
-  pass_sifted left early late overflow rest early_now late_now more most e s t p =
+  pub pass_sifted : {early_now late_now more most : List Item} → Sifted over e early early_now rest more → Sifted over e late late_now more most → Passing over held window input best (e ∷ left) before early_now late_now overflow most
+  pass_sifted {early_now = early_now} {late_now = late_now} {more = more} {most = most} s t =
       let first : (f : Item → ℕ) → sum_by f more ≡ sum_by f rest + sum_by f s.gone = λ f. ap (sum_by f) s.behind ∙ sum_by-append f rest s.gone in
       let second : (f : Item → ℕ) → sum_by f most ≡ sum_by f more + sum_by f t.gone = λ f. ap (sum_by f) t.behind ∙ sum_by-append f more t.gone in
       let early_less : length early_now + length s.gone ≡ length early = long_by early_now s.gone early s.bag in
@@ -108,9 +113,8 @@ module _ (over : Item → Item → Bool) (held : List Item) (window : ℕ) (inpu
       }
 
   -- the next item is dominated by one of the window
-  pub pass_dropped : (left early late overflow rest : List Item) (e : Item) → (IsAntichain over held → (w : Item) × (Among w early ⊎ Among w late) × (over w e ≡ true))
-      → Passing over held window input best (e ∷ left) before early late overflow rest → Passing over held window input best left before early late overflow (rest ++ e ∷ [])
-  pass_dropped left early late overflow rest e above p =
+  pub pass_dropped : (IsAntichain over held → (is_beaten over early e ≡ true) ⊎ (is_beaten over late e ≡ true)) → Passing over held window input best left before early late overflow (rest ++ e ∷ [])
+  pass_dropped beaten =
       let long = length-append rest (e ∷ []) in
       record {
         bag = λ f. omega (arith, p.bag f, sum_by-cons f e left, sum_by-append f rest (e ∷ []), sum_by-cons f e []);
@@ -120,12 +124,13 @@ module _ (over : Item → Item → Bool) (held : List Item) (window : ℕ) (inpu
         falls = λ h. omega (arith, p.falls h, long);
         decided = λ apart.
             let decided = p.decided apart in
-            let top = above apart in
-            let w = top.0 in
-            let holds : Among w input =
-            among_if w input (elim top.1 [ inl a ↦ omega (arith, p.bag (is_item w), some_of w early a) | inr b ↦ omega (arith, p.bag (is_item w), some_of w late b) ]) in
+            let top : (w : Item) × Among w input × (over w e ≡ true) =
+            elim (beaten apart) [
+              | inl h ↦ let w = any_gives (λ x. over x e) early h in (w.0, among_if w.0 input (omega (arith, p.bag (is_item w.0), some_of w.0 early w.1)), w.2)
+              | inr h ↦ let w = any_gives (λ x. over x e) late h in (w.0, among_if w.0 input (omega (arith, p.bag (is_item w.0), some_of w.0 late w.1)), w.2)
+            ] in
             record {
-              beaten = λ x a. elim (or_last rest e x a) [ inl old ↦ decided.beaten x old | inr same ↦ any_from (λ y. over y x) input w holds (ap (over w) same ∙ top.2) ];
+              beaten = λ x a. elim (or_last rest e x a) [ inl old ↦ decided.beaten x old | inr same ↦ any_from (λ y. over y x) input top.0 top.1 (ap (over top.0) same ∙ top.2) ];
               apart = decided.apart;
               settled = decided.settled;
               met = λ x m z later. decided.met x m z (inr later);
@@ -133,9 +138,8 @@ module _ (over : Item → Item → Bool) (held : List Item) (window : ℕ) (inpu
       }
 
   -- it overflows: the window is full
-  pub pass_overflows : (left early late overflow rest : List Item) (e : Item) → (IsAntichain over held → IsClear over early e) → (length late ≡ 0 → window ≤ length early)
-      → Passing over held window input best (e ∷ left) before early late overflow rest → Passing over held window input best left before early late (overflow ++ e ∷ []) rest
-  pass_overflows left early late overflow rest e is_clear full p =
+  pub pass_overflows : (IsAntichain over held → IsClear over early e) → (length late ≡ 0 → window ≤ length early) → Passing over held window input best left before early late (overflow ++ e ∷ []) rest
+  pass_overflows is_clear full =
       record {
         bag = λ f. omega (arith, p.bag f, sum_by-cons f e left, sum_by-append f overflow (e ∷ []), sum_by-cons f e []);
         fresh = λ h. omega (arith, h, (length-append overflow (e ∷ [])));
@@ -157,10 +161,9 @@ module _ (over : Item → Item → Bool) (held : List Item) (window : ℕ) (inpu
       }
 
   -- it joins the window: the early ones where nothing overflowed so far, and else the late ones
-  pub pass_joined : (left early late overflow rest early_now late_now : List Item) (e : Item) → IsStrictOrder over → (IsAntichain over held → IsClear over early e × IsClear over late e) → length early + length late < window
-      → ((early_now ≡ early ++ e ∷ []) × (late_now ≡ late) × (length overflow ≡ 0)) ⊎ ((early_now ≡ early) × (late_now ≡ late ++ e ∷ []) × (0 < length overflow))
-      → Passing over held window input best (e ∷ left) before early late overflow rest → Passing over held window input best left before early_now late_now overflow rest
-  pass_joined left early late overflow rest early_now late_now e strict is_clear room joined p =
+  pub pass_joined : {early_now late_now : List Item} → IsStrictOrder over → (IsAntichain over held → IsClear over early e × IsClear over late e) → length early + length late < window
+      → ((early_now ≡ early ++ e ∷ []) × (late_now ≡ late) × (length overflow ≡ 0)) ⊎ ((early_now ≡ early) × (late_now ≡ late ++ e ∷ []) × (0 < length overflow)) → Passing over held window input best left before early_now late_now overflow rest
+  pass_joined {early_now = early_now} {late_now = late_now} strict is_clear room joined =
       let bag : (f : Item → ℕ) → sum_by f early_now + sum_by f late_now ≡ (sum_by f early + sum_by f late) + sum_by f (e ∷ []) =
       λ f. elim joined [
         | inl j ↦ omega (arith, ap (sum_by f) j.0, ap (sum_by f) j.1, sum_by-append f early (e ∷ []))
@@ -200,10 +203,20 @@ module _ (over : Item → Item → Bool) (held : List Item) (window : ℕ) (inpu
             };
       }
 
+module _ {over : Item → Item → Bool} {held : List Item} {window : ℕ} {input best : List Item} {before : ℕ} {left early late overflow rest : List Item} (p : Passing over held window input best left before early late overflow rest) where
+  pub pass_long : length best + length early + length late + length overflow + length left + length rest ≡ length input
+  pass_long =
+      omega (arith, p.bag (λ _. 1), sum_by-ones best, sum_by-ones early, sum_by-ones late, sum_by-ones overflow, sum_by-ones left, sum_by-ones rest, sum_by-ones input)
+
+  -- what holds of lists holds of the same ones
+  pub passing_same : {best_now left_now early_now late_now overflow_now rest_now : List Item} → best_now ≡ best → left_now ≡ left → early_now ≡ early → late_now ≡ late → overflow_now ≡ overflow → rest_now ≡ rest
+      → Passing over held window input best_now left_now before early_now late_now overflow_now rest_now
+  passing_same b l e t o r = rw (b, l, e, t, o, r) p
+
+module _ {over : Item → Item → Bool} {held : List Item} {window : ℕ} {input best : List Item} {before : ℕ} {early late overflow rest : List Item} (p : Passing over held window input best [] before early late overflow rest) where
   -- a pass ends: what is early is best
-  pub pass_ends : (early late overflow rest : List Item) → 0 < window → Passing over held window input best [] before early late overflow rest
-      → Passing over held window input (best ++ early) overflow (length rest) late [] [] rest
-  pass_ends early late overflow rest some p =
+  pub pass_ends : 0 < window → Passing over held window input (best ++ early) overflow (length rest) late [] [] rest
+  pass_ends some =
       record {
         bag = λ f. let b = p.bag f in omega (arith, b, sum_by-append f best early);
         fresh = λ h. refl;
@@ -222,18 +235,12 @@ module _ (over : Item → Item → Bool) (held : List Item) (window : ℕ) (inpu
             };
       }
 
-  pub pass_long : (left early late overflow rest : List Item) → Passing over held window input best left before early late overflow rest
-      → length best + length early + length late + length overflow + length left + length rest ≡ length input
-  pass_long left early late overflow rest p =
-      omega (arith, p.bag (λ _. 1), sum_by-ones best, sum_by-ones early, sum_by-ones late, sum_by-ones overflow, sum_by-ones left, sum_by-ones rest, sum_by-ones input)
-
   -- more is settled at the end of a pass than at its begin
-  pub more_settled : (early late overflow rest : List Item) → length best + before < length input → Passing over held window input best [] before early late overflow rest
-      → length best + before < length best + length early + length rest
-  more_settled early late overflow rest some p =
+  pub more_settled : length best + before < length input → length best + before < length best + length early + length rest
+  more_settled some =
       elim (cases_lt 0 (length overflow)) [
         | inl more ↦ let f = p.falls more in omega (arith, f)
-        | inr none ↦ omega (arith, pass_long [] early late overflow rest p, p.fresh (omega (arith, none)), none, some)
+        | inr none ↦ omega (arith, pass_long p, p.fresh (omega (arith, none)), none, some)
       ]
 
 -- all passes begin with a window that holds some
@@ -255,9 +262,9 @@ passes_begin over held window items room =
     }
 
 -- all passes end: the best are told, and the others are the rest
-pub passes_end : (over : Item → Item → Bool) → IsStrictOrder over → (held : List Item) (window : ℕ) (items best left : List Item) (before : ℕ) (early late overflow rest : List Item) → length left ≡ 0 → length early ≡ 0 → length late ≡ 0 → length overflow ≡ 0
+pub passes_end : {over : Item → Item → Bool} {held : List Item} {window : ℕ} {items best left : List Item} {before : ℕ} {early late overflow rest : List Item} → IsStrictOrder over → length left ≡ 0 → length early ≡ 0 → length late ≡ 0 → length overflow ≡ 0
     → Passing over held window (held ++ items) best left before early late overflow rest → Parted over held items best rest
-passes_end over strict held window items best left before early late overflow rest left_none early_none late_none overflow_none p =
+passes_end {over = over} {held = held} {items = items} {best = best} {left = left} {early = early} {late = late} {overflow = overflow} {rest = rest} strict left_none early_none late_none overflow_none p =
     let bag : (f : Item → ℕ) → sum_by f best + sum_by f rest ≡ sum_by f (held ++ items) =
     λ f. omega (arith, p.bag f, none_by f left left_none, none_by f early early_none, none_by f late late_none, none_by f overflow overflow_none) in
     let all = held ++ items in
@@ -287,8 +294,3 @@ parted_held over held items none =
       unbeaten = λ apart x m. any_none (λ y. over y x) (held ++ items) (λ y my. apart y x (within y my) m);
       beaten = λ apart x m. absurd m;
     }
-
--- what holds of lists holds of the same ones
-pub of_same_lists : {E : Type 0} (P : List E → List E → List E → List E → List E → List E → Type 0) (best left early late overflow rest best_now left_now early_now late_now overflow_now rest_now : List E)
-    → best_now ≡ best → left_now ≡ left → early_now ≡ early → late_now ≡ late → overflow_now ≡ overflow → rest_now ≡ rest → P best left early late overflow rest → P best_now left_now early_now late_now overflow_now rest_now
-of_same_lists P best left early late overflow rest best_now left_now early_now late_now overflow_now rest_now b l e t o r p = rw (b, l, e, t, o, r) p

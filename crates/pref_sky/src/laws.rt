@@ -40,6 +40,7 @@ pub fn held_ids_differ()
 
 /// The best of a list are, of its entries, those that no entry dominates and of which none with a smaller
 /// id is a twin.
+#[tactic(auto, using(crate::proofs::LevelLaws::best_is_first, crate::proofs::LevelLaws::first_is_best))]
 pub fn best_keeps_the_first_of_twins()
     ensures first { (order : RowOrder) (all : List Entry) (e : Entry)
         → Among e (best (entry_order order) all) → IsFirstOfTwins order all e }

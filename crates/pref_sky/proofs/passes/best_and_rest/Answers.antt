@@ -1,7 +1,7 @@
-use Rattle.pref_sky.proofs.Common.{◌≡◌, ◌∙◌, ◌<◌, [], ◌++◌, length, sym, ap, subst, arith, length-append, vec_len, eqb-true, eqb-false, item_order, Parted, Passes, Passing}
+use Rattle.pref_sky.proofs.Common.{◌≡◌, ◌∙◌, ◌<◌, [], ◌++◌, length, sym, ap, subst, arith, length-append, vec_len, eqb-true, eqb-false, item_order, Parted, Passes}
 use Rattle.pref_sky.proofs.ItemsLaws.{item_order_is_strict}
 use Rattle.pref_sky.proofs.Merges.{entry_order_is_strict}
-use Rattle.pref_sky.proofs.PassesLaws.{more_settled, of_same_lists, parted_held, pass_ends, pass_long, passes_begin, passes_end}
+use Rattle.pref_sky.proofs.PassesLaws.{more_settled, parted_held, pass_ends, pass_long, passes_begin, passes_end, passing_same}
 use Rattle.pref_sky.proofs.passes.best_and_rest.Goals as goal
 
 -- nothing comes
@@ -15,22 +15,18 @@ returns-then-is_empty-clause-parted g c =
 
 pub each_pass-init : goal.each_pass-init
 each_pass-init g c =
-    let over = item_order (g.D.Dominance.order c.args.dominance.now) c.args.pool.now in
     let held = c.args.held.now in
     let items = c.args.items.now in
-    let all = held ++ items in
+    let over = item_order (g.D.Dominance.order c.args.dominance.now) c.args.pool.now in
     let room = c.saturating_add-room.result in
     let early = c.in_ok-with_room.field-0 in
     let fits : length held < room = omega (arith, c.saturating_add-room.ensures, c.requires, ap length c.in_ok-with_room.ensures, early.ok.0, early.small) in
     let some : 0 < length items = omega (arith, eqb-false (length items) 0 (sym c.is_empty.ensures ∙ c.if-is_empty.false)) in
     let input = ap length c.in_ok-input.ensures.items in
     let best = ap length c.new-best.ensures.items in
-    let same : Passing over held room all c.new-best.result.items c.in_ok-input.input.items (length held) early.items c.new.result.items c.new-2.result.items c.new-3.result.items =
-    of_same_lists (λ best left. Passing over held room all best left (length held)) [] items held [] [] [] c.new-best.result.items c.in_ok-input.input.items early.items c.new.result.items c.new-2.result.items c.new-3.result.items
-    c.new-best.ensures.items c.in_ok-input.ensures.items c.in_ok-with_room.ensures c.new.ensures.items c.new-2.ensures.items c.new-3.ensures.items (passes_begin over held room items fits) in
     record {
       before = length held;
-      passed = same;
+      passed = passing_same (passes_begin over held room items fits) c.new-best.ensures.items c.in_ok-input.ensures.items c.in_ok-with_room.ensures c.new.ensures.items c.new-2.ensures.items c.new-3.ensures.items;
       late = ap length c.new.ensures.items;
       overflow = ap length c.new-2.ensures.items;
       empty = λ h. absurd (omega (arith, h, input, some));
@@ -47,20 +43,14 @@ each_pass-preserved g c =
     let held = c.args.held.now in
     let all = held ++ c.args.items.now in
     let room = c.saturating_add-room.result in
-    let wide : 0 < room = omega (arith, c.saturating_add-room.ensures, c.requires) in
     let best = c.each_pass.best.items in
     let left = c.each_pass.input.items in
-    let start = c.each_pass.pass in
     let end = c.offer_all.new.pass in
-    let passed : Passes over held room all best [] inv.before end = c.in_ok-offer_all.ensures {u = tt} held all best inv.before (subst (λ l. Passes over held room all best l inv.before start) (sym c.deref.ensures.value) inv.passed) in
+    let passed : Passes over held room all best [] inv.before end = c.in_ok-offer_all.ensures {u = tt} held all best inv.before (subst (λ l. Passes over held room all best l inv.before c.each_pass.pass) (sym c.deref.ensures.value) inv.passed) in
     let some : 0 < length left = omega (arith, eqb-false (vec_len c.each_pass.input) 0 (sym c.is_empty-in-each_pass.ensures ∙ c.each_pass-test.true), c.each_pass.input.ok.0) in
-    let more = more_settled over held room all best inv.before end.early.items end.late.items end.overflow.items end.rest.items (omega (arith, inv.unsettled, some)) passed in
+    let more = more_settled passed (omega (arith, inv.unsettled, some)) in
     let s = c.in_ok-input-2.ensures in
-    let now = c.end_pass.new.pass in
-    let next : Passes over held room all c.end_pass.new.best.items c.in_ok-input-2.input.items (length end.rest.items) now =
-    of_same_lists (λ best left. Passing over held room all best left (length end.rest.items)) (best ++ end.early.items) end.overflow.items end.late.items [] [] end.rest.items
-    c.end_pass.new.best.items c.in_ok-input-2.input.items now.early.items now.late.items now.overflow.items now.rest.items s.best s.next s.early s.late s.overflow s.rest
-    (pass_ends over held room all best inv.before end.early.items end.late.items end.overflow.items end.rest.items wide passed) in
+    let next = passing_same (pass_ends passed (omega (arith, c.saturating_add-room.ensures, c.requires))) s.best s.next s.early s.late s.overflow s.rest in
     let rest = ap length s.rest in
     record {
       before = length end.rest.items;
@@ -69,9 +59,9 @@ each_pass-preserved g c =
       overflow = ap length s.overflow;
       empty = λ h. ap length s.early ∙ passed.fresh (ap length (sym s.next) ∙ h);
       settled = omega (arith, rest);
-      count = omega (arith, more, (ap length s.best), length-append best end.early.items, inv.count);
+      count = omega (arith, more, ap length s.best, length-append best end.early.items, inv.count);
       begins = λ h. absurd (omega (arith, h));
-      unsettled = omega (arith, pass_long over held room all c.end_pass.new.best.items (length end.rest.items) c.in_ok-input-2.input.items now.early.items now.late.items now.overflow.items now.rest.items next, rest);
+      unsettled = omega (arith, pass_long next, rest);
     }
 
 pub each_pass-smaller : goal.each_pass-smaller
@@ -80,23 +70,17 @@ each_pass-smaller g c =
     let inv = c.each_pass.invariant in
     let held = c.args.held.now in
     let all = held ++ c.args.items.now in
-    let room = c.saturating_add-room.result in
     let best = c.each_pass.best.items in
-    let left = c.each_pass.input.items in
     let end = c.offer_all.new.pass in
-    let passed : Passes over held room all best [] inv.before end = c.in_ok-offer_all.ensures {u = tt} held all best inv.before (subst (λ l. Passes over held room all best l inv.before c.each_pass.pass) (sym c.deref.ensures.value) inv.passed) in
-    let some : 0 < length left = omega (arith, eqb-false (vec_len c.each_pass.input) 0 (sym c.is_empty-in-each_pass.ensures ∙ c.each_pass-test.true), c.each_pass.input.ok.0) in
-    let more = more_settled over held room all best inv.before end.early.items end.late.items end.overflow.items end.rest.items (omega (arith, inv.unsettled, some)) passed in
+    let passed : Passes over held c.saturating_add-room.result all best [] inv.before end = c.in_ok-offer_all.ensures {u = tt} held all best inv.before (subst (λ l. Passes over held c.saturating_add-room.result all best l inv.before c.each_pass.pass) (sym c.deref.ensures.value) inv.passed) in
+    let some : 0 < length c.each_pass.input.items = omega (arith, eqb-false (vec_len c.each_pass.input) 0 (sym c.is_empty-in-each_pass.ensures ∙ c.each_pass-test.true), c.each_pass.input.ok.0) in
     let s = c.in_ok-input-2.ensures in
-    omega (arith, more, inv.settled, ap length s.best, length-append best end.early.items, ap length s.rest, pass_long over held room all best inv.before [] end.early.items end.late.items end.overflow.items end.rest.items passed)
+    omega (arith, more_settled passed (omega (arith, inv.unsettled, some)), inv.settled, ap length s.best, length-append best end.early.items, ap length s.rest, pass_long passed)
 
 pub returns-clause-parted : goal.returns-clause-parted
 returns-clause-parted g c =
     let order = g.D.Dominance.order c.args.dominance.now in
-    let over = item_order order c.args.pool.now in
     let strict = item_order_is_strict order c.args.pool.now (entry_order_is_strict order (g.met.D.Dominance.laws c.args.dominance.now)) in
     let inv = c.each_pass.invariant in
-    let a = c.each_pass.pass in
     let none : length c.each_pass.input.items ≡ 0 = omega (arith, eqb-true (vec_len c.each_pass.input) 0 (sym c.is_empty-in-each_pass.ensures ∙ c.each_pass-test.false), c.each_pass.input.ok.0) in
-    passes_end over strict c.args.held.now c.saturating_add-room.result c.args.items.now c.each_pass.best.items c.each_pass.input.items inv.before a.early.items a.late.items a.overflow.items a.rest.items
-    none (inv.empty none) inv.late inv.overflow inv.passed
+    passes_end strict none (inv.empty none) inv.late inv.overflow inv.passed

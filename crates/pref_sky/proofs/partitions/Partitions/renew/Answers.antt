@@ -6,8 +6,3 @@ take_parts-requires g c =
     let was = c.args.self.now in
     let rule = signature_by was.pool.scales in
     (rule, subst (λ l. AreInPool rule l c.deref-then-is_sparse-2.result.now) (sym c.deref-then-is_sparse.ensures.value) (subst (AreInPool rule was.pool.entries.items) (sym c.deref-then-is_sparse-2.ensures.value) was.items))
-
-pub sign_parts-requires : goal.sign_parts-requires
-sign_parts-requires g c =
-    let was = c.args.self.now in
-    (signature_by was.pool.scales, was.items)

@@ -1,4 +1,4 @@
-use Rattle.pref_sky.proofs.Common.{◌≡◌, ◌∙◌, ◌<◌, [], get_or, get_or_default, length, refl, sym, ap, subst, arith, Item, IsItem, entry_at, signature_by}
+use Rattle.pref_sky.proofs.Common.{◌≡◌, ◌∙◌, ◌<◌, [], get_or, get_or_default, length, refl, sym, ap, subst, arith, Item, entry_at, signature_by}
 use Rattle.pref_sky.proofs.PoolLaws.{signed_more}
 use Rattle.pref_sky.proofs.pool.Pool.sign.Goals as goal
 
