@@ -4,6 +4,7 @@ use Rattle.pref_sky.proofs.Common.{append-nil, Vec, Global, All, cases_Bool, len
 use Rattle.pref_sky.proofs.Common.{Made, KeepsUpper, arrived, coming_to, best, is_beaten, rest, AreAllItems, AreInPool, AreItems, entries_at, levels_at, items_at, parts_at, Item, HaveDifferentIds}
 use Rattle.pref_sky.proofs.Common.{entry_of, levels, ArePartsMade, ArePut, IsPartMade, LeaveAlone, new_levels, IsBehind, IsMade, held_at, replaced, ArePartitionedBy, depth, is_in, ranked_parts}
 use Rattle.pref_sky.proofs.Common.{ranked_upto, Among, ◌<◌, both_ways, eq-eqb, eqb-true, false, list_any, AreComing, HaveArrived, IsArrival, StartsAt, partition_of, partitions_by}
+use Rattle.pref_sky.specs.Made.{FitIn}
 use Rattle.pref_sky.proofs.LevelLaws.{first_differ}
 use Rattle.pref_sky.proofs.ListLaws.{all_among, among_all, any_from, any_gives, from_filter, filter_agree_among, count_append}
 use Rattle.pref_sky.proofs.Merges.{different_filter, beaten_by_rest, comes_after}
@@ -33,7 +34,7 @@ made_or_not part all =
     ]
 
 -- parts in which those that were made are in their places
-module _ (over : Entry → Entry → Bool) (cut : ℕ) (rule : Entry → ℕ) (pool : List Entry) (parts new : List Part) (arrivals : List Arrival) (all : List Made) (are : ArePartsMade over cut rule pool parts arrivals all)
+module _ {over : Entry → Entry → Bool} {cut : ℕ} {rule : Entry → ℕ} {pool : List Entry} {parts new : List Part} {arrivals : List Arrival} {all : List Made} (are : ArePartsMade over cut rule pool parts arrivals all)
     (put : ArePut all parts new) where
   is_put : (made : Made) → Among made all → items_at made.part new ≡ replaced made.first (new_levels made) (items_at made.part parts)
   is_put = all_among (λ (m : Made). items_at m.part new ≡ replaced m.first (new_levels m) (items_at m.part parts)) all put.made
@@ -162,7 +163,10 @@ module _ (over : Entry → Entry → Bool) (number : Entry → ℕ) (cut : ℕ) 
 
 -- ---- an addition to parts, from what arrived to what they hold
 
-module _ (over : Entry → Entry → Bool) (rule : Entry → ℕ) (cut : ℕ) (columns : List ℕ) (pool : List Entry) (parts : List Part) (entries : List Entry) (arrivals : List Arrival) (here : HaveArrived over rule cut columns pool parts entries arrivals) where
+pub parts_fit : {over : Entry → Entry → Bool} {cut : ℕ} {rule : Entry → ℕ} {pool : List Entry} {parts : List Part} {arrivals : List Arrival} {all : List Made} → ArePartsMade over cut rule pool parts arrivals all → FitIn parts all
+parts_fit are = record { once = are.once; part = λ k d inside. (are.each k d inside).part; fits = λ k d inside. (are.each k d inside).levels.fits }
+
+module _ {over : Entry → Entry → Bool} {rule : Entry → ℕ} {cut : ℕ} {columns : List ℕ} {pool : List Entry} {parts : List Part} {entries : List Entry} {arrivals : List Arrival} (here : HaveArrived over rule cut columns pool parts entries arrivals) where
   of_part : All (λ a. partition_of columns (arrived pool a) ≡ a.part) arrivals
   of_part = among_all (λ (a : Arrival). partition_of columns (arrived pool a) ≡ a.part) arrivals (λ a m. (all_among (IsArrival over rule (partition_of columns) pool (parts_at pool parts)) arrivals here.are a m).part)
 
@@ -178,29 +182,35 @@ module _ (over : Entry → Entry → Bool) (rule : Entry → ℕ) (cut : ℕ) (c
       }
 
   -- and the parts once they are made and put in their places
-  module _ (new : List Part) (all : List Made) (are : ArePartsMade over cut rule pool parts arrivals all)
-      (put : ArePut all parts new)
-      (different : HaveDifferentIds (map entry_of (ranked_parts (parts_at pool parts)) ++ entries)) (parted : ArePartitionedBy (partition_of columns) (parts_at pool parts)) where
-    after : (part : ℕ) → IsMade over cut (held_at part (parts_at pool parts)) (held_at part (parts_at pool new)) (filter (is_in (partition_of columns) part) (map (arrived pool) arrivals))
+  module _ {given : List Arrival} {all : List Made} {new : List Part} {old : List (List (List Entry))} (came : given ≡ arrivals) (are : ArePartsMade over cut rule pool parts given all) (put : ArePut all parts new) (same : parts_at pool parts ≡ old)
+      (different : HaveDifferentIds (map entry_of (ranked_parts old) ++ entries)) (parted : ArePartitionedBy (partition_of columns) (parts_at pool parts)) where
+    abbrev number : Entry → ℕ
+    number = partition_of columns
+
+    abbrev was : List (List (List Entry))
+    was = parts_at pool parts
+
+    abbrev now : List (List (List Entry))
+    now = parts_at pool new
+
+    abbrev coming : List Entry
+    coming = map (arrived pool) arrivals
+
+    after : (part : ℕ) → IsMade over cut (held_at part was) (held_at part now) (filter (is_in number part) coming)
     after part =
-        subst (IsMade over cut (held_at part (parts_at pool parts)) (held_at part (parts_at pool new))) (sym (coming_of (partition_of columns) pool arrivals of_part part)) (part_after over cut rule pool parts new arrivals all are put part)
+        subst (IsMade over cut (held_at part was) (held_at part now)) (ap (λ l. map (arrived pool) (coming_to part l)) came ∙ sym (coming_of number pool arrivals of_part part)) (part_after are put part)
 
-    apart : HaveDifferentIds (map entry_of (ranked_parts (parts_at pool parts)) ++ map (arrived pool) arrivals)
-    apart = some_differ over (partition_of columns) cut (parts_at pool parts) entries (map (arrived pool) arrivals) here.upper (map entry_of (ranked_parts (parts_at pool parts))) different
+    apart : HaveDifferentIds (map entry_of (ranked_parts was) ++ entries)
+    apart = subst (λ l. HaveDifferentIds (map entry_of (ranked_parts l) ++ entries)) (sym same) different
 
-    pub added_differ : HaveDifferentIds (map entry_of (ranked_parts (parts_at pool new)))
-    added_differ =
-        differ_after (partition_of columns) (parts_at pool parts) (parts_at pool new) (map (arrived pool) arrivals) apart
-        (λ p part. (after part).counts p)
+    pub added_differ : HaveDifferentIds (map entry_of (ranked_parts now))
+    added_differ = differ_after number was now coming (some_differ over number cut was entries coming here.upper (map entry_of (ranked_parts was)) apart) (λ p part. (after part).counts p)
 
-    pub added_parted : ArePartitionedBy (partition_of columns) (parts_at pool new)
-    added_parted =
-        parted_after (partition_of columns) (parts_at pool parts) (parts_at pool new) (map (arrived pool) arrivals) parted
-        (λ p part. (after part).counts p)
+    pub added_parted : ArePartitionedBy number now
+    added_parted = parted_after number was now coming parted (λ p part. (after part).counts p)
 
-    pub added_levels : IsStrictOrder over → IsWithin over (partition_of columns) → (before : List Entry) → HaveDifferentIds (before ++ entries) → ranked_parts (parts_at pool parts) ≡ levels over before cut
-        → ranked_parts (parts_at pool new) ≡ levels over (before ++ entries) cut
+    pub added_levels : IsStrictOrder over → IsWithin over number → (before : List Entry) → HaveDifferentIds (before ++ entries) → ranked_parts old ≡ levels over before cut → ranked_parts now ≡ levels over (before ++ entries) cut
     added_levels strict within before differ is =
-        added over (partition_of columns) cut (parts_at pool parts) (parts_at pool new) (map (arrived pool) arrivals) after within before
-        (some_differ over (partition_of columns) cut (parts_at pool parts) entries (map (arrived pool) arrivals) here.upper before differ) (first_differ (map entry_of (ranked_parts (parts_at pool parts))) entries different) added_differ parted is
-        ∙ upper_levels over (partition_of columns) cut (parts_at pool parts) entries (map (arrived pool) arrivals) here.upper strict within before differ different parted is
+        let holds : ranked_parts was ≡ levels over before cut = ap ranked_parts same ∙ is in
+        added over number cut was now coming after within before (some_differ over number cut was entries coming here.upper before differ) (first_differ (map entry_of (ranked_parts was)) entries apart) added_differ parted holds
+        ∙ upper_levels over number cut was entries coming here.upper strict within before differ apart parted holds

@@ -2,21 +2,12 @@
 use Rattle.pref_sky.proofs.Common.{◌≡◌, ℕ, suc, ◌≤◌, ◌<◌, ◌+◌, Bool, ◌⊎◌, inl, inr, List, [], ◌∷◌, ◌++◌, Vec, length, map, take, drop, get_or, refl, sym, ◌∙◌, ap, subst, arith, length-append}
 use Rattle.pref_sky.proofs.Common.{length-drop, append-nil, append_assoc, drop_all, drop-append-le, Global, All, get_or_default, length-map, map-append, nil_from_length, take-append-drop, All-append}
 use Rattle.pref_sky.proofs.Common.{All-drop, All-push, All-take, IsNonDecreasingBy-drop, IsStrictOrder, RowOrder, Suit, Arrival, Entry, Item, AreInOrderOfStart, StartsAt, arrived, AreAllItems}
-use Rattle.pref_sky.proofs.Common.{AreItems, IsItem, entries_at, entry_at, item_order, items_at, levels_at, entry_order, IsBehind, IsMade, replaced, Parted, signature_by, Among, length-take-le, max}
+use Rattle.pref_sky.proofs.Common.{AreItems, IsItem, entries_at, entry_at, item_order, items_at, levels_at, entry_order, IsBehind, IsMade, replaced, Parted, signature_by, length-take-le, max}
 use Rattle.pref_term.specs.declared.signature.scale.Scale.{Scale}
-use Rattle.pref_sky.proofs.ListLaws.{all_among, among_all, from_map, in_map}
+use Rattle.pref_sky.proofs.ListLaws.{all_among, among_all, among_place, from_map, in_map}
 use Rattle.pref_sky.proofs.PoolLaws.{all_held, entries_held}
 use Rattle.pref_sky.proofs.ItemsLaws.{entries_parted, parted_items, suit_tells}
 use Rattle.pref_sky.proofs.MadeLevels.{AreBehind, Making, making_begins, making_ends, making_more}
-
--- arrivals in order start no earlier than the first
-pub first_starts : (arrivals : List Arrival) (none : Arrival) → 0 < length arrivals → AreInOrderOfStart arrivals → All (λ (a : Arrival). (get_or arrivals 0 none).start ≤ a.start) arrivals
-first_starts arrivals none some in_order k d inside = omega (arith, ap (λ (a : Arrival). a.start) (get_or_default arrivals 0 none d some), in_order 0 k d (omega arith) inside)
-
--- the first starts within the levels
-pub first_inside : (over : Entry → Entry → Bool) (rule : Entry → ℕ) (pool : List Entry) (levels : List (Vec Item Global)) (arrivals : List Arrival) (none : Arrival) → 0 < length arrivals
-    → All (StartsAt over rule pool (levels_at pool levels)) arrivals → (get_or arrivals 0 none).start ≤ length levels
-first_inside over rule pool levels arrivals none some starts = omega (arith, (starts 0 none some).within, length-map levels (λ (level : Vec Item Global). entries_at pool level.items))
 
 -- the entries of arrivals
 arrived_items : (pool : List Entry) (arrivals : List Arrival) → entries_at pool (map (λ (a : Arrival). a.item) arrivals) ≡ map (arrived pool) arrivals
@@ -38,6 +29,7 @@ arrival_items over rule pool old arrivals starts =
 
 -- levels of items were made, where `down` came down to the next one, and `rest` starts there or behind it
 pub record MakingItems (order : RowOrder) (scales : List Scale) (pool : List Entry) (cut first : ℕ) (levels : List (Vec Item Global)) (arrivals : List Arrival) (made : List (Vec Item Global)) (down : List Item) (rest : List Arrival) : Type 0 where
+  pub inside : first ≤ length levels
   pub from : first ≤ length made
   pub making : Making (entry_order order) cut (length made) (levels_at pool levels) (take first (levels_at pool levels) ++ levels_at pool (drop first made)) (map (arrived pool) arrivals) (entries_at pool down) (map (arrived pool) rest)
   pub made_items : AreAllItems (signature_by scales) pool made
@@ -46,36 +38,39 @@ pub record MakingItems (order : RowOrder) (scales : List Scale) (pool : List Ent
   pub in_order : AreInOrderOfStart rest
   pub behind : All (λ (a : Arrival). length made ≤ a.start) rest
 
-module _ (order : RowOrder) (strict : IsStrictOrder (entry_order order)) (scales : List Scale) (pool : List Entry) (cut first : ℕ) (levels : List (Vec Item Global)) (arrivals : List Arrival)
-    (starts : All (StartsAt (entry_order order) (signature_by scales) pool (levels_at pool levels)) arrivals) (all_behind_first : All (λ (a : Arrival). first ≤ a.start) arrivals) where
-  all_start : AreBehind (entry_order order) (levels_at pool levels) first (map (arrived pool) arrivals)
-  all_start = arrivals_behind (entry_order order) (signature_by scales) pool (levels_at pool levels) first arrivals starts all_behind_first
+-- none so far: those in front of the first to which something comes stay
+pub making_items_begin : (order : RowOrder) → IsStrictOrder (entry_order order) → (scales : List Scale) (pool : List Entry) (cut : ℕ) (levels : List (Vec Item Global)) (arrivals : List Arrival) (none : Arrival)
+    → All (StartsAt (entry_order order) (signature_by scales) pool (levels_at pool levels)) arrivals → AreInOrderOfStart arrivals → 0 < length arrivals
+    → (made : List (Vec Item Global)) → length made ≡ (get_or arrivals 0 none).start → AreAllItems (signature_by scales) pool made → MakingItems order scales pool cut (get_or arrivals 0 none).start levels arrivals made [] arrivals
+making_items_begin order strict scales pool cut levels arrivals none starts in_order some made long are =
+    let over = entry_order order in
+    let old = levels_at pool levels in
+    let entries = map (arrived pool) arrivals in
+    let head = get_or arrivals 0 none in
+    let first = head.start in
+    let behind : All (λ (a : Arrival). first ≤ a.start) arrivals = λ k d inside. omega (arith, ap (λ (a : Arrival). a.start) (get_or_default arrivals 0 none d some), in_order 0 k d (omega arith) inside) in
+    let inside : first ≤ length old = (starts 0 none some).within in
+    let front : take first old ++ levels_at pool (drop first made) ≡ take first old = ap (λ l. take first old ++ levels_at pool l) (drop_all first made (omega (arith, long))) ∙ append-nil (take first old) in
+    record {
+      inside = omega (arith, inside, length-map levels (λ (level : Vec Item Global). entries_at pool level.items));
+      from = omega (arith, long);
+      making = subst (λ n. Making over cut n old (take first old ++ levels_at pool (drop first made)) entries [] entries) (sym long)
+          (subst (λ l. Making over cut first old l entries [] entries) (sym front)
+          (making_begins over strict cut first old entries inside (arrivals_behind over (signature_by scales) pool old first arrivals starts behind) (arrived pool head) (in_map (arrived pool) arrivals head (among_place arrivals 0 none some))));
+      made_items = are;
+      down_items = λ k d inside. absurd (omega (arith, inside));
+      starts = starts;
+      in_order = in_order;
+      behind = λ k d inside. omega (arith, long, behind k d inside);
+    }
 
-  pub making_items_begin : AreInOrderOfStart arrivals → (made : List (Vec Item Global)) → length made ≡ first → AreAllItems (signature_by scales) pool made → (some : Arrival) → Among some arrivals
-      → MakingItems order scales pool cut first levels arrivals made [] arrivals
-  making_items_begin in_order made long are some among =
-      let over = entry_order order in
-      let old = levels_at pool levels in
-      let entries = map (arrived pool) arrivals in
-      let inside : first ≤ length old = omega (arith, (all_among (StartsAt over (signature_by scales) pool old) arrivals starts some among).within, all_among (λ (a : Arrival). first ≤ a.start) arrivals all_behind_first some among) in
-      let front : take first old ++ levels_at pool (drop first made) ≡ take first old = ap (λ l. take first old ++ levels_at pool l) (drop_all first made (omega (arith, long))) ∙ append-nil (take first old) in
-      record {
-        from = omega (arith, long);
-        making = subst (λ n. Making over cut n old (take first old ++ levels_at pool (drop first made)) entries [] entries) (sym long)
-            (subst (λ l. Making over cut first old l entries [] entries) (sym front) (making_begins over strict cut first old entries inside all_start (arrived pool some) (in_map (arrived pool) arrivals some among)));
-        made_items = are;
-        down_items = λ k d inside. absurd (omega (arith, inside));
-        starts = starts;
-        in_order = in_order;
-        behind = λ k d inside. omega (arith, long, all_behind_first k d inside);
-      }
-
+module _ {order : RowOrder} {scales : List Scale} {pool : List Entry} {cut first : ℕ} {levels : List (Vec Item Global)} {arrivals : List Arrival} {made : List (Vec Item Global)} {down : List Item} {rest : List Arrival}
+    (strict : IsStrictOrder (entry_order order)) (so_far : MakingItems order scales pool cut first levels arrivals made down rest) where
   -- one level more was made
-  pub making_items_more : Suit order scales → AreAllItems (signature_by scales) pool levels → (made : List (Vec Item Global)) (down now others : List Item) (rest : List Arrival) (count : ℕ) (top : Vec Item Global) → length made < cut
-      → All (λ (a : Arrival). length made < a.start) (drop count rest) → now ≡ down ++ map (λ (a : Arrival). a.item) (take count rest)
-      → Parted (item_order order pool) (items_at (length made) levels) now top.items others
-      → MakingItems order scales pool cut first levels arrivals made down rest → MakingItems order scales pool cut first levels arrivals (made ++ top ∷ []) others (drop count rest)
-  making_items_more suit are made down now others rest count top below later pushed parted so_far =
+  pub making_items_more : {now others : List Item} {made_now : List (Vec Item Global)} {rest_now : List Arrival} → Suit order scales → AreAllItems (signature_by scales) pool levels → (count : ℕ) (top : Vec Item Global) → length made < cut
+      → All (λ (a : Arrival). length made < a.start) (drop count rest) → now ≡ down ++ map (λ (a : Arrival). a.item) (take count rest) → Parted (item_order order pool) (items_at (length made) levels) now top.items others
+      → made_now ≡ made ++ top ∷ [] → rest_now ≡ drop count rest → MakingItems order scales pool cut first levels arrivals made_now others rest_now
+  making_items_more {now = now} {others = others} suit are count top below later pushed parted grew left =
       let over = entry_order order in
       let rule = signature_by scales in
       let n = length made in
@@ -105,7 +100,8 @@ module _ (order : RowOrder) (strict : IsStrictOrder (entry_order order)) (scales
       (subst (λ l. Parted over (entries_at pool held) l (entries_at pool top.items) (entries_at pool others)) now_is
       (entries_parted order rule pool held now top.items others (suit_tells order scales suit) both parted)))
       (subst (Making over cut n old upto (map (arrived pool) arrivals) (entries_at pool down)) rest_is so_far.making) in
-      record {
+      let more : MakingItems order scales pool cut first levels arrivals (made ++ top ∷ []) others behind = record {
+        inside = so_far.inside;
         from = omega (arith, next, so_far.from);
         making = subst (λ j. Making over cut j old (take first old ++ levels_at pool (drop first (made ++ top ∷ []))) (map (arrived pool) arrivals) (entries_at pool others) (map (arrived pool) behind)) next
             (subst (λ l. Making over cut (suc n) old l (map (arrived pool) arrivals) (entries_at pool others) (map (arrived pool) behind)) (sym made_is) level);
@@ -114,12 +110,13 @@ module _ (order : RowOrder) (strict : IsStrictOrder (entry_order order)) (scales
         starts = behind_starts;
         in_order = IsNonDecreasingBy-drop (λ (a : Arrival). a.start) count rest so_far.in_order;
         behind = λ k d inside. omega (arith, next, later k d inside);
-      }
+      } in
+      rw (grew, left) more
 
   -- the levels are those that the addition makes
-  pub making_items_end : (made : List (Vec Item Global)) (down : List Item) (rest : List Arrival) → (cut ≤ length made) ⊎ ((length down ≡ 0) × (length rest ≡ 0)) → MakingItems order scales pool cut first levels arrivals made down rest
+  pub making_items_end : (cut ≤ length made) ⊎ ((length down ≡ 0) × (length rest ≡ 0))
       → IsMade (entry_order order) cut (levels_at pool levels) (replaced first (levels_at pool (drop first made)) (levels_at pool levels)) (map (arrived pool) arrivals)
-  making_items_end made down rest ended so_far =
+  making_items_end ended =
       let old = levels_at pool levels in
       let part = levels_at pool (drop first made) in
       let reach : length made ≡ first + length part = omega (arith, so_far.from, length-map (drop first made) (λ (level : Vec Item Global). entries_at pool level.items), length-drop first made) in

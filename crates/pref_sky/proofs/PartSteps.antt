@@ -31,9 +31,24 @@ dealt_behind arrivals n dealt k d from inside =
     ap (λ a. deals_before a (get_or (drop n arrivals) k d)) (get_or-drop n arrivals (k + 1) d ∙ ap (λ j. get_or arrivals j d) next)
     ∙ (ap (deals_before (get_or arrivals ((n + k) + 1) d)) (get_or-drop n arrivals k d) ∙ dealt (n + k) d (omega arith) there)
 
+-- those of the first part are in front
+pub coming_in_front : (part : ℕ) (arrivals : List Arrival) (n : ℕ) → All (λ a. a.part ≡ part) (take n arrivals) → All (λ a. part < a.part) (drop n arrivals) → take n arrivals ≡ coming_to part arrivals
+coming_in_front part arrivals n here behind =
+    let mine : Arrival → Bool = λ a. eqb a.part part in
+    sym (filter_parted mine arrivals n (λ a m. eq-eqb a.part part (all_among (λ (b : Arrival). b.part ≡ part) (take n arrivals) here a m))
+    (λ a m. false_from_ne_true (mine a) (λ same. omega (arith, eqb-true a.part part same, all_among (λ (b : Arrival). part < b.part) (drop n arrivals) behind a m))))
+
+-- those that come to a part are of it
+pub coming_are : (part : ℕ) (arrivals : List Arrival) (a : Arrival) → Among a (coming_to part arrivals) → a.part ≡ part
+coming_are part arrivals a m = eqb-true a.part part (from_filter (λ (b : Arrival). eqb b.part part) arrivals a m).1
+
+front_of_part : (part : ℕ) (arrivals : List Arrival) (n : ℕ) → take n arrivals ≡ coming_to part arrivals → All (λ a. a.part ≡ part) (take n arrivals)
+front_of_part part arrivals n coming = among_all (λ (a : Arrival). a.part ≡ part) (take n arrivals) (λ a m. coming_are part arrivals a (subst (Among a) coming m))
+
 -- in order of start within one part
-pub by_start : (part : ℕ) (arrivals : List Arrival) (n : ℕ) → AreDealt arrivals → All (λ a. a.part ≡ part) (take n arrivals) → AreInOrderOfStart (take n arrivals)
-by_start part arrivals n dealt here =
+pub by_start : (part : ℕ) (arrivals : List Arrival) (n : ℕ) → AreDealt arrivals → take n arrivals ≡ coming_to part arrivals → AreInOrderOfStart (take n arrivals)
+by_start part arrivals n dealt coming =
+    let here = front_of_part part arrivals n coming in
     IsNonDecreasingBy-from_all_adjacent (λ (a : Arrival). a.start) (take n arrivals)
     (λ k d inside.
     let short : k + 1 < n = omega (arith, inside, length-take n arrivals) in
@@ -46,17 +61,6 @@ by_start part arrivals n dealt here =
     omega (arith, ap (λ (a : Arrival). a.part) next_is, ap (λ (a : Arrival). a.part) this_is, here (k + 1) d inside, here k d (omega (arith, inside))) in
     let stays : this.start ≤ next.start = starts_stay this next (dealt k d (omega arith) there) same in
     omega (arith, ap (λ (a : Arrival). a.start) next_is, ap (λ (a : Arrival). a.start) this_is, stays))
-
--- those of the first part are in front
-pub coming_in_front : (part : ℕ) (arrivals : List Arrival) (n : ℕ) → All (λ a. a.part ≡ part) (take n arrivals) → All (λ a. part < a.part) (drop n arrivals) → take n arrivals ≡ coming_to part arrivals
-coming_in_front part arrivals n here behind =
-    let mine : Arrival → Bool = λ a. eqb a.part part in
-    sym (filter_parted mine arrivals n (λ a m. eq-eqb a.part part (all_among (λ (b : Arrival). b.part ≡ part) (take n arrivals) here a m))
-    (λ a m. false_from_ne_true (mine a) (λ same. omega (arith, eqb-true a.part part same, all_among (λ (b : Arrival). part < b.part) (drop n arrivals) behind a m))))
-
--- those that come to a part are of it
-pub coming_are : (part : ℕ) (arrivals : List Arrival) (a : Arrival) → Among a (coming_to part arrivals) → a.part ≡ part
-coming_are part arrivals a m = eqb-true a.part part (from_filter (λ (b : Arrival). eqb b.part part) arrivals a m).1
 
 -- what leaves a part alone does so without its last
 alone_before : (done : List Made) (made : Made) (part : ℕ) → LeaveAlone (done ++ made ∷ []) part → LeaveAlone done part
@@ -74,40 +78,38 @@ pub record MakingParts (over : Entry → Entry → Bool) (cut : ℕ) (rule : Ent
   pub coming : AreComing over rule pool parts rest
 
 -- those that come to the first part stand in front
-module _ (over : Entry → Entry → Bool) (cut : ℕ) (rule : Entry → ℕ) (pool : List Entry) (parts : List Part) (arrivals rest : List Arrival) (all : List Made) (making : MakingParts over cut rule pool parts arrivals rest all)
-    (part n : ℕ) (held : Levels) (there : items_at part parts ≡ held) (coming : take n rest ≡ coming_to part rest) where
-  pub front_of_part : All (λ a. a.part ≡ part) (take n rest)
-  front_of_part = among_all (λ (a : Arrival). a.part ≡ part) (take n rest) (λ a m. coming_are part rest a (subst (Among a) coming m))
-
-  pub front_starts : All (StartsAt over rule pool (levels_at pool held)) (take n rest)
+module _ {over : Entry → Entry → Bool} {cut : ℕ} {rule : Entry → ℕ} {pool : List Entry} {parts : List Part} {arrivals rest : List Arrival} {all : List Made} (making : MakingParts over cut rule pool parts arrivals rest all)
+    (part n : ℕ) {held : Levels} (there : items_at part parts ≡ held) (coming : take n rest ≡ coming_to part rest) {taken : List Arrival} (front : taken ≡ take n rest) where
+  pub front_starts : All (StartsAt over rule pool (levels_at pool held)) taken
   front_starts =
-      among_all (StartsAt over rule pool (levels_at pool held)) (take n rest)
+      among_all (StartsAt over rule pool (levels_at pool held)) taken
       (λ a m.
-      let of_rest = (from_filter (λ (b : Arrival). eqb b.part part) rest a (subst (Among a) coming m)).0 in
-      let its : items_at a.part parts ≡ held = ap (λ p. items_at p parts) (coming_are part rest a (subst (Among a) coming m)) ∙ there in
-      subst (λ l. StartsAt over rule pool (levels_at pool l) a) its (all_among (λ (b : Arrival). StartsAt over rule pool (levels_at pool (items_at b.part parts)) b) rest making.coming.start a of_rest))
+      let here : Among a (coming_to part rest) = subst (Among a) (front ∙ coming) m in
+      let its : items_at a.part parts ≡ held = ap (λ p. items_at p parts) (coming_are part rest a here) ∙ there in
+      subst (λ l. StartsAt over rule pool (levels_at pool l) a) its
+      (all_among (λ (b : Arrival). StartsAt over rule pool (levels_at pool (items_at b.part parts)) b) rest making.coming.start a (from_filter (λ (b : Arrival). eqb b.part part) rest a here).0))
 
   -- and the levels of this part are made
-  module _ (behind : All (λ a. part < a.part) (drop n rest)) (first : Arrival) (is_first : Among first rest) (of_part : first.part ≡ part) (made : Made) (is : made.part ≡ part) where
+  module _ (behind : All (λ a. part < a.part) (drop n rest)) (first : Arrival) (is_first : Among first rest) (of_part : first.part ≡ part) {made : Made} (is : made.part ≡ part) (anew : AreLevelsMade over cut rule pool held taken made) where
     earlier : (m : Made) → Among m all → m.part < part
     earlier m among = omega (arith, making.later m first among is_first, of_part)
 
     alone : LeaveAlone all part
     alone = among_all (λ (m : Made). m.part ≡ part → ⊥) all (λ m among same. omega (arith, earlier m among, same))
 
-    pub part_made : AreLevelsMade over cut rule pool held (take n rest) made → IsPartMade over cut rule pool parts arrivals made
-    part_made anew =
+    part_made : IsPartMade over cut rule pool parts arrivals made
+    part_made =
         let its : items_at made.part parts ≡ held = ap (λ p. items_at p parts) is ∙ there in
-        let comes : take n rest ≡ coming_to made.part arrivals = coming ∙ (sym (making.others part alone) ∙ ap (λ p. coming_to p arrivals) (sym is)) in
+        let comes : taken ≡ coming_to made.part arrivals = front ∙ (coming ∙ (sym (making.others part alone) ∙ ap (λ p. coming_to p arrivals) (sym is))) in
         record {
           part = omega (arith, is, of_part, all_among (λ (a : Arrival). a.part < length parts) rest making.coming.part first is_first);
           levels = subst (λ l. AreLevelsMade over cut rule pool l (coming_to made.part arrivals) made) (sym its) (subst (λ l. AreLevelsMade over cut rule pool held l made) comes anew);
         }
 
-    pub making_more : IsPartMade over cut rule pool parts arrivals made → MakingParts over cut rule pool parts arrivals (drop n rest) (all ++ made ∷ [])
-    making_more this =
-        record {
-          each = All-push (IsPartMade over cut rule pool parts arrivals) all made making.each this;
+    pub making_more : {rest_now : List Arrival} {all_now : List Made} → rest_now ≡ drop n rest → all_now ≡ all ++ made ∷ [] → MakingParts over cut rule pool parts arrivals rest_now all_now
+    making_more left grew =
+        let more : MakingParts over cut rule pool parts arrivals (drop n rest) (all ++ made ∷ []) = record {
+          each = All-push (IsPartMade over cut rule pool parts arrivals) all made making.each part_made;
           once = in_order_joined (λ (a b : Made). ltb a.part b.part) all (made ∷ []) making.once ((λ x none. absurd none), tt)
               (λ a b of_all last. elim last [
                 | inl same ↦ lt-ltb a.part b.part (omega (arith, earlier a of_all, is, ap (λ (m : Made). m.part) same))
@@ -123,7 +125,7 @@ module _ (over : Entry → Entry → Bool) (cut : ℕ) (rule : Entry → ℕ) (p
           others = λ p left.
               let mine : Arrival → Bool = λ a. eqb a.part p in
               let none : filter mine (take n rest) ≡ [] =
-              none_pass mine (take n rest) (λ a m. false_from_ne_true (mine a) (λ same. alone_last all made p left (is ∙ (sym (all_among (λ (b : Arrival). b.part ≡ part) (take n rest) front_of_part a m) ∙ eqb-true a.part p same)))) in
+              none_pass mine (take n rest) (λ a m. false_from_ne_true (mine a) (λ same. alone_last all made p left (is ∙ (sym (all_among (λ (b : Arrival). b.part ≡ part) (take n rest) (front_of_part part rest n coming) a m) ∙ eqb-true a.part p same)))) in
               making.others p (alone_before all made p left)
               ∙ (ap (filter mine) (sym (take-append-drop n rest)) ∙ (filter-append mine (take n rest) (drop n rest) ∙ ap (λ l. l ++ filter mine (drop n rest)) none));
           coming = record {
@@ -131,7 +133,8 @@ module _ (over : Entry → Entry → Bool) (cut : ℕ) (rule : Entry → ℕ) (p
             part = All-drop (λ (a : Arrival). a.part < length parts) n rest making.coming.part;
             start = All-drop (λ (a : Arrival). StartsAt over rule pool (levels_at pool (items_at a.part parts)) a) n rest making.coming.start;
           };
-        }
+        } in
+        rw (left, grew) more
 
 -- the next of those that are made: there is a part for it, which is as it was
 module _ {first now : List Part} {all done left later : List Made} {made : Made} (fit : FitIn first all) (put : ArePut done first now) (next : left ≡ made ∷ later) (whole : done ++ left ≡ all) {slot : Part} (at : slot ≡ get_or now made.part slot) where
