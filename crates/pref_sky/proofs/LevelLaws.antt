@@ -36,21 +36,19 @@ levels_of_none over zero = refl
 levels_of_none over (suc n) =
     levels_of_none over n ∙ (sym (append-nil (levels over [] n)) ∙ ap (λ l. levels over [] n ++ map (at_level (suc n)) (in_order_of_id (best over l))) (sym (rest_of_none over n)))
 
--- the order in which the entries stand does not matter
-pub levels_of_same : (over : Entry → Entry → Bool) → IsStrictOrder over → (xs ys : List Entry) → HaveDifferentIds xs → HaveDifferentIds ys → SameMembers xs ys → (n : ℕ) → levels over xs n ≡ levels over ys n
-levels_of_same over strict xs ys dx dy same n =
-    same_by_level over strict xs ys n (λ k le. different_best over xs k dx) (λ k le. different_best over ys k dy) (record { within = same.there; kept = λ x m early. same.back x m }) n (omega arith)
-
 selected_of_same : (over : Entry → Entry → Bool) → IsStrictOrder over → (same : Row → Row → Bool) → StaysInGroups over same → (mode : Mode) (xs ys : List Entry) → ((n : ℕ) → levels over xs n ≡ levels over ys n) → selected over same mode xs ≡ selected over same mode ys
 selected_of_same over strict same within Best xs ys levels_same = levels_same 1
 selected_of_same over strict same within (TopLevel k) xs ys levels_same = levels_same k
 selected_of_same over strict same within (AtLeast k) xs ys levels_same =
     enough over strict same within xs k ∙ (ap (at_least same k) (levels_same k) ∙ sym (enough over strict same within ys k))
 
+-- the order in which the entries stand does not matter
 pub answer_of_same : (ask : Question) (xs ys : List Entry) → HaveDifferentIds xs → HaveDifferentIds ys → SameMembers xs ys → answer_of ask xs ≡ answer_of ask ys
 answer_of_same ask xs ys dx dy same =
+    let over = entry_order (order_of ask) in
     let strict = entry_order_is_strict (order_of ask) (order_of_is_row_order ask) in
-    selected_of_same (entry_order (order_of ask)) strict (in_same_group ask.group) (entry_order_stays_in_groups ask) ask.mode xs ys (levels_of_same (entry_order (order_of ask)) strict xs ys dx dy same)
+    selected_of_same over strict (in_same_group ask.group) (entry_order_stays_in_groups ask) ask.mode xs ys
+    (λ n. same_by_level over strict xs ys n (λ k le. different_best over xs k dx) (λ k le. different_best over ys k dy) (record { within = same.there; kept = λ x m early. same.back x m }) n (omega arith))
 
 -- what is held of entries has different ids
 pub held_differ : (over : Entry → Entry → Bool) (before new : List Entry) (n : ℕ) → HaveDifferentIds (before ++ new) → HaveDifferentIds (map entry_of (levels over before n) ++ new)
@@ -62,6 +60,16 @@ held_differ over before new n different =
 -- the first part of a list has different ids where all have
 pub first_differ : (xs ys : List Entry) → HaveDifferentIds (xs ++ ys) → HaveDifferentIds xs
 first_differ xs ys different = record { once = λ id. omega (arith, different.once id, count_append (λ (e : Entry). e.id == id) xs ys) }
+
+-- the next piece of a list, where those before and the rest are the whole of it
+pub next_piece : {whole rest : List Entry} (done piece others : List Entry) → whole ≡ done ++ rest → rest ≡ piece ++ others → HaveDifferentIds whole → (whole ≡ (done ++ piece) ++ others) × HaveDifferentIds (done ++ piece)
+next_piece done piece others all cut different =
+    let is = all ∙ (ap (λ l. done ++ l) cut ∙ sym (append_assoc done piece others)) in
+    (is, first_differ (done ++ piece) others (subst HaveDifferentIds is different))
+
+-- beside entries that have no levels up to the cut, new ones have those of all
+pub merge_none : (over : Entry → Entry → Bool) → IsStrictOrder over → (cut : ℕ) (before new : List Entry) → HaveDifferentIds (before ++ new) → [] ≡ levels over before cut → levels over new cut ≡ levels over (before ++ new) cut
+merge_none over strict cut before new different none = ap (λ l. levels over (map entry_of l ++ new) cut) none ∙ merge over strict cut before new (held_differ over before new cut different)
 
 -- the pieces after those before, one after the other
 cut_into : (over : Entry → Entry → Bool) → IsStrictOrder over → (cut : ℕ) (before : List Entry) (held : List Ranked) (pieces : List (List Entry)) → held ≡ levels over before cut

@@ -68,9 +68,7 @@ fn hold_first<D: Dominance>(
     requires window { 0 < window }
     requires ids { HaveDifferentIds entries.now }
     ensures ids { IfOk result (λ held. HaveDifferentIds (map entry_of (ranked_held held))) }
-    ensures ok { let over = entry_order (D.order dominance.now) in
-        IfOk result (λ held. (before : List Entry) → HaveDifferentIds (before ++ entries.now) → [] ≡ levels over before cut
-        → ranked_held held ≡ levels over (before ++ entries.now) cut) }
+    ensures levels { IfOk result (λ held. ranked_held held ≡ levels (entry_order (D.order dominance.now)) entries.now cut) }
 {
     if let Some(order) = ChainOrder::of(alloc, dominance, cut)? {
         let sorted = SortedEntries::of(alloc, order, entries)?;

@@ -301,9 +301,7 @@ impl Partitions {
     ) -> Result<Partitions, AllocError>
         requires window { 0 < window }
         requires ids { HaveDifferentIds entries.now }
-        ensures ok { let over = entry_order (D.order dominance.now) in
-            IfOk result (λ made. (before : List Entry) → HaveDifferentIds (before ++ entries.now) → [] ≡ levels over before cut
-            → ranked_parts (parts_at made.pool.entries.items made.parts.items) ≡ levels over (before ++ entries.now) cut) }
+        ensures { IfOk result (λ made. ranked_parts (parts_at made.pool.entries.items made.parts.items) ≡ levels (entry_order (D.order dominance.now)) entries.now cut) }
     {
         let mut parts = Partitions::new(alloc, dominance.groups())?;
         let mut rest = entries;

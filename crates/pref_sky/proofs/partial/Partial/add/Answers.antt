@@ -1,11 +1,20 @@
-use Rattle.pref_sky.proofs.Common.{◌++◌, Result, Ok, Err, sym, ◌∙◌, ap, OnOk, ChainOrder, own_levels}
+use Rattle.pref_sky.proofs.Common.{◌++◌, Result, Ok, Err, sym, ◌∙◌, ap, OnOk, ChainOrder, own_levels, entry_order}
 use Rattle.pref_sky.specs.PartialForms.{ranked_held}
+use Rattle.pref_sky.proofs.LevelLaws.{merge_none}
+use Rattle.pref_sky.proofs.Merges.{entry_order_is_strict}
 use Rattle.pref_sky.proofs.SortedLevels.{says_its_levels}
 use Rattle.pref_sky.proofs.partial.Partial.add.Goals as goal
 
 if_done : {T E : Type 0} {P Q : Type 0} (result : Result T E) → (P → Q) → OnOk result P → OnOk result Q
 if_done (Ok x) then done = then done
 if_done (Err e) then done = tt
+
+-- what comes to nothing has the levels of all
+pub returns-in_ok-self-inside-in-Nothing-clause-ok : goal.returns-in_ok-self-inside-in-Nothing-clause-ok
+returns-in_ok-self-inside-in-Nothing-clause-ok g c = λ before apart is.
+    let row_order = g.D.Dominance.order c.args.dominance.now in
+    c.in_ok-self-inside-in-Nothing.ensures.levels
+    ∙ merge_none (entry_order row_order) (entry_order_is_strict row_order (g.met.D.Dominance.laws c.args.dominance.now)) c.args.cut before c.args.entries.now apart (sym (sym c.self.view_is ∙ ap ranked_held c.in-Nothing.is) ∙ is)
 
 -- the chains say what the order says
 pub returns-then-is_of-clause-ok : goal.returns-then-is_of-clause-ok

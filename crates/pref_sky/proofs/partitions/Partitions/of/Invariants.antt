@@ -1,4 +1,4 @@
-use Rattle.pref_sky.proofs.Common.{◌≡◌, ◌++◌, ◌<◌, [], List, length, StaysWithin, Entry, parts_at, HaveDifferentIds, entry_order, levels, ranked_parts}
+use Rattle.pref_sky.proofs.Common.{◌≡◌, ◌++◌, ◌<◌, List, length, StaysWithin, Entry, parts_at, entry_order, levels, ranked_parts}
 use Rattle.pref_sky.proofs.partitions.Partitions.of.Given as goal
 
 abbrev pub invariant-each_piece : goal.invariant-each_piece
@@ -9,7 +9,7 @@ invariant-each_piece g l =
       groups : StaysWithin order l.parts.columns.items;
       done : List Entry;
       whole : l.fn.entries ≡ done ++ l.rest;
-      holds : (before : List Entry) → HaveDifferentIds (before ++ l.fn.entries) → [] ≡ levels (entry_order order) before l.cut → ranked_parts (parts_at l.parts.pool.entries.items l.parts.parts.items) ≡ levels (entry_order order) (before ++ done) l.cut;
+      holds : ranked_parts (parts_at l.parts.pool.entries.items l.parts.parts.items) ≡ levels (entry_order order) done l.cut;
     }
 
 abbrev pub decreases-each_piece : goal.decreases-each_piece
