@@ -2,10 +2,10 @@
 use Rattle.pref_sky.proofs.Common.{◌≡◌, ℕ, ◌≤◌, ◌<◌, ◌+◌, Bool, false, nat_tests, deals_before, eqb, eq-eqb, inl, inr, List, ◌++◌, length, get_or, take, drop, filter, sym, ◌∙◌, ap, subst, arith}
 use Rattle.pref_sky.proofs.Common.{length-take, length-drop, get_or-drop, All, IsNonDecreasingBy, eqb-true, false_from_ne_true, get_or-take, get_or_default, take-append-drop, filter-append}
 use Rattle.pref_sky.proofs.Common.{IsNonDecreasingBy-from_all_adjacent, Arrival, AreDealt, AreInOrderOfStart, coming_to, Among, [], ◌∷◌, set, ltb, refl, lt-ltb, ltb-true, length-set, All-drop}
-use Rattle.pref_sky.proofs.Common.{All-push, append_assoc, Fits, Entry, Made, AreComing, StartsAt, levels_at, items_at, AreInOrderOfPart, AreLevelsMade, ArePut, IsPartMade, LeaveAlone, new_levels, replaced}
+use Rattle.pref_sky.proofs.Common.{All-push, append_assoc, get_or-set_same, Fits, Entry, Made, AreComing, StartsAt, levels_at, items_at, AreInOrderOfPart, AreLevelsMade, ArePut, IsPartMade, LeaveAlone, new_levels, replaced}
 use Rattle.pref_sky.proofs.ListLaws.{all_among, filter_parted, from_filter, none_pass, among_all, in_left, in_right, in_either, in_order_across, in_order_joined}
 use Rattle.pref_sky.specs.Made.{FitIn}
-use Rattle.pref_sky.proofs.PoolLaws.{Levels, Part, in_here, in_set_here, in_set_other}
+use Rattle.pref_sky.proofs.PoolLaws.{Levels, Part, in_here, in_set_other}
 
 -- the parts do not fall, nor do the starts within one
 parts_stay : (a b : Arrival) → deals_before b a ≡ false → a.part ≤ b.part
@@ -168,7 +168,7 @@ module _ {first now : List Part} {all done left later : List Made} {made : Made}
             (among_all IsPut done (λ m among.
             in_set_other made.part m.part now new (all_among (λ (x : Made). x.part ≡ made.part → ⊥) done not_yet m among)
             ∙ all_among (λ (x : Made). items_at x.part now ≡ replaced x.first (new_levels x) (items_at x.part first)) done put.made m among))
-            (in_set_here made.part now new inside ∙ (is ∙ ap (replaced made.first (new_levels made)) as_it_was));
+            (in_here made.part (set now made.part new) new (omega (arith, inside, length-set now made.part new)) (sym (get_or-set_same now made.part new new inside)) ∙ (is ∙ ap (replaced made.first (new_levels made)) as_it_was));
         others = λ part alone. in_set_other made.part part now new (λ same. alone_last done made part alone (sym same)) ∙ put.others part (alone_before done made part alone);
         long = length-set now made.part new ∙ put.long;
       }

@@ -1,11 +1,12 @@
 -- Items of a pool stay what they are where entries are put behind its own; the levels of a part, where those of one are changed.
 use Rattle.pref_sky.proofs.Common.{◌≡◌, ℕ, zero, suc, ◌<◌, List, [], ◌∷◌, length, get_or, set, refl, sym, ◌∙◌, ap, subst, arith, All, Vec, Global, Entry, Item, AreAllItems, AreInPool, levels_at}
-use Rattle.pref_sky.proofs.Common.{items_at, parts_at, held_at, ◌≤◌, ◌+◌, ◌++◌, map, take, append-nil, append_assoc, length-append, Bool, true, get_or_append_left, map-append, get_or-append_seam}
-use Rattle.pref_sky.proofs.Common.{Pool, AreItems, HasGrown, IsItem, entries_at, entry_at, is_beaten, IsBehind, signature_by, length-set, get_or-set_same}
+use Rattle.pref_sky.proofs.Common.{items_at, parts_at, held_at, ◌≤◌, ◌+◌, ◌++◌, map, take, append_assoc, length-append, Bool, true, get_or_append_left, map-append, get_or-append_seam}
+use Rattle.pref_sky.proofs.Common.{All-push, Pool, AreItems, HasGrown, IsItem, entries_at, entry_at, is_beaten, IsBehind, signature_by, length-set}
 use Rattle.std.proofs.Math.Seq.{map-set_same}
+use Rattle.std.proofs.lemmas.List.{map_more}
 use Rattle.std.proofs.lemmas.List.Elements.{All-set, AllWithin-more_set}
 use Rattle.std.specs.List.{AllWithin}
-use Rattle.pref_sky.proofs.ListLaws.{front_more, all_among, map_agree_among}
+use Rattle.pref_sky.proofs.ListLaws.{all_among, map_agree_among}
 
 abbrev pub Levels : Type 0
 Levels = List (Vec Item Global)
@@ -27,9 +28,6 @@ pub all_held : {E : Type 0} (P : E → Type 0) (all : List (Vec E Global)) → A
 all_held P [] are n = λ k d inside. absurd (omega (arith, inside))
 all_held P (first ∷ behind) are zero = are 0 first (omega arith)
 all_held P (first ∷ behind) are (suc n) = all_held P behind (λ k d inside. are (suc k) d (omega (arith, inside))) n
-
-pub in_set_here : (n : ℕ) (parts : List Part) (part : Part) → n < length parts → items_at n (set parts n part) ≡ part.items
-in_set_here n parts part there = in_here n (set parts n part) part (omega (arith, there, length-set parts n part)) (sym (get_or-set_same parts n part part there))
 
 pub in_set_other : (n m : ℕ) (parts : List Part) (part : Part) → (m ≡ n → ⊥) → items_at m (set parts n part) ≡ items_at m parts
 in_set_other n m [] part other = refl
@@ -94,17 +92,28 @@ module _ (a b : Pool) (grown : HasGrown a b) where
         entries = more.entries ∙ (ap (λ l. l ++ more.more) grown.entries ∙ append_assoc a.entries.items grown.more more.more);
       }
 
-pub grown_none : (a : Pool) → HasGrown a a
-grown_none a = record { scales = refl; more = []; entries = sym (append-nil a.entries.items) }
+-- the first n of a list are taken into a pool that has grown from the first one
+pub record AreTaken {A B : Type 0} (AreOf : Pool → A → Type 0) (read : List Entry → A → B) (source : List Entry) (all : List A) (first pool : Pool) (taken : List A) (n : ℕ) : Type 0 where
+  pub long : length taken ≡ n
+  pub grown : HasGrown first pool
+  pub items : All (AreOf pool) taken
+  pub entries : map (read pool.entries.items) taken ≡ map (read source) (take n all)
 
--- one more result of a loop over a list, where those before stay what they were
-pub result_more : {A B E : Type 0} (was now : A → E) (f : B → E) (done : List A) (next : A) (all : List B) (i : ℕ) (x : B) → i < length all → x ≡ get_or all i x
-    → map now done ≡ map was done → map was done ≡ map f (take i all) → now next ≡ f x → map now (done ++ next ∷ []) ≡ map f (take (i + 1) all)
-result_more was now f done next all i x inside is stay before here =
-    map-append now done (next ∷ [])
-    ∙ (ap (λ l. l ++ now next ∷ []) (stay ∙ before)
-    ∙ (ap (λ y. map f (take i all) ++ y ∷ []) here
-    ∙ (sym (map-append f (take i all) (x ∷ [])) ∙ ap (map f) (sym (front_more all i x inside is)))))
+-- one more is taken, where those before stay what they were
+module _ {A B : Type 0} {AreOf : Pool → A → Type 0} {read : List Entry → A → B} {source : List Entry} {all : List A} {first was now : Pool} {taken : List A} {n : ℕ} (so_far : AreTaken AreOf read source all first was taken n) (grown : HasGrown was now) where
+  pub taken_more : ((x : A) → AreOf was x → AreOf now x × (read now.entries.items x ≡ read was.entries.items x)) → (next old : A) → n < length all → old ≡ get_or all n old → AreOf now next → read now.entries.items next ≡ read source old
+      → {taken_now : List A} → taken_now ≡ taken ++ next ∷ [] → AreTaken AreOf read source all first now taken_now (n + 1)
+  taken_more still next old inside is of_pool same pushed =
+      let kept = map_agree_among (read now.entries.items) (read was.entries.items) taken (λ x m. (still x (all_among (AreOf was) taken so_far.items x m)).1) in
+      let more : AreTaken AreOf read source all first now (taken ++ next ∷ []) (n + 1) = record {
+        long = omega (arith, length-append taken (next ∷ []), so_far.long);
+        grown = grown_then first was so_far.grown now grown;
+        items = All-push (AreOf now) taken next (λ k d there. (still (get_or taken k d) (so_far.items k d there)).0) of_pool;
+        entries = map-append (read now.entries.items) taken (next ∷ [])
+            ∙ (ap (λ l. l ++ read now.entries.items next ∷ []) (kept ∙ so_far.entries)
+            ∙ (ap (λ y. map (read source) (take n all) ++ y ∷ []) (same ∙ ap (read source) is) ∙ sym (map_more (read source) all n old inside)));
+      } in
+      rw pushed more
 
 -- one more entry behind those of a pool
 pub entry_behind : (pool : List Entry) (e : Entry) (item : Item) → item.place ≡ length pool → entry_at (pool ++ e ∷ []) item.place ≡ e
