@@ -1,7 +1,7 @@
 -- One entry more comes to parts, and what comes is put in order.
-use Rattle.pref_sky.proofs.Common.{Bor, ◌≡◌, ◌∙◌, ℕ, ◌≤◌, ◌<◌, Bool, cond, inl, inr, List, [], ◌∷◌, ◌++◌, Vec, Global, get_or, length, map, refl, sym, ap, subst, arith, Called, IsPermutation}
-use Rattle.pref_sky.proofs.Common.{IsSortedByKeyClosure, nat_cmp, ordering_then, All, always_returns_same, map-append, All-push, sum_by-IsPermutation, Mut, Entry, Item, Pool, signature_by, Arrival}
-use Rattle.pref_sky.proofs.Common.{AreDealt, IsArrival, KeepsAllBut, arrived, AreAllItems, AreInPool, HasGrown, IsItem, levels_at, parts_at, IsBehind, held_at}
+use Rattle.pref_sky.proofs.Common.{◌≡◌, ◌∙◌, ℕ, ◌≤◌, ◌<◌, Bool, cond, inl, inr, List, [], ◌∷◌, ◌++◌, Vec, Global, get_or, length, map, refl, sym, ap, subst, arith, IsPermutation}
+use Rattle.pref_sky.proofs.Common.{All, map-append, All-push, sum_by-IsPermutation, Entry, Item, Pool, signature_by, Arrival}
+use Rattle.pref_sky.proofs.Common.{IsArrival, KeepsAllBut, arrived, AreAllItems, AreInPool, HasGrown, IsItem, levels_at, parts_at, IsBehind, held_at}
 use Rattle.pref_sky.proofs.ListLaws.{all_among, in_either, in_left, in_right, map_agree_among, same_if_permuted, count_append}
 use Rattle.pref_sky.proofs.PoolLaws.{entry_grown, item_grown, levels_grown, part_here}
 
@@ -77,9 +77,3 @@ module _ {below : Entry → Type 0} (entries kept : List Entry) (keeps : KeepsAl
         covers = λ x m. elim (keeps.covers x m) [ inl there ↦ inl (same.there x there) | inr low ↦ inr low ];
         counts = λ p. omega (arith, keeps.counts p, sum_by-IsPermutation (λ (x : Entry). cond (p x) 1 0) kept moved permuted);
       }
-
--- ---- what a sort by part, then start, ensures
-
-pub dealt_by_key : {F : Type 0} {g : Mut F (Bor Arrival × Unit {0}) (ℕ × ℕ)} {f : F} (arrivals : List Arrival) → IsSortedByKeyClosure g (λ x y. ordering_then (nat_cmp x.0 y.0) (nat_cmp x.1 y.1)) f arrivals
-    → ((a : Bor Arrival × Unit {0}) (r : ℕ × ℕ) (f' : F) → Called g f a r f' → (r ≡ (a.0.now.part, a.0.now.start)) × (f' ≡ f)) → AreDealt arrivals
-dealt_by_key {g = g} {f = f} arrivals by called = by (λ a. (a.part, a.start)) (always_returns_same g (λ a r. r ≡ (a.0.now.part, a.0.now.start)) f called)

@@ -99,14 +99,12 @@ in_order_if_sorted number before next (x ∷ xs) different sorted = (
   in_order_if_sorted number before next xs (different_tail number x xs different) (λ i j d le inside. sorted (suc i) (suc j) d (omega (arith, le)) (omega (arith, inside))),
 )
 
-pub differ_if_permuted : (xs ys : List Entry) → IsPermutation xs ys → HaveDifferentIds xs → HaveDifferentIds ys
-differ_if_permuted xs ys moved different = record { once = λ id. omega (arith, different.once id, sum_by-IsPermutation (λ (e : Entry). cond (eqb e.id id) 1 0) xs ys moved) }
-
 -- what a sort by id leaves
 pub sorted_is : (xs ys : List Entry) → IsPermutation xs ys → IsNonDecreasingBy (λ (e : Entry). e.id) ys → HaveDifferentIds xs → ys ≡ in_order_of_id xs
 sorted_is xs ys moved sorted different =
     let same = same_if_permuted xs ys moved in
+    let differ : Differ (λ (e : Entry). e.id) ys = λ id. omega (arith, different.once id, sum_by-IsPermutation (λ (e : Entry). cond (eqb e.id id) 1 0) xs ys moved) in
     same_if_in_order (λ (e x : Entry). ltb e.id x.id) ids_one_way ys (in_order_of_id xs)
-    (in_order_if_sorted (λ (e : Entry). e.id) (λ e x. ltb e.id x.id) (λ e x h differ. grind (arith, nat_tests, h, differ)) ys (differ_if_permuted xs ys moved different).once (λ i j d le inside. grind (arith, nat_tests, sorted i j d le inside)))
+    (in_order_if_sorted (λ (e : Entry). e.id) (λ e x. ltb e.id x.id) (λ e x h differ. grind (arith, nat_tests, h, differ)) ys differ (λ i j d le inside. grind (arith, nat_tests, sorted i j d le inside)))
     (rises_in_order xs different)
     (record { there = λ x m. among_in_order xs x (same.back x m); back = λ x m. same.there x (from_in_order xs x m) })

@@ -2,8 +2,8 @@
 use Rattle.pref_sky.proofs.Common.{◌≡◌, ℕ, suc, zero, ◌<◌, ◌≤◌, ◌+◌, ◌-◌, Bool, true, false, not, nat_lt, ◌&&◌, ◌⊎◌, inl, inr, List, [], ◌∷◌, ◌++◌, refl, sym, ◌∙◌, ap, subst, arith, length, get_or}
 use Rattle.pref_sky.proofs.Common.{get_or-set_same, get_or-set_other, slice_set, both_ways, and_parts, and_from, cases_eq, cases_lt, cond_both, cond-true, cond-false, false_from_ne_true, ltb-true}
 use Rattle.pref_sky.proofs.Common.{ltb-false, not-true, get_or_append_left, get_or_push, length-set, length_push, Entry, entry_at, StandsBehind, count_above, with_last, AreStairs, comes_first, Among}
-use Rattle.pref_sky.proofs.Common.{Bor, map, filter, take, Called, count_by, IsPermutation, IsSortedBy, IsSortedByKeyClosure, nat_cmp, ordering_then, All, cond, nat_tests, always_returns_same}
-use Rattle.pref_sky.proofs.Common.{get_or-map, length-map, map-append, sorted_far, sum_by-IsPermutation, Mut, IsStrictOrder, ChainOrder, Ranked, best, rest, AreInOrder, comes_before, is_below}
+use Rattle.pref_sky.proofs.Common.{map, filter, take, count_by, IsPermutation, IsSortedBy, All, cond, nat_tests}
+use Rattle.pref_sky.proofs.Common.{get_or-map, length-map, map-append, sorted_far, sum_by-IsPermutation, IsStrictOrder, ChainOrder, Ranked, best, rest, AreInOrder, comes_before, is_below}
 use Rattle.pref_sky.proofs.Common.{own_levels, own_order, with_levels, with_level, HaveDifferentIds, at_level, entry_of, levels, ranked_upto, AreLeveled, AreLowest, eqb}
 use Rattle.pref_sky.proofs.ListLaws.{among_place, any_from, place_of, same_answer, count_filter, count_filtered, from_filter, from_map, in_filter, in_map, SameMembers, same_if_permuted, leaves, stays}
 use Rattle.pref_sky.proofs.Merges.{is_at, HoldsLevels, held_all, held_within, comes_after, early_stays, unbeaten_over, same_chains}
@@ -201,13 +201,6 @@ module _ (over : Entry → Entry → Bool) (all : List Entry) (cut i n : ℕ) (i
       let test : Entry → Bool = λ x. not (comes_after over all cut x) in
       let at : n ≡ cut = omega (arith, past, chain.within) in
       ap (map (with_level over all cut)) (leaves test all i (record { id = 0; row = [] }) inside (ap not (subst (λ k. comes_after over all k (entry_at all i) ≡ true) at chain.after)))
-
--- ---- the order in which they are sorted: by level, then id
-
--- what a sort by these keys ensures
-pub sorted_by_rank : {F : Type 0} {g : Mut F (Bor Ranked × Unit {0}) (ℕ × ℕ)} {f : F} (ranked : List Ranked) → IsSortedByKeyClosure g (λ x y. ordering_then (nat_cmp x.0 y.0) (nat_cmp x.1 y.1)) f ranked
-    → ((a : Bor Ranked × Unit {0}) (r : ℕ × ℕ) (f' : F) → Called g f a r f' → (r ≡ (a.0.now.level, a.0.now.id)) × (f' ≡ f)) → IsSortedBy ranks_before ranked
-sorted_by_rank {g = g} {f = f} ranked by called = by (λ r. (r.level, r.id)) (always_returns_same g (λ a r. r ≡ (a.0.now.level, a.0.now.id)) f called)
 
 -- ---- which they are
 

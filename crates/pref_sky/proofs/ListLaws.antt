@@ -4,7 +4,7 @@ use Rattle.pref_sky.proofs.Common.{or_cases, cond_both, false≢true, both_ways,
 use Rattle.pref_sky.proofs.Common.{sum_by, and_from, eqb-true, Item, Among, nil_from_length, take, take_more, drop, take-append_seam, drop-append_seam, append-nil, get_or-drop, filter_more, ◌||◌}
 use Rattle.pref_sky.proofs.Common.{IsPermutation-sym, Contains-permutation, IsPermutation, IsPartitionPoint, length-take, length-drop, get_or-take, take-append-drop, filter-append, get_or_default}
 use Rattle.pref_sky.proofs.Common.{IsNonDecreasingBy, sum_by-append, not, append_assoc, IsPartitionedBy, cases_lt, IsPermutation-cons, IsPermutation-middle, IsPermutation-to_front}
-use Rattle.pref_sky.proofs.Common.{IsPermutation-trans, IsChain, IsInOrder}
+use Rattle.pref_sky.proofs.Common.{IsPermutation-trans, IsChain, IsInOrder, Bor, Called, IsSortedBy, IsSortedByKeyClosure, Mut, always_returns_same, is_lt, nat_cmp, ordering_then}
 use Rattle.std.proofs.lemmas.List.Folds.{list_any_at, list_any_none}
 pub use Rattle.pref_sky.specs.Members.{Among, SameMembers}
 
@@ -373,3 +373,8 @@ moved_more before all front back e moved =
     let kept = IsPermutation-cons e before (placed ++ back) (subst (IsPermutation before) (sym (append_assoc all front back)) moved) in
     IsPermutation-trans (before ++ e ∷ []) (e ∷ before) (placed ++ e ∷ back) (IsPermutation-to_front before e)
     (IsPermutation-trans (e ∷ before) (e ∷ (placed ++ back)) (placed ++ e ∷ back) kept (IsPermutation-sym (placed ++ e ∷ back) (e ∷ (placed ++ back)) (IsPermutation-middle placed e back)))
+
+-- what a sort by two numbers ensures: by the first, and where that is the same by the second
+pub sorted_by_both : {E F : Type 0} {g : Mut F (Bor E × Unit {0}) (ℕ × ℕ)} {f : F} (key : E → ℕ × ℕ) (xs : List E) → IsSortedByKeyClosure g (λ x y. ordering_then (nat_cmp x.0 y.0) (nat_cmp x.1 y.1)) f xs
+    → ((a : Bor E × Unit {0}) (r : ℕ × ℕ) (f' : F) → Called g f a r f' → (r ≡ key a.0.now) × (f' ≡ f)) → IsSortedBy (λ x y. is_lt (ordering_then (nat_cmp (key x).0 (key y).0) (nat_cmp (key x).1 (key y).1))) xs
+sorted_by_both {g = g} {f = f} key xs by called = by key (always_returns_same g (λ a r. r ≡ key a.0.now) f called)

@@ -23,9 +23,9 @@ pub clear_if_alike : {E : Type 0} (over : E → E → Bool) (xs : List E) (y e :
 clear_if_alike over xs y e here alike apart x m = (sym (alike.above x) ∙ apart x y m here, sym (alike.below x) ∙ apart y x here m)
 
 -- one more goes out, that the item dominates: the last one takes its place
-pub sifted_more : (over : Item → Item → Bool) (e : Item) (old held start rest : List Item) (i : ℕ) (x : Item) → i < length held → x ≡ get_or held i x → over e x ≡ true
-    → Sifted over e old held start rest → Sifted over e old (swap_remove held i x) start (rest ++ x ∷ [])
-sifted_more over e old held start rest i x inside is above s =
+pub sifted_more : {over : Item → Item → Bool} {e : Item} {old held start rest : List Item} → Sifted over e old held start rest → (i : ℕ) (x : Item) → i < length held → x ≡ get_or held i x → over e x ≡ true
+    → Sifted over e old (swap_remove held i x) start (rest ++ x ∷ [])
+sifted_more {over = over} {e = e} {held = held} {start = start} s i x inside is above =
     record {
       gone = s.gone ++ x ∷ [];
       behind = ap (λ l. l ++ x ∷ []) s.behind ∙ append_assoc start s.gone (x ∷ []);
@@ -43,8 +43,8 @@ clear_after_move over xs ys e n long inside same each k d from below =
     (ap (λ y. over y e) is ∙ both.0, ap (over e) is ∙ both.1)
 
 -- two of the list change places
-pub sifted_moved : (over : Item → Item → Bool) (e : Item) (old held start rest moved : List Item) → IsPermutation held moved → Sifted over e old held start rest → Sifted over e old moved start rest
-sifted_moved over e old held start rest moved permuted s =
+pub sifted_moved : {over : Item → Item → Bool} {e : Item} {old held start rest : List Item} (moved : List Item) → IsPermutation held moved → Sifted over e old held start rest → Sifted over e old moved start rest
+sifted_moved {held = held} moved permuted s =
     record { gone = s.gone; behind = s.behind; bag = λ f. omega (arith, s.bag f, sum_by-IsPermutation f held moved permuted); below = s.below }
 
 -- items of which the signatures tell are clear

@@ -1,8 +1,8 @@
 use Rattle.pref_sky.proofs.Common.{rules, ◌≡◌, ◌∙◌, ◌≤◌, ◌<◌, ◌+◌, ◌∷◌, ◌++◌, [], Vec, Global, length, map, take, sym, ap, subst, arith, All, length-map, take_all, All-permutation, IsPermutation-map}
 use Rattle.pref_sky.proofs.Common.{Entry, Arrival, Item, Pool, IsArrival, KeepsUpper, arrived, HasGrown, IsItem, entries_at, levels_at, parts_at, entry_order, IsBehind, held_at, partition_of}
 use Rattle.pref_sky.proofs.Common.{signature_by}
-use Rattle.pref_sky.proofs.ArrivalsLaws.{arrival_here, arrivals_push, arrived_push, dealt_by_key, drops_one, keeps_moved, keeps_one, part_stays}
-use Rattle.pref_sky.proofs.ListLaws.{front_more}
+use Rattle.pref_sky.proofs.ArrivalsLaws.{arrival_here, arrivals_push, arrived_push, drops_one, keeps_moved, keeps_one, part_stays}
+use Rattle.pref_sky.proofs.ListLaws.{front_more, sorted_by_both}
 use Rattle.pref_sky.proofs.PoolLaws.{entry_behind, grown_then, parts_grown}
 use Rattle.pref_sky.proofs.arrival.arrivals_of.Goals.{then-start-cut+in_ok-item+in_ok-push, else-start-cut}
 use Rattle.pref_sky.proofs.arrival.arrivals_of.Goals as goal
@@ -81,5 +81,5 @@ returns-clause-arrivals g c =
       upper = subst (λ parts. KeepsUpper over c.args.cut number parts c.args.entries.now (map one moved)) same
           (subst (λ l. KeepsUpper over c.args.cut number (parts_at c.args.pool.now.entries.items c.args.parts.now) l (map one moved)) whole
           (keeps_moved (take c.loop-entry.entry-index c.args.entries.now) (map one kept) inv.upper (map one moved) (IsPermutation-map one kept moved permuted)));
-      dealt = dealt_by_key moved c.sort_unstable_by_key.ensures.sorted (λ a r f k. search rules);
+      dealt = sorted_by_both (λ (a : Arrival). (a.part, a.start)) moved c.sort_unstable_by_key.ensures.sorted (λ a r f k. search rules);
     }

@@ -1,4 +1,4 @@
-use Rattle.pref_sky.proofs.Common.{◌≡◌, ◌∙◌, ◌<◌, ◌+◌, ◌/◌, true, length, sym, ap, subst, arith, vec_len, Vec, Global, swap_remove, get_or_default, IsPermutation-swap, is_better, is_worse, is_same}
+use Rattle.pref_sky.proofs.Common.{◌≡◌, ◌∙◌, ◌<◌, ◌+◌, ◌/◌, true, length, sym, ap, subst, arith, vec_len, swap_remove, get_or_default, IsPermutation-swap, is_better, is_worse, is_same}
 use Rattle.pref_sky.proofs.Common.{Item, item_order, Among, Sifted, false}
 use Rattle.std.proofs.lemmas.List.Elements.{AllWithin-more, at_read}
 use Rattle.pref_sky.proofs.ListLaws.{all_among, among_if, is_item, some_of, among_place, any_from, same_if_permuted}
@@ -29,7 +29,7 @@ returns-in-Better g c =
     let y = c.index.result.now in
     let inside : c.each.place < length held = omega (arith, c.each-test.true, c.len.ensures, c.each.held.ok.0) in
     let permuted = IsPermutation-swap held moved (c.each.place / 2) c.each.place (omega (arith, inside)) inside c.swap.ensures.items in (
-      sifted_moved over c.args.item.now c.args.held.now.items held c.args.rest.now.items c.each.rest.items moved permuted c.each.invariant.sifted,
+      sifted_moved moved permuted c.each.invariant.sifted,
       λ apart.
           any_from (λ x. over x c.args.item.now) moved y ((same_if_permuted held moved permuted).there y (subst (λ z. Among z held) (sym c.index.ensures) (among_place held c.each.place y inside)))
           (sym c.compare_items.ensures.better ∙ ap is_better c.in-Better.is),
@@ -42,33 +42,24 @@ each-preserved g c =
     let pool = c.args.pool.now in
     let over = item_order order pool in
     let item = c.args.item.now in
-    let old = c.args.held.now.items in
-    let start = c.args.rest.now.items in
     let held = c.each.held.items in
     let i = c.each.place in
     let met = c.match-compare_items in
     let inside : i < length held = omega (arith, c.each-test.true, c.len.ensures, c.each.held.ok.0) in
-    let step : Sifted over item old met.held.items start met.rest.items × AreClear over met.held.items item met.place =
+    let step : Sifted over item c.args.held.now.items met.held.items c.args.rest.now.items met.rest.items × AreClear over met.held.items item met.place =
     elim met.branch [
       | in-Worse+in_ok-push-in-Worse w ↦
           let x = w.swap_remove-beaten.result in
           let is : x ≡ c.index.result.now = w.swap_remove-beaten.ensures.value ∙ (get_or_default held i x c.index.result.now inside ∙ sym c.index.ensures) in
           let above : over item x ≡ true = ap (over item) is ∙ (sym c.compare_items.ensures.worse ∙ ap is_worse w.in-Worse.is) in
-          let more = sifted_more over item old held start c.each.rest.items i x inside w.swap_remove-beaten.ensures.value above c.each.invariant.sifted in
-          let held_is : met.held.items ≡ swap_remove held i x = ap (λ (v : Vec Item Global). v.items) w.held-is ∙ w.swap_remove-beaten.ensures.items in
-          let clear = clear_after_move over held w.swap_remove-beaten.new.self.items item i (vec_len c.each.held) (omega (arith, c.each-test.true, c.len.ensures)) w.swap_remove-beaten.ensures.by_index.1 c.each.invariant.clear in (
-            subst (λ l. Sifted over item old l start met.rest.items) (sym held_is)
-                (subst (λ l. Sifted over item old (swap_remove held i x) start l) (sym (ap (λ (v : Vec Item Global). v.items) w.rest-is ∙ w.in_ok-push-in-Worse.ensures.items)) more),
-            subst (λ n. AreClear over met.held.items item n) (sym w.place-is) (subst (λ (v : Vec Item Global). AreClear over v.items item i) (sym w.held-is) clear),
+          rw (w.held-is, w.rest-is, w.place-is) (
+            rw (w.swap_remove-beaten.ensures.items, w.in_ok-push-in-Worse.ensures.items) (sifted_more c.each.invariant.sifted i x inside w.swap_remove-beaten.ensures.value above),
+            clear_after_move over held w.swap_remove-beaten.new.self.items item i (vec_len c.each.held) (omega (arith, c.each-test.true, c.len.ensures)) w.swap_remove-beaten.ensures.by_index.1 c.each.invariant.clear,
           )
       | in-Neither w ↦
           let IsApart : Item → Type 0 = λ x. (over x item ≡ false) × (over item x ≡ false) in
           let apart : IsApart c.index.result.now = (sym c.compare_items.ensures.better ∙ ap is_better w.in-Neither.is, sym c.compare_items.ensures.worse ∙ ap is_worse w.in-Neither.is) in
-          let clear = AllWithin-more IsApart held 0 i c.each.invariant.clear (at_read held IsApart i c.index.result.now inside c.index.ensures apart) in (
-            subst (λ (v : Vec Item Global). Sifted over item old v.items start met.rest.items) (sym w.held-is)
-                (subst (λ (v : Vec Item Global). Sifted over item old held start v.items) (sym w.rest-is) c.each.invariant.sifted),
-            subst (λ n. AreClear over met.held.items item n) (sym w.place-is) (subst (λ (v : Vec Item Global). AreClear over v.items item (i + 1)) (sym w.held-is) clear),
-          )
+          rw (w.held-is, w.rest-is, w.place-is) (c.each.invariant.sifted, AllWithin-more IsApart held 0 i c.each.invariant.clear (at_read held IsApart i c.index.result.now inside c.index.ensures apart))
     ] in
     let next = c.next_open-place-in-each.result in
     let decided : AreDecided met.held.items item met.place next = subst (λ l. AreDecided l item met.place next) c.deref-in-each.ensures.value c.next_open-place-in-each.ensures.decided in
