@@ -11,7 +11,7 @@ use Rattle.pref_sky.proofs.Merges.{different_filter, beaten_by_rest, comes_after
 use Rattle.pref_sky.proofs.PoolLaws.{Part, all_held, in_pool_if, levels_of_at}
 use Rattle.pref_sky.proofs.PartitionsLaws.{IsWithin, depth_within, differ_after, hold_apart, hold_together, level_in_part, part_below, parted_after, within_depth}
 use Rattle.pref_sky.proofs.Ranks.{held_there, held_upto, levels_upto_is, within_if_same}
-use Rattle.pref_sky.proofs.MadeItems.{taken_long}
+use Rattle.pref_sky.proofs.MadeLevels.{taken_long}
 use Rattle.pref_sky.proofs.SortedLevels.{different_by_count, kept_levels}
 
 -- what a function makes of others in the place of some

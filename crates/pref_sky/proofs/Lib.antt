@@ -3,7 +3,6 @@ pub mod IdOrder
 pub mod Merges
 pub mod PassesLaws
 pub mod ItemsLaws
-pub mod WindowsLaws
 pub mod StairLaws
 pub mod LineLaws
 pub mod ChainStairs
@@ -19,5 +18,4 @@ pub mod PoolLaws
 pub mod PartSteps
 pub mod AddedParts
 pub mod MadeLevels
-pub mod MadeItems
 pub mod ArrivalsLaws

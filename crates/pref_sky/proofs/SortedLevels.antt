@@ -1,13 +1,12 @@
 -- Lists with the same members have the same best, and entries that others are over change nothing of these. Lists with the same levels up to a cut, where the ids differ of what is of these: what is below may be left out, and may be there twice.
-use Rattle.pref_sky.proofs.Common.{◌≡◌, ◌≤◌, ◌+◌, Bool, true, not, inl, inr, List, ◌++◌, sym, ◌∙◌, ap, arith, eqb, count_by, both_ways, not-true, IsStrictOrder, Entry, IsAntichain, best, is_beaten}
+use Rattle.pref_sky.proofs.Common.{◌≡◌, ◌≤◌, ◌+◌, Bool, true, not, inl, inr, List, ◌++◌, sym, ◌∙◌, ap, arith, eqb, count_by, both_ways, not-true, IsStrictOrder, Entry, best, is_beaten}
 use Rattle.pref_sky.proofs.Common.{without_best, HaveDifferentIds, in_order_of_id, Among, false, cases_Bool, not_from_false, false_from_ne_true, ◌||◌, append-nil, filter, filter-append, filter_agree}
 use Rattle.pref_sky.proofs.Common.{ℕ, zero, suc, ltb, ◌&&◌, ◌⊎◌, [], ◌∷◌, map, refl, subst, append_assoc, ◌==◌, IsProductOf, RowOrder, ChainOrder, rest, is_below, own_levels, own_order, entry_of}
 use Rattle.pref_sky.proofs.Common.{entry_order, levels, HoldsUpper}
 use Rattle.std.proofs.lemmas.List.Folds.{list_any-append}
 use Rattle.pref_sky.proofs.ListLaws.{SameMembers, all_pass, any_from, any_gives, from_filter, in_either, in_filter, in_left, in_right, none_pass, same_answer, same_kept, count_append, count_and}
 use Rattle.pref_sky.proofs.ListLaws.{count_filtered, count_split, count_within, count_cons}
-use Rattle.pref_sky.proofs.IdOrder.{from_in_order, count_in_order}
-use Rattle.pref_sky.proofs.StairLaws.{best_are_apart}
+use Rattle.pref_sky.proofs.IdOrder.{count_in_order}
 use Rattle.pref_sky.proofs.Merges.{beaten_by_best, comes_after, comes_after_less, comes_after_among_more, best_of_rest_is, early_stays, same_chains, HoldsLevels, held_all, held_more, held_within}
 use Rattle.pref_sky.proofs.Merges.{is_at, same_by_level}
 use Rattle.pref_sky.proofs.ChainStairs.{own_is_strict}
@@ -27,10 +26,6 @@ best_of_same over xs ys same =
 pub without_of_same : (over : Entry → Entry → Bool) (xs ys : List Entry) → SameMembers xs ys → SameMembers (without_best over xs) (without_best over ys)
 without_of_same over xs ys same =
     same_kept (is_beaten over xs) (is_beaten over ys) xs ys (λ x m below. (same.there x m, sym (same_beaten over xs ys same x) ∙ below)) (λ x m below. (same.back x m, same_beaten over xs ys same x ∙ below))
-
--- the best of a list are apart
-pub best_apart : (over : Entry → Entry → Bool) (xs : List Entry) → IsAntichain over (in_order_of_id (best over xs))
-best_apart over xs x y mx my = best_are_apart over xs x y (from_in_order (best over xs) x mx) (from_in_order (best over xs) y my)
 
 pub different_by_count : (xs ys zs : List Entry) → HaveDifferentIds (xs ++ ys) → ((p : Entry → Bool) → count_by p zs ≤ count_by p xs + count_by p ys) → HaveDifferentIds zs
 different_by_count xs ys zs different fewer = record { once = λ id. omega (arith, different.once id, fewer (λ (e : Entry). eqb e.id id), count_append (λ (e : Entry). eqb e.id id) xs ys) }

@@ -1,7 +1,7 @@
 use Rattle.pref_sky.proofs.Common.{◌≡◌, ◌≤◌, ◌<◌, ◌⊎◌, inl, inr, map, get_or, length, vec_len, sym, ◌∙◌, ap, subst, arith, both_ways, eqb-true, Arrival, item_order, items_at, Parted, signature_by}
 use Rattle.pref_sky.proofs.Common.{◌++◌}
 use Rattle.pref_sky.proofs.Merges.{entry_order_is_strict}
-use Rattle.pref_sky.proofs.MadeItems.{MakingItems, making_items_begin, making_items_end, making_items_more}
+use Rattle.pref_sky.proofs.MadeLevels.{MakingItems, making_items_begin, making_items_end, making_items_more}
 use Rattle.pref_sky.proofs.making.made_of.Goals.{then-each_level-test+else-not-is_empty, then-is_empty, else-is_empty, else-each_level-test}
 use Rattle.pref_sky.proofs.making.made_of.Goals as goal
 

@@ -1,5 +1,5 @@
 use Rattle.pref_sky.proofs.Common.{◌≤◌, ◌-◌, max, length, vec_len}
-use Rattle.pref_sky.proofs.MadeItems.{MakingItems}
+use Rattle.pref_sky.proofs.MadeLevels.{MakingItems}
 use Rattle.pref_sky.proofs.making.made_of.Given as goal
 
 abbrev pub invariant-each_level : goal.invariant-each_level
