@@ -1,48 +1,48 @@
--- One entry more comes to parts, and what comes is put in order.
+-- One entry more comes to partitions, and what comes is put in order.
 use Rattle.pref_sky.proofs.Common.{◌≡◌, ◌∙◌, ℕ, ◌≤◌, ◌<◌, Bool, cond, inl, inr, List, [], ◌∷◌, ◌++◌, Vec, Global, get_or, length, map, refl, sym, ap, subst, arith, IsPermutation}
 use Rattle.pref_sky.proofs.Common.{All, map-append, All-push, sum_by-IsPermutation, Entry, Item, Pool, signature_by, Arrival}
-use Rattle.pref_sky.proofs.Common.{IsArrival, KeepsAllBut, arrived, AreAllItems, AreInPool, HasGrown, IsItem, levels_at, parts_at, IsBehind, held_at}
+use Rattle.pref_sky.proofs.Common.{IsArrival, KeepsAllBut, arrived, AreAllItems, AreInPool, HasGrown, IsItem, levels_at, partitions_at, IsBehind, held_at}
 use Rattle.pref_sky.proofs.ListLaws.{all_among, in_either, in_left, in_right, map_agree_among, same_if_permuted, count_append}
-use Rattle.pref_sky.proofs.PoolLaws.{entry_grown, item_grown, levels_grown, part_here}
+use Rattle.pref_sky.proofs.PoolLaws.{entry_grown, item_grown, levels_grown, partition_here}
 
 -- ---- what came stays where it is while the pool grows
 
-pub part_stays : (a b : Pool) → HasGrown a b → (parts : List (Vec (Vec Item Global) Global)) (n : ℕ) (part : Vec (Vec Item Global) Global) → AreInPool (signature_by a.scales) a.entries.items parts → n < length parts → part ≡ get_or parts n part
-    → levels_at b.entries.items part.items ≡ held_at n (parts_at a.entries.items parts)
-part_stays a b grown parts n part are inside is =
-    let here = subst (λ (p : Vec (Vec Item Global) Global). AreAllItems (signature_by a.scales) a.entries.items p.items) (sym is) (are n part inside) in
-    levels_grown a b grown part.items here ∙ sym (part_here a.entries.items parts n part inside is)
+pub partition_stays : (a b : Pool) → HasGrown a b → (partitions : List (Vec (Vec Item Global) Global)) (n : ℕ) (partition : Vec (Vec Item Global) Global) → AreInPool (signature_by a.scales) a.entries.items partitions → n < length partitions → partition ≡ get_or partitions n partition
+    → levels_at b.entries.items partition.items ≡ held_at n (partitions_at a.entries.items partitions)
+partition_stays a b grown partitions n partition are inside is =
+    let here = subst (λ (p : Vec (Vec Item Global) Global). AreAllItems (signature_by a.scales) a.entries.items p.items) (sym is) (are n partition inside) in
+    levels_grown a b grown partition.items here ∙ sym (partition_here a.entries.items partitions n partition inside is)
 
-module _ (over : Entry → Entry → Bool) (number : Entry → ℕ) (parts : List (List (List Entry))) where
-  -- an entry that was put into the pool for a part
-  pub arrival_here : (rule : Entry → ℕ) (pool : List Entry) (e : Entry) (levels : List (List Entry)) (x : Arrival) → levels ≡ held_at x.part parts → number e ≡ x.part → IsItem rule pool x.item → arrived pool x ≡ e
-      → x.start ≤ length levels → IsBehind over levels x.start e → IsArrival over rule number pool parts x
+module _ (over : Entry → Entry → Bool) (number : Entry → ℕ) (partitions : List (List (List Entry))) where
+  -- an entry that was put into the pool for a partition
+  pub arrival_here : (rule : Entry → ℕ) (pool : List Entry) (e : Entry) (levels : List (List Entry)) (x : Arrival) → levels ≡ held_at x.partition partitions → number e ≡ x.partition → IsItem rule pool x.item → arrived pool x ≡ e
+      → x.start ≤ length levels → IsBehind over levels x.start e → IsArrival over rule number pool partitions x
   arrival_here rule pool e levels x here numbered is same within behind =
       record {
-        part = ap number same ∙ numbered;
+        partition = ap number same ∙ numbered;
         starts = record {
           item = is;
           within = subst (λ l. x.start ≤ length l) here within;
-          behind = subst (λ y. IsBehind over (held_at x.part parts) x.start y) (sym same) (subst (λ l. IsBehind over l x.start e) here behind);
+          behind = subst (λ y. IsBehind over (held_at x.partition partitions) x.start y) (sym same) (subst (λ l. IsBehind over l x.start e) here behind);
         };
       }
 
-  module _ (a b : Pool) (grown : HasGrown a b) (arrivals : List Arrival) (are : All (IsArrival over (signature_by a.scales) number a.entries.items parts) arrivals) where
-    arrived_grown : (x : Arrival) → IsArrival over (signature_by a.scales) number a.entries.items parts x → arrived b.entries.items x ≡ arrived a.entries.items x
+  module _ (a b : Pool) (grown : HasGrown a b) (arrivals : List Arrival) (are : All (IsArrival over (signature_by a.scales) number a.entries.items partitions) arrivals) where
+    arrived_grown : (x : Arrival) → IsArrival over (signature_by a.scales) number a.entries.items partitions x → arrived b.entries.items x ≡ arrived a.entries.items x
     arrived_grown x is = entry_grown a b grown x.item.place is.starts.item.within
 
-    arrival_grown : (x : Arrival) → IsArrival over (signature_by a.scales) number a.entries.items parts x → IsArrival over (signature_by b.scales) number b.entries.items parts x
+    arrival_grown : (x : Arrival) → IsArrival over (signature_by a.scales) number a.entries.items partitions x → IsArrival over (signature_by b.scales) number b.entries.items partitions x
     arrival_grown x is =
-        arrival_here (signature_by b.scales) b.entries.items (arrived a.entries.items x) (held_at x.part parts) x refl is.part (item_grown a b grown x.item is.starts.item) (arrived_grown x is) is.starts.within is.starts.behind
+        arrival_here (signature_by b.scales) b.entries.items (arrived a.entries.items x) (held_at x.partition partitions) x refl is.partition (item_grown a b grown x.item is.starts.item) (arrived_grown x is) is.starts.within is.starts.behind
 
-    pub arrivals_push : (x : Arrival) → IsArrival over (signature_by b.scales) number b.entries.items parts x → All (IsArrival over (signature_by b.scales) number b.entries.items parts) (arrivals ++ x ∷ [])
-    arrivals_push x is = All-push (IsArrival over (signature_by b.scales) number b.entries.items parts) arrivals x (λ k d inside. arrival_grown (get_or arrivals k d) (are k d inside)) is
+    pub arrivals_push : (x : Arrival) → IsArrival over (signature_by b.scales) number b.entries.items partitions x → All (IsArrival over (signature_by b.scales) number b.entries.items partitions) (arrivals ++ x ∷ [])
+    arrivals_push x is = All-push (IsArrival over (signature_by b.scales) number b.entries.items partitions) arrivals x (λ k d inside. arrival_grown (get_or arrivals k d) (are k d inside)) is
 
     pub arrived_push : (x : Arrival) → map (arrived b.entries.items) (arrivals ++ x ∷ []) ≡ map (arrived a.entries.items) arrivals ++ arrived b.entries.items x ∷ []
     arrived_push x =
         let now = arrived b.entries.items in
         map-append now arrivals (x ∷ [])
-        ∙ ap (λ l. l ++ now x ∷ []) (map_agree_among now (arrived a.entries.items) arrivals (λ y m. arrived_grown y (all_among (IsArrival over (signature_by a.scales) number a.entries.items parts) arrivals are y m)))
+        ∙ ap (λ l. l ++ now x ∷ []) (map_agree_among now (arrived a.entries.items) arrivals (λ y m. arrived_grown y (all_among (IsArrival over (signature_by a.scales) number a.entries.items partitions) arrivals are y m)))
 
 -- ---- those that are not below the cut are kept
 

@@ -24,15 +24,15 @@ pub use Rattle.std.specs.List.Sorted.{IsNonDecreasingBy, IsPartitionPoint, IsPar
 pub use Rattle.std.specs.Ordering.{int_eq, is_lt, nat_cmp, ordering_then}
 pub use Rattle.std.specs.Prelude.{All, IfSome, OnOk, bit_and, int_lt, min, slice_set}
 pub use Rattle.pref_sky.specs.Answers.{answer_of, at_least, count_before, count_upto, selected}
-pub use Rattle.pref_sky.specs.Made.{AreComing, AreDealt, AreInOrderOfStart, HaveArrived, IsArrival, KeepsUpper, StartsAt, arrived, coming_to, deals_before, AreInOrderOfPart, AreLevelsMade}
-pub use Rattle.pref_sky.specs.Made.{ArePartsMade, ArePut, Fits, IsPartMade, LeaveAlone, new_levels}
+pub use Rattle.pref_sky.specs.Additions.{AreComing, AreDealt, AreInOrderOfStart, HaveArrived, IsArrival, KeepsUpper, StartsAt, arrived, coming_to, deals_before, AreInOrderOfPartition, AreLevelsMade}
+pub use Rattle.pref_sky.specs.Additions.{ArePartitionsMade, ArePut, Fits, IsPartitionMade, LeaveAlone, new_levels}
 pub use Rattle.pref_sky.specs.Best.{IsAntichain, best, is_beaten, rest, without_best}
 pub use Rattle.pref_sky.specs.ChainOrders.{AreInOrder, AreSorted, comes_before, is_below, own_levels, own_order, AreLeveled, AreLowest, HoldsUpper, StandsBehind, count_above, with_levels, with_last}
 pub use Rattle.pref_sky.specs.ChainOrders.{with_level}
-pub use Rattle.pref_sky.specs.Items.{AreAllItems, AreInPool, AreItems, HasGrown, IsItem, entries_at, entry_at, is_word, item_order, items_at, levels_at, parts_at, place_order, signature_by}
+pub use Rattle.pref_sky.specs.Items.{AreAllItems, AreInPool, AreItems, HasGrown, IsItem, entries_at, entry_at, is_word, item_order, items_at, levels_at, partitions_at, place_order, signature_by}
 pub use Rattle.pref_sky.specs.Levels.{HaveDifferentIds, at_level, entry_of, entry_order, held_after, in_order_of_id, levels, put_by_id}
 pub use Rattle.pref_sky.specs.Members.{Among}
-pub use Rattle.pref_sky.specs.Partials.{IsBehind, IsMade, KeepsAllBut, held_at, ranked_from, replaced, ArePartitionedBy, all_at, depth, is_in, mixed_onto, partition_of, partitions_by, ranked_parts}
+pub use Rattle.pref_sky.specs.Partials.{IsBehind, IsMade, KeepsAllBut, held_at, ranked_from, replaced, ArePartitionedBy, all_at, depth, is_in, mixed_onto, partition_of, partitions_by, ranked_partitions}
 pub use Rattle.pref_sky.specs.Partials.{ranked_upto}
 pub use Rattle.pref_sky.specs.Passes.{IsClear, IsMet, IsDecided, Parted, Passes, Passing, Sifted}
 pub use Rattle.pref_sky.specs.StairLaws.{AreChain, HasOneCandidate, IsStairs, IsSwept, LevelsHoldAlike, LineHasLevels, OrderGroups, ServesGroups}

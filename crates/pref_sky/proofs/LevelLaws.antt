@@ -57,7 +57,7 @@ held_differ over before new n different =
     different_by_count before new (top ++ new) different
     (λ p. omega (arith, count_append p top new, count_levels over p before n, count_and p (λ e. not (comes_after over before n e)) before))
 
--- the first part of a list has different ids where all have
+-- the first ones of a list have different ids where all have
 pub first_differ : (xs ys : List Entry) → HaveDifferentIds (xs ++ ys) → HaveDifferentIds xs
 first_differ xs ys different = record { once = λ id. omega (arith, different.once id, count_append (λ (e : Entry). e.id == id) xs ys) }
 

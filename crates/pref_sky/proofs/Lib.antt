@@ -15,7 +15,7 @@ pub mod AtLeastLaws
 pub mod SortedLevels
 pub mod LayersLaws
 pub mod PoolLaws
-pub mod PartSteps
-pub mod AddedParts
+pub mod PartitionSteps
+pub mod AddedPartitions
 pub mod MadeLevels
 pub mod ArrivalsLaws

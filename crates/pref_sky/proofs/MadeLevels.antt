@@ -359,15 +359,15 @@ module _ {order : RowOrder} {scales : List Scale} {pool : List Entry} {cut first
       → IsMade (entry_order order) cut (levels_at pool levels) (replaced first (levels_at pool (drop first made)) (levels_at pool levels)) (map (arrived pool) arrivals)
   making_items_end ended =
       let old = levels_at pool levels in
-      let part = levels_at pool (drop first made) in
-      let reach : length made ≡ first + length part = omega (arith, so_far.from, length-map (drop first made) (λ (level : Vec Item Global). entries_at pool level.items), length-drop first made) in
-      subst (λ l. IsMade (entry_order order) cut old l (map (arrived pool) arrivals)) (ap (λ n. (take first old ++ part) ++ drop n old) reach)
-      (making_ends (entry_order order) strict cut (length made) old (take first old ++ part) (map (arrived pool) arrivals) (entries_at pool down) (map (arrived pool) rest)
+      let anew = levels_at pool (drop first made) in
+      let reach : length made ≡ first + length anew = omega (arith, so_far.from, length-map (drop first made) (λ (level : Vec Item Global). entries_at pool level.items), length-drop first made) in
+      subst (λ l. IsMade (entry_order order) cut old l (map (arrived pool) arrivals)) (ap (λ n. (take first old ++ anew) ++ drop n old) reach)
+      (making_ends (entry_order order) strict cut (length made) old (take first old ++ anew) (map (arrived pool) arrivals) (entries_at pool down) (map (arrived pool) rest)
       (elim ended [ inl done ↦ inl done | inr none ↦ inr (ap (entries_at pool) (nil_from_length down none.0), ap (map (arrived pool)) (nil_from_length rest none.1)) ]) so_far.making)
 
 -- a list with those of another from a place on in the place of its own
 pub taken_long : {E : Type 0} (first : ℕ) (new old : List E) → first ≤ length old → first ≤ length new → length (replaced first (drop first new) old) ≡ max (length new) (length old)
 taken_long first new old inside from =
-    let part = drop first new in
-    let back = first + length part in
-    omega (arith, length-append (take first old ++ part) (drop back old), length-append (take first old) part, length-take-le first old inside, length-drop back old, length-drop first new, from)
+    let anew = drop first new in
+    let back = first + length anew in
+    omega (arith, length-append (take first old ++ anew) (drop back old), length-append (take first old) anew, length-take-le first old inside, length-drop back old, length-drop first new, from)

@@ -1,8 +1,8 @@
--- Entries in parts: where an order compares within parts alone, each part holds the levels of its own entries.
+-- Entries in partitions: where an order compares within partitions alone, each partition holds the levels of its own entries.
 use Rattle.pref_sky.proofs.Common.{◌≡◌, ℕ, zero, suc, ◌≤◌, ◌<◌, ◌+◌, ◌^◌, ◌/◌, Bool, true, false, cond, not, ◌&&◌, ltb, inl, inr, List, ℤ, [], ◌∷◌, ◌++◌, length, map, refl, sym, ◌∙◌, ap, subst, arith}
 use Rattle.pref_sky.proofs.Common.{filter, eqb, eq-eqb, max, count_by, cases_Bool, eqb-true, not_from_false, and_parts, Decides-int_eq, nat_tests, filter_agree, length-filter, cell, in_same_group}
 use Rattle.pref_sky.proofs.Common.{RowOrder, StaysWithin, hash_with, Entry, best, is_beaten, rest, without_best, HaveDifferentIds, at_level, entry_of, entry_order, levels, held_at, ranked_from}
-use Rattle.pref_sky.proofs.Common.{ArePartitionedBy, all_at, depth, is_in, mixed_onto, partition_of, partitions_by, ranked_parts, ranked_upto, Among, take_all}
+use Rattle.pref_sky.proofs.Common.{ArePartitionedBy, all_at, depth, is_in, mixed_onto, partition_of, partitions_by, ranked_partitions, ranked_upto, Among, take_all}
 use Rattle.std.proofs.Math.Bool.{and_comm}
 use Rattle.std.proofs.Math.Nat.{le-max_left, le-max_right, max-le}
 use Rattle.pref_sky.proofs.ListLaws.{any_from, any_gives, in_filter, from_filter, in_left, in_right, in_either, from_map, in_map, filter_agree_among, none_pass, one_passes, filter_filter, same_answer}
@@ -11,7 +11,7 @@ use Rattle.pref_sky.proofs.Merges.{different_best, different_filter}
 use Rattle.pref_sky.proofs.SortedLevels.{beaten_by_more, different_by_count}
 use Rattle.pref_sky.proofs.Ranks.{count_at, count_joined, count_level, held_there, held_upto, level_differs, levels_upto_is, one_level, same_upto, take_upto, to_upto, within_if_same}
 
--- an entry is over entries of its own part alone
+-- an entry is over entries of its own partition alone
 abbrev pub IsWithin : (Entry → Entry → Bool) → (Entry → ℕ) → Type 0
 IsWithin over number = (a b : Entry) → over a b ≡ true → number a ≡ number b
 
@@ -22,7 +22,7 @@ same_mixed word (col ∷ columns) a b same =
     let cells : cell a col ≡ cell b col = (Decides-int_eq (cell a col) (cell b col)).0 both.0 in
     ap (λ value. mixed_onto (hash_with word value) columns a) cells ∙ same_mixed (hash_with word (cell b col)) columns a b both.1
 
--- rows of one group are in one part
+-- rows of one group are in one partition
 pub is_within : (order : RowOrder) (columns : List ℕ) → StaysWithin order columns → IsWithin (entry_order order) (partition_of columns)
 is_within order columns within a b above =
     let same : in_same_group columns a.row b.row ≡ true = grind (arith, above, within.over a.row b.row, within.twin a.row b.row) in
@@ -31,41 +31,41 @@ is_within order columns within a b above =
 swapped : {E : Type 0} (p q : E → Bool) (xs : List E) → filter p (filter q xs) ≡ filter q (filter p xs)
 swapped p q xs = filter_filter q p xs ∙ (filter_agree (λ x. q x && p x) (λ x. p x && q x) (λ x. and_comm (q x) (p x)) xs ∙ sym (filter_filter p q xs))
 
--- the best of a part's entries, and what is left without them
-module _ (over : Entry → Entry → Bool) (number : Entry → ℕ) (within : IsWithin over number) (part : ℕ) where
-  beaten_in_part : (xs : List Entry) (e : Entry) → is_in number part e ≡ true → is_beaten over (filter (is_in number part) xs) e ≡ is_beaten over xs e
-  beaten_in_part xs e here =
-      same_answer (is_beaten over (filter (is_in number part) xs) e) (is_beaten over xs e)
-      (beaten_by_more over (filter (is_in number part) xs) xs e (λ x m. (from_filter (is_in number part) xs x m).0))
+-- the best of a partition's entries, and what is left without them
+module _ (over : Entry → Entry → Bool) (number : Entry → ℕ) (within : IsWithin over number) (partition : ℕ) where
+  beaten_in_partition : (xs : List Entry) (e : Entry) → is_in number partition e ≡ true → is_beaten over (filter (is_in number partition) xs) e ≡ is_beaten over xs e
+  beaten_in_partition xs e here =
+      same_answer (is_beaten over (filter (is_in number partition) xs) e) (is_beaten over xs e)
+      (beaten_by_more over (filter (is_in number partition) xs) xs e (λ x m. (from_filter (is_in number partition) xs x m).0))
       (λ h.
       let w = any_gives (λ x. over x e) xs h in
-      let same : number w.0 ≡ part = within w.0 e w.2 ∙ eqb-true (number e) part here in
-      any_from (λ x. over x e) (filter (is_in number part) xs) w.0 (in_filter (is_in number part) xs w.0 w.1 (eq-eqb (number w.0) part same)) w.2)
+      let same : number w.0 ≡ partition = within w.0 e w.2 ∙ eqb-true (number e) partition here in
+      any_from (λ x. over x e) (filter (is_in number partition) xs) w.0 (in_filter (is_in number partition) xs w.0 w.1 (eq-eqb (number w.0) partition same)) w.2)
 
-  without_in_part : (xs : List Entry) → without_best over (filter (is_in number part) xs) ≡ filter (is_in number part) (without_best over xs)
-  without_in_part xs =
-      filter_agree_among (is_beaten over (filter (is_in number part) xs)) (is_beaten over xs) (filter (is_in number part) xs) (λ x m. beaten_in_part xs x (from_filter (is_in number part) xs x m).1)
-      ∙ swapped (is_beaten over xs) (is_in number part) xs
+  without_in_partition : (xs : List Entry) → without_best over (filter (is_in number partition) xs) ≡ filter (is_in number partition) (without_best over xs)
+  without_in_partition xs =
+      filter_agree_among (is_beaten over (filter (is_in number partition) xs)) (is_beaten over xs) (filter (is_in number partition) xs) (λ x m. beaten_in_partition xs x (from_filter (is_in number partition) xs x m).1)
+      ∙ swapped (is_beaten over xs) (is_in number partition) xs
 
-  best_in_part : (xs : List Entry) → best over (filter (is_in number part) xs) ≡ filter (is_in number part) (best over xs)
-  best_in_part xs =
-      filter_agree_among (λ e. not (is_beaten over (filter (is_in number part) xs) e)) (λ e. not (is_beaten over xs e)) (filter (is_in number part) xs) (λ x m. ap not (beaten_in_part xs x (from_filter (is_in number part) xs x m).1))
-      ∙ swapped (λ e. not (is_beaten over xs e)) (is_in number part) xs
+  best_in_partition : (xs : List Entry) → best over (filter (is_in number partition) xs) ≡ filter (is_in number partition) (best over xs)
+  best_in_partition xs =
+      filter_agree_among (λ e. not (is_beaten over (filter (is_in number partition) xs) e)) (λ e. not (is_beaten over xs e)) (filter (is_in number partition) xs) (λ x m. ap not (beaten_in_partition xs x (from_filter (is_in number partition) xs x m).1))
+      ∙ swapped (λ e. not (is_beaten over xs e)) (is_in number partition) xs
 
-  rest_in_part : (all : List Entry) (n : ℕ) → rest over (filter (is_in number part) all) n ≡ filter (is_in number part) (rest over all n)
-  rest_in_part all zero = refl
-  rest_in_part all (suc n) = ap (without_best over) (rest_in_part all n) ∙ without_in_part (rest over all n)
+  rest_in_partition : (all : List Entry) (n : ℕ) → rest over (filter (is_in number partition) all) n ≡ filter (is_in number partition) (rest over all n)
+  rest_in_partition all zero = refl
+  rest_in_partition all (suc n) = ap (without_best over) (rest_in_partition all n) ∙ without_in_partition (rest over all n)
 
-  pub level_in_part : (all : List Entry) (n : ℕ) → best over (rest over (filter (is_in number part) all) n) ≡ filter (is_in number part) (best over (rest over all n))
-  level_in_part all n = ap (best over) (rest_in_part all n) ∙ best_in_part (rest over all n)
+  pub level_in_partition : (all : List Entry) (n : ℕ) → best over (rest over (filter (is_in number partition) all) n) ≡ filter (is_in number partition) (best over (rest over all n))
+  level_in_partition all n = ap (best over) (rest_in_partition all n) ∙ best_in_partition (rest over all n)
 
--- what is at a level of a part is at the level
-to_all : (parts : List (List (List Entry))) (part n : ℕ) (e : Entry) → Among e (held_at n (held_at part parts)) → Among e (all_at parts n)
-to_all [] part n e m = m
+-- what is at a level of a partition is at the level
+to_all : (partitions : List (List (List Entry))) (partition n : ℕ) (e : Entry) → Among e (held_at n (held_at partition partitions)) → Among e (all_at partitions n)
+to_all [] partition n e m = m
 to_all (first ∷ others) zero n e m = in_left (held_at n first) (all_at others n) e m
-to_all (first ∷ others) (suc part) n e m = in_right (held_at n first) (all_at others n) e (to_all others part n e m)
+to_all (first ∷ others) (suc partition) n e m = in_right (held_at n first) (all_at others n) e (to_all others partition n e m)
 
-from_all : (parts : List (List (List Entry))) (n : ℕ) (e : Entry) → Among e (all_at parts n) → (part : ℕ) × Among e (held_at n (held_at part parts))
+from_all : (partitions : List (List (List Entry))) (n : ℕ) (e : Entry) → Among e (all_at partitions n) → (partition : ℕ) × Among e (held_at n (held_at partition partitions))
 from_all [] n e m = absurd m
 from_all (first ∷ others) n e m =
     elim (in_either (held_at n first) (all_at others n) e m) [
@@ -73,15 +73,15 @@ from_all (first ∷ others) n e m =
       | inr further ↦ let w = from_all others n e further in (suc w.0, w.1)
     ]
 
-pub within_depth : (parts : List (List (List Entry))) (part : ℕ) → length (held_at part parts) ≤ depth parts
-within_depth [] part = omega arith
+pub within_depth : (partitions : List (List (List Entry))) (partition : ℕ) → length (held_at partition partitions) ≤ depth partitions
+within_depth [] partition = omega arith
 within_depth (first ∷ others) zero = le-max_left (length first) (depth others)
-within_depth (first ∷ others) (suc part) = omega (arith, within_depth others part, le-max_right (length first) (depth others))
+within_depth (first ∷ others) (suc partition) = omega (arith, within_depth others partition, le-max_right (length first) (depth others))
 
--- how many of a kind the parts hold
+-- how many of a kind the partitions hold
 abbrev pub total : (Entry → Bool) → List (List (List Entry)) → ℕ
 total p [] = 0
-total p (part ∷ others) = count_by p (map entry_of (ranked_from 1 part)) + total p others
+total p (partition ∷ others) = count_by p (map entry_of (ranked_from 1 partition)) + total p others
 
 count_beside : (p : Entry → Bool) (f g : ℕ → List Entry) (n : ℕ)
     → count_by p (map entry_of (ranked_upto (λ k. f k ++ g k) n)) ≡ count_by p (map entry_of (ranked_upto f n)) + count_by p (map entry_of (ranked_upto g n))
@@ -91,83 +91,83 @@ count_beside p f g (suc n) =
     λ h. omega (arith, count_joined p (ranked_upto h n) (one_level (suc n) (h n)), count_level p (suc n) (h n)) in
     omega (arith, count_beside p f g n, level (λ k. f k ++ g k), level f, level g, count_append p (f n) (g n))
 
-count_levels : (p : Entry → Bool) (parts : List (List (List Entry))) (n : ℕ) → depth parts ≤ n → count_by p (map entry_of (ranked_upto (all_at parts) n)) ≡ total p parts
+count_levels : (p : Entry → Bool) (partitions : List (List (List Entry))) (n : ℕ) → depth partitions ≤ n → count_by p (map entry_of (ranked_upto (all_at partitions) n)) ≡ total p partitions
 count_levels p [] zero le = refl
 count_levels p [] (suc n) le = omega (arith, count_levels p [] n (omega arith), count_joined p (ranked_upto (all_at []) n) [])
-count_levels p (part ∷ others) n le =
-    let mine : length part ≤ n = omega (arith, le, le-max_left (length part) (depth others)) in
-    let theirs : depth others ≤ n = omega (arith, le, le-max_right (length part) (depth others)) in
-    let whole : ranked_upto (λ k. held_at k part) n ≡ ranked_from 1 part = sym (take_upto part n) ∙ ap (ranked_from 1) (take_all n part mine) in
-    omega (arith, count_beside p (λ k. held_at k part) (all_at others) n, ap (λ l. count_by p (map entry_of l)) whole, count_levels p others n theirs)
+count_levels p (partition ∷ others) n le =
+    let mine : length partition ≤ n = omega (arith, le, le-max_left (length partition) (depth others)) in
+    let theirs : depth others ≤ n = omega (arith, le, le-max_right (length partition) (depth others)) in
+    let whole : ranked_upto (λ k. held_at k partition) n ≡ ranked_from 1 partition = sym (take_upto partition n) ∙ ap (ranked_from 1) (take_all n partition mine) in
+    omega (arith, count_beside p (λ k. held_at k partition) (all_at others) n, ap (λ l. count_by p (map entry_of l)) whole, count_levels p others n theirs)
 
-pub count_all : (p : Entry → Bool) (parts : List (List (List Entry))) → count_by p (map entry_of (ranked_parts parts)) ≡ total p parts
-count_all p parts = count_levels p parts (depth parts) (omega arith)
+pub count_all : (p : Entry → Bool) (partitions : List (List (List Entry))) → count_by p (map entry_of (ranked_partitions partitions)) ≡ total p partitions
+count_all p partitions = count_levels p partitions (depth partitions) (omega arith)
 
-count_part : (p : Entry → Bool) (parts : List (List (List Entry))) (part : ℕ) → count_by p (map entry_of (ranked_from 1 (held_at part parts))) ≤ total p parts
-count_part p [] part = omega arith
-count_part p (first ∷ others) zero = omega arith
-count_part p (first ∷ others) (suc part) = omega (arith, count_part p others part)
+count_partition : (p : Entry → Bool) (partitions : List (List (List Entry))) (partition : ℕ) → count_by p (map entry_of (ranked_from 1 (held_at partition partitions))) ≤ total p partitions
+count_partition p [] partition = omega arith
+count_partition p (first ∷ others) zero = omega arith
+count_partition p (first ∷ others) (suc partition) = omega (arith, count_partition p others partition)
 
-count_level_of_all : (p : Entry → Bool) (parts : List (List (List Entry))) (k : ℕ) → count_by p (all_at parts k) ≤ total p parts
+count_level_of_all : (p : Entry → Bool) (partitions : List (List (List Entry))) (k : ℕ) → count_by p (all_at partitions k) ≤ total p partitions
 count_level_of_all p [] k = omega arith
-count_level_of_all p (part ∷ others) k =
-    omega (arith, count_level_of_all p others k, count_append p (held_at k part) (all_at others k), count_at p k part)
+count_level_of_all p (partition ∷ others) k =
+    omega (arith, count_level_of_all p others k, count_append p (held_at k partition) (all_at others k), count_at p k partition)
 
-pub part_differs : (parts : List (List (List Entry))) → HaveDifferentIds (map entry_of (ranked_parts parts)) → (part : ℕ) → HaveDifferentIds (map entry_of (ranked_from 1 (held_at part parts)))
-part_differs parts different part = record { once = λ id. omega (arith, different.once id, count_all (λ e. eqb e.id id) parts, count_part (λ e. eqb e.id id) parts part) }
+pub partition_differs : (partitions : List (List (List Entry))) → HaveDifferentIds (map entry_of (ranked_partitions partitions)) → (partition : ℕ) → HaveDifferentIds (map entry_of (ranked_from 1 (held_at partition partitions)))
+partition_differs partitions different partition = record { once = λ id. omega (arith, different.once id, count_all (λ e. eqb e.id id) partitions, count_partition (λ e. eqb e.id id) partitions partition) }
 
-pub all_differ : (parts : List (List (List Entry))) → HaveDifferentIds (map entry_of (ranked_parts parts)) → (k : ℕ) → HaveDifferentIds (all_at parts k)
-all_differ parts different k = record { once = λ id. omega (arith, different.once id, count_all (λ e. eqb e.id id) parts, count_level_of_all (λ e. eqb e.id id) parts k) }
+pub all_differ : (partitions : List (List (List Entry))) → HaveDifferentIds (map entry_of (ranked_partitions partitions)) → (k : ℕ) → HaveDifferentIds (all_at partitions k)
+all_differ partitions different k = record { once = λ id. omega (arith, different.once id, count_all (λ e. eqb e.id id) partitions, count_level_of_all (λ e. eqb e.id id) partitions k) }
 
-held_number : (number : Entry → ℕ) (parts : List (List (List Entry))) → ArePartitionedBy number parts → (part k : ℕ) (e : Entry) → Among e (held_at k (held_at part parts)) → number e ≡ part
-held_number number parts parted part k e m =
-    let held = held_at part parts in
-    parted part (at_level (suc k) e) (subst (Among (at_level (suc k) e)) (sym (held_upto held)) (to_upto (λ j. held_at j held) (length held) k e (held_there k held e m) m))
+held_number : (number : Entry → ℕ) (partitions : List (List (List Entry))) → ArePartitionedBy number partitions → (partition k : ℕ) (e : Entry) → Among e (held_at k (held_at partition partitions)) → number e ≡ partition
+held_number number partitions parted partition k e m =
+    let held = held_at partition partitions in
+    parted partition (at_level (suc k) e) (subst (Among (at_level (suc k) e)) (sym (held_upto held)) (to_upto (λ j. held_at j held) (length held) k e (held_there k held e m) m))
 
--- parts that hold the levels of some entries, and levels of each part's entries
+-- partitions that hold the levels of some entries, and levels of each partition's entries
 module _ (over : Entry → Entry → Bool) (number : Entry → ℕ) (within : IsWithin over number) (cut : ℕ) where
-  pub hold_apart : (parts : List (List (List Entry))) (all : List Entry) → HaveDifferentIds all → HaveDifferentIds (map entry_of (ranked_parts parts)) → ArePartitionedBy number parts → ranked_parts parts ≡ levels over all cut
-      → (part : ℕ) → ranked_from 1 (held_at part parts) ≡ levels over (filter (is_in number part) all) cut
-  hold_apart parts all different apart parted is part =
-      let held = held_at part parts in
-      let mine = is_in number part in
+  pub hold_apart : (partitions : List (List (List Entry))) (all : List Entry) → HaveDifferentIds all → HaveDifferentIds (map entry_of (ranked_partitions partitions)) → ArePartitionedBy number partitions → ranked_partitions partitions ≡ levels over all cut
+      → (partition : ℕ) → ranked_from 1 (held_at partition partitions) ≡ levels over (filter (is_in number partition) all) cut
+  hold_apart partitions all different apart parted is partition =
+      let held = held_at partition partitions in
+      let mine = is_in number partition in
       let whole : ℕ → List Entry = λ k. best over (rest over all k) in
       let some : ℕ → List Entry = λ k. best over (rest over (filter mine all) k) in
-      let same : ranked_upto (all_at parts) (depth parts) ≡ ranked_upto whole cut = is ∙ levels_upto_is over all cut in
+      let same : ranked_upto (all_at partitions) (depth partitions) ≡ ranked_upto whole cut = is ∙ levels_upto_is over all cut in
       held_upto held
-      ∙ (same_upto (λ k. held_at k held) some (length held) cut (λ k. level_differs k held (part_differs parts apart part)) (λ k. different_best over (filter mine all) k (different_filter mine all different))
+      ∙ (same_upto (λ k. held_at k held) some (length held) cut (λ k. level_differs k held (partition_differs partitions apart partition)) (λ k. different_best over (filter mine all) k (different_filter mine all different))
       (λ k e below m.
-      let deep : k < depth parts = omega (arith, below, within_depth parts part) in
-      let w = within_if_same (all_at parts) whole (depth parts) cut same k e deep (to_all parts part k e m) in
-      (w.0, subst (Among e) (sym (level_in_part over number within part all k)) (in_filter mine (whole k) e w.1 (eq-eqb (number e) part (held_number number parts parted part k e m)))))
+      let deep : k < depth partitions = omega (arith, below, within_depth partitions partition) in
+      let w = within_if_same (all_at partitions) whole (depth partitions) cut same k e deep (to_all partitions partition k e m) in
+      (w.0, subst (Among e) (sym (level_in_partition over number within partition all k)) (in_filter mine (whole k) e w.1 (eq-eqb (number e) partition (held_number number partitions parted partition k e m)))))
       (λ k e below m.
-      let w = from_filter mine (whole k) e (subst (Among e) (level_in_part over number within part all k) m) in
-      let v = within_if_same whole (all_at parts) cut (depth parts) (sym same) k e below w.0 in
-      let u = from_all parts k e v.1 in
-      let here : u.0 ≡ part = sym (held_number number parts parted u.0 k e u.1) ∙ eqb-true (number e) part w.1 in
-      let there : Among e (held_at k held) = subst (λ j. Among e (held_at k (held_at j parts))) here u.1 in
+      let w = from_filter mine (whole k) e (subst (Among e) (level_in_partition over number within partition all k) m) in
+      let v = within_if_same whole (all_at partitions) cut (depth partitions) (sym same) k e below w.0 in
+      let u = from_all partitions k e v.1 in
+      let here : u.0 ≡ partition = sym (held_number number partitions parted u.0 k e u.1) ∙ eqb-true (number e) partition w.1 in
+      let there : Among e (held_at k held) = subst (λ j. Among e (held_at k (held_at j partitions))) here u.1 in
       (held_there k held e there, there))
       ∙ sym (levels_upto_is over (filter mine all) cut))
 
-  pub hold_together : (parts : List (List (List Entry))) (all : List Entry) → HaveDifferentIds all → HaveDifferentIds (map entry_of (ranked_parts parts))
-      → ((part : ℕ) → ranked_from 1 (held_at part parts) ≡ levels over (filter (is_in number part) all) cut) → ranked_parts parts ≡ levels over all cut
-  hold_together parts all different apart each =
+  pub hold_together : (partitions : List (List (List Entry))) (all : List Entry) → HaveDifferentIds all → HaveDifferentIds (map entry_of (ranked_partitions partitions))
+      → ((partition : ℕ) → ranked_from 1 (held_at partition partitions) ≡ levels over (filter (is_in number partition) all) cut) → ranked_partitions partitions ≡ levels over all cut
+  hold_together partitions all different apart each =
       let whole : ℕ → List Entry = λ k. best over (rest over all k) in
-      let held : ℕ → ℕ → List Entry = λ part k. held_at k (held_at part parts) in
-      let some : ℕ → ℕ → List Entry = λ part k. best over (rest over (filter (is_in number part) all) k) in
-      let long : ℕ → ℕ = λ part. length (held_at part parts) in
-      let same : (part : ℕ) → ranked_upto (held part) (long part) ≡ ranked_upto (some part) cut =
-      λ part. sym (held_upto (held_at part parts)) ∙ (each part ∙ levels_upto_is over (filter (is_in number part) all) cut) in
-      same_upto (all_at parts) whole (depth parts) cut (all_differ parts apart) (λ k. different_best over all k different)
+      let held : ℕ → ℕ → List Entry = λ partition k. held_at k (held_at partition partitions) in
+      let some : ℕ → ℕ → List Entry = λ partition k. best over (rest over (filter (is_in number partition) all) k) in
+      let long : ℕ → ℕ = λ partition. length (held_at partition partitions) in
+      let same : (partition : ℕ) → ranked_upto (held partition) (long partition) ≡ ranked_upto (some partition) cut =
+      λ partition. sym (held_upto (held_at partition partitions)) ∙ (each partition ∙ levels_upto_is over (filter (is_in number partition) all) cut) in
+      same_upto (all_at partitions) whole (depth partitions) cut (all_differ partitions apart) (λ k. different_best over all k different)
       (λ k e below m.
-      let u = from_all parts k e m in
-      let w = within_if_same (held u.0) (some u.0) (long u.0) cut (same u.0) k e (held_there k (held_at u.0 parts) e u.1) u.1 in
-      (w.0, (from_filter (is_in number u.0) (whole k) e (subst (Among e) (level_in_part over number within u.0 all k) w.1)).0))
+      let u = from_all partitions k e m in
+      let w = within_if_same (held u.0) (some u.0) (long u.0) cut (same u.0) k e (held_there k (held_at u.0 partitions) e u.1) u.1 in
+      (w.0, (from_filter (is_in number u.0) (whole k) e (subst (Among e) (level_in_partition over number within u.0 all k) w.1)).0))
       (λ k e below m.
-      let part = number e in
-      let mine : Among e (some part k) = subst (Among e) (sym (level_in_part over number within part all k)) (in_filter (is_in number part) (whole k) e m (eq-eqb part part refl)) in
-      let w = within_if_same (some part) (held part) cut (long part) (sym (same part)) k e below mine in
-      (omega (arith, w.0, within_depth parts part), to_all parts part k e w.1))
+      let partition = number e in
+      let mine : Among e (some partition k) = subst (Among e) (sym (level_in_partition over number within partition all k)) (in_filter (is_in number partition) (whole k) e m (eq-eqb partition partition refl)) in
+      let w = within_if_same (some partition) (held partition) cut (long partition) (sym (same partition)) k e below mine in
+      (omega (arith, w.0, within_depth partitions partition), to_all partitions partition k e w.1))
       ∙ sym (levels_upto_is over all cut)
 
 abbrev sum_upto : (ℕ → ℕ) → ℕ → ℕ
@@ -178,80 +178,80 @@ sum_first : (f : ℕ → ℕ) (n : ℕ) → sum_upto f (suc n) ≡ f 0 + sum_upt
 sum_first f zero = omega arith
 sum_first f (suc n) = omega (arith, sum_first f n)
 
--- no more of a kind are held in a part than were and come to it
+-- no more of a kind are held in a partition than were and come to it
 abbrev pub NoMore : (ℕ → List Entry) → List (List (List Entry)) → List (List (List Entry)) → Type 0
-NoMore comes old new = (p : Entry → Bool) (part : ℕ)
-    → count_by p (map entry_of (ranked_from 1 (held_at part new))) ≤ count_by p (map entry_of (ranked_from 1 (held_at part old))) + count_by p (comes part)
+NoMore comes old new = (p : Entry → Bool) (partition : ℕ)
+    → count_by p (map entry_of (ranked_from 1 (held_at partition new))) ≤ count_by p (map entry_of (ranked_from 1 (held_at partition old))) + count_by p (comes partition)
 
 total_within : (p : Entry → Bool) (comes : ℕ → List Entry) (old new : List (List (List Entry))) → NoMore comes old new → total p new ≤ total p old + sum_upto (λ k. count_by p (comes k)) (length new)
 total_within p comes old [] more = omega arith
 total_within p comes [] (first ∷ new) more =
-    let deeper = total_within p (λ k. comes (suc k)) [] new (λ q part. more q (suc part)) in
+    let deeper = total_within p (λ k. comes (suc k)) [] new (λ q partition. more q (suc partition)) in
     omega (arith, more p 0, deeper, sum_first (λ k. count_by p (comes k)) (length new))
 total_within p comes (was ∷ old) (first ∷ new) more =
-    let deeper = total_within p (λ k. comes (suc k)) old new (λ q part. more q (suc part)) in
+    let deeper = total_within p (λ k. comes (suc k)) old new (λ q partition. more q (suc partition)) in
     omega (arith, more p 0, deeper, sum_first (λ k. count_by p (comes k)) (length new))
 
 below_or_at : (b : Bool) (m n : ℕ) → cond {A = ℕ} (b && ltb m n) 1 0 + cond (b && eqb m n) 1 0 ≤ cond (b && ltb m (suc n)) 1 0
 below_or_at false m n = omega arith
 below_or_at true m n = grind (arith, nat_tests)
 
-sum_of_parts : (p : Entry → Bool) (number : Entry → ℕ) (coming : List Entry) (n : ℕ) → sum_upto (λ k. count_by p (filter (is_in number k) coming)) n ≤ count_by (λ e. p e && ltb (number e) n) coming
-sum_of_parts p number coming zero = omega arith
-sum_of_parts p number coming (suc n) =
+sum_of_partitions : (p : Entry → Bool) (number : Entry → ℕ) (coming : List Entry) (n : ℕ) → sum_upto (λ k. count_by p (filter (is_in number k) coming)) n ≤ count_by (λ e. p e && ltb (number e) n) coming
+sum_of_partitions p number coming zero = omega arith
+sum_of_partitions p number coming (suc n) =
     let both = count_both (λ e. p e && ltb (number e) n) (λ e. p e && is_in number n e) (λ e. p e && ltb (number e) (suc n)) coming (λ e. below_or_at (p e) (number e) n) in
-    omega (arith, sum_of_parts p number coming n, count_filtered p (is_in number n) coming, both)
+    omega (arith, sum_of_partitions p number coming n, count_filtered p (is_in number n) coming, both)
 
--- what the parts hold after an addition has different ids
-pub differ_after : (number : Entry → ℕ) (old new : List (List (List Entry))) (coming : List Entry) → HaveDifferentIds (map entry_of (ranked_parts old) ++ coming) → NoMore (λ part. filter (is_in number part) coming) old new
-    → HaveDifferentIds (map entry_of (ranked_parts new))
+-- what the partitions hold after an addition has different ids
+pub differ_after : (number : Entry → ℕ) (old new : List (List (List Entry))) (coming : List Entry) → HaveDifferentIds (map entry_of (ranked_partitions old) ++ coming) → NoMore (λ partition. filter (is_in number partition) coming) old new
+    → HaveDifferentIds (map entry_of (ranked_partitions new))
 differ_after number old new coming different more =
-    different_by_count (map entry_of (ranked_parts old)) coming (map entry_of (ranked_parts new)) different (λ p. omega (
+    different_by_count (map entry_of (ranked_partitions old)) coming (map entry_of (ranked_partitions new)) different (λ p. omega (
       arith,
       count_all p new,
       count_all p old,
-      total_within p (λ part. filter (is_in number part) coming) old new more,
-      sum_of_parts p number coming (length new),
+      total_within p (λ partition. filter (is_in number partition) coming) old new more,
+      sum_of_partitions p number coming (length new),
       count_and p (λ e. ltb (number e) (length new)) coming,
     ))
 
 none_counted : (p : Entry → Bool) (xs : List Entry) → ((x : Entry) → Among x xs → p x ≡ false) → count_by p xs ≡ 0
 none_counted p xs none = sym (length-filter p xs) ∙ ap length (none_pass p xs none)
 
--- and each of them is in its part
-pub parted_after : (number : Entry → ℕ) (old new : List (List (List Entry))) (coming : List Entry) → ArePartitionedBy number old → NoMore (λ part. filter (is_in number part) coming) old new → ArePartitionedBy number new
-parted_after number old new coming parted more part r m =
-    elim (cases_Bool (is_in number part (entry_of r))) [
-      | inl here ↦ eqb-true (number (entry_of r)) part here
+-- and each of them is in its partition
+pub parted_after : (number : Entry → ℕ) (old new : List (List (List Entry))) (coming : List Entry) → ArePartitionedBy number old → NoMore (λ partition. filter (is_in number partition) coming) old new → ArePartitionedBy number new
+parted_after number old new coming parted more partition r m =
+    elim (cases_Bool (is_in number partition (entry_of r))) [
+      | inl here ↦ eqb-true (number (entry_of r)) partition here
       | inr elsewhere ↦
-          let other : Entry → Bool = λ e. not (is_in number part e) in
-          let now = map entry_of (ranked_from 1 (held_at part new)) in
-          let one = one_passes other now (entry_of r) (in_map entry_of (ranked_from 1 (held_at part new)) r m) (not_from_false (is_in number part (entry_of r)) elsewhere) in
-          let none_held = none_counted other (map entry_of (ranked_from 1 (held_at part old))) (λ x among.
-          let w = from_map entry_of (ranked_from 1 (held_at part old)) x among in
-          ap not (eq-eqb (number x) part (ap number w.2 ∙ parted part w.0 w.1))) in
-          let none_came = none_counted other (filter (is_in number part) coming) (λ x among. ap not (from_filter (is_in number part) coming x among).1) in
-          absurd (omega (arith, one, more other part, none_held, none_came))
+          let other : Entry → Bool = λ e. not (is_in number partition e) in
+          let now = map entry_of (ranked_from 1 (held_at partition new)) in
+          let one = one_passes other now (entry_of r) (in_map entry_of (ranked_from 1 (held_at partition new)) r m) (not_from_false (is_in number partition (entry_of r)) elsewhere) in
+          let none_held = none_counted other (map entry_of (ranked_from 1 (held_at partition old))) (λ x among.
+          let w = from_map entry_of (ranked_from 1 (held_at partition old)) x among in
+          ap not (eq-eqb (number x) partition (ap number w.2 ∙ parted partition w.0 w.1))) in
+          let none_came = none_counted other (filter (is_in number partition) coming) (λ x among. ap not (from_filter (is_in number partition) coming x among).1) in
+          absurd (omega (arith, one, more other partition, none_held, none_came))
     ]
 
 mixed_below : (word : ℕ) (columns : List ℕ) (row : List ℤ) → word < 2 ^ 64 → mixed_onto word columns row < 2 ^ 64
 mixed_below word [] row below = below
 mixed_below word (col ∷ columns) row below = mixed_below (hash_with word (cell row col)) columns row (omega arith)
 
--- the number of a part
-pub part_below : (columns : List ℕ) (e : Entry) → partition_of columns e < partitions_by columns
-part_below [] e = omega arith
-part_below (col ∷ columns) e = omega (arith, mixed_below 0 (col ∷ columns) e.row (omega arith))
+-- the number of a partition
+pub partition_below : (columns : List ℕ) (e : Entry) → partition_of columns e < partitions_by columns
+partition_below [] e = omega arith
+partition_below (col ∷ columns) e = omega (arith, mixed_below 0 (col ∷ columns) e.row (omega arith))
 
--- parts without entries
-pub depth_none : (parts : List (List (List Entry))) → ((part : ℕ) → held_at part parts ≡ []) → depth parts ≡ 0
+-- partitions without entries
+pub depth_none : (partitions : List (List (List Entry))) → ((partition : ℕ) → held_at partition partitions ≡ []) → depth partitions ≡ 0
 depth_none [] none = refl
-depth_none (first ∷ others) none = ap (λ n. max n (depth others)) (ap length (none 0)) ∙ ap (max 0) (depth_none others (λ part. none (suc part)))
+depth_none (first ∷ others) none = ap (λ n. max n (depth others)) (ap length (none 0)) ∙ ap (max 0) (depth_none others (λ partition. none (suc partition)))
 
-pub nothing_held : (parts : List (List (List Entry))) → ((part : ℕ) → held_at part parts ≡ []) → ranked_parts parts ≡ []
-nothing_held parts none = ap (ranked_upto (all_at parts)) (depth_none parts none)
+pub nothing_held : (partitions : List (List (List Entry))) → ((partition : ℕ) → held_at partition partitions ≡ []) → ranked_partitions partitions ≡ []
+nothing_held partitions none = ap (ranked_upto (all_at partitions)) (depth_none partitions none)
 
--- no part has more levels than so many
-pub depth_within : (parts : List (List (List Entry))) (most : ℕ) → ((part : ℕ) → length (held_at part parts) ≤ most) → depth parts ≤ most
+-- no partition has more levels than so many
+pub depth_within : (partitions : List (List (List Entry))) (most : ℕ) → ((partition : ℕ) → length (held_at partition partitions) ≤ most) → depth partitions ≤ most
 depth_within [] most each = omega arith
-depth_within (first ∷ others) most each = max-le (each 0) (depth_within others most (λ part. each (suc part)))
+depth_within (first ∷ others) most each = max-le (each 0) (depth_within others most (λ partition. each (suc partition)))

@@ -1,6 +1,6 @@
--- Items of a pool stay what they are where entries are put behind its own; the levels of a part, where those of one are changed.
+-- Items of a pool stay what they are where entries are put behind its own; the levels of a partition, where those of one are changed.
 use Rattle.pref_sky.proofs.Common.{◌≡◌, ℕ, zero, suc, ◌<◌, List, [], ◌∷◌, length, get_or, set, refl, sym, ◌∙◌, ap, subst, arith, All, Vec, Global, Entry, Item, AreAllItems, AreInPool, levels_at}
-use Rattle.pref_sky.proofs.Common.{items_at, parts_at, held_at, ◌≤◌, ◌+◌, ◌++◌, map, take, append_assoc, length-append, Bool, true, get_or_append_left, map-append, get_or-append_seam}
+use Rattle.pref_sky.proofs.Common.{items_at, partitions_at, held_at, ◌≤◌, ◌+◌, ◌++◌, map, take, append_assoc, length-append, Bool, true, get_or_append_left, map-append, get_or-append_seam}
 use Rattle.pref_sky.proofs.Common.{All-push, Pool, AreItems, HasGrown, IsItem, entries_at, entry_at, is_beaten, IsBehind, signature_by, length-set}
 use Rattle.std.proofs.Math.Seq.{map-set_same}
 use Rattle.std.proofs.lemmas.List.{map_more}
@@ -11,10 +11,10 @@ use Rattle.pref_sky.proofs.ListLaws.{all_among, map_agree_among}
 abbrev pub Levels : Type 0
 Levels = List (Vec Item Global)
 
-abbrev pub Part : Type 0
-Part = Vec (Vec Item Global) Global
+abbrev pub Partition : Type 0
+Partition = Vec (Vec Item Global) Global
 
--- a part is at its place, and so is a level
+-- a partition is at its place, and so is a level
 in_at : {E : Type 0} (n : ℕ) (all : List (Vec E Global)) (d : Vec E Global) → n < length all → items_at n all ≡ (get_or all n d).items
 in_at n [] d there = absurd (omega (arith, there))
 in_at zero (first ∷ behind) d there = refl
@@ -29,22 +29,22 @@ all_held P [] are n = λ k d inside. absurd (omega (arith, inside))
 all_held P (first ∷ behind) are zero = are 0 first (omega arith)
 all_held P (first ∷ behind) are (suc n) = all_held P behind (λ k d inside. are (suc k) d (omega (arith, inside))) n
 
-pub in_set_other : (n m : ℕ) (parts : List Part) (part : Part) → (m ≡ n → ⊥) → items_at m (set parts n part) ≡ items_at m parts
-in_set_other n m [] part other = refl
-in_set_other zero zero (first ∷ others) part other = absurd (other refl)
-in_set_other zero (suc m) (first ∷ others) part other = refl
-in_set_other (suc n) zero (first ∷ others) part other = refl
-in_set_other (suc n) (suc m) (first ∷ others) part other = in_set_other n m others part (λ same. other (omega (arith, same)))
+pub in_set_other : (n m : ℕ) (partitions : List Partition) (partition : Partition) → (m ≡ n → ⊥) → items_at m (set partitions n partition) ≡ items_at m partitions
+in_set_other n m [] partition other = refl
+in_set_other zero zero (first ∷ others) partition other = absurd (other refl)
+in_set_other zero (suc m) (first ∷ others) partition other = refl
+in_set_other (suc n) zero (first ∷ others) partition other = refl
+in_set_other (suc n) (suc m) (first ∷ others) partition other = in_set_other n m others partition (λ same. other (omega (arith, same)))
 
 -- its entries
-pub levels_of_at : (pool : List Entry) (n : ℕ) (parts : List Part) → held_at n (parts_at pool parts) ≡ levels_at pool (items_at n parts)
+pub levels_of_at : (pool : List Entry) (n : ℕ) (partitions : List Partition) → held_at n (partitions_at pool partitions) ≡ levels_at pool (items_at n partitions)
 levels_of_at pool n [] = refl
-levels_of_at pool zero (part ∷ others) = refl
-levels_of_at pool (suc n) (part ∷ others) = levels_of_at pool n others
+levels_of_at pool zero (partition ∷ others) = refl
+levels_of_at pool (suc n) (partition ∷ others) = levels_of_at pool n others
 
--- items are of a pool where those of each part are
-pub in_pool_if : (rule : Entry → ℕ) (pool : List Entry) (parts : List Part) → ((n : ℕ) → n < length parts → AreAllItems rule pool (items_at n parts)) → AreInPool rule pool parts
-in_pool_if rule pool parts each = λ k d inside. subst (AreAllItems rule pool) (in_at k parts d inside) (each k inside)
+-- items are of a pool where those of each partition are
+pub in_pool_if : (rule : Entry → ℕ) (pool : List Entry) (partitions : List Partition) → ((n : ℕ) → n < length partitions → AreAllItems rule pool (items_at n partitions)) → AreInPool rule pool partitions
+in_pool_if rule pool partitions each = λ k d inside. subst (AreAllItems rule pool) (in_at k partitions d inside) (each k inside)
 
 module _ (a b : Pool) (grown : HasGrown a b) where
   pub entry_grown : (place : ℕ) → place < length a.entries.items → entry_at b.entries.items place ≡ entry_at a.entries.items place
@@ -58,15 +58,15 @@ module _ (a b : Pool) (grown : HasGrown a b) where
         signed = is.signed ∙ (ap (signature_by a.scales) (sym (entry_grown x.place is.within)) ∙ ap (λ scales. signature_by scales (entry_at b.entries.items x.place)) (sym grown.scales));
       }
 
-  -- items of a pool, their levels and their parts are items of a longer pool
+  -- items of a pool, their levels and their partitions are items of a longer pool
   pub items_grown : (items : List Item) → AreItems (signature_by a.scales) a.entries.items items → AreItems (signature_by b.scales) b.entries.items items
   items_grown items are = λ k d inside. item_grown (get_or items k d) (are k d inside)
 
   pub all_items_grown : (levels : List (Vec Item Global)) → AreAllItems (signature_by a.scales) a.entries.items levels → AreAllItems (signature_by b.scales) b.entries.items levels
   all_items_grown levels are = λ k d inside. items_grown (get_or levels k d).items (are k d inside)
 
-  pub in_pool_grown : (parts : List (Vec (Vec Item Global) Global)) → AreInPool (signature_by a.scales) a.entries.items parts → AreInPool (signature_by b.scales) b.entries.items parts
-  in_pool_grown parts are = λ k d inside. all_items_grown (get_or parts k d).items (are k d inside)
+  pub in_pool_grown : (partitions : List (Vec (Vec Item Global) Global)) → AreInPool (signature_by a.scales) a.entries.items partitions → AreInPool (signature_by b.scales) b.entries.items partitions
+  in_pool_grown partitions are = λ k d inside. all_items_grown (get_or partitions k d).items (are k d inside)
 
   -- and their entries are the same there
   pub entries_grown : (items : List Item) → AreItems (signature_by a.scales) a.entries.items items → entries_at b.entries.items items ≡ entries_at a.entries.items items
@@ -79,10 +79,10 @@ module _ (a b : Pool) (grown : HasGrown a b) where
       map_agree_among (λ (level : Vec Item Global). entries_at b.entries.items level.items) (λ (level : Vec Item Global). entries_at a.entries.items level.items) levels
       (λ v m. entries_grown v.items (all_among (λ (level : Vec Item Global). AreItems (signature_by a.scales) a.entries.items level.items) levels are v m))
 
-  pub parts_grown : (parts : List (Vec (Vec Item Global) Global)) → AreInPool (signature_by a.scales) a.entries.items parts → parts_at b.entries.items parts ≡ parts_at a.entries.items parts
-  parts_grown parts are =
-      map_agree_among (λ (part : Vec (Vec Item Global) Global). levels_at b.entries.items part.items) (λ (part : Vec (Vec Item Global) Global). levels_at a.entries.items part.items) parts
-      (λ v m. levels_grown v.items (all_among (λ (part : Vec (Vec Item Global) Global). AreAllItems (signature_by a.scales) a.entries.items part.items) parts are v m))
+  pub partitions_grown : (partitions : List (Vec (Vec Item Global) Global)) → AreInPool (signature_by a.scales) a.entries.items partitions → partitions_at b.entries.items partitions ≡ partitions_at a.entries.items partitions
+  partitions_grown partitions are =
+      map_agree_among (λ (partition : Vec (Vec Item Global) Global). levels_at b.entries.items partition.items) (λ (partition : Vec (Vec Item Global) Global). levels_at a.entries.items partition.items) partitions
+      (λ v m. levels_grown v.items (all_among (λ (partition : Vec (Vec Item Global) Global). AreAllItems (signature_by a.scales) a.entries.items partition.items) partitions are v m))
 
   pub grown_then : (c : Pool) → HasGrown b c → HasGrown a c
   grown_then c more =
@@ -134,8 +134,8 @@ entries_held pool (suc n) (level ∷ behind) = entries_held pool n behind
 level_here : (pool : List Entry) (levels : List (Vec Item Global)) (k : ℕ) (level : Vec Item Global) → k < length levels → level ≡ get_or levels k level → held_at k (levels_at pool levels) ≡ entries_at pool level.items
 level_here pool levels k level inside is = sym (entries_held pool k levels) ∙ ap (entries_at pool) (in_here k levels level inside is)
 
-pub part_here : (pool : List Entry) (parts : List Part) (k : ℕ) (part : Part) → k < length parts → part ≡ get_or parts k part → held_at k (parts_at pool parts) ≡ levels_at pool part.items
-part_here pool parts k part inside is = levels_of_at pool k parts ∙ ap (levels_at pool) (in_here k parts part inside is)
+pub partition_here : (pool : List Entry) (partitions : List Partition) (k : ℕ) (partition : Partition) → k < length partitions → partition ≡ get_or partitions k partition → held_at k (partitions_at pool partitions) ≡ levels_at pool partition.items
+partition_here pool partitions k partition inside is = levels_of_at pool k partitions ∙ ap (levels_at pool) (in_here k partitions partition inside is)
 
 -- what one of a level dominates is below it
 pub behind_level : (over : Entry → Entry → Bool) (pool : List Entry) (levels : List (Vec Item Global)) (k n : ℕ) (level : Vec Item Global) (e : Entry) → k < length levels → n ≡ suc k → level ≡ get_or levels k level
@@ -144,14 +144,14 @@ behind_level over pool levels k n level e inside next is beaten =
     λ j above. let same : j ≡ k = omega (arith, above, next) in
     subst (λ m. is_beaten over (held_at m (levels_at pool levels)) e ≡ true) (sym same) (ap (λ l. is_beaten over l e) (level_here pool levels k level inside is) ∙ beaten)
 
--- parts that hold nothing
-pub none_held : (pool : List Entry) (parts : List (Vec (Vec Item Global) Global)) → All (λ (part : Vec (Vec Item Global) Global). part.items ≡ []) parts → (n : ℕ) → held_at n (parts_at pool parts) ≡ []
+-- partitions that hold nothing
+pub none_held : (pool : List Entry) (partitions : List (Vec (Vec Item Global) Global)) → All (λ (partition : Vec (Vec Item Global) Global). partition.items ≡ []) partitions → (n : ℕ) → held_at n (partitions_at pool partitions) ≡ []
 none_held pool [] none n = refl
-none_held pool (part ∷ others) none zero = ap (levels_at pool) (none 0 part (omega arith))
-none_held pool (part ∷ others) none (suc n) = none_held pool others (λ k d inside. none (suc k) d (omega (arith, inside))) n
+none_held pool (partition ∷ others) none zero = ap (levels_at pool) (none 0 partition (omega arith))
+none_held pool (partition ∷ others) none (suc n) = none_held pool others (λ k d inside. none (suc k) d (omega (arith, inside))) n
 
-pub none_in_pool : (rule : Entry → ℕ) (pool : List Entry) (parts : List (Vec (Vec Item Global) Global)) → All (λ (part : Vec (Vec Item Global) Global). part.items ≡ []) parts → AreInPool rule pool parts
-none_in_pool rule pool parts none = λ k d inside. subst (AreAllItems rule pool) (sym (none k d inside)) (λ j level there. absurd (omega (arith, there)))
+pub none_in_pool : (rule : Entry → ℕ) (pool : List Entry) (partitions : List (Vec (Vec Item Global) Global)) → All (λ (partition : Vec (Vec Item Global) Global). partition.items ≡ []) partitions → AreInPool rule pool partitions
+none_in_pool rule pool partitions none = λ k d inside. subst (AreAllItems rule pool) (sym (none k d inside)) (λ j level there. absurd (omega (arith, there)))
 
 -- ---- one after the other is signed
 

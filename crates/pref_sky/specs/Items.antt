@@ -43,7 +43,7 @@ pub record IsItem (rule : Entry → ℕ) (pool : List Entry) (item : Item) : Typ
 abbrev pub AreItems : (Entry → ℕ) → List Entry → List Item → Type 0
 AreItems rule pool items = All (IsItem rule pool) items
 
--- the same of levels, and of parts
+-- the same of levels, and of partitions
 abbrev pub AreAllItems : (Entry → ℕ) → List Entry → List (Vec Item Global) → Type 0
 AreAllItems rule pool levels = All (λ (level : Vec Item Global). AreItems rule pool level.items) levels
 
@@ -51,12 +51,12 @@ abbrev pub levels_at : List Entry → List (Vec Item Global) → List (List Entr
 levels_at pool levels = map (λ (level : Vec Item Global). entries_at pool level.items) levels
 
 abbrev pub AreInPool : (Entry → ℕ) → List Entry → List (Vec (Vec Item Global) Global) → Type 0
-AreInPool rule pool parts = All (λ (part : Vec (Vec Item Global) Global). AreAllItems rule pool part.items) parts
+AreInPool rule pool partitions = All (λ (partition : Vec (Vec Item Global) Global). AreAllItems rule pool partition.items) partitions
 
-abbrev pub parts_at : List Entry → List (Vec (Vec Item Global) Global) → List (List (List Entry))
-parts_at pool parts = map (λ (part : Vec (Vec Item Global) Global). levels_at pool part.items) parts
+abbrev pub partitions_at : List Entry → List (Vec (Vec Item Global) Global) → List (List (List Entry))
+partitions_at pool partitions = map (λ (partition : Vec (Vec Item Global) Global). levels_at pool partition.items) partitions
 
--- the items of the level behind the first n, and as well the levels of a part: none where there is no such one
+-- the items of the level behind the first n, and as well the levels of a partition: none where there is no such one
 abbrev pub items_at : {E : Type 0} → ℕ → List (Vec E Global) → List E
 items_at n [] = []
 items_at zero (first ∷ behind) = first.items

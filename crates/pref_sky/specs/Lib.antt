@@ -8,7 +8,7 @@ pub mod Windows
 pub mod Answers
 pub mod Items
 pub mod Passes
-pub mod Made
+pub mod Additions
 pub mod ChainOrders
 pub mod Partials
 pub mod PartialForms

@@ -1,5 +1,5 @@
 -- No public contract cites this.
--- Levels as lists of their entries, what an addition makes of them, and the parts in which a partial result holds its levels where rows are compared within groups alone: a group is in one part.
+-- Levels as lists of their entries, what an addition makes of them, and the partitions in which a partial result holds its levels where rows are compared within groups alone: a group is in one partition.
 use Rattle.std.specs.Prelude.{◌≡◌, ◌≤◌, ◌+◌, ◌⊎◌, ℕ, zero, suc, List, [], ◌∷◌, ◌++◌, Bool, true, length, map, count_by, take, drop, ◌/◌, ◌^◌, ◌==◌, ℤ, max}
 use Rattle.pref_sky.specs.declared.entry.Entry.{Entry}
 use Rattle.pref_sky.specs.declared.entry.Ranked.{Ranked}
@@ -14,7 +14,7 @@ abbrev pub ranked_from : ℕ → List (List Entry) → List Ranked
 ranked_from n [] = []
 ranked_from n (level ∷ behind) = map (at_level n) (in_order_of_id level) ++ ranked_from (suc n) behind
 
--- the level behind the first n, and as well the levels of a part: none where there is no such one
+-- the level behind the first n, and as well the levels of a partition: none where there is no such one
 abbrev pub held_at : {E : Type 0} → ℕ → List (List E) → List E
 held_at n [] = []
 held_at zero (first ∷ behind) = first
@@ -44,38 +44,38 @@ abbrev pub mixed_onto : ℕ → List ℕ → List ℤ → ℕ
 mixed_onto word [] row = word
 mixed_onto word (col ∷ columns) row = mixed_onto (hash_with word (cell row col)) columns row
 
--- the number of the part that holds an entry: its cells in these columns, mixed, tell it
+-- the number of the partition that holds an entry: its cells in these columns, mixed, tell it
 abbrev pub partition_of : List ℕ → Entry → ℕ
 partition_of columns e = mixed_onto 0 columns e.row / 2 ^ 54
 
--- how many parts there are: one where no columns tell them apart
+-- how many partitions there are: one where no columns tell them apart
 abbrev pub partitions_by : List ℕ → ℕ
 partitions_by [] = 1
 partitions_by (col ∷ columns) = 1024
 
--- is in the part of this number
+-- is in the partition of this number
 abbrev pub is_in : (Entry → ℕ) → ℕ → Entry → Bool
-is_in number part e = number e == part
+is_in number partition e = number e == partition
 
--- the entries at the level behind the first n, of all parts
+-- the entries at the level behind the first n, of all partitions
 abbrev pub all_at : List (List (List Entry)) → ℕ → List Entry
 all_at [] n = []
-all_at (part ∷ others) n = held_at n part ++ all_at others n
+all_at (partition ∷ others) n = held_at n partition ++ all_at others n
 
--- how many levels the deepest part has
+-- how many levels the deepest partition has
 abbrev pub depth : List (List (List Entry)) → ℕ
 depth [] = 0
-depth (part ∷ others) = max (length part) (depth others)
+depth (partition ∷ others) = max (length partition) (depth others)
 
 -- the entries of n levels, each level in order of id
 abbrev pub ranked_upto : (ℕ → List Entry) → ℕ → List Ranked
 ranked_upto level zero = []
 ranked_upto level (suc n) = ranked_upto level n ++ map (at_level (suc n)) (in_order_of_id (level n))
 
--- the entries of all parts, in order of level, then id
-abbrev pub ranked_parts : List (List (List Entry)) → List Ranked
-ranked_parts parts = ranked_upto (all_at parts) (depth parts)
+-- the entries of all partitions, in order of level, then id
+abbrev pub ranked_partitions : List (List (List Entry)) → List Ranked
+ranked_partitions partitions = ranked_upto (all_at partitions) (depth partitions)
 
--- each entry is in its part
+-- each entry is in its partition
 abbrev pub ArePartitionedBy : (Entry → ℕ) → List (List (List Entry)) → Type 0
-ArePartitionedBy number parts = (part : ℕ) (r : Ranked) → Among r (ranked_from 1 (held_at part parts)) → number (entry_of r) ≡ part
+ArePartitionedBy number partitions = (partition : ℕ) (r : Ranked) → Among r (ranked_from 1 (held_at partition partitions)) → number (entry_of r) ≡ partition

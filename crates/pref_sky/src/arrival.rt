@@ -1,7 +1,7 @@
 //! New entries of partitions: each in its partition, with the levels that it is seen to be below.
 
 ghost use Rattle.std.specs.Prelude.{◌≡◌, ◌≤◌, ◌<◌, All, length, IfOk};
-ghost use Rattle.pref_sky.specs.Made.{HaveArrived};
+ghost use Rattle.pref_sky.specs.Additions.{HaveArrived};
 ghost use Rattle.pref_sky.specs.Items.{AreAllItems, AreInPool, HasGrown, levels_at, signature_by};
 ghost use Rattle.pref_sky.specs.Levels.{entry_order};
 ghost use Rattle.pref_sky.specs.Partials.{IsBehind, partition_of, partitions_by};
@@ -16,7 +16,7 @@ use std::alloc::{AllocError, Global};
 /// A new entry: its partition, how many levels there it is seen to be below, and its item.
 #[derive(Clone, Copy)]
 pub(crate) struct Arrival {
-    pub(crate) part: usize,
+    pub(crate) partition: usize,
     pub(crate) start: usize,
     pub(crate) item: Item,
 }
@@ -76,25 +76,29 @@ pub(crate) fn arrivals_of<D: Dominance>(
     cut: u32,
     columns: &[usize],
     pool: &mut Pool,
-    parts: &[Vec<Vec<Item>>],
+    partitions: &[Vec<Vec<Item>>],
     entries: &[Entry],
 ) -> Result<Vec<Arrival>, AllocError>
     requires columns { All (λ col. col < 16) columns.now }
-    requires long { length parts.now ≡ partitions_by columns.now }
-    requires items { AreInPool (signature_by pool.old.scales) pool.old.entries.items parts.now }
+    requires long { length partitions.now ≡ partitions_by columns.now }
+    requires items { AreInPool (signature_by pool.old.scales) pool.old.entries.items partitions.now }
     ensures grown { HasGrown pool.old pool.new }
-    ensures arrivals { IfOk result (λ arrivals. HaveArrived (entry_order (D.order dominance.now)) (signature_by pool.new.scales) cut columns.now pool.new.entries.items parts.now entries.now arrivals.items) }
+    ensures arrivals { IfOk result (λ arrivals. HaveArrived (entry_order (D.order dominance.now)) (signature_by pool.new.scales) cut columns.now pool.new.entries.items partitions.now entries.now arrivals.items) }
 {
     let mut arrivals = Vec::new(alloc);
     for entry in entries {
-        let part = partition_of(columns, entry);
+        let partition = partition_of(columns, entry);
         let signature = signature_of(&pool.scales, entry);
-        let start = start_of(dominance, pool, &parts[part], entry, signature);
+        let start = start_of(dominance, pool, &partitions[partition], entry, signature);
         if start < cut as usize {
             let item = pool.push(entry, signature)?;
-            arrivals.push(Arrival { part, start, item })?;
+            arrivals.push(Arrival {
+                partition,
+                start,
+                item,
+            })?;
         }
     }
-    arrivals.sort_unstable_by_key(|arrival| (arrival.part, arrival.start));
+    arrivals.sort_unstable_by_key(|arrival| (arrival.partition, arrival.start));
     Ok(arrivals)
 }

@@ -16,7 +16,7 @@
 //! were.
 
 ghost use Rattle.std.specs.Prelude.{◌≡◌, ◌≤◌, ◌<◌, ◌++◌, ℕ, List, All, length, map, max, take, drop, vec_len, IfOk, OnOk};
-ghost use Rattle.pref_sky.specs.Made.{AreInOrderOfStart, AreLevelsMade, Fits, StartsAt, new_levels};
+ghost use Rattle.pref_sky.specs.Additions.{AreInOrderOfStart, AreLevelsMade, Fits, StartsAt, new_levels};
 ghost use Rattle.pref_sky.specs.Items.{AreAllItems, items_at, levels_at, signature_by};
 ghost use Rattle.pref_sky.specs.Levels.{entry_order};
 ghost use Rattle.pref_sky.specs.Partials.{replaced};
@@ -35,7 +35,7 @@ use std::alloc::{AllocError, Global};
 /// levels that stay as they are.
 #[derive(Drop)]
 pub(crate) struct Made {
-    pub(crate) part: usize,
+    pub(crate) partition: usize,
     pub(crate) first: usize,
     pub(crate) levels: Vec<Vec<Item>>,
 }
@@ -95,7 +95,7 @@ pub(crate) fn made_of<D: Dominance>(
     window: usize,
     cut: u32,
     pool: &Pool,
-    part: usize,
+    partition: usize,
     levels: &[Vec<Item>],
     arrivals: &[Arrival],
 ) -> Result<Made, AllocError>
@@ -105,7 +105,7 @@ pub(crate) fn made_of<D: Dominance>(
     requires start { All (StartsAt (entry_order (D.order dominance.now)) (signature_by pool.now.scales) pool.now.entries.items (levels_at pool.now.entries.items levels.now)) arrivals.now }
     requires in_order { AreInOrderOfStart arrivals.now }
     requires some { 0 < length arrivals.now }
-    ensures part { IfOk result (λ made. made.part ≡ part) }
+    ensures partition { IfOk result (λ made. made.partition ≡ partition) }
     ensures made { IfOk result (λ made. AreLevelsMade (entry_order (D.order dominance.now)) cut (signature_by pool.now.scales) pool.now.entries.items levels.now arrivals.now made) }
 {
     let first = arrivals[0].start;
@@ -123,7 +123,7 @@ pub(crate) fn made_of<D: Dominance>(
         down = found.rest;
     }
     Ok(Made {
-        part,
+        partition,
         first,
         levels: made,
     })
@@ -135,7 +135,7 @@ pub(crate) fn put(levels: &mut Vec<Vec<Item>>, made: Made)
     ensures { levels.new.items ≡ replaced made.first (new_levels made) levels.old.items }
 {
     let Made {
-        part: _,
+        partition: _,
         first,
         levels: mut new,
     } = made;

@@ -3,7 +3,7 @@
 ghost use Rattle.std.specs.Prelude.{◌≡◌, ◌<◌, ◌++◌, ◌^◌, [], ℕ, Bool, List, length, map, IfOk, IfSome, OnErr, OnOk};
 ghost use Rattle.pref_sky.specs.PartialForms.{ranked_held};
 ghost use Rattle.pref_sky.specs.Levels.{HaveDifferentIds, entry_of, entry_order, levels};
-ghost use Rattle.pref_sky.specs.Partials.{ranked_from, ranked_parts};
+ghost use Rattle.pref_sky.specs.Partials.{ranked_from, ranked_partitions};
 ghost use Rattle.pref_sky.specs.declared.entry.Entry.{Entry};
 
 use crate::chain_order::ChainOrder;
@@ -74,8 +74,8 @@ fn hold_first<D: Dominance>(
         let sorted = SortedEntries::of(alloc, order, entries)?;
         return Ok(Held::Sorted(sorted));
     }
-    let parts = Partitions::of(alloc, dominance, window, cut, entries)?;
-    Ok(Held::Partitioned(parts))
+    let partitions = Partitions::of(alloc, dominance, window, cut, entries)?;
+    Ok(Held::Partitioned(partitions))
 }
 
 /// What is held where an addition is by an order or a cut that does not go with what was held: the entries of its levels and the new
@@ -123,7 +123,7 @@ impl Partial {
         match &self.held {
             Held::Nothing => Ok(Vec::new(alloc)),
             Held::Sorted(sorted) => sorted.ranked(alloc),
-            Held::Partitioned(parts) => parts.ranked(alloc),
+            Held::Partitioned(partitions) => partitions.ranked(alloc),
         }
     }
 
@@ -179,11 +179,11 @@ impl Partial {
                 self.held = hold_anew(alloc, dominance, window, cut, &ranked, entries)?;
                 Ok(())
             }
-            Held::Partitioned(parts) => {
-                if parts.columns.as_slice() == dominance.groups() {
-                    return parts.add(alloc, dominance, window, cut, entries);
+            Held::Partitioned(partitions) => {
+                if partitions.columns.as_slice() == dominance.groups() {
+                    return partitions.add(alloc, dominance, window, cut, entries);
                 }
-                let ranked = parts.ranked(alloc)?;
+                let ranked = partitions.ranked(alloc)?;
                 self.held = hold_anew(alloc, dominance, window, cut, &ranked, entries)?;
                 Ok(())
             }

@@ -13,7 +13,7 @@
 
 ghost use Rattle.std.specs.Prelude.{◌≡◌, ◌++◌, ◌∷◌, [], true, ℕ, length, vec_len, IfOk};
 ghost use Rattle.pref_sky.specs.Best.{is_beaten};
-ghost use Rattle.pref_sky.specs.Items.{AreAllItems, AreInPool, AreItems, HasGrown, IsItem, entries_at, levels_at, parts_at, signature_by};
+ghost use Rattle.pref_sky.specs.Items.{AreAllItems, AreInPool, AreItems, HasGrown, IsItem, entries_at, levels_at, partitions_at, signature_by};
 ghost use Rattle.pref_sky.specs.Levels.{entry_order};
 ghost use Rattle.pref_sky.specs.declared.entry.Entry.{Entry};
 ghost use Rattle.pref_term.specs.Signatures.{Suit};
@@ -201,13 +201,13 @@ impl Pool {
     }
 
     /// Signs the items of partitions by the scales, where they stand. Takes no memory.
-    pub(crate) fn sign_parts(&self, parts: &mut Vec<Vec<Vec<Item>>>)
-        requires { (rule : Entry → ℕ) × AreInPool rule self.now.entries.items parts.old.items }
-        ensures long { vec_len parts.new ≡ vec_len parts.old }
-        ensures signed { AreInPool (signature_by self.now.scales) self.now.entries.items parts.new.items × (parts_at self.now.entries.items parts.new.items ≡ parts_at self.now.entries.items parts.old.items) }
+    pub(crate) fn sign_partitions(&self, partitions: &mut Vec<Vec<Vec<Item>>>)
+        requires { (rule : Entry → ℕ) × AreInPool rule self.now.entries.items partitions.old.items }
+        ensures long { vec_len partitions.new ≡ vec_len partitions.old }
+        ensures signed { AreInPool (signature_by self.now.scales) self.now.entries.items partitions.new.items × (partitions_at self.now.entries.items partitions.new.items ≡ partitions_at self.now.entries.items partitions.old.items) }
     {
-        for place in 0..parts.len() {
-            self.sign_levels(&mut parts[place]);
+        for place in 0..partitions.len() {
+            self.sign_levels(&mut partitions[place]);
         }
     }
 }
@@ -253,20 +253,20 @@ fn take_levels(
 }
 
 /// Puts the entries of the items of partitions behind those of another pool, and signs them by its scales. Gives the partitions of their items there.
-pub(crate) fn take_parts(
+pub(crate) fn take_partitions(
     alloc: Global,
     pool: &mut Pool,
     entries: &[Entry],
-    parts: &[Vec<Vec<Item>>],
+    partitions: &[Vec<Vec<Item>>],
 ) -> Result<Vec<Vec<Vec<Item>>>, AllocError>
-    requires { (rule : Entry → ℕ) × AreInPool rule entries.now parts.now }
+    requires { (rule : Entry → ℕ) × AreInPool rule entries.now partitions.now }
     ensures grown { HasGrown pool.old pool.new }
-    ensures taken { IfOk result (λ taken. AreInPool (signature_by pool.new.scales) pool.new.entries.items taken.items × (parts_at pool.new.entries.items taken.items ≡ parts_at entries.now parts.now)
-        × (length taken.items ≡ length parts.now)) }
+    ensures taken { IfOk result (λ taken. AreInPool (signature_by pool.new.scales) pool.new.entries.items taken.items × (partitions_at pool.new.entries.items taken.items ≡ partitions_at entries.now partitions.now)
+        × (length taken.items ≡ length partitions.now)) }
 {
-    let mut taken = Vec::with_capacity(alloc, parts.len())?;
-    for part in parts {
-        let levels = take_levels(alloc, pool, entries, part)?;
+    let mut taken = Vec::with_capacity(alloc, partitions.len())?;
+    for partition in partitions {
+        let levels = take_levels(alloc, pool, entries, partition)?;
         taken.push(levels)?;
     }
     Ok(taken)

@@ -6,7 +6,7 @@ use Rattle.pref_sky.proofs.making.made_of.Goals.{then-each_level-test+else-not-i
 use Rattle.pref_sky.proofs.making.made_of.Goals as goal
 
 abbrev none : Arrival
-none = record { part = 0; start = 0; item = record { signature = 0; place = 0 } }
+none = record { partition = 0; start = 0; item = record { signature = 0; place = 0 } }
 
 pub each_level-init : goal.each_level-init
 each_level-init g c =

@@ -4,7 +4,7 @@ use Rattle.pref_sky.proofs.partitions.count_coming.Given as goal
 abbrev pub invariant-front : goal.invariant-front
 invariant-front l = record {
   within : l.count ≤ length l.arrivals;
-  here : All (λ a. a.part ≡ l.part) (take l.count l.arrivals);
+  here : All (λ a. a.partition ≡ l.partition) (take l.count l.arrivals);
 }
 
 abbrev pub decreases-front : goal.decreases-front

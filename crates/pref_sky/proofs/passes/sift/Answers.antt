@@ -1,4 +1,4 @@
-use Rattle.pref_sky.proofs.Common.{◌≡◌, ◌∙◌, ◌<◌, ◌+◌, ◌/◌, true, length, sym, ap, subst, arith, vec_len, swap_remove, get_or_default, IsPermutation-swap, is_better, is_worse, is_same}
+use Rattle.pref_sky.proofs.Common.{◌≡◌, ◌∙◌, ◌<◌, ◌/◌, true, length, sym, ap, subst, arith, vec_len, get_or_default, IsPermutation-swap, is_better, is_worse, is_same}
 use Rattle.pref_sky.proofs.Common.{Item, item_order, Among, Sifted, false}
 use Rattle.std.proofs.lemmas.List.Elements.{AllWithin-more, at_read}
 use Rattle.pref_sky.proofs.ListLaws.{all_among, among_if, is_item, some_of, among_place, any_from, same_if_permuted}

@@ -1,5 +1,5 @@
-use Rattle.pref_sky.proofs.Common.{ℕ, ◌<◌, ◌≤◌, ◌-◌, ◌^◌, Vec, Global, sym, ◌∙◌, ap, subst, arith, StaysWithin, AreComing, parts_at, entry_order, depth, signature_by}
-use Rattle.pref_sky.proofs.AddedParts.{added_differ, added_levels, added_parted, depth_after, in_pool_after, parts_fit, to_coming}
+use Rattle.pref_sky.proofs.Common.{ℕ, ◌<◌, ◌≤◌, ◌-◌, ◌^◌, Vec, Global, sym, ◌∙◌, ap, subst, arith, StaysWithin, AreComing, partitions_at, entry_order, depth, signature_by}
+use Rattle.pref_sky.proofs.AddedPartitions.{added_differ, added_levels, added_parted, depth_after, in_pool_after, partitions_fit, to_coming}
 use Rattle.pref_sky.proofs.Merges.{entry_order_is_strict}
 use Rattle.pref_sky.proofs.PartitionsLaws.{is_within}
 use Rattle.pref_sky.proofs.partitions.Partitions.add.Goals as goal
@@ -7,10 +7,10 @@ use Rattle.pref_sky.proofs.partitions.Partitions.add.Goals as goal
 pub made-requires-clause-coming : goal.made-requires-clause-coming
 made-requires-clause-coming g c =
     let s = c.admit.new.self in
-    subst (AreComing (entry_order (g.D.Dominance.order c.args.dominance.now)) (signature_by s.pool.scales) s.pool.entries.items s.parts.items) (sym c.deref.ensures.value) (to_coming c.in_ok-arrivals.ensures.arrivals.1 s.long)
+    subst (AreComing (entry_order (g.D.Dominance.order c.args.dominance.now)) (signature_by s.pool.scales) s.pool.entries.items s.partitions.items) (sym c.deref.ensures.value) (to_coming c.in_ok-arrivals.ensures.arrivals.1 s.long)
 
 pub put_all-requires : goal.put_all-requires
-put_all-requires g c = parts_fit c.in_ok-all.ensures
+put_all-requires g c = partitions_fit c.in_ok-all.ensures
 
 pub invariant_of-self : goal.invariant_of-self
 invariant_of-self g c =
@@ -20,7 +20,7 @@ invariant_of-self g c =
     let put = c.put_all.ensures in
     let same = c.admit.ensures.same.1 in
     let fits : c.args.cut < 2 ^ 32 = c.ranges.cut.fits in
-    let shallow : depth (parts_at s.pool.entries.items c.put_all.new.parts.items) ≤ 2 ^ 32 - 1 = depth_after are put (2 ^ 32 - 1) (omega (arith, fits)) (omega (arith, s.shallow)) in
+    let shallow : depth (partitions_at s.pool.entries.items c.put_all.new.partitions.items) ≤ 2 ^ 32 - 1 = depth_after are put (2 ^ 32 - 1) (omega (arith, fits)) (omega (arith, s.shallow)) in
     record {
       within = s.within;
       long = put.long ∙ s.long;

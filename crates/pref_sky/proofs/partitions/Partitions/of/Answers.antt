@@ -8,10 +8,10 @@ each_piece-init g c =
     let order = g.D.Dominance.order c.args.dominance.now in
     record {
       some = omega arith;
-      groups = subst (StaysWithin order) (sym c.in_ok-parts.ensures.columns) c.groups.ensures;
+      groups = subst (StaysWithin order) (sym c.in_ok-held.ensures.columns) c.groups.ensures;
       done = [];
       whole = refl;
-      holds = c.in_ok-parts.ensures.nothing ∙ levels_of_none (entry_order order) c.args.cut;
+      holds = c.in_ok-held.ensures.nothing ∙ levels_of_none (entry_order order) c.args.cut;
     }
 
 pub add-requires-clause-ids : goal.add-requires-clause-ids

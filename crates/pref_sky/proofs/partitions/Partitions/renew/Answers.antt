@@ -1,8 +1,8 @@
 use Rattle.pref_sky.proofs.Common.{sym, subst, AreInPool, signature_by}
 use Rattle.pref_sky.proofs.partitions.Partitions.renew.Goals as goal
 
-pub take_parts-requires : goal.take_parts-requires
-take_parts-requires g c =
+pub take_partitions-requires : goal.take_partitions-requires
+take_partitions-requires g c =
     let was = c.args.self.now in
     let rule = signature_by was.pool.scales in
     (rule, subst (λ l. AreInPool rule l c.deref-then-is_sparse-2.result.now) (sym c.deref-then-is_sparse.ensures.value) (subst (AreInPool rule was.pool.entries.items) (sym c.deref-then-is_sparse-2.ensures.value) was.items))

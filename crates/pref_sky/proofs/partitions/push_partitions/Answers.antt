@@ -1,30 +1,30 @@
 use Rattle.pref_sky.proofs.Common.{◌≡◌, ◌∙◌, ◌+◌, ◌++◌, suc, List, Vec, Global, drop, map, sym, ap, subst, append_assoc, add-one, at_drop_more, map-append, Item, AreAllItems, AreItems, IsItem}
-use Rattle.pref_sky.proofs.Common.{entries_at, levels_at, parts_at, at_level, held_at, all_at}
+use Rattle.pref_sky.proofs.Common.{entries_at, levels_at, partitions_at, at_level, held_at, all_at}
 use Rattle.pref_sky.proofs.PoolLaws.{all_held, entries_held}
-use Rattle.pref_sky.proofs.partitions.push_parts.Goals as goal
+use Rattle.pref_sky.proofs.partitions.push_partitions.Goals as goal
 
 pub push_items-requires : goal.push_items-requires
 push_items-requires c =
     let rule = c.requires.items.0 in
     let pool = c.args.pool.now in
-    let part : Vec (Vec Item Global) Global = c.levels-item.result in
-    let all : AreAllItems rule pool part.items =
-    subst (λ (p : Vec (Vec Item Global) Global). AreAllItems rule pool p.items) (sym c.levels-item.is) (c.requires.items.1 c.loop-levels.levels-index part c.loop-levels-test.true) in
+    let partition : Vec (Vec Item Global) Global = c.levels-item.result in
+    let all : AreAllItems rule pool partition.items =
+    subst (λ (p : Vec (Vec Item Global) Global). AreAllItems rule pool p.items) (sym c.levels-item.is) (c.requires.items.1 c.loop-levels.levels-index partition c.loop-levels-test.true) in
     (rule, subst (AreItems rule pool) (sym c.level_at.ensures) (all_held (IsItem rule pool) c.deref.result.now (subst (AreAllItems rule pool) (sym c.deref.ensures.value) all) c.args.place))
 
 pub loop-levels-preserved : goal.loop-levels-preserved
 loop-levels-preserved c =
     let pool = c.args.pool.now in
-    let parts = c.args.parts.now in
+    let partitions = c.args.partitions.now in
     let place = c.args.place in
     let i = c.loop-levels.levels-index in
-    let part : Vec (Vec Item Global) Global = c.levels-item.result in
+    let partition : Vec (Vec Item Global) Global = c.levels-item.result in
     let one = map (at_level (suc place)) in
     let found = c.loop-levels.ranked.items in
-    let here = held_at place (levels_at pool part.items) in
-    let later = all_at (parts_at pool (drop (i + 1) parts)) place in
-    let split : all_at (parts_at pool (drop i parts)) place ≡ here ++ later =
-    at_drop_more (λ (l : List (Vec (Vec Item Global) Global)). all_at (parts_at pool l) place) parts i part c.loop-levels-test.true
+    let here = held_at place (levels_at pool partition.items) in
+    let later = all_at (partitions_at pool (drop (i + 1) partitions)) place in
+    let split : all_at (partitions_at pool (drop i partitions)) place ≡ here ++ later =
+    at_drop_more (λ (l : List (Vec (Vec Item Global) Global)). all_at (partitions_at pool l) place) partitions i partition c.loop-levels-test.true
     ∙ ap (λ (p : Vec (Vec Item Global) Global). held_at place (levels_at pool p.items) ++ later) (sym c.levels-item.is) in
     let held : entries_at pool c.level_at.result.now ≡ here =
     ap (entries_at pool) c.level_at.ensures ∙ (entries_held pool place c.deref.result.now ∙ ap (λ l. held_at place (levels_at pool l)) c.deref.ensures.value) in

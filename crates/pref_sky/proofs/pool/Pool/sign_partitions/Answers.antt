@@ -1,14 +1,14 @@
 use Rattle.pref_sky.proofs.Common.{◌<◌, ℕ, Vec, Global, length, sym, subst, arith, Entry, Item, AreAllItems, signature_by}
 use Rattle.pref_sky.proofs.PoolLaws.{signed_more}
-use Rattle.pref_sky.proofs.pool.Pool.sign_parts.Goals as goal
+use Rattle.pref_sky.proofs.pool.Pool.sign_partitions.Goals as goal
 
 pub sign_levels-requires : goal.sign_levels-requires
 sign_levels-requires c =
-    let inside : c.loop-place.place < length c.loop-place.parts.items = omega (arith, c.loop-place-test.true, c.len-place-end.ensures, c.args.parts.now.ok.0, c.loop-place.invariant.long) in
+    let inside : c.loop-place.place < length c.loop-place.partitions.items = omega (arith, c.loop-place-test.true, c.len-place-end.ensures, c.args.partitions.now.ok.0, c.loop-place.invariant.long) in
     subst (λ (v : Vec (Vec Item Global) Global). (rule : Entry → ℕ) × AreAllItems rule c.args.self.now.entries.items v.items) (sym c.index_mut.ensures.value) (c.loop-place.invariant.ready c.loop-place.place c.index_mut.result.now inside)
 
 pub loop-place-preserved : goal.loop-place-preserved
 loop-place-preserved c =
     let signed = c.sign_levels.ensures in
-    let inside : c.loop-place.place < length c.loop-place.parts.items = omega (arith, c.loop-place-test.true, c.len-place-end.ensures, c.args.parts.now.ok.0, c.loop-place.invariant.long) in
+    let inside : c.loop-place.place < length c.loop-place.partitions.items = omega (arith, c.loop-place-test.true, c.len-place-end.ensures, c.args.partitions.now.ok.0, c.loop-place.invariant.long) in
     signed_more c.loop-place.invariant inside c.index_mut.result.now c.sign_levels.new.levels c.index_mut.ensures.value signed.1 (signature_by c.args.self.now.scales, signed.0) signed.0
