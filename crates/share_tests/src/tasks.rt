@@ -1,56 +1,20 @@
 //! Tasks, whose acts come one by one and which take each reply, on a thread for each client.
 
-ghost use Rattle.std.specs.Prelude.{◌≡◌, ◌<◌, ◌^◌, length};
-ghost use Rattle.std.specs.Vec.Iter.{into_iter_items};
+ghost use Rattle.std.specs.Prelude.{◌≡◌};
 
 use crate::boards::Open;
+use crate::inserts::Inserts;
 use crate::same::assert_same;
-use pref_core::{Act, Reply, Setup};
-use pref_share::{BoardBrand, BoardName, ShareFault, Task, open_board, run_tasks};
+use pref_core::Setup;
+use pref_share::{BoardBrand, BoardName, ShareFault, open_board, run_tasks};
 use pref_table::Row;
-use std::alloc::{AllocError, Global};
+use std::alloc::Global;
 use std::marker::Brand;
 use std::process::Abort;
 use std::sync::Wait;
 use std::test::Fail;
 use std::thread::Threads;
-use std::vec::IntoIter;
 use test_runs::{row_of, rows_of, setup_of};
-
-/// Inserts rows, and keeps the ids that they get: 0 for a row that is refused.
-#[derive(Drop)]
-struct Inserts {
-    rows: IntoIter<Row>,
-    ids: Vec<u64>,
-    ghost few: { length (into_iter_items rows) < 2 ^ 63 },
-}
-
-impl Task for Inserts {
-    ghost use Rattle.std.specs.Prelude.{◌≡◌, ◌++◌, map};
-    ghost use Rattle.std.specs.Vec.Iter.{into_iter_items};
-    ghost use Rattle.pref_core.specs.declared.event.Act.TheVariants.{Insert};
-    ghost use Rattle.share_tests.specs.Tasks.{id_of};
-
-    ghost left = { λ task. map Insert (into_iter_items task.rows) };
-
-    ghost took = { λ first task replies. task.ids.items ≡ first.ids.items ++ map id_of replies };
-
-    fn next(&mut self, _alloc: Global) -> Result<Option<Act>, AllocError> {
-        match self.rows.next() {
-            Some(row) => Ok(Some(Act::Insert(row))),
-            None => Ok(None),
-        }
-    }
-
-    fn take(&mut self, reply: Reply) -> Result<(), AllocError> {
-        let id = match reply {
-            Reply::Inserted(id) => id,
-            _ => 0,
-        };
-        self.ids.push(id)?;
-        Ok(())
-    }
-}
 
 /// The tasks of all clients of a new board, each done on a thread of its own.
 fn done_on_a_new_board<J: BoardBrand + Send + Sync, R: Threads + Wait + Abort + Sync>(
