@@ -48,10 +48,10 @@ seat_other n s client other call apart = ap (seat client) (after_clients n s oth
     go None = refl
     go (Some found) = seat-with_seat_other s.clients client other (one_more s call found) apart
 
-abbrev calls_in : Option Client → Option ℕ
+abbrev pub calls_in : Option Client → Option ℕ
 calls_in o = elim o [ None ↦ None | Some found ↦ Some found.calls ]
 
-abbrev begun_in : Option Client → Option Snapshot
+abbrev pub begun_in : Option Client → Option Snapshot
 begun_in o = elim o [ None ↦ None | Some found ↦ found.at_begin ]
 
 pub calls_own : (n : ℕ) (s : State) (op : Op) → IsCaller s op → calls_of (after n s op.client op.call) op.client ≡ Some op.number

@@ -1,9 +1,9 @@
 -- The parts of all clients in a history, and the last act of each.
 use Rattle.pref_share.proofs.Common.{◌≡◌, ◌==◌, ℕ, suc, ◌<◌, ◌≤◌, cond, List, [], ◌∷◌, ◌++◌, length, Some, refl, sym, ap, ◌∙◌, subst, arith, ◌⊎◌, inl, inr, ⊎_elim, cases_eq, eq-eqb, ne_eqb}
-use Rattle.pref_share.proofs.Common.{length-append, IsPrefix, Op, Act, Reply, Opening, IsLegalFrom, calls_at, Standing, newcomer, StepsTo, Looks, Adds, Runs, none, then, RunsTo}
+use Rattle.pref_share.proofs.Common.{append-nil, length-append, IsPrefix, Op, Act, Reply, Opening, IsLegalFrom, calls_at, Standing, newcomer, StepsTo, Looks, Adds, Runs, none, then, RunsTo}
 use Rattle.std.proofs.lemmas.List.{same_from_push}
 use Rattle.pref_share.specs.SeenHistory.{IsIn}
-use Rattle.pref_share.proofs.PrefixLaws.{prefix_shorter, prefix_whole, prefix_length}
+use Rattle.pref_share.proofs.PrefixLaws.{prefix_shorter}
 use Rattle.pref_share.proofs.HistoryLaws.{legal-prefix}
 use Rattle.pref_share.proofs.LastCalls.{last_own, last_number, last_other, last_one_of, IsOneOf, grown_further, Counts, counts}
 
@@ -73,7 +73,8 @@ NoneLooks o history parts = (number : ℕ) → IsOneOf o number → LooksNoMore 
 
 -- whether a beginning of the history is all of it
 seen_all : (seen history : List Op) → IsPrefix seen history → (seen ≡ history) ⊎ (length seen < length history)
-seen_all seen history p = ⊎_elim (λ (e : length seen ≡ length history). inl (prefix_whole seen history p (omega (arith, e)))) (λ (apart : length seen ≡ length history → ⊥). inr (omega (arith, apart, prefix_length seen history p))) (cases_eq (length seen) (length history))
+seen_all seen history ([], is) = inl (sym (append-nil seen) ∙ is)
+seen_all seen history (op ∷ rest, is) = inr (omega (arith, ap length is, length-append seen (op ∷ rest)))
 
 -- the act, put behind the part, looks at the whole history
 abbrev pub LooksAt : Opening → List Op → Part → Act → Reply → Standing → Type 0

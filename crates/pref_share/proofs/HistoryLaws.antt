@@ -66,7 +66,7 @@ unplanned o ops store client call fault legal is plans =
 pub legal_capacity : (o : Opening) (ops : List Op) → length o.rows ≤ o.limits.capacity → length (contents_at o ops).slots ≡ o.limits.capacity
 legal_capacity o ops fits = length-ran ops (first_contents o) ∙ (opens o fits).1
 
-pub history_rest : (n : ℕ) (s : State) (xs ys : List Op) → IsLegalHistory n s (history_of (xs ++ ys)) → IsLegalHistory n (state_after n s (history_of xs)) (history_of ys)
+history_rest : (n : ℕ) (s : State) (xs ys : List Op) → IsLegalHistory n s (history_of (xs ++ ys)) → IsLegalHistory n (state_after n s (history_of xs)) (history_of ys)
 history_rest n s [] ys legal = legal
 history_rest n s (x ∷ xs) ys legal = history_rest n (after n s x.client x.call) xs ys legal.1
 
@@ -75,7 +75,11 @@ legal_is_history o ops legal =
     let opened = opens o legal.fits in
     subst (λ n. IsLegalHistory n (first_state o) (history_of ops)) opened.1 (ops_are_history (first_contents o) (first_state o) ops opened.0 legal.each).0
 
--- a beginning of a legal history is legal, and what follows is legal there
+-- what follows a beginning is a legal history there, ..
+pub rest_history : (o : Opening) (xs ys : List Op) → IsLegalFrom o (xs ++ ys) → IsLegalHistory o.limits.capacity (state_at o xs) (history_of ys)
+rest_history o xs ys legal = history_rest o.limits.capacity (first_state o) xs ys (legal_is_history o (xs ++ ys) legal)
+
+-- .. and the beginning is one
 pub legal-prefix : (o : Opening) (xs ys : List Op) → IsPrefix xs ys → IsLegalFrom o ys → IsLegalFrom o xs
 legal-prefix o xs ys p legal = record {
   allowed = legal.allowed;

@@ -1,9 +1,9 @@
 -- The last operation of a history: whose call it is, and what the others' counts are before it.
-use Rattle.pref_share.proofs.Common.{◌≡◌, ℕ, zero, suc, ◌<◌, ◌≤◌, List, [], ◌∷◌, ◌++◌, length, Option, Some, None, refl, sym, ap, ◌∙◌, subst, arith, inl, inr, ◌⊎◌, length-append, length-set}
-use Rattle.pref_share.proofs.Common.{slice_get_within, IsPrefix, Call, Op, Act, Reply, State, Client, seat, with_seat, after, calls_of, state_after, Opening, IsLegalFrom, history_of, first_state}
+use Rattle.pref_share.proofs.Common.{◌≡◌, ℕ, zero, suc, ◌<◌, ◌≤◌, List, [], ◌∷◌, ◌++◌, length, Some, refl, sym, ap, ◌∙◌, subst, arith, inl, inr, ◌⊎◌}
+use Rattle.pref_share.proofs.Common.{slice_get_within, IsPrefix, Op, Act, Reply, Client, seat, calls_of, Opening, IsLegalFrom, first_state}
 use Rattle.pref_share.proofs.Common.{state_at, calls_at, Standing, newcomer, Looks, Adds, Runs, none, then}
-use Rattle.pref_share.proofs.HistoryLaws.{history_rest, legal_is_history, legal-prefix, state_at-append}
-use Rattle.pref_share.proofs.CallCounts.{IsCaller, IsGrown, caller, calls_own, calls_grow, idle_seat, length-after, length-idle, seat_other}
+use Rattle.pref_share.proofs.HistoryLaws.{rest_history, legal_is_history, legal-prefix, state_at-append}
+use Rattle.pref_share.proofs.CallCounts.{IsCaller, IsGrown, caller, calls_in, calls_own, calls_grow, idle_seat, length-after, length-idle, seat_other}
 
 -- a list is empty, or has a last element
 pub last_of : {A : Type 0} (xs : List A) → (xs ≡ []) ⊎ ((before : List A) × (x : A) × (before ++ x ∷ [] ≡ xs))
@@ -17,7 +17,7 @@ last_of (x ∷ xs) = inr (go x xs)
 -- who made the last call
 pub last_caller : (o : Opening) (before : List Op) (op : Op) → IsLegalFrom o (before ++ op ∷ []) → IsCaller (state_at o before) op
 last_caller o before op legal =
-    caller o.limits.capacity (state_at o before) op (history_rest o.limits.capacity (first_state o) before (op ∷ []) (legal_is_history o (before ++ op ∷ []) legal)).0
+    caller o.limits.capacity (state_at o before) op (rest_history o before (op ∷ []) legal).0
 
 -- its client's count then, ..
 pub last_own : (o : Opening) (before : List Op) (op : Op) → IsLegalFrom o (before ++ op ∷ []) → calls_at o (before ++ op ∷ []) op.client ≡ Some op.number
@@ -28,14 +28,14 @@ last_own o before op legal =
 pub last_number : (o : Opening) (before : List Op) (op : Op) (count : ℕ) → IsLegalFrom o (before ++ op ∷ []) → calls_at o before op.client ≡ Some count → op.number ≡ suc count
 last_number o before op count legal is =
     let c = last_caller o before op legal in
-    let same : Some c.who.calls ≡ Some count = ap (λ (found : Option Client). elim found as (λ x. Option ℕ) [ None ↦ None | Some who ↦ Some who.calls ]) (sym c.at) ∙ is in
+    let same : Some c.who.calls ≡ Some count = ap calls_in (sym c.at) ∙ is in
     c.number ∙ ap suc (cc (same))
 
 -- .. and the count of another, which stays
 pub last_other : (o : Opening) (before : List Op) (op : Op) (client : ℕ) → (client ≡ op.client → ⊥) → calls_at o (before ++ op ∷ []) client ≡ calls_at o before client
 last_other o before op client apart =
     ap (λ s. calls_of s client) (state_at-append o before (op ∷ []))
-    ∙ ap (λ (found : Option Client). elim found as (λ x. Option ℕ) [ None ↦ None | Some who ↦ Some who.calls ]) (seat_other o.limits.capacity (state_at o before) client op.client op.call apart)
+    ∙ ap calls_in (seat_other o.limits.capacity (state_at o before) client op.client op.call apart)
 
 seated : (clients : List Client) (client : ℕ) (who : Client) → seat client clients ≡ Some who → (0 < client) × (client ≤ length clients)
 seated clients zero who e = absurd (cc)
@@ -56,7 +56,7 @@ last_one_of o before op legal =
 -- a count only grows
 pub grown_further : (o : Opening) (xs ys : List Op) (client least : ℕ) → IsPrefix xs ys → IsLegalFrom o ys → IsGrown (calls_at o xs client) least → IsGrown (calls_at o ys client) least
 grown_further o xs ys client least p legal h =
-    let rest = history_rest o.limits.capacity (first_state o) xs p.0 (legal_is_history o (xs ++ p.0) (subst (IsLegalFrom o) (sym p.1) legal)) in
+    let rest = rest_history o xs p.0 (subst (IsLegalFrom o) (sym p.1) legal) in
     let more = calls_grow o.limits.capacity (state_at o xs) p.0 client h.count rest h.is in
     let some : least ≤ h.count = h.more in
     let most : h.count ≤ more.count = more.more in
@@ -72,7 +72,7 @@ counts_new o number one_of = record {
   same = refl;
   grown = record {
     count = 0;
-    is = ap (λ (found : Option Client). elim found as (λ x. Option ℕ) [ None ↦ None | Some who ↦ Some who.calls ]) (idle_seat o.limits.clients number one_of.0 one_of.1);
+    is = ap calls_in (idle_seat o.limits.clients number one_of.0 one_of.1);
     more = omega arith;
   };
 }

@@ -2,8 +2,8 @@
 use Rattle.pref_share.proofs.Common.{first_contents, ◌≡◌, ℕ, suc, ◌^◌, ◌<◌, ◌≤◌, Bool, true, false, cond, nat_lt, ◌&&◌, ◌==◌, List, [], ◌∷◌, ◌++◌, length, Option, Some, None, is_some, Result, Ok, Err, refl, sym, ap}
 use Rattle.pref_share.proofs.Common.{◌∙◌, subst, arith, inl, inr, MatchResult, IfOk, IfErr, AllByRecursion, unwrap_or, Vec, IsPrefix, Call, Op, Added, Done, Full, ShareFault, CoreFault, State, Client}
 use Rattle.pref_share.proofs.Common.{Snapshot, is_change, calls_of, begun_of, begun_after, after, success_outcome, outcome, refusal, refusal_of, committed_of, Contents, StandsFor, Shows, ShowsBegin}
-use Rattle.pref_share.proofs.Common.{eqb-true, ran, same_number, IsLegalHistory, state_after, begin, NextIsNew, IsScanned, Answers, Scanned, begun_after-change, Opening, IsLegalFrom, HasCall}
-use Rattle.pref_share.proofs.Common.{MayFollow, history_of, contents_at, state_at, calls_at, first_state, Asking, Standing, Sees, Joins, Changes, Commits, RefusesChange, IsAnswer, own_refusal}
+use Rattle.pref_share.proofs.Common.{eqb-true, same_number, state_after, begin, NextIsNew, IsScanned, Answers, begun_after-change, Opening, IsLegalFrom, HasCall}
+use Rattle.pref_share.proofs.Common.{history_of, contents_at, state_at, calls_at, first_state, Asking, Standing, Sees, Joins, Changes, Commits, RefusesChange, IsAnswer, own_refusal}
 use Rattle.pref_share.proofs.Common.{AsksOrNone, Asks, Stands, IsAppended, IsJoined, GivesNone, snapshot_at, outcome_or_refusal}
 use Rattle.pref_term.specs.Question.{Question}
 use Rattle.pref_sky.specs.declared.entry.Ranked.{Ranked}
@@ -20,55 +20,35 @@ use Rattle.pref_core.proofs.OutcomeLaws.{SameSeat, nobody, somebody, same_seat}
 use Rattle.pref_core.proofs.VisibleAfterOp.{begun_kept}
 use Rattle.pref_core.proofs.QueryLaws.{stays_on_its_way, begun_on_its_way, next_is_new_on_its_way, scanned_on_its_way, answers_the_begin}
 use Rattle.pref_share.proofs.PrefixLaws.{prefix_self, prefix_trans}
-use Rattle.pref_share.proofs.HistoryLaws.{legal-more, legal-prefix, legal_stands, legal_capacity, ran-append, state_at-append, history_rest, legal_is_history}
-use Rattle.pref_share.proofs.CallCounts.{IsGrown, further, caller, calls_own, begun_own, calls_grow, none_own, has_call, calls_few, idle_seat}
-
--- what follows a beginning is a legal history there
-rest_history : (o : Opening) (xs ys : List Op) → IsLegalFrom o (xs ++ ys) → IsLegalHistory o.limits.capacity (state_at o xs) (history_of ys)
-rest_history o xs ys legal = history_rest o.limits.capacity (first_state o) xs ys (legal_is_history o (xs ++ ys) legal)
+use Rattle.pref_share.proofs.HistoryLaws.{legal-more, legal-prefix, legal_stands, legal_capacity, ran-append, state_at-append, rest_history, legal_is_history}
+use Rattle.pref_share.proofs.CallCounts.{IsGrown, calls_in, begun_in, further, calls_own, begun_own, none_own, has_call, calls_few, idle_seat}
+use Rattle.pref_share.proofs.LastCalls.{last_caller, grown_further}
 
 none_ends : (client : ℕ) (ops : List Op) → AllByRecursion (λ op. (op.client == client) ≡ false) ops → AllByRecursion (λ op. ends_query client op ≡ false) ops
 none_ends client [] h = tt
 none_ends client (op ∷ ops) h = (ap (λ b. b && is_end op.call) h.0, none_ends client ops h.1)
 
--- the history from the place where the client's count is known on
-record Onward (o : Opening) (number counter : ℕ) (at longer : List Op) : Type 0 where
-  rest : List Op
-  whole : at ++ rest ≡ longer
-  legal : IsLegalHistory o.limits.capacity (state_at o at) (history_of rest)
-  state : state_at o longer ≡ state_after o.limits.capacity (state_at o at) (history_of rest)
-  contents : contents_at o longer ≡ ran (contents_at o at) rest
-
-onward : (o : Opening) (number counter : ℕ) (at longer : List Op) → IsPrefix at longer → IsLegalFrom o longer → Onward o number counter at longer
-onward o number counter at longer p legal = record {
-  rest = p.0;
-  whole = p.1;
-  legal = rest_history o at p.0 (subst (IsLegalFrom o) (sym p.1) legal);
-  state = ap (state_at o) (sym p.1) ∙ state_at-append o at p.0;
-  contents = ap (contents_at o) (sym p.1) ∙ ran-append (first_contents o) at p.0;
-}
-
--- the client's query at a longer history that holds none of its calls beyond those that it counts
-followed : (o : Opening) (number counter : ℕ) (at longer : List Op) (query : Option Asking) → IsLegalFrom o at → IsPrefix at longer → IsLegalFrom o longer → calls_at o at number ≡ Some counter → calls_at o longer number ≡ Some counter → AsksOrNone o at number query → AsksOrNone o longer number query
-followed o number counter at longer None legal p legal' was is h =
-    let on = onward o number counter at longer p legal' in
-    let none = none_own o.limits.capacity (state_at o at) on.rest number counter on.legal was (ap (λ s. calls_of s number) (sym on.state) ∙ is) in
-    ap (λ s. begun_of s number) on.state ∙ none.1 ∙ h
-followed o number counter at longer (Some asking) legal p legal' was is h =
-    let on = onward o number counter at longer p legal' in
-    let none = none_own o.limits.capacity (state_at o at) on.rest number counter on.legal was (ap (λ s. calls_of s number) (sym on.state) ∙ is) in
+-- the client's query, where the history goes on with operations of which none ends it
+followed : (o : Opening) (number : ℕ) (at rest longer : List Op) (query : Option Asking) → IsLegalFrom o at → at ++ rest ≡ longer → begun_of (state_at o longer) number ≡ begun_of (state_at o at) number
+    → AllByRecursion (λ op. ends_query number op ≡ false) rest → AsksOrNone o at number query → AsksOrNone o longer number query
+followed o number at rest longer None legal whole begun none h = begun ∙ h
+followed o number at rest longer (Some asking) legal whole begun none h =
     let kept = begun_kept (contents_at o at) (state_at o at) number (snapshot_at o asking.at_begin) (legal_stands o at legal) h.found in
     record {
-      at_begin = prefix_trans asking.at_begin at longer h.at_begin p;
-      found = ap (λ s. begun_of s number) on.state ∙ none.1 ∙ h.found;
+      at_begin = prefix_trans asking.at_begin at longer h.at_begin (rest, whole);
+      found = begun ∙ h.found;
       stamp = h.stamp;
-      way = subst (λ (c : Contents). Rattle.pref_core.specs.Queries.IsOnItsWay c.slots asking.scan) (sym on.contents)
-          (stays_on_its_way (contents_at o at) number asking.scan (kept.0 ∙ ap Some (sym h.stamp)) (subst (λ n. n ≤ (contents_at o at).stamp) (sym h.stamp) kept.1) on.rest (none_ends number on.rest none.0) h.way);
+      way = subst (λ (c : Contents). Rattle.pref_core.specs.Queries.IsOnItsWay c.slots asking.scan) (sym (ran-append (first_contents o) at rest) ∙ ap (contents_at o) whole)
+          (stays_on_its_way (contents_at o at) number asking.scan (kept.0 ∙ ap Some (sym h.stamp)) (subst (λ n. n ≤ (contents_at o at).stamp) (sym h.stamp) kept.1) rest none h.way);
     }
 
+-- the same at a longer history that holds none of the client's calls beyond those that it counts
 pub moved_up : (o : Opening) (number counter : ℕ) (seen longer : List Op) (query : Option Asking) → Stands o number counter seen query → IsPrefix seen longer → IsLegalFrom o longer → calls_at o longer number ≡ Some counter → AsksOrNone o longer number query
 moved_up o number counter seen longer query h p legal is =
-    followed o number counter h.at longer query (legal-prefix o h.at seen h.before h.legal) (prefix_trans h.at seen longer h.before p) legal h.count is h.follows
+    let (rest, whole) = prefix_trans h.at seen longer h.before p in
+    let state : state_at o longer ≡ state_after o.limits.capacity (state_at o h.at) (history_of rest) = ap (state_at o) (sym whole) ∙ state_at-append o h.at rest in
+    let (none, begun) = none_own o.limits.capacity (state_at o h.at) rest number counter (rest_history o h.at rest (subst (IsLegalFrom o) (sym whole) legal)) h.count (ap (λ s. calls_of s number) (sym state) ∙ is) in
+    followed o number h.at rest longer query (legal-prefix o h.at seen h.before h.legal) whole (ap (λ s. begun_of s number) state ∙ begun) (none_ends number rest none) h.follows
 
 -- a new client
 pub stands_new : (o : Opening) (number : ℕ) (seen : List Op) → IsLegalFrom o seen → seen ≡ [] → (0 < number) × (number ≤ o.limits.clients) → Stands o number 0 seen None
@@ -79,8 +59,8 @@ stands_new o number seen legal none one_of =
       one_of = one_of;
       at = [];
       before = (seen, refl);
-      count = ap (λ (x : Option Client). elim x as (λ y. Option ℕ) [ None ↦ None | Some found ↦ Some found.calls ]) at;
-      follows = ap (λ (x : Option Client). elim x as (λ y. Option Snapshot) [ None ↦ None | Some found ↦ found.at_begin ]) at;
+      count = ap calls_in at;
+      follows = ap begun_in at;
     }
 
 -- a client that has seen more
@@ -99,10 +79,7 @@ stands_whole : (o : Opening) (number counter : ℕ) (seen : List Op) (query : Op
 stands_whole o number counter seen query legal one_of count follows = record { legal = legal; one_of = one_of; at = seen; before = prefix_self seen; count = count; follows = follows }
 
 grown : (o : Opening) (number counter : ℕ) (seen longer : List Op) (query : Option Asking) → Stands o number counter seen query → IsPrefix seen longer → IsLegalFrom o longer → IsGrown (calls_at o longer number) counter
-grown o number counter seen longer query h p legal =
-    let on = onward o number counter h.at longer (prefix_trans h.at seen longer h.before p) legal in
-    let g = calls_grow o.limits.capacity (state_at o h.at) on.rest number counter on.legal h.count in
-    record { count = g.count; is = ap (λ s. calls_of s number) on.state ∙ g.is; more = g.more }
+grown o number counter seen longer query h p legal = grown_further o h.at longer number counter (prefix_trans h.at seen longer h.before p) legal (record { count = counter; is = h.count; more = omega arith })
 
 -- where the whole history counts no more calls than the client, it holds just its calls, ..
 pub even : (o : Opening) (number counter last : ℕ) (seen whole : List Op) (query : Option Asking) → Stands o number counter seen query → IsPrefix seen whole → IsLegalFrom o whole → last ≡ unwrap_or (calls_at o whole number) 0 → last ≤ counter → calls_at o whole number ≡ Some counter
@@ -120,11 +97,12 @@ has_later (x ∷ xs) ys client number h = further x (xs ++ ys) client number (ha
 -- .. and else it holds the client's next call
 pub ahead : (o : Opening) (number counter last : ℕ) (seen whole : List Op) (query : Option Asking) → Stands o number counter seen query → IsPrefix seen whole → IsLegalFrom o whole → last ≡ unwrap_or (calls_at o whole number) 0 → counter < last → HasCall whole number (suc counter)
 ahead o number counter last seen whole query h p legal is more =
-    let on = onward o number counter h.at whole (prefix_trans h.at seen whole h.before p) legal in
-    let g = calls_grow o.limits.capacity (state_at o h.at) on.rest number counter on.legal h.count in
-    let same : last ≡ g.count = is ∙ ap (λ (x : Option ℕ). unwrap_or x 0) (ap (λ s. calls_of s number) on.state ∙ g.is) in
-    subst (λ l. HasCall l number (suc counter)) on.whole
-    (has_later h.at on.rest number (suc counter) (has_call o.limits.capacity (state_at o h.at) on.rest number counter (suc counter) g.count on.legal h.count (omega arith) g.is (omega arith)))
+    let (rest, at_whole) = prefix_trans h.at seen whole h.before p in
+    let g = grown o number counter seen whole query h p legal in
+    let same : last ≡ g.count = is ∙ ap (λ (x : Option ℕ). unwrap_or x 0) g.is in
+    let counted = ap (λ s. calls_of s number) (sym (state_at-append o h.at rest) ∙ ap (state_at o) at_whole) ∙ g.is in
+    subst (λ l. HasCall l number (suc counter)) at_whole
+    (has_later h.at rest number (suc counter) (has_call o.limits.capacity (state_at o h.at) rest number counter (suc counter) g.count (rest_history o h.at rest (subst (IsLegalFrom o) (sym at_whole) legal)) h.count (omega arith) counted (omega arith)))
 
 -- a client makes no more calls than it may
 pub counter_small : (o : Opening) (number counter : ℕ) (seen : List Op) (query : Option Asking) → Stands o number counter seen query → counter ≤ 2 ^ 56
@@ -142,7 +120,7 @@ is_added : (o : Opening) (old : Standing) (call : Call) (returned : Outcome) (se
 is_added o old call returned seen stamp j =
     let added = j.appended in
     let legal : IsLegalFrom o (j.before ++ added.op ∷ []) = legal-more o j.before added.op j.legal added.may in
-    let who = caller o.limits.capacity (state_at o j.before) added.op (rest_history o j.before (added.op ∷ []) legal).0 in
+    let who = last_caller o j.before added.op legal in
     let state : state_at o seen ≡ after o.limits.capacity (state_at o j.before) added.op.client added.op.call = ap (state_at o) added.ends ∙ state_at-append o j.before (added.op ∷ []) in
     let s = state_at o j.before in
     record {
@@ -161,28 +139,15 @@ and_false : (b : Bool) → b && false ≡ false
 and_false true = refl
 and_false false = refl
 
-changed_follows : (o : Opening) (old : Standing) (call : Call) (returned : Outcome) (seen : List Op) (stamp : ℕ) (query : Option Asking) (j : IsJoined o old call returned seen stamp) → is_change call ≡ true → AsksOrNone o j.before old.number query → AsksOrNone o seen old.number query
-changed_follows o old call returned seen stamp None j change h =
-    (is_added o old call returned seen stamp j).at_begin ∙ sym (begun_after-change (state_at o j.before) call (begun_of (state_at o j.before) old.number) change) ∙ h
-changed_follows o old call returned seen stamp (Some asking) j change h =
-    let added = j.appended in
-    let kept = begun_kept (contents_at o j.before) (state_at o j.before) old.number (snapshot_at o asking.at_begin) (legal_stands o j.before j.legal) h.found in
-    let ends : ends_query old.number added.op ≡ false = ap (λ b. (added.op.client == old.number) && b) (ap is_end added.what ∙ change_ends_none call change) ∙ and_false (added.op.client == old.number) in
-    let contents : contents_at o seen ≡ ran (contents_at o j.before) (added.op ∷ []) = ap (contents_at o) added.ends ∙ ran-append (first_contents o) j.before (added.op ∷ []) in
-    record {
-      at_begin = prefix_trans asking.at_begin j.before seen h.at_begin (added.op ∷ [], sym added.ends);
-      found = (is_added o old call returned seen stamp j).at_begin ∙ sym (begun_after-change (state_at o j.before) call (begun_of (state_at o j.before) old.number) change) ∙ h.found;
-      stamp = h.stamp;
-      way = subst (λ (c : Contents). Rattle.pref_core.specs.Queries.IsOnItsWay c.slots asking.scan) (sym contents)
-          (stays_on_its_way (contents_at o j.before) old.number asking.scan (kept.0 ∙ ap Some (sym h.stamp)) (subst (λ n. n ≤ (contents_at o j.before).stamp) (sym h.stamp) kept.1) (added.op ∷ []) (ends, tt) h.way);
-    }
-
 -- the client after a change, ..
 pub stands_changed : (o : Opening) (old : Standing) (call : Call) (returned : Outcome) (seen : List Op) (stamp counter : ℕ) → Stands o old.number old.counter old.seen old.query → IsJoined o old call returned seen stamp → is_change call ≡ true → counter ≡ suc old.counter → Stands o old.number counter seen old.query
 stands_changed o old call returned seen stamp counter h j change up =
     let a = is_added o old call returned seen stamp j in
-    let follows = moved_up o old.number old.counter old.seen j.before old.query h j.further j.legal j.alone in
-    stands_whole o old.number counter seen old.query a.legal h.one_of (a.count ∙ ap Some (sym up)) (changed_follows o old call returned seen stamp old.query j change follows)
+    let op = j.appended.op in
+    let ends : ends_query old.number op ≡ false = ap (λ b. (op.client == old.number) && b) (ap is_end j.appended.what ∙ change_ends_none call change) ∙ and_false (op.client == old.number) in
+    let begun = a.at_begin ∙ sym (begun_after-change (state_at o j.before) call (begun_of (state_at o j.before) old.number) change) in
+    stands_whole o old.number counter seen old.query a.legal h.one_of (a.count ∙ ap Some (sym up))
+    (followed o old.number j.before (op ∷ []) seen old.query j.legal (sym j.appended.ends) begun (ends, tt) (moved_up o old.number old.counter old.seen j.before old.query h j.further j.legal j.alone))
 
 -- .. after a begin, ..
 pub stands_begun : (o : Opening) (old : Standing) (returned : Outcome) (seen : List Op) (stamp counter : ℕ) (ask : Question) → Stands o old.number old.counter old.seen old.query → IsJoined o old Begin returned seen stamp → counter ≡ suc old.counter
