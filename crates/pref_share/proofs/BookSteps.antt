@@ -1,7 +1,8 @@
 -- Who has the pen adds to the whole history, whatever the book is.
-use Rattle.pref_share.proofs.Common.{◌≡◌, ◌≢◌, ℕ, zero, suc, ◌<◌, ◌==◌, Bool, true, false, ◌⊎◌, List, [], ◌∷◌, ◌++◌, length, set, refl, ap, sym, subst, ◌∙◌, arith, inl, inr, ⊎_elim, length-append}
+use Rattle.pref_share.proofs.Common.{◌≡◌, ◌≢◌, ℕ, zero, suc, ◌<◌, ◌==◌, Bool, true, false, ◌⊎◌, List, [], ◌∷◌, ◌++◌, length, set, refl, ap, sym, subst, ◌∙◌, arith, inl, inr, ⊎_elim, length-append, length-set}
 use Rattle.pref_share.proofs.Common.{None, append-nil, map-append, IsPrefix, Cell, cell, keeps, gives, adds, Nib, no_nib, may_write, Moves, Op}
 use Rattle.std.proofs.lemmas.Bool.Decides.{nat_tests}
+use Rattle.std.proofs.lemmas.List.{get_or-set_same, get_or_append_left}
 use prog.Atomic.{either}
 use Rattle.logbook.specs.Pages.{step}
 use Rattle.pref_share.proofs.PrefixLaws.{prefix_trans}
@@ -23,14 +24,10 @@ set_home (c ∷ cs) (suc k) zero m h = (omega arith, h.1)
 set_home (c ∷ cs) (suc k) (suc j) m h = let r = set_home cs k j m (omega (arith, h.0), h.1) in (omega (arith, r.0), r.1)
 
 set_there : (cs : List Cell) (k m : ℕ) → k < length cs → Home (set cs k (m, true)) k
-set_there [] k m lt = absurd (omega (arith, lt))
-set_there (c ∷ cs) zero m lt = (omega arith, refl)
-set_there (c ∷ cs) (suc k) m lt = let r = set_there cs k m (omega (arith, lt)) in (omega (arith, r.0), r.1)
+set_there cs k m lt = (omega (arith, lt, length-set cs k (m, true)), ap (λ (c : Cell). c.1) (get_or-set_same cs k (m, true) (0, false) lt))
 
 snoc_home : (cs : List Cell) (c : Cell) (j : ℕ) → Home cs j → Home (cs ++ c ∷ []) j
-snoc_home [] c j h = absurd (omega (arith, h.0))
-snoc_home (d ∷ cs) c zero h = (omega arith, h.1)
-snoc_home (d ∷ cs) c (suc j) h = let r = snoc_home cs c j (omega (arith, h.0), h.1) in (omega (arith, r.0), r.1)
+snoc_home cs c j h = (omega (arith, h.0, length-append cs (c ∷ [])), ap (λ (d : Cell). d.1) (get_or_append_left cs (c ∷ []) (0, false) j h.0) ∙ h.1)
 
 -- the word after a step on it
 abbrev used : ℕ → ℕ

@@ -1,7 +1,7 @@
 -- Runs of acts, one act longer, and what stands at a place of two lists.
 use Rattle.pref_share.proofs.Common.{option_map, length-map, ◌≡◌, ℕ, zero, suc, ◌<◌, Bool, true, false, List, [], ◌∷◌, ◌++◌, ◌+◌, ◌^◌, length, map, get_or, Some, Result, Ok, slice_get, refl, sym, ap, ◌∙◌, subst, arith, inr}
 use Rattle.pref_share.proofs.Common.{⊎_elim, cases_eq, append_assoc, get_or-map, length-append, get_or_from_slice_get, slice_get_within, Vec, All, IfOk, Act, Reply, ShareFault, Core, ClientInUse}
-use Rattle.pref_share.proofs.Common.{Held, Closed, Sees, IsLegalFrom, Opening, Standing, StepsTo, Runs, none, then, RunsTo, StopsAt, nobody, DidActs, WasLetIn}
+use Rattle.pref_share.proofs.Common.{Held, Closed, Sees, IsLegalFrom, Opening, Standing, StepsTo, Runs, none, then, RunsTo, StopsAt, nobody, DidActs, Ends, WasLetIn}
 use Rattle.std.proofs.lemmas.Option.{slice_get-map}
 use Rattle.pref_share.proofs.ActSteps.{sees_same}
 
@@ -84,10 +84,10 @@ module _ {T : Type 0} (o : Opening) (says : ℕ → ℕ → Bool → Type 0) (le
     let_in = let_in_more (says s.number) now.done act now.let_in (subst (λ n. says s.number n true) now.turns said);
   }
 
-  -- it was held before the next act
-  pub goes_held : (client : Standing) (old came : T) (turn : ℕ) (act : Act) → Now client old turn → left old ≡ act ∷ left came → ((replies : List Reply) → took old replies → took came replies) → says s.number turn false
-      → (replies : List Reply) × took came replies × DidActs o says s acts client replies (Some (Held s.number))
-  goes_held client old came turn act now comes kept said = (
+  -- it stopped before the next act, and has seen no less since
+  stops : (client stopped : Standing) (old came : T) (turn : ℕ) (act : Act) (fault : ShareFault) (now : Now client old turn) → left old ≡ act ∷ left came → ((replies : List Reply) → took old replies → took came replies) → Sees o client stopped
+      → Ends (λ client. says client (length now.done)) stopped (act ∷ left came) (Some fault) → (replies : List Reply) × took came replies × DidActs o says s acts stopped replies (Some fault)
+  stops client stopped old came turn act fault now comes kept sees ends = (
     now.replies,
     kept now.replies now.taken,
     record {
@@ -96,31 +96,26 @@ module _ {T : Type 0} (o : Opening) (says : ℕ → ℕ → Bool → Type 0) (le
       in_order = now.in_order ∙ ap (λ rest. now.done ++ rest) comes;
       last = client;
       runs = now.runs;
-      since = sees_same o client client now.legal refl;
+      since = sees;
       let_in = now.let_in;
-      ends = ((sym (same_number o s client now.done now.replies now.runs), omega arith, subst (λ n. says s.number n false) now.turns said), tt);
+      ends = ends;
     },
   )
+
+  -- it was held before the next act
+  pub goes_held : (client : Standing) (old came : T) (turn : ℕ) (act : Act) → Now client old turn → left old ≡ act ∷ left came → ((replies : List Reply) → took old replies → took came replies) → says s.number turn false
+      → (replies : List Reply) × took came replies × DidActs o says s acts client replies (Some (Held s.number))
+  goes_held client old came turn act now comes kept said = stops client client old came turn act (Held s.number) now comes kept (sees_same o client client now.legal refl)
+      ((sym (same_number o s client now.done now.replies now.runs), omega arith, subst (λ n. says s.number n false) now.turns said), tt)
 
   -- the next act stopped it
   pub goes_no_further : (client stopped : Standing) (old came : T) (turn : ℕ) (act : Act) (fault : ShareFault) → Now client old turn → left old ≡ act ∷ left came → ((replies : List Reply) → took old replies → took came replies) → says s.number turn true
       → Sees o client stopped × StopsAt nobody stopped (act ∷ []) fault → (replies : List Reply) × took came replies × DidActs o says s acts stopped replies (Some fault)
-  goes_no_further client stopped old came turn act fault now comes kept said (sees, stops) =
+  goes_no_further client stopped old came turn act fault now comes kept said (sees, stopping) =
       let number : s.number ≡ stopped.number = sym (same_number o s client now.done now.replies now.runs) ∙ sym sees.same in
-      let said_here : says stopped.number (length now.done) true = subst (λ n. says n (length now.done) true) number (subst (λ n. says s.number n true) now.turns said) in (
-        now.replies,
-        kept now.replies now.taken,
-        record {
-          done = now.done;
-          rest = act ∷ left came;
-          in_order = now.in_order ∙ ap (λ rest. now.done ++ rest) comes;
-          last = client;
-          runs = now.runs;
-          since = sees;
-          let_in = now.let_in;
-          ends = (stops_before (λ client. says client (length now.done) false) stopped act (left came) fault stops, was_let_in (says stopped.number (length now.done)) (act ∷ left came) fault said_here);
-        },
-      )
+      let said_here : says stopped.number (length now.done) true = subst (λ n. says n (length now.done) true) number (subst (λ n. says s.number n true) now.turns said) in
+      stops client stopped old came turn act fault now comes kept sees
+      (stops_before (λ client. says client (length now.done) false) stopped act (left came) fault stopping, was_let_in (says stopped.number (length now.done)) (act ∷ left came) fault said_here)
 
 pub there : {B : Type 0} (l : List B) (i : ℕ) → i < length l → (b : B) × (slice_get l i ≡ Some b)
 there [] i lt = absurd (omega arith)
