@@ -6,7 +6,7 @@ use Rattle.pref_share.proofs.Common.{RefusesGet, Performs, call_of}
 use Rattle.std.specs.Prelude.{IsErrAnd}
 use Rattle.pref_core.specs.declared.fault.CoreFault.TheVariants.{Full}
 use Rattle.pref_core.specs.Systems.{may_want_memory}
-use Rattle.pref_share.specs.SeenHistory.{reply_or_stop}
+use Rattle.pref_share.specs.Runs.{reply_or_stop}
 use Rattle.pref_share.proofs.ActSteps.{sees_same, refused_by_itself, refused_change, not_done, got_none, no_query, all_scanned}
 
 -- a call that asks for memory is an act that may

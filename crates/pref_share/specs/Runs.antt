@@ -1,5 +1,5 @@
 -- Acts of clients on threads, and when they with their replies are one run of the sequential table. (this project)
-use Rattle.std.specs.Prelude.{◌≡◌, ℕ, suc, ◌<◌, true, List, [], ◌∷◌, ◌++◌, length, slice_get, Option, Some, None, Result, MatchResult, ◌⊎◌}
+use Rattle.std.specs.Prelude.{◌≡◌, ℕ, suc, ◌<◌, true, List, [], ◌∷◌, ◌++◌, length, slice_get, Option, Some, None, Result, Ok, Err, MatchResult, ◌⊎◌}
 use Rattle.std.specs.Option.{option_map}
 use Rattle.std.specs.Global.{Vec}
 use mathlib.Core.List.{IsPrefix}
@@ -9,6 +9,7 @@ use Rattle.pref_core.specs.declared.call.Call.TheVariants.{Insert as CallInsert,
 use Rattle.pref_core.specs.declared.event.Act.{Act}
 use Rattle.pref_core.specs.declared.event.Act.TheVariants.{Insert, Update, Delete, Commit, Begin, Finish, Abandon}
 use Rattle.pref_core.specs.declared.event.Reply.{Reply}
+use Rattle.pref_core.specs.declared.event.Reply.TheVariants.{Refused}
 use Rattle.pref_core.specs.declared.fault.CoreFault.TheVariants.{OutOfMemory}
 use Rattle.pref_core.specs.State.{seat}
 use Rattle.pref_core.specs.Step.{Open, Member, System, Step, state_of, step}
@@ -123,6 +124,12 @@ StopsAt held s rest Closed = ReadsNext rest
 -- where there is no gate
 abbrev pub nobody : ℕ → Type 0
 nobody client = ⊥
+
+-- the reply that a refusal of the table is; any other stops the client
+abbrev pub reply_or_stop : ShareFault → Result Reply ShareFault
+reply_or_stop (Core OutOfMemory) = Err (Core OutOfMemory)
+reply_or_stop (Core fault) = Ok (Refused fault)
+reply_or_stop fault = Err fault
 
 -- an act, done, or why it stops the client
 abbrev pub Performs : Opening → Standing → Act → Result Reply ShareFault → Standing → Type 0

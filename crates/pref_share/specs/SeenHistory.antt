@@ -6,8 +6,6 @@ use Rattle.pref_core.specs.declared.call.Call.{Call}
 use Rattle.pref_core.specs.declared.call.Op.{Op}
 use Rattle.pref_core.specs.declared.call.Outcome.{Outcome}
 use Rattle.pref_core.specs.declared.call.Outcome.TheVariants.{Added}
-use Rattle.pref_core.specs.declared.event.Reply.{Reply}
-use Rattle.pref_core.specs.declared.event.Reply.TheVariants.{Refused}
 use Rattle.pref_core.specs.declared.fault.CoreFault.{CoreFault}
 use Rattle.pref_core.specs.declared.fault.CoreFault.TheVariants.{NotDone, OutOfMemory}
 use Rattle.pref_core.specs.State.{Snapshot, begun_of, refusal_by_outcome}
@@ -89,15 +87,6 @@ abbrev pub GivesNone : Standing → CoreFault → Type 0
 GivesNone s (NotDone left) = HasLeft s left
 GivesNone s OutOfMemory = HasNoneLeft s
 GivesNone s fault = ⊥
-
--- the reply that a refusal of the table is; any other stops the client
-abbrev pub reply_or_stop_core : CoreFault → Result Reply ShareFault
-reply_or_stop_core OutOfMemory = Err (Core OutOfMemory)
-reply_or_stop_core fault = Ok (Refused fault)
-
-abbrev pub reply_or_stop : ShareFault → Result Reply ShareFault
-reply_or_stop (Core fault) = reply_or_stop_core fault
-reply_or_stop fault = Err fault
 
 -- the client has seen a beginning of the history, which holds just the calls that it made
 pub record IsIn (o : Opening) (history : List Op) (s : Standing) : Type 0 where

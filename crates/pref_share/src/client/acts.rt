@@ -1,8 +1,7 @@
 //! One act of a client, by its calls, and the reply to it. What the table refuses is a reply.
 
 ghost use Rattle.std.specs.Prelude.{◌≡◌, IfOk, IfErr};
-ghost use Rattle.pref_share.specs.SeenHistory.{reply_or_stop};
-ghost use Rattle.pref_share.specs.Runs.{Performs, StepsTo};
+ghost use Rattle.pref_share.specs.Runs.{Performs, StepsTo, reply_or_stop};
 
 use crate::board::Board;
 use crate::book::BoardBrand;
