@@ -18,6 +18,8 @@ use Rattle.pref_core.specs.Limits.{Limits, blocks}
 use Rattle.pref_core.specs.Table.{Line, line_of, entries}
 use Rattle.pref_core.specs.Changes.{added_by}
 use Rattle.pref_core.specs.MachineParts.{outcome_of, numbered, step_of}
+use Rattle.std.proofs.lemmas.Bool.Decides.{nat_tests}
+use Rattle.pref_core.proofs.BoundsLaws.{few_calls}
 use Rattle.pref_core.proofs.SeatLaws.{with_seat_self, with_seat-map}
 use Rattle.pref_core.proofs.ChangeReplies.{somebody_steps, let_in_steps}
 use Rattle.pref_core.proofs.ScanReplies.{some_left, no_left}
@@ -49,21 +51,18 @@ stays o s t act reply sees steps = record {
 pub sees_same : (o : Opening) (s t : Standing) → IsLegalFrom o s.seen → t ≡ s → Sees o s t
 sees_same o s t legal same = subst (λ (x : Standing). Sees o s x) (sym same) (record { further = prefix_self s.seen; legal = legal; counted = refl; same = refl; query = refl })
 
-found_row : (id : ℕ) (row : Row) (l : Option Line) → option_map (λ line. line.row) l ≡ Some row → elim l as (λ x. Reply) [ None ↦ RefusedReply (MissingRow id) | Some line ↦ Found id line.row ] ≡ Found id row
-found_row id row None e = absurd (cc)
-found_row id row (Some line) e = let same : line.row ≡ row = cc in ap (Found id) same
+-- the reply to a get, by the row of the id
+abbrev pub row_reply : ℕ → Option Row → Reply
+row_reply id None = RefusedReply (MissingRow id)
+row_reply id (Some row) = Found id row
 
-missing_row : (id : ℕ) (l : Option Line) → option_map (λ line. line.row) l ≡ None → elim l as (λ x. Reply) [ None ↦ RefusedReply (MissingRow id) | Some line ↦ Found id line.row ] ≡ RefusedReply (MissingRow id)
-missing_row id None e = refl
-missing_row id (Some line) e = absurd (cc)
+line_reply : (id : ℕ) (l : Option Line) → elim l as (λ x. Reply) [ None ↦ RefusedReply (MissingRow id) | Some line ↦ Found id line.row ] ≡ row_reply id (option_map (λ line. line.row) l)
+line_reply id None = refl
+line_reply id (Some line) = refl
 
-pub got : (o : Opening) (s t : Standing) (id : ℕ) (row : Row) → Sees o s t → row_after o t.seen id ≡ Some row → StepsTo o s (Get id) (Found id row) t
-got o s t id row sees is = stays o s t (Get id) (Found id row) sees
-    (λ system state. λ i. record { reply = found_row id row (line_of system.table id) (ap (λ (x : State). option_map (λ line. line.row) (line_of x.table id)) state ∙ is) i; next = system })
-
-pub got_none : (o : Opening) (s t : Standing) (id : ℕ) → Sees o s t → row_after o t.seen id ≡ None → StepsTo o s (Get id) (RefusedReply (MissingRow id)) t
-got_none o s t id sees is = stays o s t (Get id) (RefusedReply (MissingRow id)) sees
-    (λ system state. λ i. record { reply = missing_row id (line_of system.table id) (ap (λ (x : State). option_map (λ line. line.row) (line_of x.table id)) state ∙ is) i; next = system })
+pub got : (o : Opening) (s t : Standing) (id : ℕ) (row : Option Row) → Sees o s t → row_after o t.seen id ≡ row → StepsTo o s (Get id) (row_reply id row) t
+got o s t id row sees is = stays o s t (Get id) (row_reply id row) sees
+    (λ system state i. record { reply = (line_reply id (line_of system.table id) ∙ ap (λ (x : State). row_reply id (option_map (λ line. line.row) (line_of x.table id))) state ∙ ap (row_reply id) is) i; next = system })
 
 pub has_room : (o : Opening) (s t : Standing) (room : ℕ) → Sees o s t → room ≡ room_at o t.seen → StepsTo o s Room (RoomIs room) t
 has_room o s t room sees is = stays o s t Room (RoomIs room) sees
@@ -109,11 +108,7 @@ refused_by_itself o s t act call fault sees c e = stays o s t act (RefusedReply 
     (λ system state. own_refused o.limits system s.number (member_of o s) act call fault (member_of o s).query c (ap (λ b. refusal_of (Some s.counter) b call) (open_too o s.query) ∙ e))
 
 let_in : (calls : ℕ) (b : Bool) (call : Call) → refusal_of (Some calls) b call ≡ None → nat_lt calls (2 ^ 56) ≡ true
-let_in calls b call e = go (nat_lt calls (2 ^ 56)) e
-  where
-    go : (x : Bool) → cond x (refusal_by_query b call) (Some Spent) ≡ None → x ≡ true
-    go true h = refl
-    go false h = absurd (cc)
+let_in calls b call e = let few : calls < 2 ^ 56 = few_calls calls b call e in grind (arith, nat_tests)
 
 -- the state after a call that joined
 joined_state : (o : Opening) (s t : Standing) (call : Call) (returned : Outcome) (j : Joins o s call returned t) → state_at o t.seen ≡ after o.limits.capacity (state_at o j.before) s.number call

@@ -1,5 +1,5 @@
 -- What a refusal of a client's call is as the reply to an act.
-use Rattle.pref_share.proofs.Common.{◌≡◌, ℕ, suc, true, Some, Result, Ok, Err, IfErr, refl, sym, ap, ◌∙◌, subst, Call, CallUpdate, CallDelete, CallCommit, CallBegin, CallFinish, CallAbandon, NoRow}
+use Rattle.pref_share.proofs.Common.{◌≡◌, ℕ, suc, true, Some, None, Result, Ok, Err, IfErr, refl, sym, ap, ◌∙◌, subst, Call, CallUpdate, CallDelete, CallCommit, CallBegin, CallFinish, CallAbandon, NoRow}
 use Rattle.pref_share.proofs.Common.{NoRoom, Act, Insert, Update, Delete, Commit, Begin, Scan, Finish, Abandon, Get, Room, NoQuery, AllScanned, NotDone, NoSuchRow, OutOfMemory, is_change, ShareFault}
 use Rattle.pref_share.proofs.Common.{Core, ClientInUse, Held, Closed, Opening, IsLegalFrom, HasCall, Standing, Sees, IsInUse, asks_for_memory, RefusesCall, RefusesChange, RefusesFinish, RefusesScan}
 use Rattle.pref_share.proofs.Common.{RefusesGet, Performs, call_of}
@@ -7,7 +7,7 @@ use Rattle.std.specs.Prelude.{IsErrAnd}
 use Rattle.pref_core.specs.declared.fault.CoreFault.TheVariants.{Full}
 use Rattle.pref_core.specs.Systems.{may_want_memory}
 use Rattle.pref_share.specs.Runs.{reply_or_stop}
-use Rattle.pref_share.proofs.ActSteps.{sees_same, refused_by_itself, refused_change, not_done, got_none, no_query, all_scanned}
+use Rattle.pref_share.proofs.ActSteps.{sees_same, refused_by_itself, refused_change, not_done, got, no_query, all_scanned}
 
 -- a call that asks for memory is an act that may
 wants_memory : (act : Act) (call : Call) → call_of act ≡ Some call → asks_for_memory call ≡ true → may_want_memory act ≡ true
@@ -57,7 +57,7 @@ scan_refused o s t (Held client) l h = absurd h
 scan_refused o s t Closed l h = (sees_same o s t l h.1, refl)
 
 pub get_refused : (o : Opening) (s t : Standing) (id : ℕ) (fault : ShareFault) → IsLegalFrom o s.seen → RefusesGet o s id fault t → Performs o s (Get id) (reply_or_stop fault) t
-get_refused o s t id (Core core) l h = subst (λ x. Performs o s (Get id) (reply_or_stop (Core x)) t) (sym h.0) (got_none o s t id h.1 h.2)
+get_refused o s t id (Core core) l h = subst (λ x. Performs o s (Get id) (reply_or_stop (Core x)) t) (sym h.0) (got o s t id None h.1 h.2)
 get_refused o s t id Closed l h = (sees_same o s t l h, refl)
 get_refused o s t id fault l h = absurd h
 

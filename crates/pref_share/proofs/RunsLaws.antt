@@ -5,10 +5,6 @@ use Rattle.pref_share.proofs.Common.{Held, Closed, Sees, IsLegalFrom, Opening, S
 use Rattle.std.proofs.lemmas.Option.{slice_get-map}
 use Rattle.pref_share.proofs.ActSteps.{sees_same}
 
-pub runs_more : (o : Opening) (s t u : Standing) (acts : List Act) (replies longer : List Reply) (act : Act) (reply : Reply) → RunsTo o s acts replies t → StepsTo o t act reply u → longer ≡ replies ++ reply ∷ [] → RunsTo o s (acts ++ act ∷ []) longer u
-runs_more o s t u acts replies longer act reply run step grown =
-    subst (λ (l : List Reply). RunsTo o s (acts ++ act ∷ []) l u) (sym grown) (record { stands = run.stands ++ u ∷ []; runs = then acts replies run.stands t act reply u run.runs step })
-
 -- each act has its reply
 pub length_told : (o : Opening) (s t : Standing) (acts : List Act) (replies : List Reply) → RunsTo o s acts replies t → length replies ≡ length acts
 length_told o s t acts replies run = go acts replies run.stands t run.runs
@@ -76,7 +72,7 @@ module _ {T : Type 0} (o : Opening) (says : ℕ → ℕ → Bool → Type 0) (le
   goes_more client next old came taken turn act reply now comes kept said step same takes = record {
     done = now.done ++ act ∷ [];
     replies = now.replies ++ reply ∷ [];
-    runs = runs_more o s client next now.done now.replies (now.replies ++ reply ∷ []) act reply now.runs step refl;
+    runs = record { stands = now.runs.stands ++ next ∷ []; runs = then now.done now.replies now.runs.stands client act reply next now.runs.runs step };
     in_order = now.in_order ∙ ap (λ rest. now.done ++ rest) (comes ∙ ap (λ rest. act ∷ rest) (sym same)) ∙ sym (append_assoc now.done (act ∷ []) (left taken));
     legal = step.legal;
     taken = takes now.replies (kept now.replies now.taken);

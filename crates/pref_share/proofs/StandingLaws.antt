@@ -16,6 +16,7 @@ use Rattle.pref_core.specs.declared.event.Committed.{Committed}
 use Rattle.pref_core.specs.Changes.{added_by}
 use Rattle.pref_core.specs.Stability.{is_end, ends_query}
 use Rattle.pref_core.specs.Scans.{Scan}
+use Rattle.std.proofs.Math.Bool.{and-false}
 use Rattle.pref_core.proofs.OutcomeLaws.{SameSeat, nobody, somebody, same_seat}
 use Rattle.pref_core.proofs.VisibleAfterOp.{begun_kept}
 use Rattle.pref_core.proofs.QueryLaws.{stays_on_its_way, begun_on_its_way, next_is_new_on_its_way, scanned_on_its_way, answers_the_begin}
@@ -135,16 +136,12 @@ change_ends_none Finish h = absurd (cc)
 change_ends_none Abandon h = absurd (cc)
 change_ends_none call h = refl
 
-and_false : (b : Bool) → b && false ≡ false
-and_false true = refl
-and_false false = refl
-
 -- the client after a change, ..
 pub stands_changed : (o : Opening) (old : Standing) (call : Call) (returned : Outcome) (seen : List Op) (stamp counter : ℕ) → Stands o old.number old.counter old.seen old.query → IsJoined o old call returned seen stamp → is_change call ≡ true → counter ≡ suc old.counter → Stands o old.number counter seen old.query
 stands_changed o old call returned seen stamp counter h j change up =
     let a = is_added o old call returned seen stamp j in
     let op = j.appended.op in
-    let ends : ends_query old.number op ≡ false = ap (λ b. (op.client == old.number) && b) (ap is_end j.appended.what ∙ change_ends_none call change) ∙ and_false (op.client == old.number) in
+    let ends : ends_query old.number op ≡ false = ap (λ b. (op.client == old.number) && b) (ap is_end j.appended.what ∙ change_ends_none call change) ∙ and-false (op.client == old.number) in
     let begun = a.at_begin ∙ sym (begun_after-change (state_at o j.before) call (begun_of (state_at o j.before) old.number) change) in
     stands_whole o old.number counter seen old.query a.legal h.one_of (a.count ∙ ap Some (sym up))
     (followed o old.number j.before (op ∷ []) seen old.query j.legal (sym j.appended.ends) begun (ends, tt) (moved_up o old.number old.counter old.seen j.before old.query h j.further j.legal j.alone))
@@ -292,17 +289,13 @@ change_told o old new call returned result e j q = subst (λ (r : Result Outcome
 pub commit_told : (o : Opening) (old new : Standing) (commit : List Change) (outcome : Outcome) (returned : Committed) (next_id : ℕ) → Changes o old (Commit commit) outcome new → outcome ≡ success_outcome next_id (Commit commit)
     → returned ≡ committed_of next_id commit → Commits o old commit returned new
 commit_told o old new commit outcome returned next_id joined is told_is = (
-  subst (λ (x : Outcome). Changes o old (Commit commit) x new) (is ∙ same_outcome (nat_lt 0 (added_by commit)) ∙ ap (λ (x : Committed). success_outcome x.first (Commit commit)) (sym told_is)) joined,
-  told_is ∙ ap (λ (id : ℕ). record { changes = length commit; first = id }) (same_first (nat_lt 0 (added_by commit))) ∙ ap (λ (x : Committed). committed_of x.first commit) (sym told_is),
+  subst (λ (x : Outcome). Changes o old (Commit commit) x new) (is ∙ (same (nat_lt 0 (added_by commit))).0 ∙ ap (λ (x : Committed). success_outcome x.first (Commit commit)) (sym told_is)) joined,
+  told_is ∙ ap (λ (id : ℕ). record { changes = length commit; first = id }) (same (nat_lt 0 (added_by commit))).1 ∙ ap (λ (x : Committed). committed_of x.first commit) (sym told_is),
 )
   where
-    same_outcome : (adds : Bool) → cond adds (Added next_id) Done ≡ cond adds (Added (cond adds next_id 0)) Done
-    same_outcome true = refl
-    same_outcome false = refl
-
-    same_first : (adds : Bool) → cond adds next_id 0 ≡ cond adds (cond adds next_id 0) 0
-    same_first true = refl
-    same_first false = refl
+    same : (adds : Bool) → (cond adds (Added next_id) Done ≡ cond adds (Added (cond adds next_id 0)) Done) × (cond adds next_id 0 ≡ cond adds (cond adds next_id 0) 0)
+    same true = (refl, refl)
+    same false = (refl, refl)
 
 pub sees : (o : Opening) (old new : Standing) → IsPrefix old.seen new.seen → IsLegalFrom o new.seen → new.counter ≡ old.counter → new.number ≡ old.number → new.query ≡ old.query → Sees o old new
 sees o old new further legal counted same query = record { further = further; legal = legal; counted = counted; same = same; query = query }

@@ -1,4 +1,4 @@
-use Rattle.pref_share.proofs.Common.{refl, CallInsert, CallUpdate, CallDelete, CallCommit, CallBegin, CallAbandon, Insert, Update, Delete, Commit, Begin, Abandon}
+use Rattle.pref_share.proofs.Common.{Some, refl, CallInsert, CallUpdate, CallDelete, CallCommit, CallBegin, CallAbandon, Insert, Update, Delete, Commit, Begin, Abandon}
 use Rattle.pref_share.proofs.ActSteps.{inserted, updated, deleted, commits, begun, scanned_step, finished, abandoned, got, has_room}
 use Rattle.pref_share.proofs.RefusalReplies.{change_refused, quiet_refused, finish_refused, scan_refused, get_refused, room_refused, passed_on}
 use Rattle.pref_share.proofs.client.acts.answer.Goals as goal
@@ -52,7 +52,7 @@ pub returns-in_err-abandon-in-Abandon-clause-refused : goal.returns-in_err-aband
 returns-in_err-abandon-in-Abandon-clause-refused g c = rw (c.in-Abandon.is) (passed_on c.from_residual-in_err-abandon-in-Abandon.result c.in_err-abandon-in-Abandon.field-0.0 _ c.from_residual-in_err-abandon-in-Abandon.ensures.1 (quiet_refused g.J.BoardBrand.opening c.args.client.now _ Abandon CallAbandon c.in_err-abandon-in-Abandon.field-0.0 c.seen-seen.ensures.legal refl c.in_err-abandon-in-Abandon.ensures.refused))
 
 pub returns-in_ok-get-in-Get-clause-answered : goal.returns-in_ok-get-in-Get-clause-answered
-returns-in_ok-get-in-Get-clause-answered g c = rw (c.in-Get.is) (got g.J.BoardBrand.opening c.args.client.now _ c.in-Get.id _ c.in_ok-get-in-Get.ensures.row.0 c.in_ok-get-in-Get.ensures.row.1)
+returns-in_ok-get-in-Get-clause-answered g c = rw (c.in-Get.is) (got g.J.BoardBrand.opening c.args.client.now _ c.in-Get.id (Some _) c.in_ok-get-in-Get.ensures.row.0 c.in_ok-get-in-Get.ensures.row.1)
 
 pub returns-in_err-get-in-Get-clause-refused : goal.returns-in_err-get-in-Get-clause-refused
 returns-in_err-get-in-Get-clause-refused g c = rw (c.in-Get.is) (passed_on c.from_residual-in_err-get-in-Get.result c.in_err-get-in-Get.field-0.0 _ c.from_residual-in_err-get-in-Get.ensures.1 (get_refused g.J.BoardBrand.opening c.args.client.now _ c.in-Get.id c.in_err-get-in-Get.field-0.0 c.seen-seen.ensures.legal c.in_err-get-in-Get.ensures.refused))
