@@ -1,6 +1,7 @@
 -- Commands that are played one after the other.
 use Rattle.pref_script.proofs.Common.{◌≡◌, ◌∙◌, ℕ, ℤ, ◌+◌, List, [], ◌∷◌, ◌++◌, length, Ok, Err, OnOk, Result, sym, ap, refl, subst, arith, append_assoc, append-nil, Limits, System, opened, replies, step, Event}
 use Rattle.pref_script.proofs.Common.{Command, refused, runs, commands_in, commands_of, accepted_events, command_lines, raw_lines, without_line_end, refused_line, reply_lines, Refusal}
+use Rattle.std.proofs.lemmas.Result.{on_ok_weaker}
 use Rattle.pref_core.proofs.RepliesLaws.{does_replies, replied_refused}
 use Rattle.pref_core.specs.MachineParts.{reply_of}
 use Rattle.pref_core.specs.Systems.{Does, Replies, Running, StandsForSystem, as_reply}
@@ -37,10 +38,6 @@ plays_event width before after event reply old new answers added = record {
       };
 }
 
-both_ok : {A E P Q R : Type 0} (result : Result A E) → (P → Q → R) → OnOk result P → OnOk result Q → OnOk result R
-both_ok (Ok value) f p q = f p q
-both_ok (Err e) f p q = tt
-
 -- an act that is done by a call of its own
 pub plays_done : {A E : Type 0} (kind : A → Reply) (value : A) (result : Result A CoreFault) (width : ℕ) (before after : Running) (event : Event) (act : Act) (old new : List ℕ) (pushed : Result (Unit {0}) E)
     → event.act ≡ act → result ≡ Ok value → Does before event.client act (as_reply kind result) after → OnOk pushed (new ≡ old ++ reply_lines width event.client (kind value))
@@ -49,17 +46,17 @@ plays_done {A} kind value result width before after event act old new pushed is 
     let returned = as_reply kind result in
     let same = ap (λ (r : Result A CoreFault). reply_of (as_reply kind r)) (sym done) in
     let replies = does_replies before after event returned _ (subst (λ (a : Act). Does before event.client a returned after) (sym is) does) same in
-    both_ok pushed (λ text _. plays_event width before after event (kind value) old new replies text) added added
+    on_ok_weaker pushed (plays_event width before after event (kind value) old new replies) added
 
 -- one that is refused so
 pub plays_failed : {A E : Type 0} (kind : A → Reply) (fault : CoreFault) (result : Result A CoreFault) (width : ℕ) (before after : Running) (event : Event) (act : Act) (old new : List ℕ) (pushed : Result (Unit {0}) E)
-    → event.act ≡ act → result ≡ Err fault → Does before event.client act (as_reply kind result) after → OnOk pushed (fault ≡ OutOfMemory → ⊥) → OnOk pushed (new ≡ old ++ reply_lines 0 event.client (Refused fault))
+    → event.act ≡ act → result ≡ Err fault → Does before event.client act (as_reply kind result) after → OnOk pushed ((fault ≡ OutOfMemory → ⊥) × (new ≡ old ++ reply_lines 0 event.client (Refused fault)))
     → OnOk pushed (Plays width before (runs event ∷ []) old new after)
-plays_failed {A} kind fault result width before after event act old new pushed is failed does other added =
+plays_failed {A} kind fault result width before after event act old new pushed is failed does added =
     let returned = as_reply kind result in
-    let replies = λ (known : fault ≡ OutOfMemory → ⊥).
-    does_replies before after event returned _ (subst (λ (a : Act). Does before event.client a returned after) (sym is) does) (replied_refused fault known ∙ ap (λ (r : Result A CoreFault). reply_of (as_reply kind r)) (sym failed)) in
-    both_ok pushed (λ known text. plays_event width before after event (Refused fault) old new (replies known) text) other added
+    let same = λ (known : fault ≡ OutOfMemory → ⊥). replied_refused fault known ∙ ap (λ (r : Result A CoreFault). reply_of (as_reply kind r)) (sym failed) in
+    let replies = λ (known : fault ≡ OutOfMemory → ⊥). does_replies before after event returned _ (subst (λ (a : Act). Does before event.client a returned after) (sym is) does) (same known) in
+    on_ok_weaker pushed (λ (known, text). plays_event width before after event (Refused fault) old new (replies known) text) added
 
 -- what was told so far, and what is left to be told from here on, is what all are told
 pub record PlayingFrom (width : ℕ) (limits : Limits) (system : System) (all : List Command) (text : List ℕ) (now : Running) (rest : List Command) : Type 0 where

@@ -34,8 +34,7 @@ fn play_any_event(
 
 /// Appends the line of a change that failed with this fault, where that is a refusal.
 fn push_failed_change(text: &mut String, client: u8, fault: CoreFault) -> Result<(), AllocError>
-    ensures refusal { OnOk result (fault ≡ CoreFault.OutOfMemory → ⊥) }
-    ensures text { OnOk result (string_bytes text.new ≡ string_bytes text.old ++ reply_lines 0 client (Reply.Refused fault)) }
+    ensures { OnOk result ((fault ≡ CoreFault.OutOfMemory → ⊥) × (string_bytes text.new ≡ string_bytes text.old ++ reply_lines 0 client (Reply.Refused fault))) }
 {
     match fault {
         CoreFault::OutOfMemory => Err(AllocError),
