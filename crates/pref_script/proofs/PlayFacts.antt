@@ -1,7 +1,6 @@
 -- Commands that are played one after the other.
-use Rattle.pref_script.proofs.Common.{◌≡◌, ◌∙◌, ℕ, ℤ, ◌+◌, List, [], ◌∷◌, ◌++◌, length, Ok, Err, OnOk, Result, sym, ap, refl, subst, arith, append_assoc, append-nil, Limits, System, opened, replies, step, Event}
+use Rattle.pref_script.proofs.Common.{◌≡◌, ◌∙◌, ℕ, ℤ, ◌+◌, List, [], ◌∷◌, ◌++◌, length, Ok, Err, OnOk, Result, on_ok_weaker, sym, ap, refl, subst, arith, append_assoc, append-nil, Limits, System, opened, replies, step, Event}
 use Rattle.pref_script.proofs.Common.{Command, refused, runs, commands_in, commands_of, accepted_events, command_lines, raw_lines, without_line_end, refused_line, reply_lines, Refusal}
-use Rattle.std.proofs.lemmas.Result.{on_ok_weaker}
 use Rattle.pref_core.proofs.RepliesLaws.{does_replies, replied_refused}
 use Rattle.pref_core.specs.MachineParts.{reply_of}
 use Rattle.pref_core.specs.Systems.{Does, Replies, Running, StandsForSystem, as_reply}
@@ -38,25 +37,22 @@ plays_event width before after event reply old new answers added = record {
       };
 }
 
--- an act that is done by a call of its own
-pub plays_done : {A E : Type 0} (kind : A → Reply) (value : A) (result : Result A CoreFault) (width : ℕ) (before after : Running) (event : Event) (act : Act) (old new : List ℕ) (pushed : Result (Unit {0}) E)
-    → event.act ≡ act → result ≡ Ok value → Does before event.client act (as_reply kind result) after → OnOk pushed (new ≡ old ++ reply_lines width event.client (kind value))
-    → OnOk pushed (Plays width before (runs event ∷ []) old new after)
-plays_done {A} kind value result width before after event act old new pushed is done does added =
-    let returned = as_reply kind result in
-    let same = ap (λ (r : Result A CoreFault). reply_of (as_reply kind r)) (sym done) in
-    let replies = does_replies before after event returned _ (subst (λ (a : Act). Does before event.client a returned after) (sym is) does) same in
-    on_ok_weaker pushed (plays_event width before after event (kind value) old new replies) added
+-- an act that is done by a call of its own, whose result has this reply
+plays_returned : (returned : Result Reply CoreFault) (reply : Reply) (width : ℕ) (before after : Running) (event : Event) (act : Act) (old new : List ℕ) → event.act ≡ act → Does before event.client act returned after
+    → reply_of returned ≡ Ok reply → new ≡ old ++ reply_lines width event.client reply → Plays width before (runs event ∷ []) old new after
+plays_returned returned reply width before after event act old new is does same =
+    plays_event width before after event reply old new (does_replies before after event returned _ (subst (λ (a : Act). Does before event.client a returned after) (sym is) does) (sym same))
+
+-- one that is done
+pub plays_done : {E : Type 0} (reply : Reply) (width : ℕ) (before after : Running) (event : Event) (act : Act) (old new : List ℕ) (pushed : Result (Unit {0}) E) → event.act ≡ act → Does before event.client act (Ok reply) after
+    → OnOk pushed (new ≡ old ++ reply_lines width event.client reply) → OnOk pushed (Plays width before (runs event ∷ []) old new after)
+plays_done reply width before after event act old new pushed is does added = on_ok_weaker pushed (plays_returned (Ok reply) reply width before after event act old new is does refl) added
 
 -- one that is refused so
-pub plays_failed : {A E : Type 0} (kind : A → Reply) (fault : CoreFault) (result : Result A CoreFault) (width : ℕ) (before after : Running) (event : Event) (act : Act) (old new : List ℕ) (pushed : Result (Unit {0}) E)
-    → event.act ≡ act → result ≡ Err fault → Does before event.client act (as_reply kind result) after → OnOk pushed ((fault ≡ OutOfMemory → ⊥) × (new ≡ old ++ reply_lines 0 event.client (Refused fault)))
-    → OnOk pushed (Plays width before (runs event ∷ []) old new after)
-plays_failed {A} kind fault result width before after event act old new pushed is failed does added =
-    let returned = as_reply kind result in
-    let same = λ (known : fault ≡ OutOfMemory → ⊥). replied_refused fault known ∙ ap (λ (r : Result A CoreFault). reply_of (as_reply kind r)) (sym failed) in
-    let replies = λ (known : fault ≡ OutOfMemory → ⊥). does_replies before after event returned _ (subst (λ (a : Act). Does before event.client a returned after) (sym is) does) (same known) in
-    on_ok_weaker pushed (λ (known, text). plays_event width before after event (Refused fault) old new (replies known) text) added
+pub plays_failed : {E : Type 0} (fault : CoreFault) (width : ℕ) (before after : Running) (event : Event) (act : Act) (old new : List ℕ) (pushed : Result (Unit {0}) E) → event.act ≡ act → Does before event.client act (Err fault) after
+    → OnOk pushed ((fault ≡ OutOfMemory → ⊥) × (new ≡ old ++ reply_lines 0 event.client (Refused fault))) → OnOk pushed (Plays width before (runs event ∷ []) old new after)
+plays_failed fault width before after event act old new pushed is does added =
+    on_ok_weaker pushed (λ (known, text). plays_returned (Err fault) (Refused fault) width before after event act old new is does (sym (replied_refused fault known)) text) added
 
 -- what was told so far, and what is left to be told from here on, is what all are told
 pub record PlayingFrom (width : ℕ) (limits : Limits) (system : System) (all : List Command) (text : List ℕ) (now : Running) (rest : List Command) : Type 0 where
