@@ -18,5 +18,4 @@ pub mod BlockFacts
 pub mod HeardFacts
 pub mod LiveRunFacts
 pub mod Examples
-pub mod QuestionExamples
 pub mod PartFacts
