@@ -1,7 +1,8 @@
 -- The changes of a commit line, one piece at a time.
 use Rattle.pref_script.proofs.Common.{◌≡◌, ◌∙◌, ℕ, ◌+◌, ◌<◌, ◌≤◌, true, false, List, [], ◌∷◌, ◌++◌, length, take, drop, get_or, set, sym, ap, refl, arith, inl, inr, nat_lt, Ok, Err, Bool, ◌&&◌}
-use Rattle.pref_script.proofs.Common.{Option, Some, None, is_some, nat_le, list_all, and_right, cases_lt, lt-leb, true≢false, length-drop, length-set, length-take-le, length_push, take-append-le}
+use Rattle.pref_script.proofs.Common.{Option, Some, None, is_some, nat_le, list_all, and_right, cases_lt, lt-leb, true≢false, length-drop, length-set, length-take, length-take-le, length_push, take-append-le}
 use Rattle.pref_script.proofs.Common.{take_all, take_more_set, all_from, commit_said, of_changes, piece_change, are_changes, piece_said, pieces_of, Reads, first_refusal, pieces_left}
+use Rattle.std.proofs.lemmas.Bool.{cases_Bool}
 use Rattle.pref_core.specs.Changes.{commit_of}
 use Rattle.pref_core.specs.declared.changes.Change.{Change}
 use Rattle.pref_core.specs.declared.fault.CoreFault.TheVariants.{ChangeCount}
@@ -28,34 +29,23 @@ pub record KeepsFirst (names : List (List ℕ)) (pieces : List (List ℕ)) (plac
   pub size : length kept ≡ 9
   pub few : count ≤ 9
   pub first : take count kept ≡ take 9 all
-  pub sum : count < 9 → length all ≡ count
-  pub more : (count < 9 → ⊥) → 9 ≤ length all
 
-pub keeps_none : (names pieces : List (List ℕ)) (kept : List Change) → length kept ≡ 9 → KeepsFirst names pieces 0 kept 0
-keeps_none names pieces kept size = record {
-  all = [];
-  read = all_from-none _ 1;
-  size = size;
-  few = omega arith;
-  first = refl;
-  sum = λ _. refl;
-  more = λ h. absurd (h (omega arith));
-}
+-- as many are kept as were counted
+kept_count : (names pieces : List (List ℕ)) (place : ℕ) (kept : List Change) (count : ℕ) (h : KeepsFirst names pieces place kept count) → length (take 9 h.all) ≡ count
+kept_count names pieces place kept count h = ap length (sym h.first) ∙ length-take-le count kept (omega (arith, h.size, h.few))
 
 -- a change that is kept, and one past the ninth
 pub keeps_one : (names pieces : List (List ℕ)) (place : ℕ) (kept : List Change) (count : ℕ) (piece : List ℕ) (change : Change) → KeepsFirst names pieces place kept count
     → (place < length pieces) × (piece ≡ get_or pieces place piece) → count < 9 → piece_change names (piece_said piece) ≡ Ok change → KeepsFirst names pieces (place + 1) (set kept count change) (count + 1)
 keeps_one names pieces place kept count piece change h turn room is =
-    let whole : take 9 h.all ≡ h.all = take_all 9 h.all (omega (arith, h.sum room)) in
-    let size : length (h.all ++ change ∷ []) ≡ count + 1 = omega (arith, length_push h.all change, h.sum room) in
+    let sum : length h.all ≡ count = omega (arith, room, length-take 9 h.all, kept_count names pieces place kept count h) in
+    let whole : take 9 h.all ≡ h.all = take_all 9 h.all (omega arith) in
     record {
       all = h.all ++ change ∷ [];
       read = all_from-more _ 1 pieces h.all place piece change turn.0 h.read (ap (λ (p : List ℕ). piece_change names (piece_said p)) (sym turn.1) ∙ is);
       size = length-set kept count change ∙ h.size;
       few = omega arith;
-      first = take_more_set kept count change (omega (arith, h.size)) ∙ ap (λ (l : List Change). l ++ change ∷ []) (h.first ∙ whole) ∙ sym (take_all 9 (h.all ++ change ∷ []) (omega arith));
-      sum = λ _. size;
-      more = λ full. omega (arith, size, full);
+      first = take_more_set kept count change (omega (arith, h.size)) ∙ ap (λ (l : List Change). l ++ change ∷ []) (h.first ∙ whole) ∙ sym (take_all 9 (h.all ++ change ∷ []) (omega (arith, length_push h.all change)));
     }
 
 pub keeps_past : (names pieces : List (List ℕ)) (place : ℕ) (kept : List Change) (count : ℕ) (piece : List ℕ) (change : Change) → KeepsFirst names pieces place kept count
@@ -65,9 +55,7 @@ keeps_past names pieces place kept count piece change h turn full is = record {
   read = all_from-more _ 1 pieces h.all place piece change turn.0 h.read (ap (λ (p : List ℕ). piece_change names (piece_said p)) (sym turn.1) ∙ is);
   size = h.size;
   few = h.few;
-  first = h.first ∙ sym (take-append-le 9 h.all (change ∷ []) (h.more full));
-  sum = λ room. absurd (full room);
-  more = λ _. omega (arith, length_push h.all change, h.more full);
+  first = h.first ∙ sym (take-append-le 9 h.all (change ∷ []) (omega (arith, full, length-take 9 h.all, kept_count names pieces place kept count h)));
 }
 
 -- the first piece whose values are refused
@@ -100,7 +88,7 @@ pub record ReadsPieces (names : List (List ℕ)) (text : List ℕ) (left : Optio
   pub keeps : KeepsFirst names (pieces_of text) place kept count
 
 pub pieces_none : (names : List (List ℕ)) (text : List ℕ) (kept : List Change) → length kept ≡ 9 → ReadsPieces names text (Some text) kept 0
-pieces_none names text kept size = record { place = 0; rest = refl; forms = refl; keeps = keeps_none names (pieces_of text) kept size }
+pieces_none names text kept size = record { place = 0; rest = refl; forms = refl; keeps = record { all = []; read = all_from-none _ 1; size = size; few = omega arith; first = refl } }
 
 -- the first refusal, by the forms of the pieces that follow
 refusal-same : (why : Stop) (rest : Option (List ℕ)) → all_forms (pieces_left rest) ≡ true → first_refusal why rest ≡ why
@@ -125,13 +113,12 @@ module _ (names : List (List ℕ)) (text now : List ℕ) (kept : List Change) (c
   -- its values are refused
   pub pieces_refused : (why : Stop) → is_some (piece_said piece) ≡ true → Reads {X = Change} (Err why) (piece_change names (piece_said piece)) → Reads {X = List Change} (Err (first_refusal why rest)) (commit_said names text)
   unfolding commit_said
-  pieces_refused why form is = by (all_forms (pieces_left rest)) refl
-    where
-      by : (forms : Bool) → all_forms (pieces_left rest) ≡ forms → Reads {X = List Change} (Err (first_refusal why rest)) (commit_said names text)
-      by true h = rw (refusal-same why rest h) (keeps_fails names text reads.place kept count piece why (forms_left ∙ rw (form, h) refl) reads.keeps (turn.0, turn.1) is)
-      by false h =
-          let none : are_changes text ≡ false = forms_left ∙ rw (form, h) refl in
-          rw (refusal-other why rest h, none) refl
+  pieces_refused why form is = elim (cases_Bool (all_forms (pieces_left rest))) [
+    | inl h ↦ rw (refusal-same why rest h) (keeps_fails names text reads.place kept count piece why (forms_left ∙ rw (form, h) refl) reads.keeps (turn.0, turn.1) is)
+    | inr h ↦
+        let none : are_changes text ≡ false = forms_left ∙ rw (form, h) refl in
+        rw (refusal-other why rest h, none) refl
+  ]
 
   -- it is read, and kept or not
   pub pieces_kept : (change : Change) → is_some (piece_said piece) ≡ true → count < 9 → piece_change names (piece_said piece) ≡ Ok change → ReadsPieces names text rest (set kept count change) (count + 1)
