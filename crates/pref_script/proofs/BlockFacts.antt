@@ -1,12 +1,12 @@
 -- The table block, line by line.
 use Rattle.pref_script.proofs.Common.{◌≡◌, ◌∙◌, ℕ, zero, suc, ◌+◌, ◌-◌, ◌<◌, ◌≤◌, true, false, List, [], ◌∷◌, ◌++◌, length, take, drop, get_or, ap, refl, sym, subst, arith, append_assoc, Option, Some}
-use Rattle.pref_script.proofs.Common.{None, Ok, Err, inl, inr, ◌⊎◌, cases_lt, eqb-true, lt-ltb, le-ltb, append-nil, drop-append-le, drop-take, drop_all, get_or_append_left, length-append, length-drop}
+use Rattle.pref_script.proofs.Common.{Ok, Err, inl, inr, ◌⊎◌, cases_lt, eqb-true, lt-ltb, le-ltb, append-nil, drop-append-le, drop-take, drop_all, get_or_append_left, length-append, length-drop}
 use Rattle.pref_script.proofs.Common.{length-take, take-append-drop, take-append-le, take_all, take_at, fails_before_first, passes_at_first, position_or_len_is, get_or-append_seam, IsFirstByte}
 use Rattle.pref_script.proofs.Common.{is_byte, Consumes-trans, Consumes, concat, position_or_len, HearsNone, IsBlock, LacksBlock, ReadsBlock, EndsWithLine, HeardNone, IsTooLong, IsLineAt, IsLittle}
 use Rattle.pref_script.proofs.Common.{IsLong, LineFault, NoLineFeed, ReadBehind, ReadSome, between, is_at_end, most_ahead, unread, Source, block_lines, is_end_line, is_table_line, parts_of, raw_lines}
 use Rattle.pref_script.proofs.Common.{RunFault, ReadAhead}
 use borrow.Author.Count.{below_more}
-use Rattle.pref_script.proofs.LineFacts.{behind_more, ends_more, front_is, front_more, line_at, little_left, little_none, none_behind, none_in_front, same_front}
+use Rattle.pref_script.proofs.LineFacts.{behind_more, ends_more, front_is, front_more, line_at, little_left, none_behind, none_in_front, same_front}
 use Rattle.pref_script.proofs.ScriptFacts.{concat-push, lines_at, lines_last, lines_none, script-none}
 use Rattle.pref_script.specs.declared.fault.RunFault.TheVariants as fault
 
@@ -109,97 +109,73 @@ table_missing ahead start inside (inl (some, whole)) other =
     let rest = drop start (unread ahead) in
     let first = rw (front_is start (unread ahead)) at whole in
     inl (λ more. no_table (unread ahead ++ more) line (raw_lines (rest ++ more)) (ap raw_lines (ap (λ (t : List ℕ). t ++ more) (sym (take-append-drop start (unread ahead))) ∙ append_assoc line rest more) ∙ first (rest ++ more)) other)
-table_missing ahead start inside (inr (ended, all, last)) other = inr (ended, by (unread ahead) refl)
-  where
-    by : (text : List ℕ) → unread ahead ≡ text → parts_of (raw_lines (unread ahead)) ≡ Err fault.NoTable
-    by [] none = script-none (unread ahead) (ap length none)
-    by (x ∷ xs) some =
-        let whole : between 0 start (unread ahead) ≡ unread ahead = front_is start (unread ahead) ∙ take_all start (unread ahead) (omega (arith, all)) in
-        let here = rw whole at (last (omega (arith, all, ap length some))) in
-        no_table (unread ahead) (unread ahead) [] here (ap is_table_line (sym (take_all start (unread ahead) (omega (arith, all)))) ∙ other)
+table_missing ahead start inside (inr (ended, all, last)) other = inr (
+  ended,
+  elim (cases_lt 0 start) [
+    | inl some ↦
+        let whole = take_all start (unread ahead) (omega (arith, all)) in
+        let here = rw (front_is start (unread ahead) ∙ whole) at (last some) in
+        no_table (unread ahead) (unread ahead) [] here (ap is_table_line (sym whole) ∙ other)
+    | inr none ↦ script-none (unread ahead) (omega (arith, all, none))
+  ],
+)
 
 pub input_missing : (ahead : ReadAhead) → IsLineAt 0 0 ahead → LacksBlock ahead fault.NoTable
 input_missing ahead (inl (some, whole)) = absurd (omega arith)
 input_missing ahead (inr (ended, all, last)) = inr (ended, script-none (unread ahead) (sym all))
 
--- before a line more the text ends with a line
-ends_before : (had left : Option (List ℕ)) (old new : ReadAhead) (start stop count end : ℕ) → BlockAt old start stop count → ReadBehind had left old new → stop < end → end ≤ length (unread new) → EndsWithLine (take stop (unread new))
-ends_before had left old new start stop count end so_far read some inside = elim so_far.lines [
-  | inl ends ↦ subst EndsWithLine (sym (same_front had left old new stop read so_far.inside)) ends
-  | inr last ↦ absurd (over last)
-]
-  where
-    over : (is_at_end old ≡ true) × (stop ≡ length (unread old)) → ⊥
-    over (ended, all) =
-        let (none, still) = read.no_more ended in
-        let same : unread new ≡ unread old = read.behind ∙ ap (λ (t : List ℕ). unread old ++ t) none ∙ append-nil (unread old) in
-        omega (arith, some, inside, all, ap length same)
+-- A beginning of a table block stands there, and more was read behind it.
+module _ (had left : Option (List ℕ)) (old new : ReadAhead) (start stop count : ℕ) (so_far : BlockAt old start stop count) (read : ReadBehind had left old new) where
+  block_still : BlockLines (take stop (unread new)) start count
+  block_still = subst (λ (t : List ℕ). BlockLines t start count) (sym (same_front had left old new stop read so_far.inside)) so_far.block
 
-pub block_next : (had left : Option (List ℕ)) (old new : ReadAhead) (start stop count end : ℕ) → BlockAt old start stop count → ReadBehind had left old new → IsLineAt stop end new → stop < end → end ≤ length (unread new) → end ≤ 16777216
-    → is_end_line (between stop end (unread new)) ≡ false → BlockAt new start end (count + 1)
-block_next had left old new start stop count end so_far read line some inside most other =
-    let text = take stop (unread new) in
-    let ends = ends_before had left old new start stop count end so_far read some inside in
-    let at = line_at new stop end line some in
-    let all : text ++ between stop end (unread new) ≡ take end (unread new) = sym (front_more stop end (unread new) (omega arith)) in
-    let before : BlockLines text start count = subst (λ (t : List ℕ). BlockLines t start count) (sym (same_front had left old new stop read so_far.inside)) so_far.block in
-    record {
-      inside = inside;
-      few = omega (arith, so_far.few);
-      most = most;
-      block = subst (λ (t : List ℕ). BlockLines t start (count + 1)) all (block_more text (between stop end (unread new)) start count before ends at.0 other);
-      lines = elim at.1 [ inl e ↦ inl (subst EndsWithLine all (ends_more text (between stop end (unread new)) ends e)) | inr last ↦ inr last ];
-    }
+  -- before a line more the text ends with a line
+  ends_before : (end : ℕ) → stop < end → end ≤ length (unread new) → EndsWithLine (take stop (unread new))
+  ends_before end some inside = elim so_far.lines [
+    | inl ends ↦ subst EndsWithLine (sym (same_front had left old new stop read so_far.inside)) ends
+    | inr (ended, all) ↦ absurd (let (none, still) = read.no_more ended in omega (arith, some, inside, all, ap length read.behind, length-append (unread old) read.bytes, ap length none))
+  ]
 
--- the line `end` is met
-pub block_end : (had left : Option (List ℕ)) (old new : ReadAhead) (start stop count end : ℕ) → BlockAt old start stop count → ReadBehind had left old new → IsLineAt stop end new → stop < end → end ≤ length (unread new)
-    → is_end_line (between stop end (unread new)) ≡ true → IsBlock (record { start = start; stop = stop; end = end; first = count + 3 }) new
-block_end had left old new start stop count end so_far read line some inside is_last =
-    let text = take stop (unread new) in
-    let ends = ends_before had left old new start stop count end so_far read some inside in
-    let at = line_at new stop end line some in
-    let all : text ++ between stop end (unread new) ≡ take end (unread new) = sym (front_more stop end (unread new) (omega arith)) in
-    let before : BlockLines text start count = subst (λ (t : List ℕ). BlockLines t start count) (sym (same_front had left old new stop read so_far.inside)) so_far.block in
-    let sum : stop ≡ start + (stop - start) = omega (arith, so_far.few) in
-    let table : drop start text ≡ between start stop (unread new) = ap (λ (n : ℕ). drop start (take n (unread new))) sum ∙ drop-take start (stop - start) (unread new) in
-    let cut = block_found text (between stop end (unread new)) start count before ends at.0 is_last in
-    record {
-      inside = inside;
-      places = (omega (arith, so_far.few), omega arith);
-      few = omega (arith, so_far.few, so_far.most);
-      cut = rw (all, table) at cut;
-      lines = elim at.1 [ inl e ↦ inl (subst EndsWithLine all (ends_more text (between stop end (unread new)) ends e)) | inr last ↦ inr last ];
-    }
+  -- the text with the line, and how it ends
+  with_line : (end : ℕ) → IsLineAt stop end new → stop < end → end ≤ length (unread new)
+      → (take stop (unread new) ++ between stop end (unread new) ≡ take end (unread new)) × (EndsWithLine (take end (unread new)) ⊎ (is_at_end new ≡ true) × (end ≡ length (unread new)))
+  with_line end line some inside =
+      let all : take stop (unread new) ++ between stop end (unread new) ≡ take end (unread new) = sym (front_more stop end (unread new) (omega arith)) in
+      (all, elim (line_at new stop end line some).1 [ inl e ↦ inl (subst EndsWithLine all (ends_more (take stop (unread new)) (between stop end (unread new)) (ends_before end some inside) e)) | inr last ↦ inr last ])
 
--- the input ends before a line `end`
-pub end_missing : (had left : Option (List ℕ)) (old new : ReadAhead) (start stop count : ℕ) → BlockAt old start stop count → ReadBehind had left old new → IsLineAt stop stop new → LacksBlock new fault.NoEnd
-end_missing had left old new start stop count so_far read (inl (some, whole)) = absurd (omega arith)
-end_missing had left old new start stop count so_far read (inr (ended, all, last)) =
-    let text : take stop (unread old) ≡ unread new = sym (same_front had left old new stop read so_far.inside) ∙ take_all stop (unread new) (omega (arith, all)) in
-    inr (ended, block_none (unread new) start count (subst (λ (t : List ℕ). BlockLines t start count) text so_far.block))
+  pub block_next : (end : ℕ) → IsLineAt stop end new → stop < end → end ≤ length (unread new) → end ≤ 16777216 → is_end_line (between stop end (unread new)) ≡ false → BlockAt new start end (count + 1)
+  block_next end line some inside most other =
+      let (all, lines) = with_line end line some inside in
+      let more = block_more (take stop (unread new)) (between stop end (unread new)) start count block_still (ends_before end some inside) (line_at new stop end line some).0 other in
+      record { inside = inside; few = omega (arith, so_far.few); most = most; block = subst (λ (t : List ℕ). BlockLines t start (count + 1)) all more; lines = lines }
+
+  -- the line `end` is met
+  pub block_end : (end : ℕ) → IsLineAt stop end new → stop < end → end ≤ length (unread new) → is_end_line (between stop end (unread new)) ≡ true → IsBlock (record { start = start; stop = stop; end = end; first = count + 3 }) new
+  block_end end line some inside is_last =
+      let (all, lines) = with_line end line some inside in
+      let sum : stop ≡ start + (stop - start) = omega (arith, so_far.few) in
+      let table : drop start (take stop (unread new)) ≡ between start stop (unread new) = ap (λ (n : ℕ). drop start (take n (unread new))) sum ∙ drop-take start (stop - start) (unread new) in
+      let cut = block_found (take stop (unread new)) (between stop end (unread new)) start count block_still (ends_before end some inside) (line_at new stop end line some).0 is_last in
+      record { inside = inside; places = (omega (arith, so_far.few), omega arith); few = omega (arith, so_far.few, so_far.most); cut = rw (all, table) at cut; lines = lines }
+
+  -- the input ends before a line `end`
+  pub end_missing : IsLineAt stop stop new → LacksBlock new fault.NoEnd
+  end_missing (inl (some, whole)) = absurd (omega arith)
+  end_missing (inr (ended, all, last)) = inr (ended, block_none (unread new) start count (subst (λ (t : List ℕ). BlockLines t start count) (take_all stop (unread new) (omega (arith, all))) block_still))
 
 -- ---- lines that are too long
 
--- the first line feed of a text, if there is one
-first_feed : (text : List ℕ) → (found : Option ℕ) × IsFirstByte (is_byte 10) text found
-first_feed text = elim (cases_lt (position_or_len (is_byte 10) text) (length text)) [
-  | inl inside ↦ (
-    Some (position_or_len (is_byte 10) text),
-    (record { low = omega arith; high = inside; before = λ k low early is. absurd (let not = fails_before_first (is_byte 10) text k 0 early in cc) }, passes_at_first (is_byte 10) text 0 inside),
-  )
-  | inr none ↦ (None, λ k low early is. absurd (let not = fails_before_first (is_byte 10) text k 0 (omega arith) in cc))
-]
-
 -- the first line of a text is longer than this
 long_first : (size : ℕ) (text : List ℕ) → NoLineFeed 0 size text → size < length text → (line : List ℕ) × (rest : List (List ℕ)) × (raw_lines text ≡ line ∷ rest) × (size < length line)
-long_first size text none more = let (found, is) = first_feed text in by found is
-  where
-    by : (found : Option ℕ) → IsFirstByte (is_byte 10) text found → (line : List ℕ) × (rest : List (List ℕ)) × (raw_lines text ≡ line ∷ rest) × (size < length line)
-    by None is = (text, raw_lines [], lines_last text (omega (arith, more)) is, more)
-    by (Some place) is =
-        let inside : place < length text = is.0.high in
-        let late : size ≤ place = elim (cases_lt place size) [ inl early ↦ absurd (none place (omega arith) early (eqb-true _ 10 is.1)) | inr late ↦ late ] in
-        (take (place + 1) text, raw_lines (drop (place + 1) text), lines_at text place is, omega (arith, late, inside, length-take (place + 1) text))
+long_first size text none more =
+    let place = position_or_len (is_byte 10) text in elim (cases_lt place (length text)) [
+      | inl inside ↦
+          let is = passes_at_first (is_byte 10) text 0 inside in
+          let found : IsFirstByte (is_byte 10) text (Some place) = (record { low = omega arith; high = inside; before = λ k low early at. absurd (let not = fails_before_first (is_byte 10) text k 0 early in cc) }, is) in
+          let late : size ≤ place = elim (cases_lt place size) [ inl early ↦ absurd (none place (omega arith) early (eqb-true _ 10 is)) | inr late ↦ late ] in
+          (take (place + 1) text, raw_lines (drop (place + 1) text), lines_at text place found, omega (arith, late, inside, length-take (place + 1) text))
+      | inr past ↦ (text, raw_lines [], lines_last text (omega (arith, more)) (λ k low early at. absurd (let not = fails_before_first (is_byte 10) text k 0 (omega arith) in cc)), more)
+    ]
 
 -- the line that stands behind a place, whatever follows
 long_rest : (stop : ℕ) (text more : List ℕ) → IsLong stop text → stop ≤ 16777216 → (line : List ℕ) × (rest : List (List ℕ)) × (raw_lines (drop stop text ++ more) ≡ line ∷ rest) × (16777216 - stop < length line)
@@ -249,15 +225,15 @@ block_too_long had left old new start stop count so_far read long more =
     let all = unread new in
     let text = take stop all in
     let tail = drop stop all ++ more in
-    let ends = ends_before had left old new start stop count (length all) so_far read (omega (arith, so_far.most, long.1)) (omega arith) in
-    let before : BlockLines text start count = subst (λ (t : List ℕ). BlockLines t start count) (sym (same_front had left old new stop read so_far.inside)) so_far.block in
+    let ends = ends_before had left old new start stop count so_far read (length all) (omega (arith, so_far.most, long.1)) (omega arith) in
+    let block = block_still had left old new start stop count so_far read in
     let (line, rest, cut, size) = long_rest stop all more long so_far.most in
-    let lines : raw_lines (all ++ more) ≡ before.first ∷ (before.rest ++ line ∷ rest) =
-    ap raw_lines (ap (λ (t : List ℕ). t ++ more) (sym (take-append-drop stop all)) ∙ append_assoc text (drop stop all) more) ∙ ends tail ∙ ap (λ (t : List (List ℕ)). t ++ raw_lines tail) before.lines
-    ∙ ap (λ (t : List (List ℕ)). (before.first ∷ before.rest) ++ t) cut in
-    let front : stop ≡ length before.first + length (concat before.rest) =
-    sym (omega (arith, length-take stop all, so_far.most, long.1)) ∙ ap length before.text_is ∙ length-append before.first (concat before.rest) in
-    inl (rw lines (omega (arith, front, size, so_far.most, long_block before.first before.rest rest line before.is_first before.others)))
+    let lines : raw_lines (all ++ more) ≡ block.first ∷ (block.rest ++ line ∷ rest) =
+    ap raw_lines (ap (λ (t : List ℕ). t ++ more) (sym (take-append-drop stop all)) ∙ append_assoc text (drop stop all) more) ∙ ends tail ∙ ap (λ (t : List (List ℕ)). t ++ raw_lines tail) block.lines
+    ∙ ap (λ (t : List (List ℕ)). (block.first ∷ block.rest) ++ t) cut in
+    let front : stop ≡ length block.first + length (concat block.rest) =
+    sym (omega (arith, length-take stop all, so_far.most, long.1)) ∙ ap length block.text_is ∙ length-append block.first (concat block.rest) in
+    inl (rw lines (omega (arith, front, size, so_far.most, long_block block.first block.rest rest line block.is_first block.others)))
 
 -- ---- no line of the block was read
 
@@ -268,8 +244,7 @@ block_part text start count block =
     ap block_lines block.lines ∙ rw (block.is_first, place) (ap (λ (t : List (List ℕ)). block.first ∷ t) (take_all (length block.rest + 1) block.rest (omega arith))) ∙ sym block.lines
 
 pub so_far_part : (had left : Option (List ℕ)) (old new : ReadAhead) (start stop count : ℕ) → BlockAt old start stop count → ReadBehind had left old new → block_lines (raw_lines (take stop (unread new))) ≡ raw_lines (take stop (unread new))
-so_far_part had left old new start stop count so_far read =
-    subst (λ (t : List ℕ). block_lines (raw_lines t) ≡ raw_lines t) (sym (same_front had left old new stop read so_far.inside)) (block_part (take stop (unread old)) start count so_far.block)
+so_far_part had left old new start stop count so_far read = block_part (take stop (unread new)) start count (block_still had left old new start stop count so_far read)
 
 -- what was read is all that stands there
 pub all_read : (had left : Option (List ℕ)) (old new : ReadAhead) → unread old ≡ [] → ReadBehind had left old new → Consumes had left (unread new)
@@ -277,7 +252,7 @@ all_read had left old new none read = subst (Consumes had left) (sym (read.behin
 
 -- little is there where nothing is
 pub little_at_first : (old : ReadAhead) → unread old ≡ [] → IsLittle 0 (unread old)
-little_at_first old none = subst (IsLittle 0) (sym none) (little_none 0)
+little_at_first old none = subst (IsLittle 0) (sym none) (record { no_line = λ place low high. absurd (omega (arith, high)); most = omega arith })
 
 -- what was read is lines of a table block up to a place, and little behind it
 pub heard_none : (source : Source) (text : List ℕ) (stop : ℕ) → Consumes source.had source.left text → block_lines (raw_lines (take stop text)) ≡ raw_lines (take stop text) → IsLittle stop text → HeardNone source

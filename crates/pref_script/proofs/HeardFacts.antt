@@ -1,10 +1,10 @@
 -- A script that is heard line by line.
-use Rattle.pref_script.proofs.Common.{◌≡◌, ◌∙◌, ℕ, suc, ◌+◌, ◌^◌, ◌<◌, true, List, [], ◌∷◌, ◌++◌, length, take, drop, ap, refl, sym, subst, arith, append_assoc, add-zero, Option, Some}
+use Rattle.pref_script.proofs.Common.{◌≡◌, ◌∙◌, ℕ, suc, ◌+◌, ◌^◌, ◌<◌, List, [], ◌∷◌, ◌++◌, length, take, drop, ap, refl, sym, subst, arith, append_assoc, add-zero, Option, Some}
 use Rattle.pref_script.proofs.Common.{None, Result, Ok, inl, inr, Appends-trans, Consumes-trans, Consumes-whole, lt-ltb, append-nil, drop-append-le, drop_all, get_or_append_left}
 use Rattle.pref_script.proofs.Common.{length-append, length-drop, take-append-drop, take-append-le, take-append-add, fails_before_first, passes_at_first, position_or_len_is, Appends, Consumes}
-use Rattle.pref_script.proofs.Common.{IsAtEnd, position_or_len, IfSome, IsOk, Limits, opened, Command, accepted_events, commands_in, commands_of, HeardScript, Hears}
+use Rattle.pref_script.proofs.Common.{position_or_len, IfSome, IsOk, Limits, opened, Command, accepted_events, commands_in, commands_of, HeardScript, Hears}
 use Rattle.pref_script.proofs.Common.{EndsWithLine, IsHeard, IsTooLong, NoneLeft, RanLive, StopsEarly, StopsInLine, PrintsNext, PrintsLine, names_of, next_number, command_lines, output, output_of}
-use Rattle.pref_script.proofs.Common.{script_of, IsLittle, IsLong, ReadBehind, ReadSome, between, is_at_end, unread, Sink, Source, WroteAll, WroteBeginning, Parts, is_end_line}
+use Rattle.pref_script.proofs.Common.{script_of, IsLittle, IsLong, ReadBehind, ReadSome, between, unread, Sink, Source, WroteAll, WroteBeginning, Parts, is_end_line}
 use Rattle.pref_script.proofs.Common.{parts_of, raw_lines, without_line_end, RunFault, LiveTable, ReadAhead}
 use Rattle.pref_script.specs.Playing.{printed_from}
 use Rattle.pref_script.proofs.BlockFacts.{first_too_long, long_among}
@@ -80,13 +80,10 @@ heard_output limits heard live text so_far =
 
 -- where something is ahead, the lines so far end with a line
 heard_ends : (limits : Limits) (had left : Option (List ℕ)) (mid : Option (List ℕ)) (old new : ReadAhead) (live : LiveTable) (text : List ℕ) (so_far : Hears limits had mid old live text) → ReadBehind mid left old new → 0 < length (unread new) → EndsWithLine so_far.heard
-heard_ends limits had left mid old new live text so_far read some = elim so_far.lines [ inl ends ↦ ends | inr last ↦ absurd (nothing_more last) ]
-  where
-    nothing_more : (is_at_end old ≡ true) × (unread old ≡ []) → ⊥
-    nothing_more (ended, none) =
-        let (no_bytes, still) = read.no_more ended in
-        let empty : length (unread new) ≡ 0 = ap length read.behind ∙ ap length (ap (λ (t : List ℕ). t ++ read.bytes) none ∙ no_bytes) in
-        omega (arith, empty, some)
+heard_ends limits had left mid old new live text so_far read some = elim so_far.lines [
+  | inl ends ↦ ends
+  | inr (ended, none) ↦ absurd (let (no_bytes, still) = read.no_more ended in omega (arith, some, ap length read.behind, length-append (unread old) read.bytes, ap length none, ap length no_bytes))
+]
 
 -- one line more was heard
 pub record HearsNext (limits : Limits) (had left : Option (List ℕ)) (heard : List ℕ) (ahead : ReadAhead) (live : LiveTable) (text : List ℕ) : Type 0 where
@@ -145,13 +142,13 @@ is_heard limits had source ahead live text so_far some =
     record {
       unheard = unread ahead ++ some.bytes;
       consumed = subst (Consumes had source.left) (append_assoc so_far.heard (unread ahead) some.bytes) consumed;
-      lines = elim so_far.lines [ inl ends ↦ inl ends | inr last ↦ inr (ended last) ];
+      lines = elim so_far.lines [
+        | inl ends ↦ inl ends
+        | inr (at, none) ↦ inr (let (no_bytes, still) = some.no_more at in (ap (λ (t : List ℕ). t ++ some.bytes) none ∙ no_bytes, still (so_far.at_end at)))
+      ];
       script = (heard_output limits so_far.heard live text so_far.script).0;
       little = some.little so_far.little;
     }
-  where
-    ended : (is_at_end ahead ≡ true) × (unread ahead ≡ []) → (unread ahead ++ some.bytes ≡ []) × IsAtEnd source.left
-    ended (at, none) = let (no_bytes, still) = some.no_more at in (ap (λ (t : List ℕ). t ++ some.bytes) none ∙ no_bytes, still (so_far.at_end at))
 
 -- and they were told
 pub stops_early : (limits : Limits) (had : Option (List ℕ)) (source : Source) (sink : Sink) (ahead : ReadAhead) (live : LiveTable) (text : List ℕ) → Hears limits had source.had ahead live text → ReadSome source.had source.left 0 ahead → WroteAll sink text
@@ -198,18 +195,12 @@ heard_too_long limits had source old new live text so_far read long =
     long_among ((so_far.heard ++ unread new) ++ more) (raw_lines so_far.heard) rest line
     (ap raw_lines (append_assoc so_far.heard (unread new) more) ∙ ends (unread new ++ more) ∙ ap (λ (t : List (List ℕ)). raw_lines so_far.heard ++ t) cut) size)
 
--- a script's parts have all its lines
-abbrev counted : Parts → ℕ
-counted parts = parts.first + length parts.commands
-
-parts_counted : (lines : List (List ℕ)) (parts : Parts) → parts_of lines ≡ Ok parts → counted parts ≡ length lines + 1
-parts_counted lines parts h =
-    let cut = cut_of lines parts h in
-    omega (arith, ap counted cut.parts_are, cut.inside, length-drop (position_or_len is_end_line cut.rest + 1) cut.rest, ap length cut.lines_are)
-
 -- the number of the next line is by one more than the lines that were heard
 pub heard_number : (limits : Limits) (heard : List ℕ) (live : LiveTable) (text : List ℕ) → HeardScript limits heard live text → next_number live ≡ length (raw_lines heard) + 1
-heard_number limits heard live text so_far = so_far.number ∙ parts_counted (raw_lines heard) so_far.parts so_far.cut
+heard_number limits heard live text so_far =
+    let cut = cut_of (raw_lines heard) so_far.parts so_far.cut in
+    let counted = ap (λ (parts : Parts). parts.first + length parts.commands) cut.parts_are in
+    omega (arith, so_far.number, counted, cut.inside, length-drop (position_or_len is_end_line cut.rest + 1) cut.rest, ap length cut.lines_are)
 
 -- so many lines were heard that no run hears more
 pub heard_too_many : (limits : Limits) (had left : Option (List ℕ)) (ahead : ReadAhead) (live : LiveTable) (text : List ℕ) → Hears limits had left ahead live text → 2 ^ 63 < next_number live → IfSome had IsTooLong

@@ -1,10 +1,10 @@
 -- Lines that are read ahead.
 use Rattle.pref_script.proofs.Common.{◌≡◌, ◌∙◌, ℕ, ◌+◌, ◌-◌, ◌<◌, ◌≤◌, true, false, Bool, List, [], ◌∷◌, ◌++◌, length, take, drop, get_or, ap, refl, sym, subst, arith, append_assoc, eq-eqb, Option}
-use Rattle.pref_script.proofs.Common.{Some, None, Result, Ok, Err, inl, inr, ◌⊎◌, Consumes-nil, Consumes-trans, append-nil, drop-append-le, drop_all, get_or-drop, get_or-take, get_or_append_left}
-use Rattle.pref_script.proofs.Common.{length-append, length-drop, length-take, take-append-le, take_all, take-add, cases_lt, IfErr, IfOk, is_some, IsFirstByte, is_byte, EndsWithLine, IsLineAt}
-use Rattle.pref_script.proofs.Common.{IsLittle, IsWhole, LineFault, NoLineFeed, ReadBehind, ReadOnce, ReadSome, between, is_at_end, unread, Source, raw_lines, ReadAhead, RunFault}
+use Rattle.pref_script.proofs.Common.{Some, None, inl, inr, ◌⊎◌, Consumes-nil, Consumes-trans, append-nil, drop-append-le, drop_all, get_or-drop, get_or-take, get_or_append_left}
+use Rattle.pref_script.proofs.Common.{length-append, length-drop, length-take, take-append-le, take_all, take-add, cases_lt, is_some, IsFirstByte, is_byte, EndsWithLine, IsLineAt}
+use Rattle.pref_script.proofs.Common.{IsLittle, IsLong, IsWhole, NoLineFeed, ReadBehind, ReadOnce, ReadSome, between, is_at_end, unread, raw_lines, ReadAhead}
+use Rattle.std.proofs.lemmas.Bool.{cases_Bool}
 use Rattle.pref_script.proofs.ScriptFacts.{lines_at, lines_last, lines_none}
-use Rattle.pref_script.specs.declared.fault.RunFault.TheVariants as fault
 
 -- something was read, and then something more
 pub behind_more : (a b c : Option (List ℕ)) (x y z : ReadAhead) → ReadBehind a b x y → ReadBehind b c y z → ReadBehind a c x z
@@ -14,15 +14,6 @@ behind_more a b c x y z first next = record {
   behind = next.behind ∙ ap (λ (t : List ℕ). t ++ next.bytes) first.behind ∙ append_assoc (unread x) first.bytes next.bytes;
   no_more = λ e. let (none, still) = first.no_more e in let (empty, last) = next.no_more still in (rw (none, empty) refl, last);
   at_end = λ before e. next.at_end (first.at_end before) e;
-}
-
--- what was read behind is something, and little of it is there
-pub behind_some : (a b : Option (List ℕ)) (x y : ReadAhead) (from : ℕ) → ReadBehind a b x y → (IsLittle from (unread x) → IsLittle from (unread y)) → ReadSome a b from x
-behind_some a b x y from read little = record {
-  bytes = read.bytes;
-  consumed = read.consumed;
-  no_more = λ e. let (none, still) = read.no_more e in (none, λ end. read.at_end (λ _. end) still);
-  little = λ few. subst (IsLittle from) read.behind (little few);
 }
 
 -- what was read is no shorter than what was there
@@ -78,10 +69,6 @@ pub none_found : (text : List ℕ) (from : ℕ) (found : Option ℕ) → IsFirst
 none_found text from None none nowhere = none_met text from none
 none_found text from (Some place) none nowhere = absurd (cc)
 
--- a search met none before the first
-none_before : (text : List ℕ) (from first : ℕ) → IsFirstByte (is_byte 10) (drop from text) (Some first) → NoLineFeed from (from + first) text
-none_before text from first found = λ place low high at. found.0.before (place - from) (omega arith) (omega arith) (eq-eqb _ 10 (at_place text from place low ∙ at))
-
 -- none where it went on, and none before that
 pub none_more : (from : ℕ) (old more new : List ℕ) → new ≡ old ++ more → NoLineFeed from (length old) old → NoLineFeed (length old) (length new) new → NoLineFeed from (length new) new
 none_more from old more new is before after = λ place low high at. elim (cases_lt place (length old)) [
@@ -134,56 +121,20 @@ little_left from text little = let size : length (drop from text) ≡ length tex
   most = omega (arith, size, little.most);
 }
 
--- nothing is there
-pub little_none : (from : ℕ) → IsLittle from []
-little_none from = record { no_line = λ place low high. absurd (omega (arith, high)); most = omega arith }
-
 -- ---- a line
 
--- the place where a line was found to end
-pub line_some : (a : ReadAhead) (from place : ℕ) (result : Result ℕ RunFault) → IsFirstByte (is_byte 10) (drop from (unread a)) (Some place)
-    → IfOk result (λ same. (same ≡ from + place + 1) × (from + place + 1 ≤ 16777216)) → IfOk result (λ end. IsLineAt from end a)
-line_some a from place (Ok end) found (is, few) = rw is (whole_at a from place found)
-line_some a from place (Err why) found h = tt
-
-pub line_none : (a : ReadAhead) (from : ℕ) (result : Result ℕ RunFault) → from ≤ length (unread a) → IsFirstByte (is_byte 10) (drop from (unread a)) None
-    → IfOk result (λ end. (is_at_end a ≡ true) × (end ≡ length (unread a)) × (end ≤ 16777216)) → IfOk result (λ end. IsLineAt from end a)
-line_none a from (Ok end) inside none (ended, is, few) = rw is (last_at a from inside none ended)
-line_none a from (Err why) inside none h = tt
-
 -- the line that was found ends too far away
-pub long_some : (source : Source) (old new : ReadAhead) (from place : ℕ) (result : Result ℕ RunFault) → ReadBehind source.had source.left old new → IsFirstByte (is_byte 10) (drop from (unread new)) (Some place)
-    → IfErr result (λ why. (why ≡ fault.TooLarge) × (16777216 < from + place + 1)) → IfErr result (λ why. LineFault source from old new why)
-long_some source old new from place (Ok end) read found h = tt
-long_some source old new from place (Err why) read found (is, long) =
-    let high : place < length (drop from (unread new)) = found.0.high in
-    rw is (read, (λ k low below at. none_before (unread new) from place found k low (omega (arith, below, long)) at, omega (arith, high, long, length-drop from (unread new))))
+pub long_some : (text : List ℕ) (from place : ℕ) → IsFirstByte (is_byte 10) (drop from text) (Some place) → 16777216 < from + place + 1 → IsLong from text
+long_some text from place found long =
+    let high : place < length (drop from text) = found.0.high in
+    (λ k low below at. found.0.before (k - from) (omega arith) (omega (arith, below, long)) (eq-eqb _ 10 (at_place text from k low ∙ at)), omega (arith, high, long, length-drop from text))
 
 -- no line end was found, and more is there than a line has
-pub long_none : (source : Source) (old new : ReadAhead) (from : ℕ) (result : Result ℕ RunFault) → ReadBehind source.had source.left old new → IsFirstByte (is_byte 10) (drop from (unread new)) None
-    → (NoLineFeed from (length (unread new)) (unread new) → is_at_end new ≡ false → 16777216 < length (unread new)) → IfErr result (λ why. (why ≡ fault.TooLarge) × (is_at_end new ≡ true → 16777216 < length (unread new)))
-    → IfErr result (λ why. LineFault source from old new why)
-long_none source old new from (Ok end) read none not_ended ended = tt
-long_none source old new from (Err why) read none not_ended (is, ended) =
-    let nowhere = none_met (unread new) from none in
-    let long : 16777216 < length (unread new) = by (is_at_end new) refl (not_ended nowhere) ended in
-    rw is (read, (λ k low below at. nowhere k low (omega (arith, below, long)) at, long))
-  where
-    by : (end : Bool) → is_at_end new ≡ end → (is_at_end new ≡ false → 16777216 < length (unread new)) → (is_at_end new ≡ true → 16777216 < length (unread new)) → 16777216 < length (unread new)
-    by true e not_yet at_end = at_end e
-    by false e not_yet at_end = not_yet e
-
-pub inside_some : (a : ReadAhead) (from place : ℕ) (result : Result ℕ RunFault) → IsFirstByte (is_byte 10) (drop from (unread a)) (Some place)
-    → IfOk result (λ same. (same ≡ from + place + 1) × (from + place + 1 ≤ 16777216)) → IfOk result (λ end. (from ≤ end) × (end ≤ length (unread a)))
-inside_some a from place (Ok end) found (is, few) =
-    let high : place < length (drop from (unread a)) = found.0.high in
-    rw is (omega arith, omega (arith, high, length-drop from (unread a)))
-inside_some a from place (Err why) found h = tt
-
-pub inside_none : (a : ReadAhead) (from : ℕ) (result : Result ℕ RunFault) → from ≤ length (unread a)
-    → IfOk result (λ end. (is_at_end a ≡ true) × (end ≡ length (unread a)) × (end ≤ 16777216)) → IfOk result (λ end. (from ≤ end) × (end ≤ length (unread a)))
-inside_none a from (Ok end) inside (ended, is, few) = rw is (inside, omega arith)
-inside_none a from (Err why) inside h = tt
+pub long_none : (text : List ℕ) (from : ℕ) (ended : Bool) → IsFirstByte (is_byte 10) (drop from text) None → (NoLineFeed from (length text) text → ended ≡ false → 16777216 < length text) → (ended ≡ true → 16777216 < length text) → IsLong from text
+long_none text from ended none before after =
+    let nowhere = none_met text from none in
+    let long : 16777216 < length text = elim (cases_Bool ended) [ inl end ↦ after end | inr not_yet ↦ before nowhere not_yet ] in
+    (λ k low below at. nowhere k low (omega (arith, below, long)) at, long)
 
 -- a whole line is one line
 pub one_line : (line : List ℕ) → IsWhole line → raw_lines line ≡ line ∷ []
@@ -220,7 +171,3 @@ line_at a from end (inr (ended, all, last)) inside = (last inside, inr (ended, a
 -- nothing was read
 pub some_none : (a : Option (List ℕ)) (x : ReadAhead) (from : ℕ) → ReadSome a a from x
 some_none a x from = record { bytes = []; consumed = Consumes-nil a; no_more = λ e. (refl, λ end. end); little = λ few. subst (IsLittle from) (sym (append-nil (unread x))) few }
-
--- a place that is not the one before is further on
-pub further : (a b : ℕ) → a ≤ b → (b ≡ a → ⊥) → a < b
-further a b le other = elim (cases_lt a b) [ inl lt ↦ lt | inr ge ↦ absurd (other (omega arith)) ]

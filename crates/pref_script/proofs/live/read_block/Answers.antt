@@ -1,11 +1,11 @@
-use Rattle.pref_script.proofs.Common.{ℕ, sym, subst, ◌∙◌, err_from_is_err_and, IsLineAt, unread, source_of}
+use Rattle.pref_script.proofs.Common.{◌<◌, ℕ, arith, sym, subst, ◌∙◌, err_from_is_err_and, IsLineAt, unread, source_of}
 use Rattle.pref_script.proofs.BlockFacts.{block_end, block_next, block_open, end_missing, first_missing, hears_first, hears_part, input_missing, next_missing, so_far_part, table_missing}
-use Rattle.pref_script.proofs.LineFacts.{behind_more, further, little_later}
+use Rattle.pref_script.proofs.LineFacts.{behind_more, little_later}
 use Rattle.pref_script.proofs.live.read_block.Goals as goal
 
 pub loop-end-init : goal.loop-end-init
 loop-end-init g c =
-    let some = further 0 c.in_ok-start.start c.in_ok-start.ensures.inside.0 c.if-start-eq0.false in
+    let some : 0 < c.in_ok-start.start = omega (arith, c.if-start-eq0.false) in
     let is = sym (rw c.as_slice.ensures at c.is_table_line.ensures) ∙ c.if-not-is_table_line.false in
     record {
       read = c.in_ok-start.ensures.behind;
@@ -17,11 +17,11 @@ pub loop-end-preserved : goal.loop-end-preserved
 loop-end-preserved g c =
     let had = g.R.Read.remaining c.loop-end.reader.inner in
     let left = g.R.Read.remaining c.read_line-in-loop-end.new.reader.inner in
-    let some = further c.loop-end.stop c.in_ok-end.end c.in_ok-end.ensures.inside.0 c.if-end-stop.false in
+    let some : c.loop-end.stop < c.in_ok-end.end = omega (arith, c.in_ok-end.ensures.inside.0, c.if-end-stop.false) in
     let other = sym (rw c.as_slice-in-loop-end.ensures at c.is_end_line.ensures) ∙ c.if-is_end_line.false in
     record {
       read = behind_more _ had left c.args.ahead.now c.loop-end.ahead c.read_line-in-loop-end.new.self c.loop-end.invariant.read c.in_ok-end.ensures.behind;
-      block = block_next had left c.loop-end.ahead c.read_line-in-loop-end.new.self c.in_ok-start.start c.loop-end.stop c.loop-end.count c.in_ok-end.end c.loop-end.invariant.block c.in_ok-end.ensures.behind c.in_ok-end.ensures.line some
+      block = block_next had left c.loop-end.ahead c.read_line-in-loop-end.new.self c.in_ok-start.start c.loop-end.stop c.loop-end.count c.loop-end.invariant.block c.in_ok-end.ensures.behind c.in_ok-end.end c.in_ok-end.ensures.line some
           c.in_ok-end.ensures.inside.1 c.in_ok-end.ensures.most other;
       little = λ few. little_later c.loop-end.stop c.in_ok-end.end (unread c.read_line-in-loop-end.new.self) c.in_ok-end.ensures.inside.0 (c.in_ok-end.ensures.little (c.loop-end.invariant.little few));
     }
@@ -69,10 +69,10 @@ pub returns-then-is_end_line : goal.returns-then-is_end_line
 returns-then-is_end_line g c =
     let had = g.R.Read.remaining c.loop-end.reader.inner in
     let left = g.R.Read.remaining c.read_line-in-loop-end.new.reader.inner in
-    let some = further c.loop-end.stop c.in_ok-end.end c.in_ok-end.ensures.inside.0 c.if-end-stop.false in
+    let some : c.loop-end.stop < c.in_ok-end.end = omega (arith, c.in_ok-end.ensures.inside.0, c.if-end-stop.false) in
     let is = sym (rw c.as_slice-in-loop-end.ensures at c.is_end_line.ensures) ∙ c.if-is_end_line.true in (
       behind_more _ had left c.args.ahead.now c.loop-end.ahead c.read_line-in-loop-end.new.self c.loop-end.invariant.read c.in_ok-end.ensures.behind,
       λ few. little_later c.loop-end.stop c.in_ok-end.end (unread c.read_line-in-loop-end.new.self) c.in_ok-end.ensures.inside.0 (c.in_ok-end.ensures.little (c.loop-end.invariant.little few)),
-      block_end had left c.loop-end.ahead c.read_line-in-loop-end.new.self c.in_ok-start.start c.loop-end.stop c.loop-end.count c.in_ok-end.end c.loop-end.invariant.block c.in_ok-end.ensures.behind c.in_ok-end.ensures.line some
+      block_end had left c.loop-end.ahead c.read_line-in-loop-end.new.self c.in_ok-start.start c.loop-end.stop c.loop-end.count c.loop-end.invariant.block c.in_ok-end.ensures.behind c.in_ok-end.end c.in_ok-end.ensures.line some
           c.in_ok-end.ensures.inside.1 is,
     )

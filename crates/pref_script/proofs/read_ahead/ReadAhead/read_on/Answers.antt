@@ -1,5 +1,5 @@
 use Rattle.pref_script.proofs.Common.{◌∙◌, ap, arith, length, rules, sym, take_rest, unread}
-use Rattle.pref_script.proofs.LineFacts.{behind_more, behind_some, little_behind, none_found, none_more, once_more}
+use Rattle.pref_script.proofs.LineFacts.{behind_more, little_behind, none_found, none_more, once_more}
 use Rattle.pref_script.proofs.read_ahead.ReadAhead.read_on.Goals as goal
 
 pub loop-seen-init : goal.loop-seen-init
@@ -36,9 +36,3 @@ returns-then-self-clause-ok g c = behind_more _ _ _ _ _ _ c.loop-seen.invariant.
 
 pub returns-then-self-clause-little : goal.returns-then-self-clause-little
 returns-then-self-clause-little g c = λ _. little_behind _ _ _ _ c.args.from c.in_ok-read_more.ensures.ok c.loop-seen.invariant.none (grind arith) c.in_ok-read_more.ensures.few
-
-pub returns-then-self-clause-read : goal.returns-then-self-clause-read
-returns-then-self-clause-read g c = once_more _ _ _ _ _ c.args.from c.loop-seen.invariant.behind c.read_more.ensures.read c.loop-seen.invariant.none (grind arith)
-
-pub returns-clause-read : goal.returns-clause-read
-returns-clause-read g c = behind_some _ _ _ _ c.args.from c.loop-seen.invariant.behind c.loop-seen.invariant.little
