@@ -1,11 +1,11 @@
 -- The commands of a script, one line at a time.
 use Rattle.pref_script.proofs.Common.{◌≡◌, ◌∙◌, ℕ, suc, ◌+◌, ◌<◌, ◌≤◌, Bool, true, false, List, [], ◌∷◌, ◌++◌, length, refl, sym, ap, arith, append_assoc, Result, Ok, Err, ◌==◌, cond, nat_le, nat_lt}
-use Rattle.pref_script.proofs.Common.{if◌then◌else◌, list_all, onto_first, slice_split, and_from, le-leb, lt-ltb, append-nil, length-append, is_blank, Event, Command, refused, runs, accepted_events, command_of}
+use Rattle.pref_script.proofs.Common.{if◌then◌else◌, inl, inr, list_all, onto_first, slice_split, and_from, le-leb, lt-ltb, append-nil, length-append, is_blank, Event, Command, refused, runs, accepted_events, command_of}
 use Rattle.pref_script.proofs.Common.{commands_in, commands_of, event_of, is_line_feed, raw_lines, with_line_feeds, without_line_end, refused_line, reply_lines, texts, is_client, unowned_line}
 use Rattle.pref_script.proofs.Common.{unowned_lines, Refusal}
+use Rattle.std.proofs.lemmas.Bool.{cases_Bool}
 use Rattle.pref_core.specs.declared.event.Reply.TheVariants.{Refused as NotThere}
 use Rattle.pref_core.specs.declared.fault.CoreFault.TheVariants.{NoSuchClient}
-use Rattle.pref_script.proofs.ScriptFacts.{lines_none}
 use Rattle.pref_script.proofs.TextFacts.{texts-append}
 
 -- the events of commands and more commands
@@ -16,19 +16,20 @@ accepted_events-append (refused number why ∷ xs) ys = accepted_events-append x
 accepted_events-append (runs event ∷ xs) ys = ap (λ (t : List Event). event ∷ t) (accepted_events-append xs ys)
 
 -- the event of a line: of one that is not blank, where it is not refused; the number of the line is nothing to it
-abbrev pub event_in : Bool → Result Event Refusal → List Event
-event_in true said = []
-event_in false (Ok event) = event ∷ []
-event_in false (Err why) = []
+abbrev pub event_in : Result Event Refusal → Bool → List Event
+event_in (Err why) blank = []
+event_in (Ok event) true = []
+event_in (Ok event) false = event ∷ []
 
-pub events-in : (names : List (List ℕ)) (number : ℕ) (line : List ℕ) → accepted_events (commands_in names number line) ≡ event_in (list_all is_blank line) (event_of names line)
+pub events-in : (names : List (List ℕ)) (number : ℕ) (line : List ℕ) → accepted_events (commands_in names number line) ≡ event_in (event_of names line) (list_all is_blank line)
 unfolding accepted_events
-events-in names number line = by (list_all is_blank line) (event_of names line)
+events-in names number line = by (event_of names line) (list_all is_blank line)
   where
-    by : (blank : Bool) (said : Result Event Refusal) → accepted_events (if blank then [] else command_of number said ∷ []) ≡ event_in blank said
-    by true said = refl
-    by false (Ok event) = refl
-    by false (Err why) = refl
+    by : (said : Result Event Refusal) (blank : Bool) → accepted_events (if blank then [] else command_of number said ∷ []) ≡ event_in said blank
+    by (Err why) true = refl
+    by (Err why) false = refl
+    by (Ok event) true = refl
+    by (Ok event) false = refl
 
 pub events-any_number : (names : List (List ℕ)) (n m : ℕ) (raws : List (List ℕ)) → accepted_events (commands_of names n raws) ≡ accepted_events (commands_of names m raws)
 unfolding commands_of
@@ -40,18 +41,18 @@ events-any_number names n m (raw ∷ more) =
     ∙ sym (accepted_events-append (commands_in names m (without_line_end raw)) (commands_of names (m + 1) more))
 
 -- a line has one event at most
-event_in-few : (blank : Bool) (said : Result Event Refusal) → length (event_in blank said) ≤ 1
-event_in-few true said = omega arith
-event_in-few false (Ok event) = omega arith
-event_in-few false (Err why) = omega arith
+event_in-few : (said : Result Event Refusal) (blank : Bool) → length (event_in said blank) ≤ 1
+event_in-few (Err why) blank = omega arith
+event_in-few (Ok event) true = omega arith
+event_in-few (Ok event) false = omega arith
 
-events-of_lines : (names : List (List ℕ)) (number : ℕ) (raws : List (List ℕ)) → length (accepted_events (commands_of names number raws)) ≤ length raws
+pub events-of_lines : (names : List (List ℕ)) (number : ℕ) (raws : List (List ℕ)) → length (accepted_events (commands_of names number raws)) ≤ length raws
 unfolding commands_of accepted_events
 events-of_lines names number [] = omega arith
 events-of_lines names number (raw ∷ more) =
     let line = commands_in names number (without_line_end raw) in
     let rest = commands_of names (number + 1) more in
-    omega (arith, ap length (accepted_events-append line rest), length-append (accepted_events line) (accepted_events rest), ap length (events-in names number (without_line_end raw)), event_in-few (list_all is_blank (without_line_end raw)) (event_of names (without_line_end raw)), events-of_lines names (number + 1) more)
+    omega (arith, ap length (accepted_events-append line rest), length-append (accepted_events line) (accepted_events rest), ap length (events-in names number (without_line_end raw)), event_in-few (event_of names (without_line_end raw)) (list_all is_blank (without_line_end raw)), events-of_lines names (number + 1) more)
 
 -- what follows the last line feed is one line at most
 last-few : (part : List ℕ) → length (with_line_feeds (part ∷ [])) ≤ 1
@@ -62,7 +63,7 @@ last-few part = by (length part == 0)
     by false = omega arith
 
 -- a text has no more lines than bytes
-lines-few : (text : List ℕ) → length (raw_lines text) ≤ length text
+pub lines-few : (text : List ℕ) → length (raw_lines text) ≤ length text
 unfolding raw_lines
 lines-few [] = omega arith
 lines-few (byte ∷ rest) = by (is_line_feed byte) (slice_split is_line_feed rest) (lines-few rest)
@@ -73,9 +74,6 @@ lines-few (byte ∷ rest) = by (is_line_feed byte) (slice_split is_line_feed res
     by false [] few = omega arith
     by false (part ∷ []) few = omega (arith, last-few (byte ∷ part))
     by false (part ∷ next ∷ parts) few = omega (arith, few)
-
-pub events-few : (names : List (List ℕ)) (number : ℕ) (text : List ℕ) → length (accepted_events (commands_of names number (raw_lines text))) ≤ length text
-events-few names number text = omega (arith, events-of_lines names number (raw_lines text), lines-few text)
 
 -- what is printed for a line that belongs to no client: a line of blanks, an event, and a refused line
 module _ (clients width : ℕ) (names : List (List ℕ)) (number : ℕ) (line : List ℕ) where
@@ -95,14 +93,9 @@ module _ (clients width : ℕ) (names : List (List ℕ)) (number : ℕ) (line : 
 
   -- an event of one of the clients
   pub unowned-own : (out : List ℕ) (place : ℕ) (event : Event) → event_of names line ≡ Ok event → event.client ≡ suc place → place < clients → out ≡ out ++ unowned_lines clients width (commands_in names number line)
-  unowned-own out place event said own inside = by (list_all is_blank line) refl
-    where
-      client : is_client clients event.client ≡ true
-      client = rw own (and_from (nat_lt 0 (suc place)) (nat_le (suc place) clients) (lt-ltb 0 (suc place) (omega arith)) (le-leb (suc place) clients (omega (arith, inside))))
-
-      by : (blank : Bool) → list_all is_blank line ≡ blank → out ≡ out ++ unowned_lines clients width (commands_in names number line)
-      by true e = unowned-blank out e
-      by false e = unowned-event out out event e said (rw client (sym (append-nil out)))
+  unowned-own out place event said own inside =
+      let client = and_from (nat_lt 0 (suc place)) (nat_le (suc place) clients) (lt-ltb 0 (suc place) (omega arith)) (le-leb (suc place) clients (omega (arith, inside))) in
+      elim (cases_Bool (list_all is_blank line)) [ inl blank ↦ unowned-blank out blank | inr some ↦ unowned-event out out event some said (rw (own, client) (sym (append-nil out))) ]
 
 -- one line more
 pub unowned-more : (clients width : ℕ) (names : List (List ℕ)) (number : ℕ) (left raw tail old new all : List ℕ) → old ++ unowned_lines clients width (commands_of names number (raw_lines left)) ≡ all
@@ -114,9 +107,3 @@ unowned-more clients width names number left raw tail old new all before cut wro
     let rest = commands_of names (number + 1) (raw_lines tail) in
     let whole = rw (cut, texts-append (unowned_line clients width) first rest) at before in
     rw wrote (append_assoc old (unowned_lines clients width first) (unowned_lines clients width rest) ∙ whole)
-
--- no line is left
-pub unowned-all : (clients width : ℕ) (names : List (List ℕ)) (number : ℕ) (left out all : List ℕ) → out ++ unowned_lines clients width (commands_of names number (raw_lines left)) ≡ all → length left ≡ 0 → out ≡ all
-unfolding commands_of texts
-unowned-all clients width names number [] out all before none = sym (append-nil out) ∙ rw lines_none at before
-unowned-all clients width names number (x ∷ xs) out all before none = absurd (omega arith)

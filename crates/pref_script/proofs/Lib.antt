@@ -9,10 +9,8 @@ pub mod CommitFacts
 pub mod TextFacts
 pub mod OutputFacts
 pub mod PlayFacts
-pub mod LiveFacts
 pub mod ClientFacts
 pub mod ThreadsFacts
-pub mod RunFacts
 pub mod LineFacts
 pub mod BlockFacts
 pub mod HeardFacts

@@ -1,15 +1,14 @@
 -- A run that tells each line as it comes: how it begins, goes on and ends.
-use Rattle.pref_script.proofs.Common.{◌≡◌, ◌∙◌, ◌⊎◌, ℕ, ◌+◌, ◌≤◌, true, false, List, [], ◌∷◌, ◌++◌, length, take, drop, ap, refl, sym, subst, arith, append_assoc, Option, Result, Ok, Err, inl, inr}
+use Rattle.pref_script.proofs.Common.{◌≡◌, ◌∙◌, ◌⊎◌, ℕ, ◌+◌, ◌≤◌, true, false, List, [], ◌∷◌, ◌++◌, length, take, drop, ap, refl, sym, subst, arith, append-nil, append_assoc, Option, Some, None, Result, Ok, Err, inl, inr}
 use Rattle.pref_script.proofs.Common.{Appends-kept, Appends-trans, drop_all, length-drop, take-append-drop, take_all, Appends, Consumes, IsAtEnd, position_or_len, Limits, opened, commands_of, Hears}
 use Rattle.pref_script.proofs.Common.{IsBlock, LacksBlock, OpensLive, ReadsBlock, EndsWithLine, HeardNone, IsTooLong, RanLive, ShowsFault, StopsEarly, PrintsNext, Turns, IsOpened, OpeningFault}
-use Rattle.pref_script.proofs.Common.{next_number, ScriptFault, fault_text, script_of, IsLittle, ReadBehind, ReadSome, between, is_at_end, unread, NothingWritten, Sink, Source, WroteAll}
+use Rattle.pref_script.proofs.Common.{next_number, ScriptFault, fault_text, script_of, IsLittle, ReadBehind, ReadSome, between, is_at_end, unread, Keeps, NothingWritten, Sink, Source, WroteAll}
 use Rattle.pref_script.proofs.Common.{WroteBeginning, Wrote, Parts, block_lines, is_end_line, parts_of, raw_lines, RunFault, LiveTable, ReadAhead}
 use Rattle.pref_script.specs.declared.live.TableBlock.{TableBlock}
 use Rattle.pref_script.proofs.BlockFacts.{all_read, hears_part, little_at_first}
 use Rattle.pref_script.proofs.HeardFacts.{had_all, heard_too_long, hears_next, parts_more, since, stops_early, stops_writing}
 use Rattle.pref_script.proofs.LineFacts.{little_left}
 use Rattle.pref_script.proofs.OutputFacts.{cut_of, script-parts}
-use Rattle.pref_script.proofs.RunFacts.{nothing-written}
 use Rattle.pref_script.specs.declared.fault.RunFault.TheVariants as fault
 
 -- the reader has come to its end
@@ -149,6 +148,12 @@ none_heard limits source ahead fault.Write never = absurd never
 none_heard limits source ahead (fault.Threads why) never = absurd never
 none_heard limits source ahead why shows = shows.0
 
+-- no byte was written
+nothing-written : (held holds : Option (List ℕ)) → Appends held holds [] → Keeps held holds
+nothing-written None holds h = tt
+nothing-written (Some xs) None h = h
+nothing-written (Some xs) (Some ys) h = h ∙ append-nil xs
+
 -- the table was refused, and that was written
 refused_with : (limits : Limits) (source : Source) (sink : Sink) (ahead : ReadAhead) (why : RunFault) → OpensLive limits source ahead (Err why) → WroteAll sink (fault_text why) → RanLive limits source sink (Err why)
 refused_with limits source sink ahead fault.Read (failed, heard) wrote = (failed, inl (heard, nothing-written sink.held sink.holds wrote))
@@ -171,11 +176,10 @@ refused_write limits source sink ahead (fault.Threads why) never failed part = a
 refused_write limits source sink ahead why shows failed part = (failed, inr (inr (why, shows, part)))
 
 -- a refused table, by what was written of its line
-same_fault : (limits : Limits) (source : Source) (sink : Sink) (ahead : ReadAhead) (why other : RunFault) → OpensLive limits source ahead (Err why) → why ≡ other → WroteAll sink (fault_text why) → RanLive limits source sink (Err other)
-same_fault limits source sink ahead why other opens is wrote = subst (λ (w : RunFault). RanLive limits source sink (Err w)) is (refused_with limits source sink ahead why opens wrote)
-
 pub refused_live : (limits : Limits) (source : Source) (sink : Sink) (ahead : ReadAhead) (why : RunFault) (result : Result (Unit {0}) RunFault) → OpensLive limits source ahead (Err why) → Wrote sink (Err why) result → RanLive limits source sink result
 refused_live limits source sink ahead why (Ok done) opens (ok, all) = absurd (cc)
 refused_live limits source sink ahead why (Err fault.Write) opens (failed, part) = refused_write limits source sink ahead why opens failed part
 refused_live limits source sink ahead why (Err fault.Memory) opens kept = inl (none_heard limits source ahead why opens, kept)
-refused_live limits source sink ahead why (Err other) opens (same, all) = same_fault limits source sink ahead why other opens (cc) all
+refused_live limits source sink ahead why (Err other) opens (same, all) =
+    let is : why ≡ other = cc same in
+    subst (λ (w : RunFault). RanLive limits source sink (Err w)) is (refused_with limits source sink ahead why opens all)

@@ -1,7 +1,8 @@
 -- The output of a script, part by part.
-use Rattle.pref_script.proofs.Common.{◌≡◌, ◌∙◌, ℕ, ◌+◌, ◌<◌, ◌≤◌, List, [], ◌∷◌, length, ap, arith, refl, Ok, Err, Bool, true, false, ◌⊎◌, inl, inr, Result, cases_lt, le-ltb, lt-ltb, ltb-true, after_first, before_first, concat, Global, IfErr}
+use Rattle.pref_script.proofs.Common.{◌≡◌, ◌∙◌, ℕ, ◌+◌, ◌<◌, ◌≤◌, List, [], ◌∷◌, length, ap, arith, refl, Ok, Err, true, ◌⊎◌, inl, inr, Result, cases_lt, le-ltb, lt-ltb, ltb-true, after_first, before_first, concat, Global, IfErr}
 use Rattle.pref_script.proofs.Common.{IfOk, String, nat_lt, string_bytes, position_or_len, Fails, Table, table_of, Limits, Script, ScriptFault, PrintsOutput, in_bytes, output_of, script_of}
 use Rattle.pref_script.proofs.Common.{script_with, core_fault, table_fault, Parts, is_end_line, is_table_line, parts_of, raw_lines, RunFault}
+use Rattle.std.proofs.lemmas.Bool.{cases_Bool}
 use Rattle.pref_table.specs.declared.fault.TableFault.{TableFault}
 use Rattle.pref_core.specs.declared.fault.CoreFault.{CoreFault}
 use Rattle.pref_table.specs.declared.fault.TableFault.TheVariants as table
@@ -11,13 +12,10 @@ use Rattle.pref_script.specs.declared.fault.RunFault.TheVariants as fault
 -- a script's parts fail in two ways
 parts-faults : (raws : List (List ℕ)) (why : RunFault) → parts_of raws ≡ Err why → (why ≡ fault.NoTable) ⊎ (why ≡ fault.NoEnd)
 parts-faults [] why h = inl (cc h)
-parts-faults (first ∷ rest) why h = by (is_table_line first) (nat_lt (position_or_len is_end_line rest) (length rest)) refl refl h
-  where
-    by : (table end : Bool) → is_table_line first ≡ table → nat_lt (position_or_len is_end_line rest) (length rest) ≡ end → parts_of (first ∷ rest) ≡ Err why
-        → (why ≡ fault.NoTable) ⊎ (why ≡ fault.NoEnd)
-    by false end e f h = inl (cc (rw e at h))
-    by true false e f h = inr (cc (rw (e, f) at h))
-    by true true e f h = cc (rw (e, f) at h)
+parts-faults (first ∷ rest) why h = elim (cases_Bool (is_table_line first)) [
+  | inl table ↦ elim (cases_Bool (nat_lt (position_or_len is_end_line rest) (length rest))) [ inl end ↦ cc (rw (table, end) at h) | inr end ↦ inr (cc (rw (table, end) at h)) ]
+  | inr table ↦ inl (cc (rw table at h))
+]
 
 -- how a script with a table block is cut
 pub record IsCut (lines : List (List ℕ)) (parts : Parts) : Type 0 where
@@ -30,14 +28,15 @@ pub record IsCut (lines : List (List ℕ)) (parts : Parts) : Type 0 where
 
 pub cut_of : (lines : List (List ℕ)) (parts : Parts) → parts_of lines ≡ Ok parts → IsCut lines parts
 cut_of [] parts h = absurd (cc)
-cut_of (first ∷ rest) parts h = by (is_table_line first) (nat_lt (position_or_len is_end_line rest) (length rest)) refl refl
-  where
-    by : (table end : Bool) → is_table_line first ≡ table → nat_lt (position_or_len is_end_line rest) (length rest) ≡ end → IsCut (first ∷ rest) parts
-    by false end t e = absurd (let no = rw t at h in cc)
-    by true false t e = absurd (let no = rw (t, e) at h in cc)
-    by true true t e =
-        let is = rw (t, e) at h in
-        record { first = first; rest = rest; lines_are = refl; table = t; inside = ltb-true (position_or_len is_end_line rest) (length rest) e; parts_are = cc }
+cut_of (first ∷ rest) parts h = elim (cases_Bool (is_table_line first)) [
+  | inl table ↦ elim (cases_Bool (nat_lt (position_or_len is_end_line rest) (length rest))) [
+    | inl end ↦
+        let is = rw (table, end) at h in
+        record { first = first; rest = rest; lines_are = refl; table = table; inside = ltb-true (position_or_len is_end_line rest) (length rest) end; parts_are = cc }
+    | inr end ↦ absurd (let no = rw (table, end) at h in cc)
+  ]
+  | inr table ↦ absurd (let no = rw table at h in cc)
+]
 
 -- a script's first command line follows two lines at least
 pub first-least : (raws : List (List ℕ)) (parts : Parts) → parts_of raws ≡ Ok parts → 3 ≤ parts.first
@@ -57,27 +56,19 @@ script-parts-fault limits bytes why h = elim (parts-faults (raw_lines bytes) why
 ]
 
 -- a table's fault is the script's
-script-table : (limits : Limits) (bytes : List ℕ) (parts : Parts) (why : TableFault) → parts_of (raw_lines bytes) ≡ Ok parts → table_of parts.table ≡ Err why
-    → script_of limits bytes ≡ Err (fault.Table why)
-unfolding script_of
-script-table limits bytes parts why h t = rw (h, t) refl
-
 pub script-table-fault : (limits : Limits) (bytes : List ℕ) (parts : Parts) (why : TableFault) → parts_of (raw_lines bytes) ≡ Ok parts → Fails why (table_of parts.table)
     → ScriptFault (table_fault why) (script_of limits bytes)
+unfolding script_of
 script-table-fault limits bytes parts table.OutOfMemory h t = tt
-script-table-fault limits bytes parts why h t = script-table limits bytes parts why h t
+script-table-fault limits bytes parts why h t = rw (h, t) refl
 
 -- rows without room are the engine's refusal
-script-full : (limits : Limits) (bytes : List ℕ) (parts : Parts) (table : Table) → parts_of (raw_lines bytes) ≡ Ok parts → table_of parts.table ≡ Ok table
-    → limits.capacity < length table.1 → script_of limits bytes ≡ Err (fault.Opening (core.Full (length table.1)))
-unfolding script_of
-script-full limits bytes parts table h t many = rw (h, t, lt-ltb limits.capacity (length table.1) many) refl
-
 pub script-core-fault : (limits : Limits) (bytes : List ℕ) (parts : Parts) (table : Table) (why : CoreFault) → parts_of (raw_lines bytes) ≡ Ok parts → table_of parts.table ≡ Ok table
     → (limits.capacity < length table.1 → why ≡ core.Full (length table.1)) → (why ≡ core.OutOfMemory) ⊎ (limits.capacity < length table.1)
     → ScriptFault (core_fault why) (script_of limits bytes)
+unfolding script_of
 script-core-fault limits bytes parts table why h t full (inl memory) = rw memory tt
-script-core-fault limits bytes parts table why h t full (inr many) = rw (full many) (script-full limits bytes parts table h t many)
+script-core-fault limits bytes parts table why h t full (inr many) = rw (full many, h, t, lt-ltb limits.capacity (length table.1) many) refl
 
 -- a script without a fault
 pub script-ok : (limits : Limits) (bytes : List ℕ) (parts : Parts) (table : Table) → parts_of (raw_lines bytes) ≡ Ok parts → table_of parts.table ≡ Ok table

@@ -1,12 +1,15 @@
 -- A client's part of a script, one line at a time.
-use Rattle.pref_script.proofs.Common.{◌≡◌, ◌≢◌, ◌∙◌, ℕ, suc, zero, ◌+◌, ◌<◌, ◌≤◌, ◌^◌, Bool, true, false, List, [], ◌∷◌, ◌++◌, length, map, slice_get, Option, Some, None, Result, Ok, Err, refl, sym}
+use Rattle.pref_script.proofs.Common.{◌≡◌, ◌≢◌, ◌∙◌, ℕ, suc, ◌+◌, ◌<◌, ◌≤◌, ◌^◌, true, false, List, [], ◌∷◌, ◌++◌, length, map, slice_get, Option, Some, None, Result, Ok, Err, refl, sym}
 use Rattle.pref_script.proofs.Common.{ap, arith, append_assoc, subst, inl, inr, string_bytes, All, list_all, Vec, append-nil, length-append, is_blank, Event, AcceptsLeft, AllAccepted, AreParts, ArePartsUpTo}
 use Rattle.pref_script.proofs.Common.{FirstAct, HasReplied, IsAccepted, IsFound, IsGiven, AllGiven, IsPart, AreActs, acts_in, acts_left, accepted_events, act_of, commands_in, commands_of}
 use Rattle.pref_script.proofs.Common.{event_of, Said, client_named, said_in, raw_lines, without_line_end, reply_lines, texts, clients_lines, unowned_line, unowned_lines, Refusal, Part}
-use Rattle.pref_script.proofs.Common.{◌==◌, NamesNone, cases_lt, drop, drop_all, drop_more, eqb-false, eqb-true, get_or, get_or_append_left, length-set, lines_in, lines_left, map-append, set, vec_len}
+use Rattle.pref_script.proofs.Common.{◌==◌, NamesNone, cases_lt, drop, drop_all, drop_more, eqb-false, eqb-true, get_or, get_or_append_left, length-set, lines_in, lines_left, map-append, range_with_len, set, vec_len}
 use Rattle.std.proofs.Common.{Bor}
+use Rattle.std.proofs.lemmas.Bool.{cases_Bool}
 use Rattle.std.proofs.lemmas.Grind.{get_or-set_at}
-use Rattle.std.proofs.lemmas.List.{get_or-set_other, get_or_push}
+use Rattle.std.proofs.lemmas.List.{get_or-map, get_or-set_other, get_or_push, length-map, same_lists}
+use Rattle.std.proofs.lemmas.List.FromFn.{get_or-map-range_with_len, length-map-range_with_len}
+use Rattle.std.proofs.lemmas.Simd.{map-map}
 use Rattle.std.proofs.lemmas.Option.{get_or_from_slice_get, slice_get-get_or, slice_get_read, slice_get_within}
 use Rattle.pref_core.specs.declared.event.Act.{Act}
 use Rattle.pref_core.specs.declared.event.Reply.{Reply}
@@ -16,26 +19,20 @@ use Rattle.pref_share.proofs.RunsLaws.{there}
 use Rattle.pref_script.specs.ClientParts.{IsWhole}
 use Rattle.pref_script.specs.declared.parts.Found.{Found}
 use Rattle.pref_script.proofs.ClientFacts.{acts-append, acts-few, acts-other, acts-own}
-use Rattle.pref_script.proofs.CommandFacts.{accepted_events-append, event_in, events-any_number, events-in, events-few, unowned-blank, unowned-own}
+use Rattle.pref_script.proofs.CommandFacts.{accepted_events-append, events-any_number, events-in, events-of_lines, lines-few, unowned-blank, unowned-own}
 use Rattle.pref_script.proofs.FormFacts.{said_named}
-use Rattle.pref_script.proofs.ScriptFacts.{lines_none}
 use Rattle.pref_script.proofs.TextFacts.{texts-append}
 use Rattle.pref_script.specs.declared.parts.Found.TheVariants as found
 
 -- a refused line is nothing to a client, nor is another client's event
 pub found-refused : (names : List (List ℕ)) (client : ℕ) (line : List ℕ) (why : Refusal) → event_of names line ≡ Err why → IsFound names client line found.Refused
-found-refused names client line why said = rw (events-in names 0 line, said) (by (list_all is_blank line))
-  where
-    by : (blank : Bool) → acts_of client (event_in blank (Err why)) ≡ []
-    by true = refl
-    by false = refl
+found-refused names client line why said = rw (events-in names 0 line, said) refl
 
 first-other : (names : List (List ℕ)) (client : ℕ) (line : List ℕ) (event : Event) → event_of names line ≡ Ok event → event.client ≢ client → FirstAct names client line None
-first-other names client line event said other = rw (events-in names 0 line, said) (by (list_all is_blank line))
-  where
-    by : (blank : Bool) → acts_of client (event_in blank (Ok event)) ≡ []
-    by true = refl
-    by false = acts-other event client other
+first-other names client line event said other = elim (cases_Bool (list_all is_blank line)) [
+  | inl blank ↦ rw (events-in names 0 line, said, blank) refl
+  | inr some ↦ rw (events-in names 0 line, said, some) (acts-other event client other)
+]
 
 -- the event of a line is of the client that it names
 event-named : (names : List (List ℕ)) (line : List ℕ) (event : Event) → event_of names line ≡ Ok event → client_named line ≡ Some event.client
@@ -62,7 +59,8 @@ first-unnamed names client line other = by (event_of names line) refl
 
 -- what a line is to a client: one of blanks, another client's event and its own
 pub found-blank : (names : List (List ℕ)) (client : ℕ) (line : List ℕ) → list_all is_blank line ≡ true → IsFound names client line found.Nothing
-found-blank names client line blank = (rw (events-in names 0 line, blank) refl, λ _. inl blank)
+unfolding accepted_events
+found-blank names client line blank = (rw blank refl, λ _. inl blank)
 
 pub found-other : (names : List (List ℕ)) (client : ℕ) (line : List ℕ) (event : Event) → event_of names line ≡ Ok event → event.client ≢ client → IsFound names client line found.Nothing
 found-other names client line event said other = (
@@ -74,7 +72,7 @@ found-other names client line event said other = (
 )
 
 pub found-act : (names : List (List ℕ)) (client : ℕ) (line : List ℕ) (event : Event) → list_all is_blank line ≡ false → event_of names line ≡ Ok event → event.client ≡ client → IsFound names client line (found.Act event.act)
-found-act names client line event some said own = (rw (events-in names 0 line, some, said) (acts-own event client own), λ _. inr (event, said, own))
+found-act names client line event some said own = (rw (events-in names 0 line, said, some) (acts-own event client own), λ _. inr (event, said, own))
 
 -- the act of the first line comes before those of the lines behind it
 acts-line : (names : List (List ℕ)) (client : ℕ) (raw : List ℕ) (more : List (List ℕ))
@@ -125,9 +123,6 @@ pub record HasGone (old new : Part) (past : List Act) : Type 0 where
   pub refused : new.refused ≡ false → old.refused ≡ false
   pub accepted : new.refused ≡ false → AcceptsLeft new → AcceptsLeft old
 
-pub gone-nowhere : (part : Part) → HasGone part part []
-gone-nowhere part = record { client = refl; schema = refl; text = refl; acts = refl; refused = λ h. h; accepted = λ _ h. h }
-
 -- one line more
 pub gone-line : (old now new : Part) (raw line : List ℕ) (what : Found) → HasGone old now [] → lines_left now ≡ raw ∷ lines_left new → line ≡ without_line_end raw → IsFound now.schema.now now.client line what
     → new.client ≡ now.client → new.schema.now ≡ now.schema.now → string_bytes new.text ≡ string_bytes now.text → (new.refused ≡ false → (now.refused ≡ false) × (what ≡ found.Refused → ⊥)) → HasGone old new (acts_found what)
@@ -167,13 +162,9 @@ line-next part raw some is =
 pub lines-none : (part : Part) → vec_len part.lines ≤ part.read → lines_left part ≡ []
 lines-none part none = ap (map (λ (r : Bor (List ℕ)). r.now)) (drop_all part.read part.lines.items (omega (arith, none, part.lines.ok.0)))
 
-pub acts-none : (part : Part) → vec_len part.lines ≤ part.read → acts_left part ≡ []
-unfolding commands_of accepted_events
-acts-none part none = ap (acts_in part.schema.now part.client) (lines-none part none)
-
 -- a client has no more acts than its lines have bytes
 pub acts-short : (names : List (List ℕ)) (client : ℕ) (text : List ℕ) → length (acts_in names client (raw_lines text)) ≤ length text
-acts-short names client text = omega (arith, acts-few client (accepted_events (commands_of names 0 (raw_lines text))), events-few names 0 text)
+acts-short names client text = omega (arith, acts-few client (accepted_events (commands_of names 0 (raw_lines text))), events-of_lines names 0 (raw_lines text), lines-few text)
 
 -- a reply more
 pub returned-more : (first old new : Part) (replies : List Reply) (reply : Reply) → HasReplied first old replies → new.client ≡ old.client → new.schema.now ≡ old.schema.now → lines_left new ≡ lines_left old → new.refused ≡ old.refused
@@ -189,15 +180,7 @@ returned-more first old new replies reply returned client schema left refused wr
       accepted = λ none rest. returned.accepted (sym refused ∙ none) (subst (AllAccepted old.schema.now old.client) left (rw (client, schema) at rest));
     }
 
--- nothing was told yet
-pub returned-nothing : (part : Part) → HasReplied part part []
-unfolding texts
-returned-nothing part = record { client = refl; schema = refl; text = sym (append-nil (string_bytes part.text)); accepted = λ _ rest. rest }
-
--- the parts of clients before they have lines: none, and one part more
-pub none-are : (names raws : List (List ℕ)) → ArePartsUpTo names raws raws []
-none-are names raws place part here = cc here
-
+-- the parts of clients before they have lines, and one part more
 pub are-more : (names raws : List (List ℕ)) (parts : List Part) (part : Part) → ArePartsUpTo names raws raws parts → part.schema.now ≡ names → part.client ≡ suc (length parts) → lines_left part ≡ [] → part.read ≡ 0
     → string_bytes part.text ≡ [] → ArePartsUpTo names raws raws (parts ++ part ∷ [])
 are-more names raws parts part are schema client lines read returned place other here = elim (cases_lt place (length parts)) [
@@ -213,15 +196,6 @@ are-more names raws parts part are schema client lines read returned place other
 -- a line more
 pub lines-push : (old new : List (Bor (List ℕ))) (raw : Bor (List ℕ)) → new ≡ old ++ raw ∷ [] → map (λ (r : Bor (List ℕ)). r.now) new ≡ map (λ (r : Bor (List ℕ)). r.now) old ++ raw.now ∷ []
 lines-push old new raw pushed = ap (map (λ (r : Bor (List ℕ)). r.now)) pushed ∙ map-append (λ (r : Bor (List ℕ)). r.now) old (raw ∷ [])
-
--- no line is left
-pub parts-all : (names raws : List (List ℕ)) (left : List ℕ) (parts : List Part) → ArePartsUpTo names raws (raw_lines left) parts → length left ≡ 0 → AreParts names raws parts
-parts-all names raws [] parts are none = subst (λ (lines : List (List ℕ)). ArePartsUpTo names raws lines parts) lines_none are
-parts-all names raws (x ∷ xs) parts are none = absurd (omega arith)
-
-pub given-none : (clients : ℕ) (left : List ℕ) → length left ≡ 0 → AllGiven clients (raw_lines left)
-given-none clients [] none = rw lines_none tt
-given-none clients (x ∷ xs) none = absurd (omega arith)
 
 -- a line is given to the part of the client that it names
 part-next : (names raws left : List (List ℕ)) (raw : List ℕ) (client : ℕ) (part : Part) → IsPart names raws (raw ∷ left) client part → client_named (without_line_end raw) ≢ Some client → IsPart names raws left client part
@@ -241,15 +215,24 @@ given-nobody names raws left raw parts nobody are place part here = part-next na
 lines-unread : (part : Part) → part.read ≡ 0 → lines_left part ≡ lines_in part
 lines-unread part unread = ap (λ (n : ℕ). map (λ (r : Bor (List ℕ)). r.now) (drop n part.lines.items)) unread
 
-same-place : (spot place : ℕ) → Some (suc spot) ≡ Some (suc place) → spot ≡ place
-same-place spot place same =
-    let numbers : suc spot ≡ suc place = cc same in
-    omega (arith, numbers)
-
 pub given-here : (names raws left : List (List ℕ)) (raw : List ℕ) (parts : List Part) (place : ℕ) (old new : Part) → place < length parts → old ≡ get_or parts place old → client_named (without_line_end raw) ≡ Some (suc place)
     → new.schema.now ≡ old.schema.now → new.client ≡ old.client → lines_in new ≡ lines_in old ++ raw ∷ [] → new.read ≡ old.read → string_bytes new.text ≡ string_bytes old.text
     → ArePartsUpTo names raws (raw ∷ left) parts → ArePartsUpTo names raws left (set parts place new)
-given-here names raws left raw parts place old new inside held named schema client lines read text are spot part here = by (spot == place) refl
+given-here names raws left raw parts place old new inside held named schema client lines read text are spot part here = elim (cases_Bool (spot == place)) [
+  | inl e ↦
+      let is = eqb-true spot place e in
+      let given : new ≡ part = sym (get_or-set_at parts place spot new new is inside) ∙ get_or_from_slice_get (set parts place new) spot part new here in
+      let number : suc place ≡ suc spot = ap suc (sym is) in
+      subst (λ (client : ℕ). IsPart names raws left client part) number (subst (IsPart names raws left (suc place)) given more)
+  | inr e ↦
+      let isnt = eqb-false spot place e in
+      let stays : part ≡ get_or parts spot part = sym (get_or_from_slice_get (set parts place new) spot part part here) ∙ get_or-set_other parts place spot new part isnt in
+      let other : client_named (without_line_end raw) ≢ Some (suc spot) = λ its.
+      let both : Some (suc spot) ≡ Some (suc place) = sym its ∙ named in
+      let numbers : suc spot ≡ suc place = cc both in
+      isnt (omega (arith, numbers)) in
+      part-next names raws left raw (suc spot) part (are spot part (slice_get_read parts (length parts) spot part refl within stays)) other
+]
   where
     within : spot < length parts
     within = omega (arith, slice_get_within (set parts place new) spot part here, length-set parts place new)
@@ -272,18 +255,6 @@ given-here names raws left raw parts place old new inside held named schema clie
       returned = text ∙ was.returned;
     }
 
-    by : (same : Bool) → (spot == place) ≡ same → IsPart names raws left (suc spot) part
-    by true e =
-        let is = eqb-true spot place e in
-        let given : new ≡ part = sym (get_or-set_at parts place spot new new is inside) ∙ get_or_from_slice_get (set parts place new) spot part new here in
-        let number : suc place ≡ suc spot = ap suc (sym is) in
-        subst (λ (client : ℕ). IsPart names raws left client part) number (subst (IsPart names raws left (suc place)) given more)
-    by false e =
-        let isnt = eqb-false spot place e in
-        let stays : part ≡ get_or parts spot part = sym (get_or_from_slice_get (set parts place new) spot part part here) ∙ get_or-set_other parts place spot new part isnt in
-        let other : client_named (without_line_end raw) ≢ Some (suc spot) = λ its. isnt (same-place spot place (sym its ∙ named)) in
-        part-next names raws left raw (suc spot) part (are spot part (slice_get_read parts (length parts) spot part refl within stays)) other
-
 -- all lines were given to the parts: these are the acts of each
 pub part-acts : (names raws : List (List ℕ)) (client : ℕ) (part : Part) → IsPart names raws [] client part → acts_left part ≡ acts_in names client raws
 part-acts names raws client part is = rw (is.schema, is.number) (ap (acts_in names client) (sym (append-nil (lines_left part))) ∙ is.acts)
@@ -300,47 +271,27 @@ module _ {X : Type 0} (given : Vec X) (names : List (List ℕ)) (text : List ℕ
       let acts = acts_in names client (raw_lines text) in
       record { ptr = given.ptr; len = length acts; cap = length acts; alloc = given.alloc; items = acts; ok = (refl, omega arith); small = omega (arith, acts-short names client text, short) }
 
-  abbrev pub acts_from : ℕ → List Part → List (Vec Act)
-  acts_from client [] = []
-  acts_from client (part ∷ more) = held client ∷ acts_from (client + 1) more
-
-  listed-from : (client : ℕ) (parts : List Part) → ((place : ℕ) (part : Part) → slice_get parts place ≡ Some part → acts_left part ≡ acts_in names (client + place) (raw_lines text))
-      → map (λ (list : Vec Act). list.items) (acts_from client parts) ≡ map acts_left parts
-  listed-from client [] each = refl
-  listed-from client (part ∷ more) each =
-      let number : client + 0 ≡ client = omega arith in
-      let same : acts_left part ≡ acts_in names client (raw_lines text) = each 0 part refl ∙ ap (λ (n : ℕ). acts_in names n (raw_lines text)) number in
-      ap (λ (acts : List Act). acts ∷ map (λ (list : Vec Act). list.items) (acts_from (client + 1) more)) (sym same) ∙ ap (λ (lists : List (List Act)). acts_left part ∷ lists)
-      (listed-from (client + 1) more (λ place p here.
-      let next : client + suc place ≡ (client + 1) + place = omega arith in
-      each (suc place) p here ∙ ap (λ (n : ℕ). acts_in names n (raw_lines text)) next))
+  abbrev pub acts_from : ℕ → List (Vec Act)
+  acts_from clients = map held (range_with_len 1 clients)
 
   -- these are the acts of the parts
-  pub acts-listed : (parts : List Part) → AreParts names (raw_lines text) parts → map (λ (list : Vec Act). list.items) (acts_from 1 parts) ≡ map acts_left parts
-  acts-listed parts are = listed-from 1 parts (λ place part here.
-      let number : suc place ≡ 1 + place = omega arith in
-      part-acts names (raw_lines text) (suc place) part (are place part here) ∙ ap (λ (n : ℕ). acts_in names n (raw_lines text)) number)
+  pub acts-listed : (clients : ℕ) (parts : List Part) → length parts ≡ clients → AreParts names (raw_lines text) parts → map (λ (list : Vec Act). list.items) (acts_from clients) ≡ map acts_left parts
+  acts-listed clients parts many are =
+      let each = λ (client : ℕ). acts_in names client (raw_lines text) in
+      let size = length-map-range_with_len each 1 clients in
+      map-map (λ (list : Vec Act). list.items) held (range_with_len 1 clients) ∙ same_lists (map each (range_with_len 1 clients)) (map acts_left parts) (omega (arith, size, many, length-map parts acts_left)) (λ place d within.
+      let inside : place < length parts = omega (arith, within, size, many) in
+      let (part, here) = there parts place inside in
+      let own = get_or-map acts_left parts place part d inside ∙ ap acts_left (get_or_from_slice_get parts place part part here) ∙ part-acts names (raw_lines text) (suc place) part (are place part here) in
+      get_or-map-range_with_len each 1 clients place (suc place) d (omega (arith, inside, many)) (omega arith) ∙ sym own)
 
-  acts_from-length : (client : ℕ) (parts : List Part) → length (acts_from client parts) ≡ length parts
-  acts_from-length client [] = refl
-  acts_from-length client (part ∷ more) = ap suc (acts_from-length (client + 1) more)
-
-  acts_from-at : (client : ℕ) (parts : List Part) (place : ℕ) (list : Vec Act) → slice_get (acts_from client parts) place ≡ Some list → list.items ≡ acts_in names (client + place) (raw_lines text)
-  acts_from-at client [] place list here = cc here
-  acts_from-at client (part ∷ more) zero list here =
-      let same : held client ≡ list = cc here in
-      let number : client ≡ client + 0 = omega arith in
-      ap (λ (l : Vec Act). l.items) (sym same) ∙ ap (λ (n : ℕ). acts_in names n (raw_lines text)) number
-  acts_from-at client (part ∷ more) (suc place) list here =
-      let number : (client + 1) + place ≡ client + suc place = omega arith in
-      acts_from-at (client + 1) more place list here ∙ ap (λ (n : ℕ). acts_in names n (raw_lines text)) number
-
-  pub are-acts : (clients first : ℕ) (parts : List Part) → length parts ≡ clients → AreActs clients (accepted_events (commands_of names first (raw_lines text))) (acts_from 1 parts)
-  are-acts clients first parts many = record {
-    lists = acts_from-length 1 parts ∙ many;
+  pub are-acts : (clients first : ℕ) → AreActs clients (accepted_events (commands_of names first (raw_lines text))) (acts_from clients)
+  are-acts clients first = record {
+    lists = length-map-range_with_len held 1 clients;
     each = λ place list here.
-        let number : 1 + place ≡ suc place = omega arith in
-        acts_from-at 1 parts place list here ∙ ap (λ (n : ℕ). acts_in names n (raw_lines text)) number ∙ ap (acts_of (suc place)) (events-any_number names 0 first (raw_lines text));
+        let inside : place < clients = omega (arith, slice_get_within (acts_from clients) place list here, length-map-range_with_len held 1 clients) in
+        let is = sym (get_or_from_slice_get (acts_from clients) place list list here) ∙ get_or-map-range_with_len held 1 clients place (suc place) list inside (omega arith) in
+        ap (λ (l : Vec Act). l.items) is ∙ ap (acts_of (suc place)) (events-any_number names 0 first (raw_lines text));
   }
 
 -- what the parts were told, one after the other

@@ -1,5 +1,5 @@
 -- Commands that are played one after the other.
-use Rattle.pref_script.proofs.Common.{◌≡◌, ◌∙◌, ℕ, ℤ, ◌+◌, List, [], ◌∷◌, ◌++◌, length, Ok, Err, OnOk, Result, on_ok_weaker, sym, ap, refl, subst, arith, append_assoc, append-nil, Limits, System, opened, replies, step, Event}
+use Rattle.pref_script.proofs.Common.{◌≡◌, ◌∙◌, ℕ, ℤ, ◌+◌, List, [], ◌∷◌, ◌++◌, length, Ok, Err, OnOk, Result, on_ok_weaker, sym, ap, refl, subst, append_assoc, Limits, System, opened, replies, step, Event}
 use Rattle.pref_script.proofs.Common.{Command, refused, runs, commands_in, commands_of, accepted_events, command_lines, raw_lines, without_line_end, refused_line, reply_lines, Refusal}
 use Rattle.pref_core.proofs.RepliesLaws.{does_replies, replied_refused}
 use Rattle.pref_core.specs.MachineParts.{reply_of}
@@ -10,7 +10,6 @@ use Rattle.pref_core.specs.declared.fault.CoreFault.TheVariants.{OutOfMemory}
 use Rattle.pref_core.specs.declared.event.Reply.{Reply}
 use Rattle.pref_core.specs.declared.event.Reply.TheVariants.{Refused}
 use Rattle.pref_script.specs.Playing.{Plays, PrintsAll, printed_from}
-use Rattle.pref_script.proofs.ScriptFacts.{lines_none}
 
 -- a refused line
 pub plays_refused : (width : ℕ) (running : Running) (number : ℕ) (why : Refusal) (old new : List ℕ) → new ≡ old ++ refused_line number why → Plays width running (refused number why ∷ []) old new running
@@ -83,13 +82,6 @@ pub playing_line : (width : ℕ) (names : List (List ℕ)) (first now after : Ru
 unfolding commands_of
 playing_line width names first now after all number left raw tail text new playing cut plays =
     playing_more width first now after all (commands_in names number (without_line_end raw)) (commands_of names (number + 1) (raw_lines tail)) text new (rw cut at playing) plays
-
--- no line is left
-pub playing_all : (width : ℕ) (names : List (List ℕ)) (first now : Running) (all : List Command) (number : ℕ) (left text : List ℕ)
-    → Playing width first all text now (commands_of names number (raw_lines left)) → length left ≡ 0 → PrintsAll width first all text
-unfolding commands_of command_lines
-playing_all width names first now all number [] text playing none = λ system h. sym (append-nil text) ∙ (rw lines_none at (playing.from system h).whole)
-playing_all width names first now all number (x ∷ xs) text playing none = absurd (omega arith)
 
 -- all that the commands of a script are told
 pub tells_output : (limits : Limits) (rows : List (List ℤ)) (names : List (List ℕ)) (number first : ℕ) (lines : List (List ℕ)) (running : Running) (text : List ℕ)

@@ -3,6 +3,7 @@ use Rattle.pref_script.proofs.Common.{◌≡◌, ◌∙◌, ℕ, ◌+◌, ◌-�
 use Rattle.pref_script.proofs.Common.{position_or_len, slice_split, eqb-true, ne_eqb, append-nil, take-append-le, take_all, length-append, length-drop, take_more, position_or_len_is, IsFirstByte}
 use Rattle.pref_script.proofs.Common.{is_byte, is_end_line, is_line_feed, parts_of, raw_lines, with_line_feeds}
 use borrow.Author.Count.{below_more}
+use Rattle.std.proofs.lemmas.List.{nil_from_length}
 use Rattle.std.proofs.lemmas.List.Splits.{length-slice_split}
 use Rattle.pref_script.specs.declared.fault.RunFault.TheVariants.{NoTable}
 use Rattle.pref_script.proofs.SplitFacts.{drop_here, split_first, split_none}
@@ -36,6 +37,9 @@ lines_last text some none =
 pub lines_none : raw_lines [] ≡ []
 unfolding raw_lines
 lines_none = refl
+
+pub lines_empty : (text : List ℕ) → length text ≡ 0 → raw_lines text ≡ []
+lines_empty text none = ap raw_lines (nil_from_length text none) ∙ lines_none
 
 -- lists joined, one list more
 pub concat-push : (xss : List (List ℕ)) (xs : List ℕ) → concat (xss ++ xs ∷ []) ≡ concat xss ++ xs
@@ -88,17 +92,11 @@ seen_found rest left raw tail count seen cut parts ends =
 pub seen_all : (rest left : List ℕ) (count : ℕ) → Seen rest left count → length left ≡ 0 → length (raw_lines rest) ≤ position_or_len is_end_line (raw_lines rest)
 seen_all rest left count seen none =
     let all = raw_lines rest in
-    let empty : left ≡ [] = by left none in
-    let gone : length (drop count all) ≡ 0 = ap length (sym seen.lines ∙ ap raw_lines empty ∙ lines_none) in
+    let gone : length (drop count all) ≡ 0 = ap length (sym seen.lines ∙ lines_empty left none) in
     let end : length all ≤ count = omega (arith, length-drop count all) in
     let place : position_or_len is_end_line all ≡ length all = position_or_len_is is_end_line all (length all) [] (omega arith) (λ k h. seen.before k (omega arith)) (λ h. absurd (omega arith)) in
     omega arith
-  where
-    by : (xs : List ℕ) → length xs ≡ 0 → xs ≡ []
-    by [] h = refl
-    by (x ∷ xs) h = absurd (omega arith)
 
 -- a script by its first line
 pub script-none : (script : List ℕ) → length script ≡ 0 → parts_of (raw_lines script) ≡ Err NoTable
-script-none [] h = rw lines_none refl
-script-none (x ∷ xs) h = absurd (omega arith)
+script-none script none = rw (lines_empty script none) refl

@@ -72,28 +72,24 @@ commands-short bytes r read few short = omega (arith, few, short, read.first, fi
 module _ (limits : Limits) (says : ℕ → ℕ → Bool → Type 0) (bytes : List ℕ) (r : OpeningRead) (read : IsOpeningOf bytes r) (parts : Vec Part) (count : length parts.items ≡ limits.clients)
     (are : AreParts r.schema (raw_lines r.text.commands.now) parts.items) (short : length r.text.commands.now < 2 ^ 63) where
   abbrev acts : List (Vec Act)
-  acts = acts_from parts r.schema r.text.commands.now short 1 parts.items
+  acts = acts_from parts r.schema r.text.commands.now short limits.clients
 
   listed : map (λ list. list.items) acts ≡ map acts_left parts.items
-  listed = acts-listed parts r.schema r.text.commands.now short parts.items are
+  listed = acts-listed parts r.schema r.text.commands.now short limits.clients parts.items count are
 
   owned : AreActs limits.clients (accepted_events (commands_of r.schema read.parts.first read.parts.commands)) acts
   owned =
       subst (λ (raws : List (List ℕ)). AreActs limits.clients (accepted_events (commands_of r.schema read.parts.first raws)) acts) read.commands
-      (are-acts parts r.schema r.text.commands.now short limits.clients read.parts.first parts.items count)
+      (are-acts parts r.schema r.text.commands.now short limits.clients read.parts.first)
 
   -- the board was not opened, or the clients were stopped
   pub tells-refused : (rows : List (List ℤ)) (why : ShareFault) → rows ≡ r.rows.items
       → ((limits.capacity < length rows) × (why ≡ share.Core (core.Full (length rows)))) ⊎ ((limits.capacity < length rows → ⊥)
       × ((acts : List (Vec Act)) → map (λ list. list.items) acts ≡ map acts_left parts.items → ClosesOrStops Brand (record { limits = limits; rows = rows }) says acts why))
       → PrintsOnThreads limits says bytes (Err (share_fault why))
-  tells-refused rows why same refused = by (rw same at refused)
-    where
-      by : ((limits.capacity < length r.rows.items) × (why ≡ share.Core (core.Full (length r.rows.items)))) ⊎ ((limits.capacity < length r.rows.items → ⊥)
-          × ((acts : List (Vec Act)) → map (λ list. list.items) acts ≡ map acts_left parts.items → ClosesOrStops Brand (record { limits = limits; rows = r.rows.items }) says acts why))
-          → PrintsOnThreads limits says bytes (Err (share_fault why))
-      by (inl (many, full)) = rw full (script-core-fault limits bytes read.parts (r.schema, r.rows.items) (core.Full (length r.rows.items)) read.cut read.table (λ _. refl) (inr many))
-      by (inr (room, stops)) = tells-stopped limits says bytes r read room acts owned why (stops acts listed)
+  tells-refused rows why same (inl (many, full)) =
+      rw (full, same) (script-core-fault limits bytes read.parts (r.schema, r.rows.items) (core.Full (length r.rows.items)) read.cut read.table (λ _. refl) (inr (rw same at many)))
+  tells-refused rows why same (inr (room, stops)) = tells-stopped limits says bytes r read (rw same at room) acts owned why (rw same at (stops acts listed))
 
   -- no line belongs to nobody, where each was given to a part and all parts are whole
   pub tells-none : (o : Opening) (done shown : List Part) → AllGiven limits.clients (raw_lines r.text.commands.now)

@@ -1,10 +1,11 @@
 -- The words of a command line.
-use Rattle.pref_script.proofs.Common.{◌≡◌, ◌∙◌, ℕ, ◌+◌, ◌-◌, ◌*◌, ◌<◌, true, false, List, length, take, drop, get_or, sym, ap, refl, arith, nat_lt, Some, None, inl, inr, Bool, ◌≤◌, nat_le, not}
+use Rattle.pref_script.proofs.Common.{◌≡◌, ◌∙◌, ℕ, ◌+◌, ◌-◌, ◌*◌, ◌<◌, true, false, List, length, take, drop, get_or, sym, ap, refl, arith, nat_lt, Some, None, inl, inr, ◌≤◌, nat_le, not}
 use Rattle.pref_script.proofs.Common.{is_ascii_digit, list_any, position_or_len, all_ascii_digits, bytes_eq, digits_value, and_left, and_right, cases_lt, le-leb, le-ltb, lt-leb, ne_eqb, true≢false}
 use Rattle.pref_script.proofs.Common.{drop_all, get_or-drop, get_or-take, length-drop, take_all, fails_before_first, passes_at_first, position_or_len_is, digits_next, after_blanks, is_blank}
 use Rattle.pref_script.proofs.Common.{is_numeral, IsDigitsWord, after_word, word_number, word_of}
 use Rattle.std.specs.Int.{IsInRange}
 use Rattle.std.specs.Cmp.Lexicographic.{other_text, same_text}
+use Rattle.std.proofs.lemmas.Bool.{false_from_ne_true}
 use Rattle.std.proofs.lemmas.Int.Digits.{digits_value_more}
 use Rattle.std.proofs.lemmas.List.Folds.{length-prefix_len, list_any_at}
 use Rattle.std.proofs.lemmas.Str.{digit_value_digit}
@@ -68,14 +69,11 @@ pub word_stripped : (text word : List ℕ) → list_any is_blank word ≡ false 
     → (length word < length text → is_blank (get_or text (length word) 0) ≡ true) → (word_of text ≡ word) × (after_word text ≡ after_blanks (drop (length word) text))
 word_stripped text word plain begins inside end =
     let size = length word in
+    let plain_at : (k : ℕ) → k < size → is_blank (get_or word k 0) ≡ false = λ k h. false_from_ne_true (is_blank (get_or word k 0)) (λ is. true≢false (sym (list_any_at is_blank word k 0 h is) ∙ plain)) in
     let same : take size text ≡ word = same_text (take size text) word begins in
     let place : position_or_len is_blank text ≡ size =
-    position_or_len_is is_blank text size 0 inside (λ k h. ap is_blank (sym (get_or-take size text k 0 h) ∙ ap (λ t. get_or t k 0) same) ∙ plain_at k h (is_blank (get_or word k 0)) refl) end in
+    position_or_len_is is_blank text size 0 inside (λ k h. ap is_blank (sym (get_or-take size text k 0 h) ∙ ap (λ t. get_or t k 0) same) ∙ plain_at k h) end in
     (word_at text size place ∙ same, after_at text size place ∙ ap after_blanks (take_all (length text - size) (drop size text) (omega (arith, length-drop size text))))
-  where
-    plain_at : (k : ℕ) → k < length word → (blank : Bool) → is_blank (get_or word k 0) ≡ blank → is_blank (get_or word k 0) ≡ false
-    plain_at k h true is = absurd (true≢false (sym (list_any_at is_blank word k 0 h is) ∙ plain))
-    plain_at k h false is = is
 
 -- the first byte of what is left behind so many
 pub rest_first : (text rest : List ℕ) (size : ℕ) → rest ≡ drop size text → get_or rest 0 0 ≡ get_or text size 0
@@ -85,21 +83,14 @@ rest_first text rest size is =
 
 -- one that begins with other bytes
 pub word_other : (text word : List ℕ) → false ≡ bytes_eq (take (length word) text) word → bytes_eq (word_of text) word ≡ false
-word_other text word other = by (bytes_eq (word_of text) word) refl
-  where
-    by : (same : Bool) → bytes_eq (word_of text) word ≡ same → bytes_eq (word_of text) word ≡ false
-    by true is = absurd (other_text (take (length word) text) word other (sym (word_at text (length word) (word_place text word is)) ∙ same_text (word_of text) word (sym is)))
-    by false is = is
+word_other text word other =
+    false_from_ne_true (bytes_eq (word_of text) word) (λ is. other_text (take (length word) text) word other (sym (word_at text (length word) (word_place text word is)) ∙ same_text (word_of text) word (sym is)))
 
 -- one whose word goes on
 pub word_longer : (text word : List ℕ) → length word < length text → is_blank (get_or text (length word) 0) ≡ false → bytes_eq (word_of text) word ≡ false
-word_longer text word inside more = by (bytes_eq (word_of text) word) refl
-  where
-    by : (same : Bool) → bytes_eq (word_of text) word ≡ same → bytes_eq (word_of text) word ≡ false
-    by true is =
-        let place = word_place text word is in
-        absurd (true≢false (sym (passes_at_first is_blank text 0 (omega (arith, place))) ∙ ap (λ n. is_blank (get_or text n 0)) place ∙ more))
-    by false is = is
+word_longer text word inside more = false_from_ne_true (bytes_eq (word_of text) word) (λ is.
+    let place = word_place text word is in
+    true≢false (sym (passes_at_first is_blank text 0 (omega (arith, place))) ∙ ap (λ n. is_blank (get_or text n 0)) place ∙ more))
 
 -- the number of the digits so far, with one digit more
 pub value_more : (word : List ℕ) (place number : ℕ) → place < length word → IsInRange 48 57 (get_or word place 0) → digits_value 10 (take place word) ≡ number

@@ -1,18 +1,9 @@
-use Rattle.pref_script.proofs.Common.{Ok, [], arith, subst, Appends-kept, Appends-nil, err_from_is_err_and, Turns, sink_of, source_of}
+use Rattle.pref_script.proofs.Common.{Ok, [], arith, subst, Appends-kept, err_from_is_err_and, Turns, sink_of, source_of}
 use Rattle.pref_script.specs.declared.live.Turn.{Turn}
 use Rattle.pref_script.proofs.HeardFacts.{heard_number, heard_too_many, ran_whole, stops_early}
 use Rattle.pref_script.proofs.LineFacts.{some_none}
 use Rattle.pref_script.proofs.LiveRunFacts.{telling_more, turn_failed}
 use Rattle.pref_script.proofs.live.reply_to_all.Goals as goal
-
-pub loop-line-init : goal.loop-line-init
-loop-line-init g c = record {
-  number = omega arith;
-  telling = λ limits had h. record { text = []; hears = h; wrote = Appends-nil (g.W.Write.contents c.args.writer.now.inner) };
-}
-
-pub take_turn-requires : goal.take_turn-requires
-take_turn-requires g c = omega (arith, c.requires, c.loop-line.invariant.number, c.loop-line-test.true)
 
 pub loop-line-preserved : goal.loop-line-preserved
 loop-line-preserved g c =

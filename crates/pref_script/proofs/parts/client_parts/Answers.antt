@@ -1,5 +1,5 @@
 use Rattle.pref_script.proofs.Common.{◌∙◌, ℕ, List, arith, subst, sym, AllGiven, ArePartsUpTo, IsGiven, raw_lines}
-use Rattle.pref_script.proofs.PartFacts.{given-none, parts-all}
+use Rattle.pref_script.proofs.ScriptFacts.{lines_empty}
 use Rattle.pref_script.proofs.parts.client_parts.Goals as goal
 
 pub loop-left-init : goal.loop-left-init
@@ -30,7 +30,7 @@ loop-left-preserved c =
     }
 
 pub returns-clause-parts : goal.returns-clause-parts
-returns-clause-parts c = parts-all c.args.schema.now (raw_lines c.args.lines.now) c.loop-left.left.now c.loop-left.parts.items c.loop-left.invariant.parts (grind arith)
+returns-clause-parts c = rw (lines_empty c.loop-left.left.now (grind arith)) at c.loop-left.invariant.parts
 
 pub returns-clause-given : goal.returns-clause-given
-returns-clause-given c = λ all. c.loop-left.invariant.given all (given-none c.args.clients c.loop-left.left.now (grind arith))
+returns-clause-given c = λ all. c.loop-left.invariant.given all (rw (lines_empty c.loop-left.left.now (grind arith)) tt)

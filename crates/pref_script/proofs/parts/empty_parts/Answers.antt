@@ -1,10 +1,7 @@
 use Rattle.pref_script.proofs.Common.{◌≡◌, ◌∙◌, ◌+◌, ℕ, List, ap, arith, length, length_push, map, refl, subst, suc, sym, ArePartsUpTo, Part}
 use Rattle.std.proofs.Common.{Bor}
-use Rattle.pref_script.proofs.PartFacts.{are-more, none-are}
+use Rattle.pref_script.proofs.PartFacts.{are-more}
 use Rattle.pref_script.proofs.parts.empty_parts.Goals as goal
-
-pub loop-client-init : goal.loop-client-init
-loop-client-init c = rw c.new-parts.ensures.items (refl, λ raws. none-are c.args.schema.now raws)
 
 pub loop-client-preserved : goal.loop-client-preserved
 loop-client-preserved c =
@@ -15,9 +12,3 @@ loop-client-preserved c =
       λ raws. subst (λ (all : List Part). ArePartsUpTo c.args.schema.now raws raws all) (sym c.in_ok-push.ensures.items)
           (are-more c.args.schema.now raws parts _ (c.loop-client.invariant.1 raws) refl count (ap (map (λ (r : Bor (List ℕ)). r.now)) c.new.ensures.items) refl c.new-in-loop-client.ensures.bytes),
     )
-
-pub returns-clause-count : goal.returns-clause-count
-returns-clause-count c = omega (arith, c.loop-client.invariant.0, c.loop-client-test.false, c.loop-client.auto.client-end)
-
-pub returns-clause-parts : goal.returns-clause-parts
-returns-clause-parts c = c.loop-client.invariant.1

@@ -1,6 +1,6 @@
-use Rattle.pref_script.proofs.Common.{◌∙◌, ap, arith, length, length-append, names_of}
-use Rattle.pref_script.proofs.LiveFacts.{telling_line}
-use Rattle.pref_script.proofs.PlayFacts.{playing_all}
+use Rattle.pref_script.proofs.Common.{◌∙◌, ap, append-nil, arith, commands_of, command_lines, length, length-append, names_of, sym}
+use Rattle.pref_script.proofs.PlayFacts.{playing_line}
+use Rattle.pref_script.proofs.ScriptFacts.{lines_empty}
 use Rattle.pref_script.proofs.run.reply_to_lines.Goals as goal
 
 pub loop-left-preserved : goal.loop-left-preserved
@@ -9,8 +9,9 @@ loop-left-preserved c =
     record {
       names = tells.names ∙ c.loop-left.invariant.names;
       few = omega (arith, tells.number, c.loop-left.invariant.few, ap length c.cut_line.ensures.whole, length-append c.cut_line.result.0.now c.cut_line.result.1.now, c.cut_line.ensures.some);
-      playing = telling_line c.args.live.now c.loop-left.live c.reply_to.new.self _ c.loop-left.left.now c.cut_line.result.0.now c.cut_line.result.1.now _ _ c.loop-left.invariant.names c.loop-left.invariant.playing c.cut_line.ensures.lines tells;
+      playing = rw tells.number (playing_line _ (names_of c.args.live.now) _ _ _ _ _ c.loop-left.left.now c.cut_line.result.0.now c.cut_line.result.1.now _ _ c.loop-left.invariant.playing c.cut_line.ensures.lines (rw c.loop-left.invariant.names at tells.plays));
     }
 
 pub returns-clause-returned : goal.returns-clause-returned
-returns-clause-returned c = playing_all (length (names_of c.args.live.now)) (names_of c.args.live.now) _ _ _ _ c.loop-left.left.now _ c.loop-left.invariant.playing (grind arith)
+unfolding commands_of command_lines
+returns-clause-returned c = λ system h. sym (append-nil _) ∙ (rw (lines_empty c.loop-left.left.now (grind arith)) at (c.loop-left.invariant.playing.from system h).whole)

@@ -1,5 +1,6 @@
-use Rattle.pref_script.proofs.Common.{ap, arith, length, length-append}
-use Rattle.pref_script.proofs.CommandFacts.{unowned-all, unowned-more}
+use Rattle.pref_script.proofs.Common.{◌∙◌, ap, append-nil, arith, commands_of, length, length-append, sym, texts}
+use Rattle.pref_script.proofs.CommandFacts.{unowned-more}
+use Rattle.pref_script.proofs.ScriptFacts.{lines_empty}
 use Rattle.pref_script.proofs.unowned.unowned_text.Goals as goal
 
 pub loop-left-preserved : goal.loop-left-preserved
@@ -13,4 +14,5 @@ loop-left-preserved c =
     }
 
 pub returns-clause-returned : goal.returns-clause-returned
-returns-clause-returned c = unowned-all (length c.args.parts.now) (length c.args.schema.now) c.args.schema.now c.loop-left.number c.loop-left.left.now _ _ c.loop-left.invariant.returned (grind arith)
+unfolding commands_of texts
+returns-clause-returned c = sym (append-nil _) ∙ (rw (lines_empty c.loop-left.left.now (grind arith)) at c.loop-left.invariant.returned)

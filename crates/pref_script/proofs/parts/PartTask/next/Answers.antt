@@ -1,11 +1,8 @@
-use Rattle.pref_script.proofs.Common.{◌∙◌, ◌∷◌, ◌+◌, [], ℕ, List, arith, refl, Part}
+use Rattle.pref_script.proofs.Common.{◌∙◌, ◌∷◌, ◌+◌, [], ℕ, List, accepted_events, acts_in, ap, arith, commands_of, refl, Part}
 use Rattle.std.proofs.Common.{Bor}
-use Rattle.pref_script.proofs.PartFacts.{acts-none, gone-line, gone-nowhere, line-next, returned-on}
+use Rattle.pref_script.proofs.PartFacts.{gone-line, lines-none, line-next, returned-on}
 use Rattle.pref_script.specs.declared.parts.Found.TheVariants as found
 use Rattle.pref_script.proofs.parts.PartTask.next.Goals as goal
-
-pub loop-self-init : goal.loop-self-init
-loop-self-init c = gone-nowhere _
 
 pub loop-self-preserved-in-Nothing : goal.loop-self-preserved-in-Nothing
 loop-self-preserved-in-Nothing c =
@@ -36,7 +33,5 @@ returns-in-Act-clause-same c = λ first replies returned.
     (λ none. (none, λ same. cc same)))
 
 pub returns-clause-next : goal.returns-clause-next
-returns-clause-next c = c.loop-self.invariant.acts ∙ acts-none c.loop-self.self (omega arith)
-
-pub returns-clause-same : goal.returns-clause-same
-returns-clause-same c = λ first replies returned. returned-on first _ _ [] replies returned c.loop-self.invariant
+unfolding commands_of accepted_events
+returns-clause-next c = c.loop-self.invariant.acts ∙ ap (acts_in _ _) (lines-none c.loop-self.self (omega arith))
