@@ -40,17 +40,17 @@ commands_more names number (x ∷ xs) line =
     ∙ sym (append_assoc (commands_in names number (without_line_end x)) (commands_of names (number + 1) xs) (commands_in names (number + 1 + length xs) (without_line_end line)))
     ∙ ap (λ (n : ℕ). (commands_in names number (without_line_end x) ++ commands_of names (number + 1) xs) ++ commands_in names n (without_line_end line)) next
 
--- one line more was told
+-- one line more was replied to
 pub heard_more : (limits : Limits) (heard line : List ℕ) (live after : LiveTable) (text new : List ℕ) → HeardScript limits heard live text → raw_lines (heard ++ line) ≡ raw_lines heard ++ line ∷ []
     → PrintsLine live (without_line_end line) [] new after → HeardScript limits (heard ++ line) after (text ++ new)
-heard_more limits heard line live after text new so_far lines tells =
+heard_more limits heard line live after text new so_far lines prints =
     let names = names_of live in
     let width = length names in
     let first = so_far.parts.first in
     let table = so_far.parts.commands in
     let said = commands_in names (next_number live) (without_line_end line) in
     let commands = commands_of names first table in
-    let one = tells.plays.plays so_far.next so_far.stands in
+    let one = prints.plays.plays so_far.next so_far.stands in
     let all : commands_of names first (table ++ line ∷ []) ≡ commands ++ said =
     commands_more names first table line ∙ ap (λ (n : ℕ). commands ++ commands_in names n (without_line_end line)) (sym so_far.number) in
     let goes_on : (more : List Command) → (text ++ new) ++ printed_from limits width one.next more ≡ printed_from limits width (opened limits so_far.rows) (commands_of names first (table ++ line ∷ []) ++ more) = λ more.
@@ -61,16 +61,16 @@ heard_more limits heard line live after text new so_far lines tells =
       parts = record { table = so_far.parts.table; commands = table ++ line ∷ []; first = first };
       rows = so_far.rows;
       cut = ap parts_of lines ∙ parts_more (raw_lines heard) (line ∷ []) so_far.parts so_far.cut;
-      table = so_far.table ∙ ap (λ (n : List (List ℕ)). Ok (n, so_far.rows)) (sym tells.names);
+      table = so_far.table ∙ ap (λ (n : List (List ℕ)). Ok (n, so_far.rows)) (sym prints.names);
       room = so_far.room;
-      number = omega (arith, tells.number, so_far.number, length-append table (line ∷ []));
-      bounds = tells.plays.limits ∙ so_far.bounds;
+      number = omega (arith, prints.number, so_far.number, length-append table (line ∷ []));
+      bounds = prints.plays.limits ∙ so_far.bounds;
       next = one.next;
       stands = one.stands;
-      goes_on = λ more. subst (λ (n : List (List ℕ)). (text ++ new) ++ printed_from limits (length n) one.next more ≡ printed_from limits (length n) (opened limits so_far.rows) (commands_of n first (table ++ line ∷ []) ++ more)) (sym tells.names) (goes_on more);
+      goes_on = λ more. subst (λ (n : List (List ℕ)). (text ++ new) ++ printed_from limits (length n) one.next more ≡ printed_from limits (length n) (opened limits so_far.rows) (commands_of n first (table ++ line ∷ []) ++ more)) (sym prints.names) (goes_on more);
     }
 
--- what was told is the output of what was heard
+-- what was printed is the output of what was heard
 pub heard_output : (limits : Limits) (heard : List ℕ) (live : LiveTable) (text : List ℕ) → HeardScript limits heard live text → IsOk (script_of limits heard) × (output limits heard ≡ text)
 unfolding command_lines accepted_events
 heard_output limits heard live text so_far =
@@ -115,7 +115,7 @@ hears_next limits had source old new before after text more so_far next =
         lines = elim at.1 [ inl e ↦ inl (ends_more so_far.heard line ends e) | inr last ↦ inr (next.ended ∙ last.0, next.taken ∙ drop_all next.end all (omega (arith, last.1))) ];
         at_end = λ e. next.read.at_end so_far.at_end (sym next.ended ∙ e);
         little = subst (IsLittle 0) (sym next.taken) (little_left next.end all (little_later 0 next.end all (omega arith) (next.little so_far.little)));
-        script = heard_more limits so_far.heard line before after text more so_far.script is_line next.tells;
+        script = heard_more limits so_far.heard line before after text more so_far.script is_line next.prints;
       };
       same = refl;
     }
@@ -124,7 +124,7 @@ hears_next limits had source old new before after text more so_far next =
 abbrev pub since : Option (List ℕ) → Source → Source
 since had source = record { had = had; left = source.left; failed = source.failed }
 
--- all lines were told
+-- all lines were replied to
 pub ran_whole : (limits : Limits) (had : Option (List ℕ)) (source : Source) (sink : Sink) (old new : ReadAhead) (live : LiveTable) (text : List ℕ) → Hears limits had source.had old live text → NoneLeft source old new → WroteAll sink text
     → RanLive limits (since had source) sink (Ok tt)
 ran_whole limits had source sink old new live text so_far end =
@@ -150,14 +150,14 @@ is_heard limits had source ahead live text so_far some =
       little = some.little so_far.little;
     }
 
--- and they were told
+-- and they were replied to
 pub stops_early : (limits : Limits) (had : Option (List ℕ)) (source : Source) (sink : Sink) (ahead : ReadAhead) (live : LiveTable) (text : List ℕ) → Hears limits had source.had ahead live text → ReadSome source.had source.left 0 ahead → WroteAll sink text
     → StopsEarly limits (since had source) sink
 stops_early limits had source sink ahead live text so_far some wrote =
     let (ok, is) = heard_output limits so_far.heard live text so_far.script in
     inr (so_far.heard, is_heard limits had source ahead live text so_far some, subst (WroteAll sink) (sym is) wrote)
 
--- of what the last line was told a beginning was written
+-- of the replies to the last line a beginning was written
 pub stops_writing : (limits : Limits) (had : Option (List ℕ)) (source : Source) (held : Option (List ℕ)) (sink : Sink) (old new : ReadAhead) (before after : LiveTable) (text more : List ℕ) → Hears limits had source.had old before text
     → PrintsNext source old new before after more → Appends held sink.held text → WroteBeginning sink more → StopsInLine limits (since had source) (record { held = held; holds = sink.holds; failed = sink.failed })
 stops_writing limits had source held sink old new before after text more so_far next first (count, wrote) =

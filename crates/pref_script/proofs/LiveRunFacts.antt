@@ -1,4 +1,4 @@
--- A run that tells each line as it comes: how it begins, goes on and ends.
+-- A run that replies to each line as it comes: how it begins, goes on and ends.
 use Rattle.pref_script.proofs.Common.{◌≡◌, ◌∙◌, ◌⊎◌, ℕ, ◌+◌, ◌≤◌, true, false, List, [], ◌∷◌, ◌++◌, length, take, drop, ap, refl, sym, subst, arith, append-nil, append_assoc, Option, Some, None, Result, Ok, Err, inl, inr}
 use Rattle.pref_script.proofs.Common.{Appends-kept, Appends-trans, drop_all, length-drop, take-append-drop, take_all, Appends, Consumes, IsAtEnd, position_or_len, Limits, opened, commands_of, Hears}
 use Rattle.pref_script.proofs.Common.{IsBlock, LacksBlock, OpensLive, ReadsBlock, EndsWithLine, HeardNone, IsTooLong, RanLive, ShowsFault, StopsEarly, PrintsNext, Turns, IsOpened, OpeningFault}
@@ -108,28 +108,28 @@ opened_live limits had left old mid new block live none fresh read little is ope
     drop_whole : (n : ℕ) (text : List ℕ) → n ≡ length text → drop n text ≡ []
     drop_whole n text all = drop_all n text (omega (arith, all))
 
--- a run so far: what it was told was written
-pub record Telling (limits : Limits) (had left held holds : Option (List ℕ)) (ahead : ReadAhead) (live : LiveTable) : Type 0 where
+-- a run so far: what it printed was written
+pub record Replying (limits : Limits) (had left held holds : Option (List ℕ)) (ahead : ReadAhead) (live : LiveTable) : Type 0 where
   pub text : List ℕ
   pub hears : Hears limits had left ahead live text
   pub wrote : Appends held holds text
 
 -- a turn more
-pub telling_more : (limits : Limits) (had held : Option (List ℕ)) (source : Source) (sink : Sink) (old new : ReadAhead) (before after : LiveTable) (text : List ℕ) → Telling limits had source.had held sink.held old before → PrintsNext source old new before after text
-    → WroteAll sink text → Telling limits had source.left held sink.holds new after
-telling_more limits had held source sink old new before after text so_far next wrote = record {
+pub replying_more : (limits : Limits) (had held : Option (List ℕ)) (source : Source) (sink : Sink) (old new : ReadAhead) (before after : LiveTable) (text : List ℕ) → Replying limits had source.had held sink.held old before → PrintsNext source old new before after text
+    → WroteAll sink text → Replying limits had source.left held sink.holds new after
+replying_more limits had held source sink old new before after text so_far next wrote = record {
   text = so_far.text ++ text;
   hears = (hears_next limits had source old new before after so_far.text text so_far.hears next).hears;
   wrote = Appends-trans held sink.held sink.holds so_far.text text so_far.wrote wrote;
 }
 
-stopped : (limits : Limits) (had held : Option (List ℕ)) (source : Source) (sink : Sink) (ahead : ReadAhead) (live : LiveTable) → Telling limits had source.had held sink.held ahead live → ReadSome source.had source.left 0 ahead → NothingWritten sink
+stopped : (limits : Limits) (had held : Option (List ℕ)) (source : Source) (sink : Sink) (ahead : ReadAhead) (live : LiveTable) → Replying limits had source.had held sink.held ahead live → ReadSome source.had source.left 0 ahead → NothingWritten sink
     → StopsEarly limits (since had source) (record { held = held; holds = sink.holds; failed = sink.failed })
 stopped limits had held source sink ahead live so_far some kept =
     stops_early limits had source (record { held = held; holds = sink.holds; failed = sink.failed }) ahead live so_far.text so_far.hears some (Appends-kept held sink.held sink.holds so_far.text so_far.wrote kept)
 
 -- a turn that failed
-pub turn_failed : (limits : Limits) (had held : Option (List ℕ)) (source : Source) (sink : Sink) (old new : ReadAhead) (before after : LiveTable) (why : RunFault) → Telling limits had source.had held sink.held old before
+pub turn_failed : (limits : Limits) (had held : Option (List ℕ)) (source : Source) (sink : Sink) (old new : ReadAhead) (before after : LiveTable) (why : RunFault) → Replying limits had source.had held sink.held old before
     → Turns source sink old new before after (Err why) → RanLive limits (since had source) (record { held = held; holds = sink.holds; failed = sink.failed }) (Err why)
 turn_failed limits had held source sink old new before after fault.Write so_far (failed, text, next, part) =
     (failed, inl (stops_writing limits had source held sink old new before after so_far.text text so_far.hears next so_far.wrote part))

@@ -79,8 +79,8 @@ script-ok limits bytes parts table h t room = elim (cases_lt limits.capacity (le
   | inr few ↦ rw (h, t, le-ltb limits.capacity (length table.1) few) refl
 ]
 
--- what a script without a fault is told, unless memory ran out
-pub tells-played : (limits : Limits) (bytes : List ℕ) (script : Script) (result : Result (String Global) RunFault) → script_of limits bytes ≡ Ok script
+-- what a script without a fault prints, unless memory runs out
+pub prints-played : (limits : Limits) (bytes : List ℕ) (script : Script) (result : Result (String Global) RunFault) → script_of limits bytes ≡ Ok script
     → IfOk result (λ text. string_bytes text ≡ output_of limits (Ok script)) → IfErr result (λ why. why ≡ fault.Memory) → PrintsOutput limits bytes (in_bytes result)
-tells-played limits bytes script (Ok text) said returned memory = rw said (refl, returned)
-tells-played limits bytes script (Err why) said returned memory = rw memory tt
+prints-played limits bytes script (Ok text) said returned memory = rw said (refl, returned)
+prints-played limits bytes script (Err why) said returned memory = rw memory tt

@@ -144,7 +144,7 @@ gone-line old now new raw line what gone cut is found client schema text clean =
           gone.accepted (clean none).0 (subst (AllAccepted names now.client) (sym cut) (here, behind));
     }
 
--- what a part was told stays so
+-- the replies to a part stay
 pub returned-on : (first old new : Part) (acts : List Act) (replies : List Reply) → HasReplied first old replies → HasGone old new acts → HasReplied first new replies
 returned-on first old new acts replies returned gone = record {
   client = gone.client ∙ returned.client;
@@ -294,7 +294,7 @@ module _ {X : Type 0} (given : Vec X) (names : List (List ℕ)) (text : List ℕ
         ap (λ (l : Vec Act). l.items) is ∙ ap (acts_of (suc place)) (events-any_number names 0 first (raw_lines text));
   }
 
--- what the parts were told, one after the other
+-- the texts of the parts, one after the other
 parts-returned : (names : List (List ℕ)) (client : ℕ) (done : List Part) (replies : List (Vec Reply)) → length done ≡ length replies
     → ((place : ℕ) (part : Part) (list : Vec Reply) → slice_get done place ≡ Some part → slice_get replies place ≡ Some list → string_bytes part.text ≡ texts (reply_lines (length names) (client + place)) list.items)
     → texts (λ part. string_bytes part.text) done ≡ clients_lines (length names) client replies
@@ -310,14 +310,14 @@ parts-returned names client (part ∷ more) (list ∷ lists) same each =
     each (suc place) p l p_at l_at ∙ ap (λ (n : ℕ). texts (reply_lines (length names) n) l.items) next) in
     ap (λ (t : List ℕ). t ++ texts (λ (x : Part). string_bytes x.text) more) here ∙ ap (λ (t : List ℕ). texts (reply_lines (length names) client) list.items ++ t) rest
 
--- what done parts were told is printed as the replies that they took
+-- the texts of done parts are the lines of the replies that they took
 pub parts-shown : (names : List (List ℕ)) (text : List ℕ) (parts done : List Part) (replies : List (Vec Reply)) → AreParts names (raw_lines text) parts → AreTaken HasReplied parts done replies
     → texts (λ part. string_bytes part.text) done ≡ clients_lines (length names) 1 replies
 parts-shown names text parts done replies are taken = parts-returned names 1 done replies (taken.tasks_done ∙ sym taken.lists) (λ place part list part_at list_at.
     let inside : place < length parts = omega (arith, slice_get_within done place part part_at, taken.tasks_done) in
     let (first, first_at) = there parts place inside in
-    let (returned, told_at, has) = taken.each place first part first_at part_at in
-    let both : Some returned ≡ Some list = sym told_at ∙ list_at in
+    let (returned, returned_at, has) = taken.each place first part first_at part_at in
+    let both : Some returned ≡ Some list = sym returned_at ∙ list_at in
     let same : returned ≡ list = cc both in
     let is = are place first first_at in
     let number : suc place ≡ 1 + place = omega arith in
@@ -330,7 +330,7 @@ whole-accepts : (names : List (List ℕ)) (text : List ℕ) (parts done : List P
 whole-accepts names text parts done replies are taken all place inside =
     let (first, first_at) = there parts place (omega (arith, inside, taken.tasks_done)) in
     let (part, part_at) = there done place inside in
-    let (returned, told_at, has) = taken.each place first part first_at part_at in
+    let (returned, returned_at, has) = taken.each place first part first_at part_at in
     let is = are place first first_at in
     let whole : IsWhole part = subst IsWhole (get_or_from_slice_get done place part part part_at) (all place part inside) in
     let none : lines_left part ≡ [] = lines-none part (omega (arith, whole.through)) in

@@ -53,7 +53,7 @@ pub plays_failed : {E : Type 0} (fault : CoreFault) (width : ℕ) (before after 
 plays_failed fault width before after event act old new pushed is does added =
     on_ok_weaker pushed (λ (known, text). plays_returned (Err fault) (Refused fault) width before after event act old new is does (sym (replied_refused fault known)) text) added
 
--- what was told so far, and what is left to be told from here on, is what all are told
+-- what was printed so far, and what is printed for the rest from here on, is what is printed for all
 pub record PlayingFrom (width : ℕ) (limits : Limits) (system : System) (all : List Command) (text : List ℕ) (now : Running) (rest : List Command) : Type 0 where
   pub next : System
   pub stands : StandsForSystem now next
@@ -83,10 +83,10 @@ unfolding commands_of
 playing_line width names first now after all number left raw tail text new playing cut plays =
     playing_more width first now after all (commands_in names number (without_line_end raw)) (commands_of names (number + 1) (raw_lines tail)) text new (rw cut at playing) plays
 
--- all that the commands of a script are told
-pub tells_output : (limits : Limits) (rows : List (List ℤ)) (names : List (List ℕ)) (number first : ℕ) (lines : List (List ℕ)) (running : Running) (text : List ℕ)
+-- all that is printed for the commands of a script
+pub prints_output : (limits : Limits) (rows : List (List ℤ)) (names : List (List ℕ)) (number first : ℕ) (lines : List (List ℕ)) (running : Running) (text : List ℕ)
     → running.limits ≡ limits → StandsForSystem running (opened limits rows) → PrintsAll (length names) running (commands_of names number lines) text → number ≡ first
     → text ≡ command_lines (length names) (commands_of names first lines) (replies limits rows (accepted_events (commands_of names first lines)))
-tells_output limits rows names number first lines running text same stands tells is =
+prints_output limits rows names number first lines running text same stands prints is =
     subst (λ (l : Limits). text ≡ printed_from l (length names) (opened limits rows) (commands_of names first lines)) same
-    (subst (λ (n : ℕ). text ≡ printed_from running.limits (length names) (opened limits rows) (commands_of names n lines)) is (tells (opened limits rows) stands))
+    (subst (λ (n : ℕ). text ≡ printed_from running.limits (length names) (opened limits rows) (commands_of names n lines)) is (prints (opened limits rows) stands))

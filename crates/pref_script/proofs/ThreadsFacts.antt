@@ -1,4 +1,4 @@
--- What a script is told whose clients run on threads.
+-- What a script prints whose clients run on threads.
 use Rattle.pref_script.proofs.Common.{◌≡◌, ◌∙◌, ℕ, ◌+◌, ◌<◌, ◌≤◌, ◌^◌, arith, map, Bool, List, ◌++◌, length, refl, sym, ap, subst, Result, Ok, Err, IfErr, ◌⊎◌, inl, inr, ℤ, Vec, string_bytes, All, [], Limits}
 use Rattle.pref_script.proofs.Common.{AllGiven, AreParts, HasReplied, acts_left, accepted_events, commands_of, Script, ScriptFault, script_of, script_with, IsOpeningOf, share_fault, raw_lines}
 use Rattle.pref_script.proofs.Common.{texts, Sink, Wrote, AreActs, ClosesOrStops, HoldsNobody, PrintsOnThreads, StopsClients, WereStopped, always_open, opening_of, unowned_lines, RunFault, Part}
@@ -20,9 +20,9 @@ use Rattle.pref_share.specs.declared.fault.ShareFault.TheVariants as share
 use Rattle.pref_script.specs.declared.fault.RunFault.TheVariants as fault
 
 -- a fault of the script
-pub tells-fault : (limits : Limits) (says : ℕ → ℕ → Bool → Type 0) (bytes : List ℕ) (why : RunFault) → ScriptFault why (script_of limits bytes) → PrintsOnThreads limits says bytes (Err why)
-tells-fault limits says bytes (fault.Threads why) h = absurd h
-tells-fault limits says bytes why h = h
+pub prints-fault : (limits : Limits) (says : ℕ → ℕ → Bool → Type 0) (bytes : List ℕ) (why : RunFault) → ScriptFault why (script_of limits bytes) → PrintsOnThreads limits says bytes (Err why)
+prints-fault limits says bytes (fault.Threads why) h = absurd h
+prints-fault limits says bytes why h = h
 
 -- of the refusals of the table out of memory alone stops clients
 memory-alone : (o : Opening) (says : ℕ → ℕ → Bool → Type 0) (acts : List (Vec Act)) (why : CoreFault) → length acts ≡ o.limits.clients → ClosesOrStops Brand o says acts (share.Core why) → why ≡ core.OutOfMemory
@@ -40,16 +40,16 @@ open-holds-none o acts client many (inr (inr (reports, all, first))) =
 
 -- so no run of a script behind it is refused for that
 pub holds-nobody : (limits : Limits) (bytes : List ℕ) (sink : Sink) (returned : Result (List ℕ) RunFault) (result : Result (Unit {0}) RunFault) → PrintsOnThreads limits always_open bytes returned → Wrote sink returned result → IfErr result HoldsNobody
-holds-nobody limits bytes sink returned (Err (fault.Threads (share.Held client))) tells wrote =
-    let (script, is_script, stopped) = subst (PrintsOnThreads limits always_open bytes) wrote.0 tells in
+holds-nobody limits bytes sink returned (Err (fault.Threads (share.Held client))) prints wrote =
+    let (script, is_script, stopped) = subst (PrintsOnThreads limits always_open bytes) wrote.0 prints in
     absurd (open-holds-none (opening_of limits script) stopped.acts client stopped.of_script.lists stopped.stops)
-holds-nobody limits bytes sink returned result tells wrote = tt
+holds-nobody limits bytes sink returned result prints wrote = tt
 
 -- the clients were stopped
-tells-stopped : (limits : Limits) (says : ℕ → ℕ → Bool → Type 0) (bytes : List ℕ) (r : OpeningRead) (read : IsOpeningOf bytes r) → (limits.capacity < length r.rows.items → ⊥) → (acts : List (Vec Act))
+prints-stopped : (limits : Limits) (says : ℕ → ℕ → Bool → Type 0) (bytes : List ℕ) (r : OpeningRead) (read : IsOpeningOf bytes r) → (limits.capacity < length r.rows.items → ⊥) → (acts : List (Vec Act))
     → AreActs limits.clients (accepted_events (commands_of r.schema read.parts.first read.parts.commands)) acts → (why : ShareFault) → ClosesOrStops Brand (record { limits = limits; rows = r.rows.items }) says acts why
     → PrintsOnThreads limits says bytes (Err (share_fault why))
-tells-stopped limits says bytes r read room acts owned why stops = by why stops
+prints-stopped limits says bytes r read room acts owned why stops = by why stops
   where
     script : Script
     script = script_with read.parts (r.schema, r.rows.items)
@@ -83,30 +83,30 @@ module _ (limits : Limits) (says : ℕ → ℕ → Bool → Type 0) (bytes : Lis
       (are-acts parts r.schema r.text.commands.now short limits.clients read.parts.first)
 
   -- the board was not opened, or the clients were stopped
-  pub tells-refused : (rows : List (List ℤ)) (why : ShareFault) → rows ≡ r.rows.items
+  pub prints-refused : (rows : List (List ℤ)) (why : ShareFault) → rows ≡ r.rows.items
       → ((limits.capacity < length rows) × (why ≡ share.Core (core.Full (length rows)))) ⊎ ((limits.capacity < length rows → ⊥)
       × ((acts : List (Vec Act)) → map (λ list. list.items) acts ≡ map acts_left parts.items → ClosesOrStops Brand (record { limits = limits; rows = rows }) says acts why))
       → PrintsOnThreads limits says bytes (Err (share_fault why))
-  tells-refused rows why same (inl (many, full)) =
+  prints-refused rows why same (inl (many, full)) =
       rw (full, same) (script-core-fault limits bytes read.parts (r.schema, r.rows.items) (core.Full (length r.rows.items)) read.cut read.table (λ _. refl) (inr (rw same at many)))
-  tells-refused rows why same (inr (room, stops)) = tells-stopped limits says bytes r read (rw same at room) acts owned why (rw same at (stops acts listed))
+  prints-refused rows why same (inr (room, stops)) = prints-stopped limits says bytes r read (rw same at room) acts owned why (rw same at (stops acts listed))
 
   -- no line belongs to nobody, where each was given to a part and all parts are whole
-  pub tells-none : (o : Opening) (done shown : List Part) → AllGiven limits.clients (raw_lines r.text.commands.now)
+  pub prints-none : (o : Opening) (done shown : List Part) → AllGiven limits.clients (raw_lines r.text.commands.now)
       → ((acts : List (Vec Act)) → map (λ list. list.items) acts ≡ map acts_left parts.items → RanTasks o HasReplied acts parts.items done) → shown ≡ done → All IsWhole shown
       → unowned_lines (length shown) (length r.schema) (commands_of r.schema r.text.first (raw_lines r.text.commands.now)) ≡ []
-  tells-none o done shown given ran same whole =
+  prints-none o done shown given ran same whole =
       let run = ran acts listed in
       let many : limits.clients ≡ length shown = sym (ap length same ∙ run.taken.tasks_done ∙ count) in
       unowned-none r.schema r.text.commands.now r.text.first parts.items shown run.replies are (subst (λ (l : List Part). AreTaken HasReplied parts.items l run.replies) (sym same) run.taken)
       (subst (λ (clients : ℕ). AllGiven clients (raw_lines r.text.commands.now)) many given) whole
 
   -- the output of a joint run
-  pub tells-joint : (rows : List (List ℤ)) (done shown printed : List Part) (unowned text : List ℕ) → rows ≡ r.rows.items → (limits.capacity < length rows → ⊥)
+  pub prints-joint : (rows : List (List ℤ)) (done shown printed : List Part) (unowned text : List ℕ) → rows ≡ r.rows.items → (limits.capacity < length rows → ⊥)
       → ((acts : List (Vec Act)) → map (λ list. list.items) acts ≡ map acts_left parts.items → RanTasks (record { limits = limits; rows = rows }) HasReplied acts parts.items done)
       → unowned ≡ unowned_lines (length shown) (length r.schema) (commands_of r.schema r.text.first (raw_lines r.text.commands.now)) → shown ≡ done
       → text ≡ unowned ++ texts (λ part. string_bytes part.text) printed → printed ≡ done → PrintsOnThreads limits says bytes (Ok text)
-  tells-joint rows done shown printed unowned text same room ran first all wrote printed_all =
+  prints-joint rows done shown printed unowned text same room ran first all wrote printed_all =
       let space = rw same at room in
       let run = rw same at (ran acts listed) in
       let many : length shown ≡ limits.clients = ap length all ∙ run.taken.tasks_done ∙ count in

@@ -24,7 +24,7 @@ pub record PrintsNext (source : Source) (old new : ReadAhead) (before after : Li
   pub some : 0 < end
   pub inside : end ≤ length (unread mid)
   pub line : IsLineAt 0 end mid
-  pub tells : PrintsLine before (without_line_end (take end (unread mid))) [] text after
+  pub prints : PrintsLine before (without_line_end (take end (unread mid))) [] text after
   pub taken : unread new ≡ drop end (unread mid)
   pub ended : is_at_end new ≡ is_at_end mid
 

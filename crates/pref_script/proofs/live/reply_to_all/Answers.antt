@@ -2,7 +2,7 @@ use Rattle.pref_script.proofs.Common.{Ok, [], arith, subst, Appends-kept, err_fr
 use Rattle.pref_script.specs.declared.live.Turn.{Turn}
 use Rattle.pref_script.proofs.HeardFacts.{heard_number, heard_too_many, ran_whole, stops_early}
 use Rattle.pref_script.proofs.LineFacts.{some_none}
-use Rattle.pref_script.proofs.LiveRunFacts.{telling_more, turn_failed}
+use Rattle.pref_script.proofs.LiveRunFacts.{replying_more, turn_failed}
 use Rattle.pref_script.proofs.live.reply_to_all.Goals as goal
 
 pub loop-line-preserved : goal.loop-line-preserved
@@ -12,8 +12,8 @@ loop-line-preserved g c =
     let held = g.W.Write.contents c.args.writer.now.inner in
     let turned = subst (λ (t : Turn). Turns source sink c.loop-line.ahead c.take_turn.new.ahead c.loop-line.live c.take_turn.new.live (Ok t)) c.in-Replied.is c.in_ok-take_turn.ensures in
     record {
-      number = omega (arith, turned.1.tells.number, c.loop-line.invariant.number);
-      telling = λ limits had h. telling_more limits had held source sink c.loop-line.ahead c.take_turn.new.ahead c.loop-line.live c.take_turn.new.live turned.0 (c.loop-line.invariant.telling limits had h) turned.1 turned.2;
+      number = omega (arith, turned.1.prints.number, c.loop-line.invariant.number);
+      replying = λ limits had h. replying_more limits had held source sink c.loop-line.ahead c.take_turn.new.ahead c.loop-line.live c.take_turn.new.live turned.0 (c.loop-line.invariant.replying limits had h) turned.1 turned.2;
     }
 
 pub returns-in_err-take_turn : goal.returns-in_err-take_turn
@@ -23,7 +23,7 @@ returns-in_err-take_turn g c =
     let held = g.W.Write.contents c.args.writer.now.inner in
     let p = err_from_is_err_and c.from_residual.result c.from_residual.ensures.1 in
     λ limits had h. rw (p.1, p.2)
-    (turn_failed limits had held source sink c.loop-line.ahead c.take_turn.new.ahead c.loop-line.live c.take_turn.new.live c.in_err-take_turn.field-0.0 (c.loop-line.invariant.telling limits had h) c.in_err-take_turn.ensures)
+    (turn_failed limits had held source sink c.loop-line.ahead c.take_turn.new.ahead c.loop-line.live c.take_turn.new.live c.in_err-take_turn.field-0.0 (c.loop-line.invariant.replying limits had h) c.in_err-take_turn.ensures)
 
 pub returns-in-End : goal.returns-in-End
 returns-in-End g c =
@@ -32,7 +32,7 @@ returns-in-End g c =
     let all = sink_of g.W.Write.contents c.args.writer.now c.take_turn.new.writer in
     let turned = subst (λ (t : Turn). Turns source sink c.loop-line.ahead c.take_turn.new.ahead c.loop-line.live c.take_turn.new.live (Ok t)) c.in-End.is c.in_ok-take_turn.ensures in
     λ limits had h.
-    let so_far = c.loop-line.invariant.telling limits had h in
+    let so_far = c.loop-line.invariant.replying limits had h in
     ran_whole limits had source all c.loop-line.ahead c.take_turn.new.ahead c.loop-line.live so_far.text so_far.hears turned.0 (Appends-kept all.held sink.held sink.holds so_far.text so_far.wrote turned.1)
 
 pub returns : goal.returns
@@ -40,7 +40,7 @@ returns g c =
     let source = source_of g.R.Read.remaining c.loop-line.reader c.loop-line.reader in
     let all = sink_of g.W.Write.contents c.args.writer.now c.loop-line.writer in
     λ limits had h.
-    let so_far = c.loop-line.invariant.telling limits had h in
+    let so_far = c.loop-line.invariant.replying limits had h in
     let number = heard_number limits h.heard c.args.live.now [] h.script in (
       heard_too_many limits had source.had c.loop-line.ahead c.loop-line.live so_far.text so_far.hears (omega (arith, c.loop-line.invariant.number, number, c.loop-line-test.false)),
       stops_early limits had source all c.loop-line.ahead c.loop-line.live so_far.text so_far.hears (some_none source.had c.loop-line.ahead 0) so_far.wrote,

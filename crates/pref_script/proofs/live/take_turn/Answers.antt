@@ -12,7 +12,7 @@ returns g c = (
     some = grind arith;
     inside = c.in_ok-end.ensures.inside.1;
     line = c.in_ok-end.ensures.line;
-    tells = rw (c.line_text.ensures, c.as_slice.ensures, c.new-text.ensures.bytes) at c.in_ok-reply_to.ensures.returned;
+    prints = rw (c.line_text.ensures, c.as_slice.ensures, c.new-text.ensures.bytes) at c.in_ok-reply_to.ensures.returned;
     taken = c.take.ensures.unread;
     ended = c.take.ensures.ended;
   },
@@ -35,7 +35,7 @@ returns-in_err-write_output g c =
         some = grind arith;
         inside = c.in_ok-end.ensures.inside.1;
         line = c.in_ok-end.ensures.line;
-        tells = rw (c.line_text.ensures, c.as_slice.ensures, c.new-text.ensures.bytes) at c.in_ok-reply_to.ensures.returned;
+        prints = rw (c.line_text.ensures, c.as_slice.ensures, c.new-text.ensures.bytes) at c.in_ok-reply_to.ensures.returned;
         taken = c.take.ensures.unread;
         ended = c.take.ensures.ended;
       },

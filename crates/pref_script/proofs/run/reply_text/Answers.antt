@@ -1,6 +1,6 @@
 use Rattle.pref_script.proofs.Common.{refl, IfOk-weaker, err_from_is_err_and, names_of, running_of}
-use Rattle.pref_script.proofs.OutputFacts.{script-ok, script-parts-fault, tells-played}
-use Rattle.pref_script.proofs.PlayFacts.{tells_output}
+use Rattle.pref_script.proofs.OutputFacts.{script-ok, script-parts-fault, prints-played}
+use Rattle.pref_script.proofs.PlayFacts.{prints_output}
 use Rattle.pref_script.proofs.run.reply_text.Goals as goal
 
 pub returns-in_err-table : goal.returns-in_err-table
@@ -18,5 +18,5 @@ returns c =
     let live = c.in_ok-live.live in
     let opened = c.in_ok-live.ensures.opened in
     let said = script-ok c.args.setup c.args.bytes.now _ (names_of live, opened.rows) c.in_ok-table.ensures.parts opened.gives opened.room in
-    let returned = IfOk-weaker c.reply_to_lines.result _ _ (λ text tells. tells_output c.args.setup opened.rows (names_of live) _ _ _ (running_of live) _ opened.bounds opened.stands tells opened.starts) c.reply_to_lines.ensures.returned in
-    tells-played c.args.setup c.args.bytes.now _ c.reply_to_lines.result said returned c.reply_to_lines.ensures.memory
+    let returned = IfOk-weaker c.reply_to_lines.result _ _ (λ text prints. prints_output c.args.setup opened.rows (names_of live) _ _ _ (running_of live) _ opened.bounds opened.stands prints opened.starts) c.reply_to_lines.ensures.returned in
+    prints-played c.args.setup c.args.bytes.now _ c.reply_to_lines.result said returned c.reply_to_lines.ensures.memory

@@ -5,11 +5,11 @@ use Rattle.pref_script.proofs.run.reply_to_lines.Goals as goal
 
 pub loop-left-preserved : goal.loop-left-preserved
 loop-left-preserved c =
-    let tells = rw c.line_text.ensures at c.in_ok-reply_to.ensures.returned in
+    let prints = rw c.line_text.ensures at c.in_ok-reply_to.ensures.returned in
     record {
-      names = tells.names ∙ c.loop-left.invariant.names;
-      few = omega (arith, tells.number, c.loop-left.invariant.few, ap length c.cut_line.ensures.whole, length-append c.cut_line.result.0.now c.cut_line.result.1.now, c.cut_line.ensures.some);
-      playing = rw tells.number (playing_line _ (names_of c.args.live.now) _ _ _ _ _ c.loop-left.left.now c.cut_line.result.0.now c.cut_line.result.1.now _ _ c.loop-left.invariant.playing c.cut_line.ensures.lines (rw c.loop-left.invariant.names at tells.plays));
+      names = prints.names ∙ c.loop-left.invariant.names;
+      few = omega (arith, prints.number, c.loop-left.invariant.few, ap length c.cut_line.ensures.whole, length-append c.cut_line.result.0.now c.cut_line.result.1.now, c.cut_line.ensures.some);
+      playing = rw prints.number (playing_line _ (names_of c.args.live.now) _ _ _ _ _ c.loop-left.left.now c.cut_line.result.0.now c.cut_line.result.1.now _ _ c.loop-left.invariant.playing c.cut_line.ensures.lines (rw c.loop-left.invariant.names at prints.plays));
     }
 
 pub returns-clause-returned : goal.returns-clause-returned
