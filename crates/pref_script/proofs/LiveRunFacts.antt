@@ -86,7 +86,7 @@ opened_live limits had left old mid new block live none fresh read little is ope
   record {
     heard = take block.end (unread mid);
     consumed = subst (Consumes had left) (sym (take-append-drop block.end (unread mid)) ∙ ap (λ (t : List ℕ). take block.end (unread mid) ++ t) (sym taken)) (all_read had left old mid none read);
-    lines = elim is.lines [ inl ends ↦ inl ends | inr last ↦ inr (ended ∙ last.0, taken ∙ drop_whole block.end (unread mid) last.1) ];
+    lines = elim is.lines [ inl ends ↦ inl ends | inr (last, all) ↦ inr (ended ∙ last, taken ∙ drop_all block.end (unread mid) (omega (arith, all))) ];
     at_end = λ e. at_end had left old mid fresh read (sym ended ∙ e);
     little = subst (IsLittle 0) (sym taken) (little_left block.end (unread mid) (little (little_at_first old none)));
     script = record {
@@ -104,9 +104,6 @@ opened_live limits had left old mid new block live none fresh read little is ope
   },
   omega (arith, opens.starts, is.few),
 )
-  where
-    drop_whole : (n : ℕ) (text : List ℕ) → n ≡ length text → drop n text ≡ []
-    drop_whole n text all = drop_all n text (omega (arith, all))
 
 -- a run so far: what it printed was written
 pub record Replying (limits : Limits) (had left held holds : Option (List ℕ)) (ahead : ReadAhead) (live : LiveTable) : Type 0 where

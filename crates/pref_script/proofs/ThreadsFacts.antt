@@ -1,7 +1,7 @@
 -- What a script prints whose clients run on threads.
 use Rattle.pref_script.proofs.Common.{◌≡◌, ◌∙◌, ℕ, ◌+◌, ◌<◌, ◌≤◌, ◌^◌, arith, map, Bool, List, ◌++◌, length, refl, sym, ap, subst, Result, Ok, Err, IfErr, ◌⊎◌, inl, inr, ℤ, Vec, string_bytes, All, [], Limits}
-use Rattle.pref_script.proofs.Common.{AllGiven, AreParts, HasReplied, acts_left, accepted_events, commands_of, Script, ScriptFault, script_of, script_with, IsOpeningOf, share_fault, raw_lines}
-use Rattle.pref_script.proofs.Common.{texts, Sink, Wrote, AreActs, ClosesOrStops, HoldsNobody, PrintsOnThreads, StopsClients, WereStopped, always_open, opening_of, unowned_lines, RunFault, Part}
+use Rattle.pref_script.proofs.Common.{AllGiven, AreParts, HasReplied, acts_left, accepted_events, commands_of, ScriptFault, script_of, script_with, IsOpeningOf, share_fault, raw_lines}
+use Rattle.pref_script.proofs.Common.{texts, Sink, Wrote, AreActs, ClosesOrStops, HoldsNobody, PrintsOnThreads, always_open, opening_of, unowned_lines, RunFault, Part}
 use Rattle.std.specs.declared.marker.Brand.{Brand}
 use Rattle.pref_core.specs.declared.event.Act.{Act}
 use Rattle.pref_core.specs.declared.fault.CoreFault.{CoreFault}
@@ -45,25 +45,6 @@ holds-nobody limits bytes sink returned (Err (fault.Threads (share.Held client))
     absurd (open-holds-none (opening_of limits script) stopped.acts client stopped.of_script.lists stopped.stops)
 holds-nobody limits bytes sink returned result prints wrote = tt
 
--- the clients were stopped
-prints-stopped : (limits : Limits) (says : ℕ → ℕ → Bool → Type 0) (bytes : List ℕ) (r : OpeningRead) (read : IsOpeningOf bytes r) → (limits.capacity < length r.rows.items → ⊥) → (acts : List (Vec Act))
-    → AreActs limits.clients (accepted_events (commands_of r.schema read.parts.first read.parts.commands)) acts → (why : ShareFault) → ClosesOrStops Brand (record { limits = limits; rows = r.rows.items }) says acts why
-    → PrintsOnThreads limits says bytes (Err (share_fault why))
-prints-stopped limits says bytes r read room acts owned why stops = by why stops
-  where
-    script : Script
-    script = script_with read.parts (r.schema, r.rows.items)
-
-    is_script : script_of limits bytes ≡ Ok script
-    is_script = script-ok limits bytes read.parts (r.schema, r.rows.items) read.cut read.table room
-
-    stopped : (why : ShareFault) → StopsClients (opening_of limits script) says acts why → WereStopped limits says script why
-    stopped why stops = record { acts = acts; of_script = owned; stops = stops }
-
-    by : (why : ShareFault) → ClosesOrStops Brand (opening_of limits script) says acts why → PrintsOnThreads limits says bytes (Err (share_fault why))
-    by (share.Core core) stops = rw (memory-alone (opening_of limits script) says acts core owned.lists stops) tt
-    by why stops = (script, is_script, stopped why stops)
-
 -- the command lines of a script have fewer bytes than the script
 pub commands-short : (bytes : List ℕ) (r : OpeningRead) → IsOpeningOf bytes r → r.text.first + length r.text.commands.now ≤ length bytes + 3 → length bytes < 2 ^ 63 → length r.text.commands.now < 2 ^ 63
 commands-short bytes r read few short = omega (arith, few, short, read.first, first-least (raw_lines bytes) read.parts read.cut)
@@ -82,6 +63,13 @@ module _ (limits : Limits) (says : ℕ → ℕ → Bool → Type 0) (bytes : Lis
       subst (λ (raws : List (List ℕ)). AreActs limits.clients (accepted_events (commands_of r.schema read.parts.first raws)) acts) read.commands
       (are-acts parts r.schema r.text.commands.now short limits.clients read.parts.first)
 
+  -- the clients were stopped
+  prints-stopped : (limits.capacity < length r.rows.items → ⊥) → (why : ShareFault) → ClosesOrStops Brand (record { limits = limits; rows = r.rows.items }) says acts why → PrintsOnThreads limits says bytes (Err (share_fault why))
+  prints-stopped room (share.Core core) stops = rw (memory-alone (record { limits = limits; rows = r.rows.items }) says acts core owned.lists stops) tt
+  prints-stopped room why stops =
+      let is_script = script-ok limits bytes read.parts (r.schema, r.rows.items) read.cut read.table room in
+      (script_with read.parts (r.schema, r.rows.items), is_script, record { acts = acts; of_script = owned; stops = stops })
+
   -- the board was not opened, or the clients were stopped
   pub prints-refused : (rows : List (List ℤ)) (why : ShareFault) → rows ≡ r.rows.items
       → ((limits.capacity < length rows) × (why ≡ share.Core (core.Full (length rows)))) ⊎ ((limits.capacity < length rows → ⊥)
@@ -89,7 +77,7 @@ module _ (limits : Limits) (says : ℕ → ℕ → Bool → Type 0) (bytes : Lis
       → PrintsOnThreads limits says bytes (Err (share_fault why))
   prints-refused rows why same (inl (many, full)) =
       rw (full, same) (script-core-fault limits bytes read.parts (r.schema, r.rows.items) (core.Full (length r.rows.items)) read.cut read.table (λ _. refl) (inr (rw same at many)))
-  prints-refused rows why same (inr (room, stops)) = prints-stopped limits says bytes r read (rw same at room) acts owned why (rw same at (stops acts listed))
+  prints-refused rows why same (inr (room, stops)) = prints-stopped (rw same at room) why (rw same at (stops acts listed))
 
   -- no line belongs to nobody, where each was given to a part and all parts are whole
   pub prints-none : (o : Opening) (done shown : List Part) → AllGiven limits.clients (raw_lines r.text.commands.now)

@@ -16,21 +16,14 @@ loop-self-preserved c =
     let raw : Bor (List ℕ) = c.index-raw.result.now in
     gone-line _ now _ raw.now _ found.Refused c.loop-self.invariant (line-next now raw (omega (arith, c.loop-self-test.true, c.len.ensures)) c.index-raw.ensures) c.line_text.ensures (rw c.in-Refused.is at c.in_ok-read_line.ensures) refl refl refl (λ none. cc none)
 
-pub returns-in-Act-clause-next : goal.returns-in-Act-clause-next
-returns-in-Act-clause-next c =
+pub returns-in-Act : goal.returns-in-Act
+returns-in-Act c =
     let now = c.loop-self.self in
     let raw : Bor (List ℕ) = c.index-raw.result.now in
     let new : Part = record { schema = now.schema; client = now.client; lines = now.lines; read = now.read + 1; text = now.text; refused = now.refused } in
-    (gone-line _ now new raw.now _ (found.Act c.in-Act.act) c.loop-self.invariant (line-next now raw (omega (arith, c.loop-self-test.true, c.len.ensures)) c.index-raw.ensures) c.line_text.ensures (rw c.in-Act.is at c.in_ok-read_line.ensures) refl refl refl
-    (λ none. (none, λ same. cc same))).acts
-
-pub returns-in-Act-clause-same : goal.returns-in-Act-clause-same
-returns-in-Act-clause-same c = λ first replies returned.
-    let now = c.loop-self.self in
-    let raw : Bor (List ℕ) = c.index-raw.result.now in
-    returned-on first _ _ (c.in-Act.act ∷ []) replies returned
-    (gone-line _ now _ raw.now _ (found.Act c.in-Act.act) c.loop-self.invariant (line-next now raw (omega (arith, c.loop-self-test.true, c.len.ensures)) c.index-raw.ensures) c.line_text.ensures (rw c.in-Act.is at c.in_ok-read_line.ensures) refl refl refl
-    (λ none. (none, λ same. cc same)))
+    let gone = gone-line _ now new raw.now _ (found.Act c.in-Act.act) c.loop-self.invariant (line-next now raw (omega (arith, c.loop-self-test.true, c.len.ensures)) c.index-raw.ensures) c.line_text.ensures (rw c.in-Act.is at c.in_ok-read_line.ensures) refl refl refl
+    (λ none. (none, λ same. cc same)) in
+    record { next = gone.acts; same = λ first replies returned. returned-on first _ new (c.in-Act.act ∷ []) replies returned gone }
 
 pub returns-clause-next : goal.returns-clause-next
 unfolding commands_of accepted_events
