@@ -287,34 +287,27 @@ hears_no_more source mid old now start stop count first little so_far next none 
     heard_none source (unread now ++ next.bytes) stop (Consumes-trans source.had mid source.left (unread now) next.bytes (all_read source.had mid old now none first) next.consumed)
     (subst (λ (t : List ℕ). block_lines (raw_lines t) ≡ raw_lines t) (sym front) (block_part (take stop (unread now)) start count so_far.block)) (next.little (little (little_at_first old none)))
 
+-- a line was not read
+line_missing : (source : Source) (mid : Option (List ℕ)) (old now new : ReadAhead) (stop : ℕ) (why : RunFault) → LineFault (record { had = mid; left = source.left; failed = source.failed }) stop now new why → HearsNone source old
+    → (ReadBehind mid source.left now new → IsLong stop (unread new) → ReadBehind source.had source.left old new × ((more : List ℕ) → IsTooLong (unread new ++ more))) → ReadsBlock source old new (Err why)
+line_missing source mid old now new stop fault.TooLarge (read, long) none over = let (behind, too_long) = over read long in (behind, too_long, none)
+line_missing source mid old now new stop fault.Read is none over = (is, none)
+line_missing source mid old now new stop fault.Memory is none over = (is, none)
+line_missing source mid old now new stop why never none over = absurd never
+
 -- the line `table` was not read
 pub first_missing : (source : Source) (old new : ReadAhead) (why : RunFault) → LineFault source 0 old new why → ReadSome source.had source.left 0 old → ReadsBlock source old new (Err why)
-first_missing source old new why is some = by why is
+first_missing source old new why is some =
+    line_missing source source.had old old new 0 why is none (λ read long. (read, λ more. let (line, rest, cut, size) = first_too_long (unread new) more long in long_among (unread new ++ more) [] rest line cut size))
   where
     none : HearsNone source old
     none empty =
         let same : unread old ++ some.bytes ≡ some.bytes = ap (λ (t : List ℕ). t ++ some.bytes) empty in
         heard_none source some.bytes 0 some.consumed (no_lines some.bytes) (subst (IsLittle 0) same (some.little (little_at_first old empty)))
 
-    too_long : IsLong 0 (unread new) → (more : List ℕ) → IsTooLong (unread new ++ more)
-    too_long long more = let (line, rest, cut, size) = first_too_long (unread new) more long in long_among (unread new ++ more) [] rest line cut size
-
-    by : (why : RunFault) → LineFault source 0 old new why → ReadsBlock source old new (Err why)
-    by fault.TooLarge (read, long) = (read, too_long long, none)
-    by fault.Read is = (is, none)
-    by fault.Memory is = (is, none)
-    by why never = absurd never
-
 -- a line behind it was not read
 pub next_missing : (source : Source) (mid : Option (List ℕ)) (old now new : ReadAhead) (start stop count : ℕ) (why : RunFault) → ReadBehind source.had mid old now → (IsLittle 0 (unread old) → IsLittle stop (unread now)) → BlockAt now start stop count
     → LineFault (record { had = mid; left = source.left; failed = source.failed }) stop now new why → ReadSome mid source.left stop now → ReadsBlock source old new (Err why)
-next_missing source mid old now new start stop count why first little so_far is some = by why is
-  where
-    none : HearsNone source old
-    none = hears_no_more source mid old now start stop count first little so_far some
-
-    by : (why : RunFault) → LineFault (record { had = mid; left = source.left; failed = source.failed }) stop now new why → ReadsBlock source old new (Err why)
-    by fault.TooLarge (read, long) = (behind_more source.had mid source.left old now new first read, block_too_long mid source.left now new start stop count so_far read long, none)
-    by fault.Read is = (is, none)
-    by fault.Memory is = (is, none)
-    by why never = absurd never
+next_missing source mid old now new start stop count why first little so_far is some =
+    line_missing source mid old now new stop why is (hears_no_more source mid old now start stop count first little so_far some)
+    (λ read long. (behind_more source.had mid source.left old now new first read, block_too_long mid source.left now new start stop count so_far read long))

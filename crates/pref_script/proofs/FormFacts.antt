@@ -1,9 +1,10 @@
 -- A command line that begins as most do.
-use Rattle.pref_script.proofs.Common.{◌≡◌, ◌∙◌, ℕ, suc, ◌+◌, ◌-◌, ◌≤◌, Bool, cond, not, true, false, List, [], ◌∷◌, length, drop, take, get_or, ap, refl, arith, Option, Some, None, position_or_len}
+use Rattle.pref_script.proofs.Common.{◌≡◌, ◌∙◌, ℕ, suc, ◌+◌, ◌-◌, ◌≤◌, Bool, cond, not, true, false, List, [], ◌∷◌, inl, inr, length, drop, take, get_or, ap, refl, arith, Some, position_or_len}
 use Rattle.pref_script.proofs.Common.{prefix_len, codes, is_ascii_digit, bytes_eq, digits_value, prefix_len_is, after_blanks, is_blank, Said, client_named, said_by, said_in, verb_of, said_by_client}
 use Rattle.pref_script.proofs.Common.{after_word, word_number, word_of}
 use Rattle.std.specs.Int.{IsInRange}
-use Rattle.pref_script.specs.declared.forms.Verb.{Verb}
+use Rattle.std.proofs.lemmas.Bool.{cases_Bool}
+use Rattle.std.proofs.lemmas.Option.{option_and_then_some}
 use Rattle.pref_script.proofs.WordsFacts.{digit_not_blank, number-is, value_more}
 
 -- the number of one digit
@@ -63,24 +64,18 @@ client_at (a ∷ s ∷ blank ∷ digit ∷ end ∷ rest) few = λ at0 at1 at2 ra
 -- a line names the client whose command it is
 pub said_named : (line : List ℕ) (client : ℕ) (what : Said) → said_in line ≡ Some (client, what) → client_named line ≡ Some client
 unfolding said_in client_named
-said_named line client what said = by (bytes_eq (word_of text) (codes "as")) (word_number 255 (word_of rest)) (verb_of (word_of (after_word rest))) refl refl refl
+said_named line client what said = elim (cases_Bool (bytes_eq (word_of text) (codes "as"))) [
+  | inl begins ↦ option_and_then_some _ (word_number 255 (word_of rest)) (client, what) (rw begins at said) (λ number is more.
+      option_and_then_some _ (verb_of (word_of (after_word rest))) (client, what) more (λ verb named follows.
+      option_and_then_some _ (said_by verb (after_word (after_word rest))) (client, what) follows (λ found says last.
+      let pair : (number, found) ≡ (client, what) = cc last in
+      let same : number ≡ client = ap (λ (p : ℕ × Said). p.0) pair in
+      rw (begins, is) (ap Some same))))
+  | inr other ↦ cc (rw other at said)
+]
   where
     text : List ℕ
     text = after_blanks line
 
     rest : List ℕ
     rest = after_word text
-
-    by : (begins : Bool) (number : Option ℕ) (verb : Option Verb) → bytes_eq (word_of text) (codes "as") ≡ begins → word_number 255 (word_of rest) ≡ number → verb_of (word_of (after_word rest)) ≡ verb → client_named line ≡ Some client
-    by false number verb e f g = cc (rw e at said)
-    by true None verb e f g = cc (rw (e, f) at said)
-    by true (Some number) None e f g = cc (rw (e, f, g) at said)
-    by true (Some number) (Some verb) e f g = form (said_by verb (after_word (after_word rest))) refl
-      where
-        form : (found : Option Said) → said_by verb (after_word (after_word rest)) ≡ found → client_named line ≡ Some client
-        form None h = cc (rw (e, f, g, h) at said)
-        form (Some found) h =
-            let both : Some (number, found) ≡ Some (client, what) = rw (e, f, g, h) at said in
-            let pair : (number, found) ≡ (client, what) = cc both in
-            let same : number ≡ client = ap (λ (p : ℕ × Said). p.0) pair in
-            rw (e, f) (ap Some same)

@@ -11,6 +11,7 @@ use Rattle.std.proofs.lemmas.List.{get_or-map, get_or-set_other, get_or_push, le
 use Rattle.std.proofs.lemmas.List.FromFn.{get_or-map-range_with_len, length-map-range_with_len}
 use Rattle.std.proofs.lemmas.Simd.{map-map}
 use Rattle.std.proofs.lemmas.Option.{get_or_from_slice_get, slice_get-get_or, slice_get_read, slice_get_within}
+use Rattle.pref_table.proofs.NumberedFacts.{ok_bind}
 use Rattle.pref_core.specs.declared.event.Act.{Act}
 use Rattle.pref_core.specs.declared.event.Reply.{Reply}
 use Rattle.pref_share.specs.Interleavings.{acts_of}
@@ -40,14 +41,10 @@ event-named names line event is = by (said_in line) refl
   where
     by : (said : Option (ℕ × Said)) → said_in line ≡ said → client_named line ≡ Some event.client
     by None e = cc (rw e at is)
-    by (Some (number, what)) e = acted (act_of names what) refl
-      where
-        acted : (act : Result Act Refusal) → act_of names what ≡ act → client_named line ≡ Some event.client
-        acted (Ok act) f =
-            let both : Ok (record { client = number; act = act }) ≡ Ok event = rw (e, f) at is in
-            let same : record { client = number; act = act } ≡ event = cc both in
-            said_named line number what e ∙ ap (λ (x : Event). Some x.client) same
-        acted (Err why) f = cc (rw (e, f) at is)
+    by (Some (number, what)) e =
+        let (act, read, made) = ok_bind (act_of names what) _ event (rw e at is) in
+        let same : record { client = number; act = act } ≡ event = cc made in
+        said_named line number what e ∙ ap (λ (x : Event). Some x.client) same
 
 -- a line that does not name the client
 first-unnamed : (names : List (List ℕ)) (client : ℕ) (line : List ℕ) → client_named line ≢ Some client → FirstAct names client line None
