@@ -33,17 +33,12 @@ block_first line start size one is = record {
   front = size;
 }
 
--- the last of some lines
-last_of : (lines : List (List ℕ)) (line : List ℕ) → get_or (lines ++ line ∷ []) (length lines) [] ≡ line
-last_of [] line = refl
-last_of (first ∷ rest) line = last_of rest line
-
 block_more : (text line : List ℕ) (start count : ℕ) → BlockLines text start count → EndsWithLine text → raw_lines line ≡ line ∷ [] → is_end_line line ≡ false → BlockLines (text ++ line) start (count + 1)
 block_more text line start count block ends one other =
     let rest = block.rest ++ line ∷ [] in
     let size : length rest ≡ length block.rest + 1 = length-append block.rest (line ∷ []) in
     let below : (k : ℕ) → k < length block.rest + 1 → is_end_line (get_or rest k []) ≡ false =
-    below_more (λ (k : ℕ). is_end_line (get_or rest k []) ≡ false) (length block.rest) (λ k h. ap is_end_line (get_or_append_left block.rest (line ∷ []) [] k h) ∙ block.others k h) (ap is_end_line (last_of block.rest line) ∙ other) in
+    below_more (λ (k : ℕ). is_end_line (get_or rest k []) ≡ false) (length block.rest) (λ k h. ap is_end_line (get_or_append_left block.rest (line ∷ []) [] k h) ∙ block.others k h) (ap is_end_line (get_or-append_seam block.rest line [] []) ∙ other) in
     record {
       first = block.first;
       rest = rest;
@@ -63,7 +58,7 @@ block_found text line start count block ends one is_last =
     let all : raw_lines (text ++ line) ≡ block.first ∷ rest = ends line ∙ ap (λ (t : List (List ℕ)). t ++ raw_lines line) block.lines ∙ ap (λ (t : List (List ℕ)). (block.first ∷ block.rest) ++ t) one in
     let size : length rest ≡ length block.rest + 1 = length-append block.rest (line ∷ []) in
     let place : position_or_len is_end_line rest ≡ length block.rest =
-    position_or_len_is is_end_line rest (length block.rest) [] (omega (arith, size)) (λ k h. ap is_end_line (get_or_append_left block.rest (line ∷ []) [] k h) ∙ block.others k h) (λ h. ap is_end_line (last_of block.rest line) ∙ is_last) in
+    position_or_len_is is_end_line rest (length block.rest) [] (omega (arith, size)) (λ k h. ap is_end_line (get_or_append_left block.rest (line ∷ []) [] k h) ∙ block.others k h) (λ h. ap is_end_line (get_or-append_seam block.rest line [] []) ∙ is_last) in
     let inside = lt-ltb (length block.rest) (length rest) (omega (arith, size)) in
     let before : take (length block.rest) rest ≡ block.rest = take-append-le (length block.rest) block.rest (line ∷ []) (omega arith) ∙ take_all (length block.rest) block.rest (omega arith) in
     let after : drop (length block.rest + 1) rest ≡ [] = drop_all (length block.rest + 1) rest (omega (arith, size)) in

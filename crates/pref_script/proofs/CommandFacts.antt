@@ -56,11 +56,7 @@ events-of_lines names number (raw ∷ more) =
 
 -- what follows the last line feed is one line at most
 last-few : (part : List ℕ) → length (with_line_feeds (part ∷ [])) ≤ 1
-last-few part = by (length part == 0)
-  where
-    by : (none : Bool) → length (if none then [] else part ∷ []) ≤ 1
-    by true = omega arith
-    by false = omega arith
+last-few part = elim (cases_Bool (length part == 0)) [ inl none ↦ rw none (omega arith) | inr some ↦ rw some (omega arith) ]
 
 -- a text has no more lines than bytes
 pub lines-few : (text : List ℕ) → length (raw_lines text) ≤ length text

@@ -1,6 +1,6 @@
 -- The changes of a commit line, one piece at a time.
-use Rattle.pref_script.proofs.Common.{◌≡◌, ◌∙◌, ℕ, ◌+◌, ◌<◌, ◌≤◌, true, false, List, [], ◌∷◌, ◌++◌, length, take, drop, get_or, set, sym, ap, refl, arith, inl, inr, nat_lt, Ok, Err, Bool, ◌&&◌}
-use Rattle.pref_script.proofs.Common.{Option, Some, None, is_some, nat_le, list_all, and_right, cases_lt, lt-leb, true≢false, length-drop, length-set, length-take, length-take-le, length_push, take-append-le}
+use Rattle.pref_script.proofs.Common.{◌≡◌, ◌∙◌, ℕ, ◌+◌, ◌<◌, ◌≤◌, true, false, List, [], ◌∷◌, ◌++◌, length, take, drop, get_or, set, sym, ap, refl, arith, inl, inr, nat_lt, Ok, Err, Bool, cond, ◌&&◌}
+use Rattle.pref_script.proofs.Common.{Option, Some, None, is_some, nat_le, list_all, and_right, cases_lt, lt-leb, length-drop, length-set, length-take, length-take-le, length_push, take-append-le}
 use Rattle.pref_script.proofs.Common.{take_all, take_more_set, all_from, commit_said, of_changes, piece_change, are_changes, piece_said, pieces_of, Reads, first_refusal, pieces_left}
 use Rattle.std.proofs.lemmas.Bool.{cases_Bool}
 use Rattle.pref_core.specs.Changes.{commit_of}
@@ -91,13 +91,9 @@ pub pieces_none : (names : List (List ℕ)) (text : List ℕ) (kept : List Chang
 pieces_none names text kept size = record { place = 0; rest = refl; forms = refl; keeps = record { all = []; read = all_from-none _ 1; size = size; few = omega arith; first = refl } }
 
 -- the first refusal, by the forms of the pieces that follow
-refusal-same : (why : Stop) (rest : Option (List ℕ)) → all_forms (pieces_left rest) ≡ true → first_refusal why rest ≡ why
-refusal-same why None h = refl
-refusal-same why (Some text) h = rw h refl
-
-refusal-other : (why : Stop) (rest : Option (List ℕ)) → all_forms (pieces_left rest) ≡ false → first_refusal why rest ≡ StopRefused NotCommand
-refusal-other why None h = absurd (true≢false h)
-refusal-other why (Some text) h = rw h refl
+refusal-by_forms : (why : Stop) (rest : Option (List ℕ)) → first_refusal why rest ≡ cond (all_forms (pieces_left rest)) why (StopRefused NotCommand)
+refusal-by_forms why None = refl
+refusal-by_forms why (Some text) = refl
 
 -- the next piece: its place, and the forms of those after it
 module _ (names : List (List ℕ)) (text now : List ℕ) (kept : List Change) (count : ℕ) (piece : List ℕ) (rest : Option (List ℕ))
@@ -114,10 +110,10 @@ module _ (names : List (List ℕ)) (text now : List ℕ) (kept : List Change) (c
   pub pieces_refused : (why : Stop) → is_some (piece_said piece) ≡ true → Reads {X = Change} (Err why) (piece_change names (piece_said piece)) → Reads {X = List Change} (Err (first_refusal why rest)) (commit_said names text)
   unfolding commit_said
   pieces_refused why form is = elim (cases_Bool (all_forms (pieces_left rest))) [
-    | inl h ↦ rw (refusal-same why rest h) (keeps_fails names text reads.place kept count piece why (forms_left ∙ rw (form, h) refl) reads.keeps (turn.0, turn.1) is)
+    | inl h ↦ rw (refusal-by_forms why rest, h) (keeps_fails names text reads.place kept count piece why (forms_left ∙ rw (form, h) refl) reads.keeps (turn.0, turn.1) is)
     | inr h ↦
         let none : are_changes text ≡ false = forms_left ∙ rw (form, h) refl in
-        rw (refusal-other why rest h, none) refl
+        rw (refusal-by_forms why rest, h, none) refl
   ]
 
   -- it is read, and kept or not

@@ -3,7 +3,7 @@ use Rattle.pref_script.proofs.Common.{◌≡◌, ◌∙◌, ℕ, ℤ, ◌+◌, L
 use Rattle.pref_script.proofs.Common.{Command, refused, runs, commands_in, commands_of, accepted_events, command_lines, raw_lines, without_line_end, refused_line, reply_lines, Refusal}
 use Rattle.pref_core.proofs.RepliesLaws.{does_replies, replied_refused}
 use Rattle.pref_core.specs.MachineParts.{reply_of}
-use Rattle.pref_core.specs.Systems.{Does, Replies, Running, StandsForSystem, as_reply}
+use Rattle.pref_core.specs.Systems.{Does, Replies, Running, StandsForSystem}
 use Rattle.pref_core.specs.declared.event.Act.{Act}
 use Rattle.pref_core.specs.declared.fault.CoreFault.{CoreFault}
 use Rattle.pref_core.specs.declared.fault.CoreFault.TheVariants.{OutOfMemory}

@@ -4,6 +4,7 @@ use Rattle.pref_script.proofs.Common.{position_or_len, slice_split, eqb-true, ne
 use Rattle.pref_script.proofs.Common.{is_byte, is_end_line, is_line_feed, parts_of, raw_lines, with_line_feeds}
 use borrow.Author.Count.{below_more}
 use Rattle.std.proofs.lemmas.List.{nil_from_length}
+use Rattle.std.proofs.lemmas.List.Folds.{concat-append}
 use Rattle.std.proofs.lemmas.List.Splits.{length-slice_split}
 use Rattle.pref_script.specs.declared.fault.RunFault.TheVariants.{NoTable}
 use Rattle.pref_script.proofs.SplitFacts.{drop_here, split_first, split_none}
@@ -43,8 +44,7 @@ lines_empty text none = ap raw_lines (nil_from_length text none) ∙ lines_none
 
 -- lists joined, one list more
 pub concat-push : (xss : List (List ℕ)) (xs : List ℕ) → concat (xss ++ xs ∷ []) ≡ concat xss ++ xs
-concat-push [] xs = append-nil xs
-concat-push (ys ∷ yss) xs = ap (λ (t : List ℕ). ys ++ t) (concat-push yss xs) ∙ sym (append_assoc ys (concat yss) xs)
+concat-push xss xs = concat-append xss (xs ∷ []) ∙ ap (λ (t : List ℕ). concat xss ++ t) (append-nil xs)
 
 -- of the lines of a text, this many were seen, and none of them is the line `end`
 pub record Seen (rest left : List ℕ) (count : ℕ) : Type 0 where
