@@ -1,7 +1,7 @@
 -- A client's part of a script, one line at a time.
 use Rattle.pref_script.proofs.Common.{◌≡◌, ◌≢◌, ◌∙◌, ℕ, suc, ◌+◌, ◌<◌, ◌≤◌, ◌^◌, true, false, List, [], ◌∷◌, ◌++◌, length, map, slice_get, Option, Some, None, Result, Ok, Err, refl, sym}
 use Rattle.pref_script.proofs.Common.{ap, arith, append_assoc, subst, inl, inr, string_bytes, All, list_all, Vec, append-nil, length-append, is_blank, Event, AcceptsLeft, AllAccepted, AreParts, ArePartsUpTo}
-use Rattle.pref_script.proofs.Common.{FirstAct, HasReplied, IsAccepted, IsFound, IsGiven, AllGiven, IsPart, AreActs, acts_in, acts_left, accepted_events, act_of, commands_in, commands_of}
+use Rattle.pref_script.proofs.Common.{HasReplied, IsAccepted, IsFound, IsGiven, AllGiven, IsPart, AreActs, acts_in, acts_left, accepted_events, act_of, commands_in, commands_of}
 use Rattle.pref_script.proofs.Common.{event_of, Said, client_named, said_in, raw_lines, without_line_end, reply_lines, texts, clients_lines, unowned_line, unowned_lines, Refusal, Part}
 use Rattle.pref_script.proofs.Common.{◌==◌, NamesNone, cases_lt, drop, drop_all, drop_more, eqb-false, eqb-true, get_or, get_or_append_left, length-set, lines_in, lines_left, map-append, range_with_len, set, vec_len}
 use Rattle.std.proofs.Common.{Bor}
@@ -17,7 +17,7 @@ use Rattle.pref_core.specs.declared.event.Reply.{Reply}
 use Rattle.pref_share.specs.Interleavings.{acts_of}
 use Rattle.pref_share.specs.Reports.{AreTaken}
 use Rattle.pref_share.proofs.RunsLaws.{there}
-use Rattle.pref_script.specs.ClientParts.{IsWhole}
+use Rattle.pref_script.specs.ClientParts.{IsWhole, acts_found}
 use Rattle.pref_script.specs.declared.parts.Found.{Found}
 use Rattle.pref_script.proofs.ClientFacts.{acts-append, acts-few, acts-other, acts-own}
 use Rattle.pref_script.proofs.CommandFacts.{accepted_events-append, events-any_number, events-in, events-of_lines, lines-few, unowned-blank, unowned-own}
@@ -27,9 +27,9 @@ use Rattle.pref_script.specs.declared.parts.Found.TheVariants as found
 
 -- a refused line is nothing to a client, nor is another client's event
 pub found-refused : (names : List (List ℕ)) (client : ℕ) (line : List ℕ) (why : Refusal) → event_of names line ≡ Err why → IsFound names client line found.Refused
-found-refused names client line why said = rw (events-in names 0 line, said) refl
+found-refused names client line why said = (rw (events-in names 0 line, said) refl, λ other. absurd (other refl))
 
-first-other : (names : List (List ℕ)) (client : ℕ) (line : List ℕ) (event : Event) → event_of names line ≡ Ok event → event.client ≢ client → FirstAct names client line None
+first-other : (names : List (List ℕ)) (client : ℕ) (line : List ℕ) (event : Event) → event_of names line ≡ Ok event → event.client ≢ client → acts_of client (accepted_events (commands_in names 0 line)) ≡ []
 first-other names client line event said other = elim (cases_Bool (list_all is_blank line)) [
   | inl blank ↦ rw (events-in names 0 line, said, blank) refl
   | inr some ↦ rw (events-in names 0 line, said, some) (acts-other event client other)
@@ -47,29 +47,29 @@ event-named names line event is = by (said_in line) refl
         said_named line number what e ∙ ap (λ (x : Event). Some x.client) same
 
 -- a line that does not name the client
-first-unnamed : (names : List (List ℕ)) (client : ℕ) (line : List ℕ) → client_named line ≢ Some client → FirstAct names client line None
+first-unnamed : (names : List (List ℕ)) (client : ℕ) (line : List ℕ) → client_named line ≢ Some client → acts_of client (accepted_events (commands_in names 0 line)) ≡ []
 first-unnamed names client line other = by (event_of names line) refl
   where
-    by : (said : Result Event Refusal) → event_of names line ≡ said → FirstAct names client line None
+    by : (said : Result Event Refusal) → event_of names line ≡ said → acts_of client (accepted_events (commands_in names 0 line)) ≡ []
     by (Ok event) e = first-other names client line event e (λ same. other (event-named names line event e ∙ ap Some same))
-    by (Err why) e = found-refused names client line why e
+    by (Err why) e = (found-refused names client line why e).0
 
 -- what a line is to a client: one of blanks, another client's event and its own
 pub found-blank : (names : List (List ℕ)) (client : ℕ) (line : List ℕ) → list_all is_blank line ≡ true → IsFound names client line found.Nothing
 unfolding accepted_events
-found-blank names client line blank = (rw blank refl, λ _. inl blank)
+found-blank names client line blank = (rw blank refl, λ _ _. inl blank)
 
 pub found-other : (names : List (List ℕ)) (client : ℕ) (line : List ℕ) (event : Event) → event_of names line ≡ Ok event → event.client ≢ client → IsFound names client line found.Nothing
 found-other names client line event said other = (
   first-other names client line event said other,
-  λ named.
+  λ _ named.
       let both : Some event.client ≡ Some client = sym (event-named names line event said) ∙ named in
       let own : event.client ≡ client = cc both in
       absurd (other own),
 )
 
 pub found-act : (names : List (List ℕ)) (client : ℕ) (line : List ℕ) (event : Event) → list_all is_blank line ≡ false → event_of names line ≡ Ok event → event.client ≡ client → IsFound names client line (found.Act event.act)
-found-act names client line event some said own = (rw (events-in names 0 line, said, some) (acts-own event client own), λ _. inr (event, said, own))
+found-act names client line event some said own = (rw (events-in names 0 line, said, some) (acts-own event client own), λ _ _. inr (event, said, own))
 
 -- the act of the first line comes before those of the lines behind it
 acts-line : (names : List (List ℕ)) (client : ℕ) (raw : List ℕ) (more : List (List ℕ))
@@ -95,22 +95,6 @@ accepted-unnamed : (names : List (List ℕ)) (client : ℕ) (before : List (List
 accepted-unnamed names client [] raw left other all = (λ named. absurd (other named), all)
 accepted-unnamed names client (first ∷ before) raw left other all = (all.0, accepted-unnamed names client before raw left other all.1)
 
--- the acts that a line is found to be
-abbrev acts_found : Found → List Act
-acts_found found.Nothing = []
-acts_found found.Refused = []
-acts_found (found.Act act) = act ∷ []
-
-first-found : (names : List (List ℕ)) (client : ℕ) (line : List ℕ) (what : Found) → IsFound names client line what → acts_of client (accepted_events (commands_in names 0 line)) ≡ acts_found what
-first-found names client line found.Nothing is = is.0
-first-found names client line found.Refused is = is
-first-found names client line (found.Act act) is = is.0
-
-accepted-found : (names : List (List ℕ)) (client : ℕ) (line : List ℕ) (what : Found) → IsFound names client line what → (what ≡ found.Refused → ⊥) → IsAccepted names client line
-accepted-found names client line found.Nothing is other = is.1
-accepted-found names client line found.Refused is other = absurd (other refl)
-accepted-found names client line (found.Act act) is other = is.1
-
 -- The part has gone through lines, of which these are the acts.
 pub record HasGone (old new : Part) (past : List Act) : Type 0 where
   pub client : new.client ≡ old.client
@@ -128,7 +112,7 @@ gone-line old now new raw line what gone cut is found client schema text clean =
     let found_here : IsFound names now.client (without_line_end raw) what = rw is at found in
     let acts : acts_left now ≡ acts_found what ++ acts_left new =
     ap (acts_in names now.client) cut ∙ acts-line names now.client raw (lines_left new)
-    ∙ ap (λ (acts : List Act). acts ++ acts_in names now.client (lines_left new)) (first-found names now.client (without_line_end raw) what found_here)
+    ∙ ap (λ (acts : List Act). acts ++ acts_in names now.client (lines_left new)) found_here.0
     ∙ rw (schema, client) refl in record {
       client = client ∙ gone.client;
       schema = schema ∙ gone.schema;
@@ -136,7 +120,7 @@ gone-line old now new raw line what gone cut is found client schema text clean =
       acts = gone.acts ∙ acts;
       refused = λ none. gone.refused (clean none).0;
       accepted = λ none rest.
-          let here = accepted-found names now.client (without_line_end raw) what found_here (clean none).1 in
+          let here = found_here.1 (clean none).1 in
           let behind : AllAccepted names now.client (lines_left new) = rw (schema, client) at rest in
           gone.accepted (clean none).0 (subst (AllAccepted names now.client) (sym cut) (here, behind));
     }

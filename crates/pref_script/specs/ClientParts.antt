@@ -20,11 +20,6 @@ use Rattle.pref_script.specs.declared.parts.Part.{Part}
 abbrev pub acts_in : List (List ℕ) → ℕ → List (List ℕ) → List Act
 acts_in names client raws = acts_of client (accepted_events (commands_of names 0 raws))
 
--- the act of a client in a line, where it has one
-abbrev pub FirstAct : List (List ℕ) → ℕ → List ℕ → Option Act → Type 0
-FirstAct names client line None = acts_of client (accepted_events (commands_in names 0 line)) ≡ []
-FirstAct names client line (Some act) = acts_of client (accepted_events (commands_in names 0 line)) ≡ act ∷ []
-
 -- the line is not refused, where it names the client: it is blank, or an act of the client
 abbrev pub IsAccepted : List (List ℕ) → ℕ → List ℕ → Type 0
 IsAccepted names client line = client_named line ≡ Some client → (list_all is_blank line ≡ true) ⊎ ((event : Event) × (event_of names line ≡ Ok event) × (event.client ≡ client))
@@ -34,11 +29,15 @@ abbrev pub AllAccepted : List (List ℕ) → ℕ → List (List ℕ) → Type 0
 AllAccepted names client [] = Unit {0}
 AllAccepted names client (raw ∷ more) = IsAccepted names client (without_line_end raw) × AllAccepted names client more
 
--- what a line is to a client
+-- the acts of a client in a line, by what the line is to the client
+abbrev pub acts_found : Found → List Act
+acts_found found.Nothing = []
+acts_found found.Refused = []
+acts_found (found.Act act) = act ∷ []
+
+-- what a line is to a client: it has these acts, and it is accepted, unless it is said to be refused
 abbrev pub IsFound : List (List ℕ) → ℕ → List ℕ → Found → Type 0
-IsFound names client line found.Nothing = FirstAct names client line None × IsAccepted names client line
-IsFound names client line found.Refused = FirstAct names client line None
-IsFound names client line (found.Act act) = FirstAct names client line (Some act) × IsAccepted names client line
+IsFound names client line what = (acts_of client (accepted_events (commands_in names 0 line)) ≡ acts_found what) × ((what ≡ found.Refused → ⊥) → IsAccepted names client line)
 
 -- the lines of a part
 abbrev pub lines_in : Part → List (List ℕ)
