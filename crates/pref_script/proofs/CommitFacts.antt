@@ -1,13 +1,14 @@
 -- The changes of a commit line, one piece at a time.
-use Rattle.pref_script.proofs.Common.{◌≡◌, ◌∙◌, ℕ, ◌+◌, ◌<◌, ◌≤◌, true, false, List, [], ◌∷◌, ◌++◌, length, take, drop, get_or, set, sym, ap, refl, arith, inl, inr, nat_lt, Ok, Err, Bool, cond, ◌&&◌}
+use Rattle.pref_script.proofs.Common.{◌≡◌, ◌∙◌, ℕ, ◌+◌, ◌<◌, ◌≤◌, true, List, [], ◌∷◌, ◌++◌, length, take, drop, get_or, set, sym, ap, refl, arith, inl, inr, nat_lt, Ok, Err, Bool, cond}
 use Rattle.pref_script.proofs.Common.{Option, Some, None, is_some, nat_le, list_all, and_right, cases_lt, lt-leb, length-drop, length-set, length-take, length-take-le, length_push, take-append-le}
-use Rattle.pref_script.proofs.Common.{take_all, take_more_set, all_from, commit_said, of_changes, piece_change, are_changes, piece_said, pieces_of, Reads, first_refusal, pieces_left}
+use Rattle.pref_script.proofs.Common.{take_all, take_more_set, all_from, change_of, commit_said, of_changes, piece_change, are_changes, piece_said, pieces_of, Reads, first_refusal, pieces_left}
 use Rattle.std.proofs.lemmas.Bool.{cases_Bool}
 use Rattle.pref_core.specs.Changes.{commit_of}
 use Rattle.pref_core.specs.declared.changes.Change.{Change}
 use Rattle.pref_core.specs.declared.fault.CoreFault.TheVariants.{ChangeCount}
 use Rattle.pref_table.proofs.NumberedFacts.{all_from-all, all_from-fails_at, all_from-more, all_from-none}
 use Rattle.pref_script.proofs.SplitFacts.{drop_here}
+use Rattle.pref_script.specs.Pieces.{ChangeSaid}
 use Rattle.pref_script.specs.declared.command.Refusal.TheVariants.{NotCommand}
 use Rattle.pref_script.specs.declared.command.Stop.{Stop}
 use Rattle.pref_script.specs.declared.command.Stop.TheVariants.{Refused as StopRefused, OutOfMemory as StopMemory}
@@ -95,42 +96,40 @@ refusal-by_forms : (why : Stop) (rest : Option (List ℕ)) → first_refusal why
 refusal-by_forms why None = refl
 refusal-by_forms why (Some text) = refl
 
--- the next piece: its place, and the forms of those after it
-module _ (names : List (List ℕ)) (text now : List ℕ) (kept : List Change) (count : ℕ) (piece : List ℕ) (rest : Option (List ℕ))
-    (reads : ReadsPieces names text (Some now) kept count) (cut : pieces_of now ≡ piece ∷ pieces_left rest) where
+-- the next piece, which says a change: its place, and the forms of those after it
+module _ (names : List (List ℕ)) (text now : List ℕ) (kept : List Change) (count : ℕ) (piece : List ℕ) (what : ChangeSaid) (rest : Option (List ℕ))
+    (reads : ReadsPieces names text (Some now) kept count) (cut : pieces_of now ≡ piece ∷ pieces_left rest) (says : Some what ≡ piece_said piece) where
   turn : (reads.place < length (pieces_of text)) × (piece ≡ get_or (pieces_of text) reads.place piece) × (drop (reads.place + 1) (pieces_of text) ≡ pieces_left rest)
   turn =
       let here = drop_here (pieces_of text) reads.place piece piece (pieces_left rest) (reads.rest ∙ cut) in
       (here.0, sym here.1, here.2)
 
-  forms_left : are_changes text ≡ (is_some (piece_said piece) && all_forms (pieces_left rest))
-  forms_left = reads.forms ∙ ap all_forms cut
+  forms_left : are_changes text ≡ all_forms (pieces_left rest)
+  forms_left = reads.forms ∙ ap all_forms cut ∙ rw (← says) refl
 
   -- its values are refused
-  pub pieces_refused : (why : Stop) → is_some (piece_said piece) ≡ true → Reads {X = Change} (Err why) (piece_change names (piece_said piece)) → Reads {X = List Change} (Err (first_refusal why rest)) (commit_said names text)
+  pub pieces_refused : (why : Stop) → Reads {X = Change} (Err why) (change_of names what) → Reads {X = List Change} (Err (first_refusal why rest)) (commit_said names text)
   unfolding commit_said
-  pieces_refused why form is = elim (cases_Bool (all_forms (pieces_left rest))) [
-    | inl h ↦ rw (refusal-by_forms why rest, h) (keeps_fails names text reads.place kept count piece why (forms_left ∙ rw (form, h) refl) reads.keeps (turn.0, turn.1) is)
-    | inr h ↦
-        let none : are_changes text ≡ false = forms_left ∙ rw (form, h) refl in
-        rw (refusal-by_forms why rest, h, none) refl
+  pieces_refused why is = elim (cases_Bool (all_forms (pieces_left rest))) [
+    | inl h ↦ rw (refusal-by_forms why rest, h) (keeps_fails names text reads.place kept count piece why (forms_left ∙ h) reads.keeps (turn.0, turn.1) (rw (← says) is))
+    | inr h ↦ rw (refusal-by_forms why rest, h, forms_left ∙ h) refl
   ]
 
   -- it is read, and kept or not
-  pub pieces_kept : (change : Change) → is_some (piece_said piece) ≡ true → count < 9 → piece_change names (piece_said piece) ≡ Ok change → ReadsPieces names text rest (set kept count change) (count + 1)
-  pieces_kept change form room is = record {
+  pub pieces_kept : (change : Change) → count < 9 → change_of names what ≡ Ok change → ReadsPieces names text rest (set kept count change) (count + 1)
+  pieces_kept change room is = record {
     place = reads.place + 1;
     rest = turn.2;
-    forms = forms_left ∙ rw form refl;
-    keeps = keeps_one names (pieces_of text) reads.place kept count piece change reads.keeps (turn.0, turn.1) room is;
+    forms = forms_left;
+    keeps = keeps_one names (pieces_of text) reads.place kept count piece change reads.keeps (turn.0, turn.1) room (rw (← says) is);
   }
 
-  pub pieces_past : (change : Change) → is_some (piece_said piece) ≡ true → (count < 9 → ⊥) → piece_change names (piece_said piece) ≡ Ok change → ReadsPieces names text rest kept count
-  pieces_past change form full is = record {
+  pub pieces_past : (change : Change) → (count < 9 → ⊥) → change_of names what ≡ Ok change → ReadsPieces names text rest kept count
+  pieces_past change full is = record {
     place = reads.place + 1;
     rest = turn.2;
-    forms = forms_left ∙ rw form refl;
-    keeps = keeps_past names (pieces_of text) reads.place kept count piece change reads.keeps (turn.0, turn.1) full is;
+    forms = forms_left;
+    keeps = keeps_past names (pieces_of text) reads.place kept count piece change reads.keeps (turn.0, turn.1) full (rw (← says) is);
   }
 
 -- no piece is left

@@ -16,10 +16,6 @@ behind_more a b c x y z first next = record {
   at_end = λ before e. next.at_end (first.at_end before) e;
 }
 
--- what was read is no shorter than what was there
-pub behind_longer : (a b : Option (List ℕ)) (x y : ReadAhead) (from : ℕ) → ReadBehind a b x y → from ≤ length (unread x) → from ≤ length (unread y)
-behind_longer a b x y from read inside = omega (arith, inside, ap length read.behind, length-append (unread x) read.bytes)
-
 -- a text up to its first line feed is a whole line
 line_first : (text : List ℕ) (place : ℕ) → IsFirstByte (is_byte 10) text (Some place) → IsWhole (take (place + 1) text)
 line_first text place found = λ more.

@@ -1,5 +1,4 @@
-use Rattle.pref_script.proofs.Common.{◌≡◌, ◌∙◌, true, ap, arith, is_some, option_map, refl, subst, sym, Err, Ok, of_changes, piece_change, piece_said, Reads}
-use Rattle.pref_core.specs.declared.changes.Change.{Change}
+use Rattle.pref_script.proofs.Common.{◌∙◌, ap, arith, option_map, refl, sym, of_changes}
 use Rattle.pref_script.proofs.CommitFacts.{pieces_all, pieces_kept, pieces_none, pieces_past, pieces_refused}
 use Rattle.pref_script.proofs.commits.read_commit.Goals as goal
 
@@ -8,30 +7,21 @@ loop-left-init c = pieces_none c.args.schema.now c.args.text.now _ refl
 
 pub returns-in-Err : goal.returns-in-Err
 returns-in-Err c =
-    let piece = c.cut_piece.result.0.now in
     let reads = rw c.in-Some.is at c.loop-left.invariant in
-    let form : is_some (piece_said piece) ≡ true = ap is_some (sym c.in-Some-piece_form.ensures) in
-    let is = subst (λ t. Reads {X = Change} (Err c.in-Err.why) (piece_change c.args.schema.now t)) c.in-Some-piece_form.ensures c.in-Err.ensures in
     rw c.refusal_before.ensures
-    (pieces_refused c.args.schema.now c.args.text.now c.in-Some.pieces.now c.loop-left.changes c.loop-left.count piece (option_map (λ rest. rest.now) c.cut_piece.result.1) reads c.cut_piece.ensures c.in-Err.why form is)
+    (pieces_refused c.args.schema.now c.args.text.now c.in-Some.pieces.now c.loop-left.changes c.loop-left.count c.cut_piece.result.0.now _ (option_map (λ rest. rest.now) c.cut_piece.result.1) reads c.cut_piece.ensures c.in-Some-piece_form.ensures c.in-Err.why c.in-Err.ensures)
 
 pub loop-left-preserved-then-count-lt-KEPT : goal.loop-left-preserved-then-count-lt-KEPT
 loop-left-preserved-then-count-lt-KEPT c =
-    let piece = c.cut_piece.result.0.now in
     let reads = rw c.in-Some.is at c.loop-left.invariant in
-    let form : is_some (piece_said piece) ≡ true = ap is_some (sym c.in-Some-piece_form.ensures) in
-    let is = subst (λ t. piece_change c.args.schema.now t ≡ Ok c.in-Ok.change) c.in-Some-piece_form.ensures c.in-Ok.ensures in
-    pieces_kept c.args.schema.now c.args.text.now c.in-Some.pieces.now c.loop-left.changes c.loop-left.count piece (option_map (λ rest. rest.now) c.cut_piece.result.1) reads c.cut_piece.ensures c.in-Ok.change form
-    c.if-count-lt-KEPT.true is
+    pieces_kept c.args.schema.now c.args.text.now c.in-Some.pieces.now c.loop-left.changes c.loop-left.count c.cut_piece.result.0.now _ (option_map (λ rest. rest.now) c.cut_piece.result.1) reads c.cut_piece.ensures c.in-Some-piece_form.ensures c.in-Ok.change
+    c.if-count-lt-KEPT.true c.in-Ok.ensures
 
 pub loop-left-preserved : goal.loop-left-preserved
 loop-left-preserved c =
-    let piece = c.cut_piece.result.0.now in
     let reads = rw c.in-Some.is at c.loop-left.invariant in
-    let form : is_some (piece_said piece) ≡ true = ap is_some (sym c.in-Some-piece_form.ensures) in
-    let is = subst (λ t. piece_change c.args.schema.now t ≡ Ok c.in-Ok.change) c.in-Some-piece_form.ensures c.in-Ok.ensures in
-    pieces_past c.args.schema.now c.args.text.now c.in-Some.pieces.now c.loop-left.changes c.loop-left.count piece (option_map (λ rest. rest.now) c.cut_piece.result.1) reads c.cut_piece.ensures c.in-Ok.change form
-    (λ h. absurd (omega (arith, h, c.if-count-lt-KEPT.false))) is
+    pieces_past c.args.schema.now c.args.text.now c.in-Some.pieces.now c.loop-left.changes c.loop-left.count c.cut_piece.result.0.now _ (option_map (λ rest. rest.now) c.cut_piece.result.1) reads c.cut_piece.ensures c.in-Some-piece_form.ensures c.in-Ok.change
+    (λ h. absurd (omega (arith, h, c.if-count-lt-KEPT.false))) c.in-Ok.ensures
 
 pub returns-in-Ok-of : goal.returns-in-Ok-of
 returns-in-Ok-of c =

@@ -1,6 +1,6 @@
-use Rattle.pref_script.proofs.Common.{IfOk-weaker, take_rest, is_at_end, unread}
+use Rattle.pref_script.proofs.Common.{◌≤◌, ap, arith, length, length-append, IfOk-weaker, take_rest, is_at_end, unread}
 use Rattle.std.proofs.lemmas.Result.{IfErr-weaker}
-use Rattle.pref_script.proofs.LineFacts.{behind_longer, last_at, long_none, long_some, whole_at}
+use Rattle.pref_script.proofs.LineFacts.{last_at, long_none, long_some, whole_at}
 use Rattle.pref_script.proofs.read_ahead.ReadAhead.read_line.Goals as goal
 
 pub returns-in-Some-clause-line : goal.returns-in-Some-clause-line
@@ -11,7 +11,8 @@ returns-in-Some-clause-line g c =
 pub returns-in-None-clause-line : goal.returns-in-None-clause-line
 returns-in-None-clause-line g c =
     let none = rw (take_rest (unread c.read_on.new.self) c.args.from) at (rw c.as_slice.ensures at c.in-None.ensures) in
-    let inside = behind_longer _ _ _ _ c.args.from c.in_ok-read_on.ensures.ok c.requires in
+    let read = c.in_ok-read_on.ensures.ok in
+    let inside : c.args.from ≤ length (unread c.read_on.new.self) = omega (arith, c.requires, ap length read.behind, length-append (unread c.args.self.now) read.bytes) in
     IfOk-weaker c.last_end.result _ _ (λ end (ended, is, few). rw is (last_at c.read_on.new.self c.args.from inside none ended)) c.last_end.ensures.ok
 
 pub returns-in-Some-clause-fault : goal.returns-in-Some-clause-fault
