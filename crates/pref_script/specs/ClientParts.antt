@@ -1,6 +1,6 @@
 -- No public contract cites this.
 -- A client's part of a script: its acts, which come line by line, and the lines of the replies. (this project)
-use Rattle.std.specs.Prelude.{ℕ, suc, ◌≡◌, ◌<◌, ◌⊎◌, true, false, List, [], ◌∷◌, ◌++◌, length, map, drop, Option, Some, None, Ok, slice_get, string_bytes, vec_len}
+use Rattle.std.specs.Prelude.{ℕ, suc, ◌≡◌, ◌<◌, ◌⊎◌, true, false, List, [], ◌∷◌, ◌++◌, length, map, drop, Some, Ok, slice_get, string_bytes, vec_len}
 use Rattle.std.specs.Borrow.{Bor}
 use Rattle.std.specs.List.{list_all}
 use Rattle.pref_table.specs.Number.{is_blank}
