@@ -3,7 +3,7 @@ use Rattle.pref_table.proofs.Common.{◌≡◌, ◌∙◌, ℕ, zero, suc, ◌+�
 use Rattle.pref_table.proofs.Common.{Err, ℤ, sym, ap, refl, arith, inl, inr, append_assoc, ◌==◌, onto_first, slice_split, eq-eqb, eqb-true, ne_eqb, append-nil, drop_more, get_or-take}
 use Rattle.pref_table.proofs.Common.{get_or_append_left, length-append, length-take, take-append-drop, take_all, drop_of_length-le, length-slice_split, Read, ends_at_end, in_field, next_record}
 use Rattle.pref_table.proofs.Common.{start_field, step, default_config, is_bom, records, records_from, strip_bom, State, IsCutAtLine, IsLineBefore, IsLineEnd, IsPlainLine, header_names, rows_with}
-use Rattle.pref_table.proofs.Common.{◌>>=◌, ArePlain, IsPlain, is_comma, table_of_records, TableFault, cond_both, start_record}
+use Rattle.pref_table.proofs.Common.{◌>>=◌, ArePlain, IsPlain, is_comma, table_of_records, TableFault}
 use Rattle.memchr.specs.Find.{IsFirstByte, is_byte}
 use Rattle.pref_table.proofs.RecordsFacts.{next-facts, next-shorter, records-none, records-some}
 use Rattle.pref_table.proofs.TablesFacts.{table-names, table-rows}
@@ -118,9 +118,7 @@ records-feed xs =
 
 -- behind a carriage return a record begins as at the start of a text
 starts-after_return : (byte : ℕ) → step default_config st.AfterCr byte ≡ step default_config st.StartRecord byte
-starts-after_return byte =
-    cond_both (byte == 10) (st.StartRecord, act.Skip) (start_record default_config byte) (λ q. q ≡ start_record default_config byte)
-    (λ feed. let is : byte ≡ 10 = eqb-true byte 10 feed in rw is refl) (λ _. refl)
+starts-after_return byte = grind (arith)
 
 pub records-after_return : (n : ℕ) (after : List ℕ) → length after < n → records_from default_config n st.AfterCr after ≡ records default_config after
 unfolding records_from next_record

@@ -1,14 +1,14 @@
 -- The first record of a text, whose bytes are gone through one by one.
 use Rattle.pref_table.proofs.Common.{◌≡◌, ◌∙◌, ℕ, suc, ◌+◌, ◌<◌, ◌≤◌, Bool, true, false, List, [], ◌∷◌, ◌++◌, length, drop, get_or, Some, sym, ap, refl, arith, ◌⊎◌, inl, inr, ◌==◌, drop_more}
-use Rattle.pref_table.proofs.Common.{length-append, drop_of_length-le, Read, ends_at_end, ends_with, fields_after, field_after, in_field, is_end, next_record, step, default_config, records}
-use Rattle.pref_table.proofs.Common.{records_from, State, BytesReader, HasLeft, IsNarrow, IsNext, IsWide, ReadsFirst, ReadsNext, state_at, cond_both, after_end}
+use Rattle.pref_table.proofs.Common.{length-append, drop_of_length-le, Read, ends_at_end, fields_after, field_after, in_field, is_end, next_record, step, default_config, records}
+use Rattle.pref_table.proofs.Common.{records_from, State, BytesReader, HasLeft, IsNarrow, IsNext, IsWide, ReadsFirst, ReadsNext, state_at, cond_both}
 use Rattle.std.specs.Bool.{MatchBool}
 use Rattle.std.specs.Borrow.{Bor}
 use Rattle.csv.specs.declared.parser.Action.{Action}
 use Rattle.pref_table.specs.declared.records.Next.{Next}
 use Rattle.pref_table.specs.declared.records.Next.TheVariants.{Nothing, Wide, Narrow}
 use Rattle.pref_table.specs.declared.records.Place.{Place}
-use Rattle.pref_table.specs.declared.records.Place.TheVariants.{BetweenRecords, InField, AfterQuote}
+use Rattle.pref_table.specs.declared.records.Place.TheVariants.{BetweenRecords}
 use Rattle.pref_table.proofs.LinesFacts.{records-after_return, records-first, records-of}
 use Rattle.pref_table.proofs.RecordsFacts.{records-none, records-some}
 use Rattle.csv.specs.declared.parser.Action.TheVariants as act
@@ -83,9 +83,7 @@ abbrev Stays : State × Action → Type 0
 Stays does = is_end does.1 ≡ false → is_inside does.0 ≡ true
 
 stays-in_field : (byte : ℕ) → Stays (in_field default_config byte)
-stays-in_field byte =
-    cond_both (byte == 44) (st.StartField, act.EndField) _ Stays (λ _ _. refl)
-    (λ _. cond_both (ends_with default_config.terminator byte) (after_end default_config.terminator byte, act.EndRecord) (st.InField, act.Copy) Stays (λ _ goes. cc goes) (λ _ _. refl))
+stays-in_field byte = grind (arith)
 
 stays : (s : State) (byte : ℕ) → is_inside s ≡ true → Stays (step default_config s byte)
 stays st.StartField byte inside = cond_both (byte == 34) (st.InQuoted, act.Skip) (in_field default_config byte) Stays (λ _ _. refl) (λ _. stays-in_field byte)
