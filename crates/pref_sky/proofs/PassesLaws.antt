@@ -23,15 +23,16 @@ pub clear_if_alike : {E : Type 0} (over : E → E → Bool) (xs : List E) (y e :
 clear_if_alike over xs y e here alike apart x m = (sym (alike.above x) ∙ apart x y m here, sym (alike.below x) ∙ apart y x here m)
 
 -- one more goes out, that the item dominates: the last one takes its place
-pub sifted_more : {over : Item → Item → Bool} {e : Item} {old held start rest : List Item} → Sifted over e old held start rest → (i : ℕ) (x : Item) → i < length held → x ≡ get_or held i x → over e x ≡ true
-    → Sifted over e old (swap_remove held i x) start (rest ++ x ∷ [])
-sifted_more {over = over} {e = e} {held = held} {start = start} s i x inside is above =
-    record {
+pub sifted_more : {over : Item → Item → Bool} {e : Item} {old held start rest held_now rest_now : List Item} → Sifted over e old held start rest → (i : ℕ) (x : Item) → i < length held → x ≡ get_or held i x → over e x ≡ true
+    → held_now ≡ swap_remove held i x → rest_now ≡ rest ++ x ∷ [] → Sifted over e old held_now start rest_now
+sifted_more {over = over} {e = e} {old = old} {held = held} {start = start} {rest = rest} s i x inside is above left out =
+    let more : Sifted over e old (swap_remove held i x) start (rest ++ x ∷ []) = record {
       gone = s.gone ++ x ∷ [];
       behind = ap (λ l. l ++ x ∷ []) s.behind ∙ append_assoc start s.gone (x ∷ []);
       bag = λ f. omega (arith, s.bag f, sum_by-swap_remove f held i x inside, ap f is, sum_by-append f s.gone (x ∷ []), sum_by-cons f x []);
       below = λ y m. elim (in_either s.gone (x ∷ []) y m) [ inl a ↦ s.below y a | inr b ↦ elim b [ inl this ↦ ap (over e) this ∙ above | inr void ↦ absurd void ] ];
-    }
+    } in
+    rw (left, out) more
 
 -- what was asked place by place stays so where the last one is moved to a later place
 pub clear_after_move : {E : Type 0} (over : E → E → Bool) (xs ys : List E) (e : E) (n long : ℕ) → n < long

@@ -53,7 +53,7 @@ each-preserved g c =
           let is : x ≡ c.index.result.now = w.swap_remove-beaten.ensures.value ∙ (get_or_default held i x c.index.result.now inside ∙ sym c.index.ensures) in
           let above : over item x ≡ true = ap (over item) is ∙ (sym c.compare_items.ensures.worse ∙ ap is_worse w.in-Worse.is) in
           rw (w.held-is, w.rest-is, w.place-is) (
-            rw (w.swap_remove-beaten.ensures.items, w.in_ok-push-in-Worse.ensures.items) (sifted_more c.each.invariant.sifted i x inside w.swap_remove-beaten.ensures.value above),
+            sifted_more c.each.invariant.sifted i x inside w.swap_remove-beaten.ensures.value above w.swap_remove-beaten.ensures.items w.in_ok-push-in-Worse.ensures.items,
             clear_after_move over held w.swap_remove-beaten.new.self.items item i (vec_len c.each.held) (omega (arith, c.each-test.true, c.len.ensures)) w.swap_remove-beaten.ensures.by_index.1 c.each.invariant.clear,
           )
       | in-Neither w ↦
