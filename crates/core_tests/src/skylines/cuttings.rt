@@ -163,11 +163,13 @@ fn levelled(alloc: Global) -> Result<Vec<Entry>, TableFault>
     numbered(alloc, &rows)
 }
 
-/// So many held rows that those which come are signed.
+/// By two columns, whose rows are kept in order, and by three parts: then so many rows are held that those which come are signed.
 #[test]
 fn three_levels_of_a_hundred_rows(rt: HostRuntime) -> Result<(), Fail> {
     let alloc = rt.alloc();
     let entries = levelled(alloc)?;
-    let ask = ask_of(alloc, b"top_level 3 low(x) * low(y)")?;
-    check_cuttings(&rt, alloc, &ask, 3, &entries, 220, &[300, 310])
+    let two = ask_of(alloc, b"top_level 3 low(x) * low(y)")?;
+    check_cuttings(&rt, alloc, &two, 3, &entries, 220, &[300, 310])?;
+    let three = ask_of(alloc, b"top_level 3 low(x) * low(y) * low(x)")?;
+    check_cuttings(&rt, alloc, &three, 3, &entries, 220, &[300, 310])
 }
