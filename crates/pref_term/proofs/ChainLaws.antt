@@ -7,7 +7,7 @@ use Rattle.pref_term.specs.declared.chains.Chains.{Chains}
 use Rattle.pref_term.specs.declared.chains.Role.{Role}
 use Rattle.pref_term.specs.declared.chains.Role.TheVariants.{First, Second, Tie}
 use Rattle.pref_term.proofs.KeyLaws.{directed, directed_priority, directed_product, directed_reverse, key_law, leading_in_row}
-use Rattle.pref_term.proofs.WalkLaws.{walked-better, walked-same}
+use Rattle.pref_term.proofs.WalkLaws.{walked_better, walked_same}
 
 priority_same : (r : Relation) → in_priority r Same ≡ r
 priority_same r = grind arith
@@ -133,7 +133,7 @@ keys_in_row (reverse p) role s h = keys_in_row p role (not s) h
 alike_in_chains : (q : Question) (chains : Chains) (a b : List ℤ) → AreChainsOf q.preference chains
     → (in_same_group q.group a b && is_same (by_chains chains a b)) ≡ alike q a b
 alike_in_chains q chains a b h =
-    ap (λ r. in_same_group q.group a b && r) (ap is_same (chains_law q.preference chains a b h) ∙ walked-same q.preference a b)
+    ap (λ r. in_same_group q.group a b && r) (ap is_same (chains_law q.preference chains a b h) ∙ walked_same q.preference a b)
 
 -- the order of a question is that of the chains of its preference, within its groups
 pub product_of_chains : (q : Question) (chains : Chains) → IsAsk q → AreChainsOf q.preference chains → IsProductOf (order_of q) q.group chains q.distinct
@@ -144,6 +144,6 @@ product_of_chains q chains known h = record {
     second = All-same (λ key. key.col < 16) _ _ h.second (keys_in_row q.preference Second false known.columns.preference);
     tie = All-same (λ key. key.col < 16) _ _ h.tie (keys_in_row q.preference Tie false known.columns.preference);
   };
-  over = λ a b. ap (λ r. in_same_group q.group a b && r) (sym (walked-better q.preference a b) ∙ ap is_better (sym (chains_law q.preference chains a b h)));
+  over = λ a b. ap (λ r. in_same_group q.group a b && r) (sym (walked_better q.preference a b) ∙ ap is_better (sym (chains_law q.preference chains a b h)));
   twin = λ a b. order_of_twins_are_alike q known a b ∙ ap (λ t. q.distinct && t) (sym (alike_in_chains q chains a b h));
 }

@@ -10,7 +10,7 @@ use Rattle.pref_term.specs.declared.signature.scale.Scale.{Scale}
 use Rattle.pref_term.specs.declared.signature.scale.Scale.TheVariants.{Marks, Hashes}
 use Rattle.pref_term.proofs.KeyLaws.{directed, directed_priority, directed_product, directed_reverse, key_law}
 use Rattle.pref_term.proofs.SignatureWords.{Implied, implied_flat, implied_itself, implied_map, signed_within}
-use Rattle.pref_term.proofs.WalkLaws.{walked-better, walked-same}
+use Rattle.pref_term.proofs.WalkLaws.{walked_better, walked_same}
 
 -- ---- rows of which the first is better, or the same
 
@@ -77,10 +77,10 @@ suiting keys group (Hashes c masks) a b keeps near (inr led) = absurd led
 pub suiting_cuts : (q : Question) (scales : List Scale) → All (Suits (leading q.preference false) q.group) scales → Suit (order_of q) scales
 suiting_cuts q scales suit = record {
   over = λ a b h.
-      within a b (grind (arith, walked-better q.preference a b)) (and_parts (in_same_group q.group a b) (better q.preference a b) h).0;
+      within a b (grind (arith, walked_better q.preference a b)) (and_parts (in_same_group q.group a b) (better q.preference a b) h).0;
   twin = λ a b h.
       let both = and_parts (in_same_group q.group a b) (same q.preference a b) (twins_alike q a b h) in
-      within a b (grind (arith, walked-same q.preference a b)) both.0;
+      within a b (grind (arith, walked_same q.preference a b)) both.0;
 }
   where
     within : (a b : List ℤ) → fits (walked q.preference a b) ≡ true → in_same_group q.group a b ≡ true → is_within (signature scales a) (signature scales b) ≡ true

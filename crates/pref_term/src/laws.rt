@@ -16,6 +16,7 @@ ghost use Rattle.pref_term.specs.declared.ask.Mode.TheVariants.{Best as best};
 ghost use Rattle.pref_term.specs.declared.fault.TermFault.TheVariants.{Unexpected as unexpected, UnknownColumn as unknown_column, NoMinOrMax as no_min_or_max};
 
 /// Each text spells the ask, or has the fault, that is computed of it.
+#[tactic(auto, using(crate::proofs::AskedLemmas::asked_answer))]
 pub fn asked_is_the_answer()
     ensures { (names : Names) (text : List ℕ) → MatchResult (asked names text) (Spells names text) (Faults names text) }
 {}
@@ -29,6 +30,7 @@ pub fn one_reading()
 
 /// The shown text of an ask over the columns of a schema spells that ask, where it is within the limits of a question's
 /// length and nesting: so reading it gives the ask again.
+#[tactic(auto, using(crate::proofs::ClauseLaw::shown_spells, crate::proofs::AskedLemmas::spelled_asked))]
 pub fn shown_is_read_again()
     ensures spelled { (names : Names) (q : Question) → schema_of names ≡ Ok names → IsAsk q → FitsWidth (length names) q →
         nests q.preference ≤ 64 → length (shown names q) ≤ 4096 → Spells names (shown names q) q }
@@ -44,6 +46,7 @@ pub fn equal_where_the_same_is_seen()
 
 /// A text whose tokens are exactly those of a tree of the grammar without `distinct` spells the ask of that tree, in which
 /// all equal rows are kept: that word takes no text away from the grammar.
+#[tactic(auto, using(crate::proofs::DistinctLemmas::tree_spells))]
 pub fn a_text_of_the_grammar_keeps_its_meaning()
     ensures { (names : Names) (text : List ℕ) (tree : AskText) (q : Question) → IsText tree → length text ≤ 4096
         → tokens_in (tokens_of text) ≡ tokens_on (ask_leaves tree) → AllByRecursion (IsGood names) (ask_leaves tree)

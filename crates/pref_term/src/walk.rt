@@ -24,6 +24,7 @@ use pref_table::Row;
 /// }
 /// ```
 #[inline(never)]
+#[tactic(auto, using(crate::proofs::WalkLaws::walked_better, crate::proofs::WalkLaws::walked_worse, crate::proofs::WalkLaws::walked_same))]
 pub fn compare(term: &Term, a: &Row, b: &Row) -> Relation
     requires { ReadsBelow 16 (preference_of term.now) }
     ensures better { is_better result ≡ better.better (preference_of term.now) a.now b.now }

@@ -1,6 +1,6 @@
 use Rattle.pref_term.proofs.Common.{◌≡◌, ◌<◌, true, false, ap, sym, ◌∙◌, All-same, by_keys, is_number, is_better, is_same, is_worse, preference_of, walked}
 use Rattle.pref_term.proofs.KeyLaws.{leading_in_row, leading_numbers, leading_law}
-use Rattle.pref_term.proofs.WalkLaws.{walked-better, walked-same, walked-worse}
+use Rattle.pref_term.proofs.WalkLaws.{walked_better, walked_same, walked_worse}
 use Rattle.pref_term.proofs.ask.Ask.compare_in_group.Goals as goal
 
 pub compare_by_keys-requires-clause-columns : goal.compare_by_keys-requires-clause-columns
@@ -22,12 +22,12 @@ by_a_walk c =
 
 pub returns-then-self-clause-better : goal.returns-then-self-clause-better
 returns-then-self-clause-better c =
-    rw (← c.self.view_is) (ap is_better (by_a_walk c) ∙ walked-better (preference_of c.self.inside.term) c.args.a.now c.args.b.now)
+    rw (← c.self.view_is) (ap is_better (by_a_walk c) ∙ walked_better (preference_of c.self.inside.term) c.args.a.now c.args.b.now)
 
 pub returns-then-self-clause-worse : goal.returns-then-self-clause-worse
 returns-then-self-clause-worse c =
-    rw (← c.self.view_is) (ap is_worse (by_a_walk c) ∙ walked-worse (preference_of c.self.inside.term) c.args.a.now c.args.b.now)
+    rw (← c.self.view_is) (ap is_worse (by_a_walk c) ∙ walked_worse (preference_of c.self.inside.term) c.args.a.now c.args.b.now)
 
 pub returns-then-self-clause-same : goal.returns-then-self-clause-same
 returns-then-self-clause-same c =
-    rw (← c.self.view_is) (ap is_same (by_a_walk c) ∙ walked-same (preference_of c.self.inside.term) c.args.a.now c.args.b.now)
+    rw (← c.self.view_is) (ap is_same (by_a_walk c) ∙ walked_same (preference_of c.self.inside.term) c.args.a.now c.args.b.now)
