@@ -1,17 +1,18 @@
 -- What the parts of the reader promise that read what stands around a term, and skyline clauses.
-use Rattle.pref_term.proofs.Common.{◌≡◌, ℕ, List, [], ◌∷◌, ◌++◌, length, map, Bool, true, false, Option, Some, None, Ok, refl, sym, ap, subst, ◌∙◌, append-nil, ◌≢◌, All, IfSome, cond, unwrap_or}
+use Rattle.pref_term.proofs.Common.{◌≡◌, arith, ℕ, List, [], ◌∷◌, ◌++◌, length, map, Bool, true, false, Option, Some, None, Ok, refl, sym, ap, subst, ◌∙◌, append-nil, ◌≢◌, All, IfSome, cond, unwrap_or}
 use Rattle.pref_term.proofs.Common.{All-append, comma, Token, word, digits, sign, finish, Placed, Keyword, best_word, top_level_word, at_least_word, by_word, keyword_of, skyline_word, of_word}
 use Rattle.pref_term.proofs.Common.{cased_of, Direction, minimal, maximal, different, direction_word, DimText, HeadText, best_head, top_level_head, at_least_head, PriorText, one_product, then_product}
 use Rattle.pref_term.proofs.Common.{AskText, rated, name, mark, column_name, count_digits, cased, last, Names, column_at, mode_of, order_by, group_by, orders_of, groups_of, product_of, bad_count}
 use Rattle.pref_term.proofs.Common.{State, start, operand, whole, in_whole, ranked, top_level_named, at_least_named, group_due, skyline_named, dim_due, dim_named, group_listed, dims_listed, run, done}
-use Rattle.pref_term.proofs.Common.{listed_column, listed_dim, directed, begun, of_named, grouped_by, next, meant, Goes, Fails, Passes, IsNoWord, IsKnown, IsTermOf, IsColumn, NotNext, IsOther}
-use Rattle.pref_term.proofs.Common.{WantsColumn, TakesColumn, ReadsPrior, Asks, AsksNothing, IsNoDigits, WantsCount, TakesCount, FailsCount, ReadsSomeColumns, ReadsColumns, FailsColumns}
+use Rattle.pref_term.proofs.Common.{listed_column, listed_dim, directed, begun, of_named, grouped_by, next, meant, Goes, Fails, Passes, IsKnown, IsTermOf, IsColumn, NotNext, IsOther}
+use Rattle.pref_term.proofs.Common.{WantsColumn, TakesColumn, ReadsPrior, Asks, AsksNothing, WantsCount, TakesCount, FailsCount, ReadsSomeColumns, ReadsColumns, FailsColumns}
 use Rattle.pref_term.proofs.Common.{ReadsGrouping, FailsGrouping, TakesDirection, FailsDirection, ReadsDim, FailsDim, with_order, ReadsDims, ReadsClause, FailsClause, PassesOf, AsksClauseNothing}
 use Rattle.pref_term.proofs.Common.{Preference, scored, low, high, pareto, prior, reverse, ReadsBelow, IsWritable, Question, FitsWidth, IsAsk, IsSkyline, IsCount, cut_of, Mode, Best, TopLevel}
 use Rattle.pref_term.proofs.Common.{AtLeast, TermFault}
 use Rattle.std.specs.Str.Parse.{digits_value}
 use Rattle.std.proofs.lemmas.List.Sums.{fold-append}
 use Rattle.std.proofs.lemmas.Grind.{flat_map-append}
+use Rattle.pref_term.proofs.GrammarComplete.{dim_of, direction_next}
 use Rattle.pref_term.proofs.LedLemmas.{goes_then, goes_fails, passes_goes, column_good, unless_map, all_one, mapped_more, neither_fails, sign_behind}
 
 -- the end, behind all
@@ -21,27 +22,19 @@ ended names ts us s m a h c e p = let g = goes_then names s m (done a) ts us [] 
 -- ---- a column of a group
 
 pub wants_group : (head : HeadText) (r : PriorText) (some : List (List ℕ)) → WantsColumn (group_due head r some) (λ letters. listed_column head r some letters)
-wants_group head r some = record { takes = λ letters. refl; only = only }
-  where
-    only : (t : Token) → IsNoWord t → next (group_due head r some) t ≡ None
-    only (word letters) n = absurd n
-    only _ n = refl
+wants_group head r some = record { takes = λ letters. refl; only = λ t n. grind arith }
 
 column_goes : (names : Names) (ts us : List Placed) (col : ℕ) (s : State) (behind : List ℕ → State) → WantsColumn s behind → (t : TakesColumn names ts col us) → Goes names s ts (behind t.letters) us
 column_goes names ts us col s behind w t = passes_goes names (word t.letters) ts us s (behind t.letters) (column_name t.letters) t.passes (w.takes t.letters) (column_good names t.letters col t.found.place)
 
 group_comma : (head : HeadText) (r : PriorText) (some : List (List ℕ)) (letters : List ℕ) → next (listed_column head r some letters) (sign comma) ≡ Some (mark comma, group_due head r (some ++ letters ∷ []))
-group_comma head r [] letters = refl
-group_comma head r (c ∷ cs) letters = refl
+group_comma head r some letters = grind arith
 
 group_finish : (head : HeadText) (r : PriorText) (some : List (List ℕ)) (letters : List ℕ) → next (listed_column head r some letters) finish ≡ Some (last, done (rated head r (some ++ letters ∷ [])))
-group_finish head r [] letters = refl
-group_finish head r (c ∷ cs) letters = refl
+group_finish head r some letters = grind arith
 
 group_listed_stuck : (head : HeadText) (r : PriorText) (first : List ℕ) (others : List (List ℕ)) (u : Token) → u ≢ sign comma → u ≢ finish → next (group_listed head r first others) u ≡ None
-group_listed_stuck head r first others (sign comma) nc nf = absurd (nc refl)
-group_listed_stuck head r first others finish nc nf = absurd (nf refl)
-group_listed_stuck head r first others _ nc nf = refl
+group_listed_stuck head r first others u nc nf = grind arith
 
 group_stuck : (head : HeadText) (r : PriorText) (some : List (List ℕ)) (letters : List ℕ) (u : Token) → u ≢ sign comma → u ≢ finish → next (listed_column head r some letters) u ≡ None
 group_stuck head r [] letters = group_listed_stuck head r letters []
@@ -129,28 +122,13 @@ rated_group_fails names ts us p f r g head =
 -- ---- dimensions
 
 pub wants_dim : (s o : List ℕ) (some : List DimText) → WantsColumn (dim_due s o some) (λ letters. dim_named s o some letters)
-wants_dim s o some = record { takes = λ letters. refl; only = only }
-  where
-    only : (t : Token) → IsNoWord t → next (dim_due s o some) t ≡ None
-    only (word letters) n = absurd n
-    only _ n = refl
-
-abbrev dim_of : List ℕ → Direction → List ℕ → DimText
-dim_of column direction written = record { column = column; direction = direction; written = written }
-
-direction_next : (s o : List ℕ) (some : List DimText) (column letters : List ℕ) (d : Direction) → directed s o some column letters (Some (direction_word d)) ≡ Some (cased (direction_word d) letters, listed_dim s o some (dim_of column d letters))
-direction_next s o some column letters minimal = refl
-direction_next s o some column letters maximal = refl
-direction_next s o some column letters different = refl
+wants_dim s o some = record { takes = λ letters. refl; only = λ t n. grind arith }
 
 dim_comma : (s o : List ℕ) (some : List DimText) (d : DimText) → next (listed_dim s o some d) (sign comma) ≡ Some (mark comma, dim_due s o (some ++ d ∷ []))
-dim_comma s o [] d = refl
-dim_comma s o (e ∷ es) d = refl
+dim_comma s o some d = grind arith
 
 dims_listed_stuck : (s o : List ℕ) (first : DimText) (others : List DimText) (u : Token) → u ≢ sign comma → u ≢ finish → next (dims_listed s o first others) u ≡ None
-dims_listed_stuck s o first others (sign comma) nc nf = absurd (nc refl)
-dims_listed_stuck s o first others finish nc nf = absurd (nf refl)
-dims_listed_stuck s o first others _ nc nf = refl
+dims_listed_stuck s o first others u nc nf = grind arith
 
 dim_stuck : (s o : List ℕ) (some : List DimText) (d : DimText) (u : Token) → u ≢ sign comma → u ≢ finish → next (listed_dim s o some d) u ≡ None
 dim_stuck s o [] d = dims_listed_stuck s o d []
@@ -280,16 +258,8 @@ count_named rows = at_least_named
 
 wants_count : (k : CountKind) → WantsCount (count_named k) (count_head k)
 unfolding count_named
-wants_count levels = record { takes = λ ds. refl; only = only }
-  where
-    only : (t : Token) → IsNoDigits t → next top_level_named t ≡ None
-    only (digits ds) n = absurd n
-    only _ n = refl
-wants_count rows = record { takes = λ ds. refl; only = only }
-  where
-    only : (t : Token) → IsNoDigits t → next at_least_named t ≡ None
-    only (digits ds) n = absurd n
-    only _ n = refl
+wants_count levels = record { takes = λ ds. refl; only = λ t n. grind arith }
+wants_count rows = record { takes = λ ds. refl; only = λ t n. grind arith }
 
 count_word_goes : (names : Names) (k : CountKind) (letters : List ℕ) (ts us : List Placed) → Passes (word letters) ts us → keyword_of letters ≡ Some (count_word k) → Goes names start ts (count_named k) us
 unfolding count_named

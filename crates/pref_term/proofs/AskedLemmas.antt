@@ -1,7 +1,7 @@
 -- The ask that is computed is the one that the text spells, and the fault the one that it has.
 use Rattle.pref_term.proofs.Common.{◌≡◌, ◌≤◌, ◌<◌, ◌+◌, ℕ, zero, suc, List, [], ◌∷◌, Bool, true, false, cond, length, nat_lt, Option, Some, None, Result, Ok, Err, refl, sym, ap, subst, ◌∙◌, ◌⊎◌, inl}
-use Rattle.pref_term.proofs.Common.{inr, arith, MatchResult, IfOk, IfErr, nat_tests, is_blank, Placed, more_bytes, token_from, tokens_from, tokens_of, is_in_any_case, plain, says_distinct}
-use Rattle.pref_term.proofs.Common.{without_third, AskText, rated, skyline, Preference, Best, option_map, ◌&&◌, codes, false≢true, Names, Spells, Faults, LacksOrder, FirstFault, UnlessMemory}
+use Rattle.pref_term.proofs.Common.{inr, arith, MatchResult, IfOk, IfErr, nat_tests, is_blank, Placed, more_bytes, token_from, tokens_from, tokens_of, plain, says_distinct}
+use Rattle.pref_term.proofs.Common.{without_third, AskText, rated, skyline, Preference, Best, option_map, Names, Spells, Faults, LacksOrder, FirstFault, UnlessMemory}
 use Rattle.pref_term.proofs.Common.{question, product_of, orders_of, groups_of, Question, FitsWidth, start, run, ordered, meant, asked, TermFault, TooLong, NoMinOrMax, AsksWhole, AsksWholeNothing}
 use Rattle.pref_term.proofs.LedLemmas.{unless_map}
 use Rattle.pref_term.proofs.SpellsLaws.{Finishes, Due, Spelt, Answers, run_answers, spelt_run, fault_run}
@@ -29,12 +29,7 @@ finishes_plain ts h = go (says_distinct ts) refl
     third [] e h = h
     third (s ∷ []) e h = h
     third (s ∷ o ∷ []) e h = h
-    third (s ∷ o ∷ d ∷ []) e h = absurd (false≢true (sym (last (is_in_any_case (codes "skyline") s.token) (is_in_any_case (codes "of") o.token)) ∙ e))
-      where
-        last : (x y : Bool) → (x && (y && false)) ≡ false
-        last true true = refl
-        last true false = refl
-        last false y = refl
+    third (s ∷ o ∷ d ∷ []) e h = absurd (grind arith)
     third (s ∷ o ∷ d ∷ t ∷ ts) e h = h
 
     go : (b : Bool) → says_distinct ts ≡ b → Finishes (cond b (without_third ts) ts)

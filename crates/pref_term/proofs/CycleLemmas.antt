@@ -1,7 +1,7 @@
 -- What the parts of the reader that call each other promise.
 use Rattle.pref_term.proofs.Common.{◌≡◌, ◌<◌, ◌+◌, ℕ, List, [], ◌∷◌, Bor, Result, true, cond, Some, None, nat_lt, refl, sym, ap, subst, ◌∙◌, arith, ◌≢◌, IfOk, IfErr, IfOk-weaker, nat_tests, Sign}
-use Rattle.pref_term.proofs.Common.{left, right, star, ampersand, minus, Token, word, sign, Placed, reverse_word, keyword_of, based, grouped, reversed, negated, then_factor, PriorText, one_product}
-use Rattle.pref_term.proofs.Common.{then_product, name, mark, opens, Names, own_fault, too_deep, unary_meaning, product_meaning, BaseKind, low_kind, kind_word, named, UnaryHole, in_minus}
+use Rattle.pref_term.proofs.Common.{left, right, star, ampersand, minus, Token, word, sign, Placed, reverse_word, keyword_of, based, grouped, reversed, negated, then_factor, PriorText}
+use Rattle.pref_term.proofs.Common.{then_product, name, mark, opens, Names, own_fault, too_deep, unary_meaning, product_meaning, BaseKind, kind_word, named, UnaryHole, in_minus}
 use Rattle.pref_term.proofs.Common.{first_factor, next_factor, first_product, next_product, in_group, in_reverse, unary_depth, State, operand, reverse_named, reading, after, ranked, next}
 use Rattle.pref_term.proofs.Common.{operand_word, Goes, Fails, IsOther, Passes, ReadsBase, ReadsUnary, ReadsFactors, ReadsProducts, ReadsProduct, ReadsPrior, ReadsGroup, ReadsReverse, FailsBase}
 use Rattle.pref_term.proofs.Common.{FailsUnary, FailsGroup, FailsProduct, FailsPrior, ahead, taken, Preference, pareto, prior, reverse, preference_of, Cursor, Lexeme, Word, Term, TermFault}
@@ -51,14 +51,7 @@ reverse_read names depth ts us vs p h c r =
 -- ---- a group
 
 stuck_within : (h : UnaryHole) (r : PriorText) (u : Token) → u ≢ sign right → u ≢ sign star → u ≢ sign ampersand → (next (ranked (in_group h) r) u ≡ None) × (next (ranked (in_reverse h) r) u ≡ None)
-stuck_within h (one_product p) (sign right) a b c = absurd (a refl)
-stuck_within h (one_product p) (sign star) a b c = absurd (b refl)
-stuck_within h (one_product p) (sign ampersand) a b c = absurd (c refl)
-stuck_within h (one_product p) _ a b c = (refl, refl)
-stuck_within h (then_product r p) (sign right) a b c = absurd (a refl)
-stuck_within h (then_product r p) (sign star) a b c = absurd (b refl)
-stuck_within h (then_product r p) (sign ampersand) a b c = absurd (c refl)
-stuck_within h (then_product r p) _ a b c = (refl, refl)
+stuck_within h r u a b c = (grind arith, grind arith)
 
 pub group_read : (names : Names) (inside : ℕ) (ts us vs : List Placed) (p : Preference) → ReadsPrior names inside ts p us → Passes (sign right) us vs → ReadsGroup names inside ts p vs
 group_read names inside ts us vs p r c =
@@ -85,8 +78,7 @@ group_end_fails names inside ts (u ∷ us) p f r o =
 -- ---- words
 
 by_kind : (h : UnaryHole) (k : BaseKind) → operand_word h (Some (kind_word k)) ≡ Some (name (kind_word k), reading h (named k))
-by_kind h low_kind = refl
-by_kind h _ = refl
+by_kind h k = grind arith
 
 -- a base term behind the word that was taken
 module _ (names : Names) (depth : ℕ) (k : BaseKind) (ts : List Placed) (t : Lexeme) (letters : Bor (List ℕ)) (e : ts ≡ taken t) (f : t.token ≡ Word letters) (word_is : keyword_of letters.now ≡ Some (kind_word k))

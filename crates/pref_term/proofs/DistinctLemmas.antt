@@ -1,6 +1,6 @@
 -- What the word `distinct` of a clause leaves of a text, and what a clause behind it asks.
-use Rattle.pref_term.proofs.Common.{◌≡◌, ℕ, List, [], ◌∷◌, ◌++◌, Bool, true, false, cond, Some, None, Ok, refl, sym, ap, subst, ◌∙◌, ◌≤◌, length, ◌&&◌, ◌≢◌, fold, codes, AllByRecursion, option_map}
-use Rattle.pref_term.proofs.Common.{bytes_eq, str_to_ascii_lowercase, bytes_eq-Decides, Token, word, finish, Placed, tokens_of, seen, behind_token, End, CasedWord, skyline_word, of_word}
+use Rattle.pref_term.proofs.Common.{◌≡◌, arith, ℕ, List, [], ◌∷◌, ◌++◌, Bool, true, false, cond, Some, None, Ok, refl, sym, ap, subst, ◌∙◌, ◌≤◌, length, ◌&&◌, ◌≢◌, fold, codes, AllByRecursion, option_map}
+use Rattle.pref_term.proofs.Common.{bytes_eq, str_to_ascii_lowercase, bytes_eq-Decides, Token, word, finish, Placed, tokens_of, seen, behind_token, CasedWord, skyline_word, of_word}
 use Rattle.pref_term.proofs.Common.{cased_letters, cased_of, cased, IsWritten, Direction, minimal, maximal, different, DimText, HeadText, PriorText, AskText, rated, skyline, best_head, top_level_head}
 use Rattle.pref_term.proofs.Common.{at_least_head, ask_leaves, IsText, is_in_any_case, is_distinct_ahead, says_distinct, without_third, plain, is_word, Names, column_at, order_by, orders_of}
 use Rattle.pref_term.proofs.Common.{groups_of, product_of, tokens_in, tokens_on, IsGood, Spells, question, meant, ordered, start, skyline_named, dim_due, begun, of_named, run, word_ahead}
@@ -34,13 +34,11 @@ behind_distinct s o ps po d us hs ho hd =
 
 -- what is behind a token that is not the end
 pub behind_more : (k : code.Token) (ts : List Placed) → seen k ≢ finish → behind_token k ts ≡ ts
-behind_more End ts h = absurd (h refl)
-behind_more _ ts h = refl
+behind_more k ts h = grind arith
 
 -- the word is not the end
 pub behind_said : (k : code.Token) (at : ℕ) (ts : List Placed) → is_distinct_ahead (record { token = seen k; place = at } ∷ behind_token k ts) ≡ true → behind_token k ts ≡ ts
-behind_said End at ts h = cc
-behind_said _ at ts h = refl
+behind_said k at ts h = grind arith
 
 -- three tokens ahead
 pub ahead_distinct : (ts us vs ws : List Placed) (d w : List ℕ) (t : Token) (pd pt pw : ℕ) → ts ≡ word_ahead d pd us → us ≡ record { token = t; place = pt } ∷ vs → vs ≡ word_ahead w pw ws → bytes_eq (codes "distinct") (str_to_ascii_lowercase d) ≡ true → true ≡ is_distinct_ahead ts

@@ -1,8 +1,8 @@
 -- Each text of the grammar is read to its end, and each state of reading can be completed.
-use Rattle.pref_term.proofs.Common.{◌≡◌, ℕ, ◌+◌, List, [], ◌∷◌, ◌++◌, Bool, true, false, Option, Some, None, refl, sym, ap, subst, ◌∙◌, append_assoc, append-nil, IfSome, AllByRecursion, bytes_eq}
+use Rattle.pref_term.proofs.Common.{◌≡◌, arith, ℕ, ◌+◌, List, [], ◌∷◌, ◌++◌, Bool, true, false, Option, Some, None, refl, sym, ap, subst, ◌∙◌, append_assoc, append-nil, IfSome, AllByRecursion, bytes_eq}
 use Rattle.pref_term.proofs.Common.{str_to_ascii_lowercase, bytes_eq-Decides, left, right, left_brace, comma, star, ampersand, word, sign, finish, Keyword, best_word, by_word, CasedWord, skyline_word}
-use Rattle.pref_term.proofs.Common.{of_word, min_word, max_word, diff_word, letters_of, keyword_of, cased_letters, cased_in, cased_of, HeadText, best_head, top_level_head, at_least_head, head_leaves}
-use Rattle.pref_term.proofs.Common.{Direction, minimal, maximal, different, direction_word, DimText, dim_leaves, more_dims, group_leaves, more_columns, AskText, rated, skyline, IsWritten, IsText}
+use Rattle.pref_term.proofs.Common.{of_word, min_word, letters_of, keyword_of, cased_letters, cased_in, cased_of, HeadText, best_head, top_level_head, at_least_head, head_leaves}
+use Rattle.pref_term.proofs.Common.{Direction, minimal, direction_word, DimText, dim_leaves, more_dims, group_leaves, more_columns, AskText, rated, skyline, IsWritten, IsText}
 use Rattle.pref_term.proofs.Common.{NumberText, BaseText, low_text, high_text, around_text, pos_text, PriorText, one_product, then_product, ProductText, one_factor, then_factor, UnaryText, negated}
 use Rattle.pref_term.proofs.Common.{grouped, reversed, based, Leaf, name, mark, opens, column_name, number_digits, count_digits, cased, last, signed_leaves, number_leaves, others_leaves, base_leaves}
 use Rattle.pref_term.proofs.Common.{prior_leaves, product_leaves, unary_leaves, ask_leaves, token_of, between_text, end_leaves, layered_text, SetText, list_leaves, set_leaves, more_sets, BaseKind}
@@ -38,8 +38,7 @@ reads_others h l first front (n ∷ ns) =
 
 -- the sign that closes a list of numbers ends it
 pub list_ends : (h : UnaryHole) (l : NumberList) (first : NumberText) (others : List NumberText) → next (reading h (listed l first others)) (sign (closing l)) ≡ Some (mark (closing l), stepped h (list_closed l first others))
-list_ends h (in_pos column) first others = refl
-list_ends h (in_set column sets) first others = refl
+list_ends h l first others = grind arith
 
 reads_list : (h : UnaryHole) (l : NumberList) (first : NumberText) (others : List NumberText) → Reads (reading h (number_due (first_of l))) (list_leaves first others (closing l)) (stepped h (list_closed l first others))
 reads_list h l first others =
@@ -79,16 +78,13 @@ reads_base (layered_text column first others) h =
     (_, refl, (_, refl, (_, refl, (_, refl, sets))))
 
 pub ranked_goes_on : (h : PriorHole) (r : PriorText) → next (ranked h r) (sign ampersand) ≡ Some (mark ampersand, operand (first_factor (next_product h r)))
-ranked_goes_on h (one_product p) = refl
-ranked_goes_on h (then_product r p) = refl
+ranked_goes_on h r = grind arith
 
 pub ranked_right : (h : PriorHole) (r : PriorText) → next (ranked h r) (sign right) ≡ parted h r
-ranked_right h (one_product p) = refl
-ranked_right h (then_product r p) = refl
+ranked_right h r = grind arith
 
 pub ranked_whole : (head : HeadText) (r : PriorText) → next (ranked (whole head) r) finish ≡ Some (last, done (rated head r []))
-ranked_whole head (one_product p) = refl
-ranked_whole head (then_product r p) = refl
+ranked_whole head r = grind arith
 
 pub ranked_by : (head : HeadText) (r : PriorText) → next (ranked (whole head) r) (word (letters_of by_word)) ≡ Some (name by_word, group_due head r [])
 ranked_by head (one_product p) = refl
@@ -158,13 +154,15 @@ no_keyword letters w = go (keyword_of letters) (keyword_letters letters)
     go None h = refl
     go (Some k) h = absurd (keyword_no_skyline k (w ∙ ap str_to_ascii_lowercase (sym h)))
 
+abbrev pub dim_of : List ℕ → Direction → List ℕ → DimText
+dim_of column direction written = record { column = column; direction = direction; written = written }
+
+pub direction_next : (s o : List ℕ) (dims : List DimText) (column letters : List ℕ) (d : Direction) → directed s o dims column letters (Some (direction_word d)) ≡ Some (cased (direction_word d) letters, listed_dim s o dims (dim_of column d letters))
+direction_next s o dims column letters d = grind arith
+
 reads_dim : (s o : List ℕ) (dims : List DimText) (d : DimText) → IsWritten (cased (direction_word d.direction) d.written) → Reads (dim_due s o dims) (dim_leaves d) (listed_dim s o dims d)
-reads_dim s o dims d w = (_, refl, (_, go d.direction w, refl))
-  where
-    go : (g : Direction) → IsWritten (cased (direction_word g) d.written) → directed s o dims d.column d.written (cased_of d.written) ≡ Some (cased (direction_word g) d.written, listed_dim s o dims (record { column = d.column; direction = g; written = d.written }))
-    go minimal w = ap (directed s o dims d.column d.written) (cased_found min_word d.written w)
-    go maximal w = ap (directed s o dims d.column d.written) (cased_found max_word d.written w)
-    go different w = ap (directed s o dims d.column d.written) (cased_found diff_word d.written w)
+reads_dim s o dims d w =
+    (_, refl, (_, ap (directed s o dims d.column d.written) (cased_found (direction_word d.direction) d.written w) ∙ direction_next s o dims d.column d.written d.direction, refl))
 
 reads_dims : (s o : List ℕ) (first : DimText) (front ds : List DimText) → AllByRecursion IsWritten (more_dims ds ++ last ∷ []) → Reads (dims_listed s o first front) (more_dims ds ++ last ∷ []) (done (skyline s o first (front ++ ds)))
 reads_dims s o first front [] w = (_, refl, ap (λ ds. done (skyline s o first ds)) (sym (append-nil front)))
@@ -208,8 +206,7 @@ more_reads : (s : State) (leaves : List Leaf) (m : State) → Reads s leaves m �
 more_reads s leaves m h c = record { leaves = leaves ++ c.leaves; tree = c.tree; reads = reads_on s leaves c.leaves m (done c.tree) h c.reads }
 
 after_ranked : (h : ProductHole) (p : ProductText) → after h p ≡ ranked (outer h) (closed h p)
-after_ranked (first_product h) p = refl
-after_ranked (next_product h r) p = refl
+after_ranked h p = grind arith
 
 mutual
   ends_prior : (h : PriorHole) (r : PriorText) → CanEnd (ranked h r)

@@ -47,22 +47,18 @@ key_law (layered col sets) s a b = both_ways (layered col sets) (pos (sets_befor
 -- ---- converses
 
 pub directed_priority : (s : Bool) (p q : Preference) (a b : List ℤ) → directed s (prior p q) a b ≡ in_priority (directed s p a b) (directed s q a b)
-directed_priority true p q a b = refl
-directed_priority false p q a b = refl
+directed_priority s p q a b = grind arith
 
 pub directed_product : (s : Bool) (p q : Preference) (a b : List ℤ) → directed s (pareto p q) a b ≡ in_product (directed s p a b) (directed s q a b)
-directed_product true p q a b = refl
-directed_product false p q a b = refl
+directed_product s p q a b = grind arith
 
 pub directed_reverse : (s : Bool) (p : Preference) (a b : List ℤ) → directed (not s) p a b ≡ directed s (reverse p) a b
-directed_reverse true p a b = refl
-directed_reverse false p a b = refl
+directed_reverse s p a b = grind arith
 
 -- ---- the keys that lead a preference
 
 key_column : (t : Base) (s : Bool) → (key_for t s).col ≡ column t
-key_column (low col) s = refl
-key_column _ s = refl
+key_column t s = grind arith
 
 -- they read its columns
 pub leading_in_row : (p : Preference) (s : Bool) → ReadsBelow 16 p → All (λ key. key.col < 16) (leading p s)
@@ -72,8 +68,7 @@ leading_in_row (prior p q) s h = leading_in_row p s h.0
 leading_in_row (reverse p) s h = leading_in_row p (not s) h
 
 key_score : (t : Base) (s : Bool) → (key_for t s).score ≡ (key_for t false).score
-key_score (low col) s = refl
-key_score _ s = refl
+key_score t s = grind arith
 
 -- those of a product have no sets
 pub leading_numbers : (p : Preference) (s : Bool) → is_product p ≡ true → All (λ key. is_number key.score ≡ true) (leading p s)

@@ -1,11 +1,11 @@
 -- What the parts of the reader promise, from the tokens that they take.
-use Rattle.pref_term.proofs.Common.{◌≡◌, ℕ, ℤ, Bor, List, [], ◌∷◌, ◌++◌, map, Bool, true, false, cond, Some, None, Result, Ok, Err, refl, sym, ap, subst, ◌∙◌, fits_cell, Sign, left, right}
-use Rattle.pref_term.proofs.Common.{right_brace, comma, minus, Token, word, digits, sign, Placed, based, NumberText, low_text, high_text, around_text, pos_text, Leaf, mark, column_name, number_digits}
+use Rattle.pref_term.proofs.Common.{◌≡◌, arith, ℕ, ℤ, Bor, List, [], ◌∷◌, ◌++◌, map, Bool, true, false, cond, Some, None, Result, Ok, Err, refl, sym, ap, subst, ◌∙◌, fits_cell, Sign, left, right}
+use Rattle.pref_term.proofs.Common.{comma, minus, Token, word, digits, sign, Placed, based, NumberText, low_text, high_text, around_text, pos_text, Leaf, mark, column_name, number_digits}
 use Rattle.pref_term.proofs.Common.{between_text, Names, UnlessMemory, own_fault, signed_value, number_value, column_at, number_range, below, empty_range, reported, reported_at, OwnFault, BaseKind}
-use Rattle.pref_term.proofs.Common.{low_kind, high_kind, around_kind, pos_kind, layered_kind, centre_of, first_of, named, opened, columned, number_due, number_signed, centred, listed, filled}
-use Rattle.pref_term.proofs.Common.{NumberHole, UnaryHole, State, reading, completed, run, led, judged, next, between_kind, start_of, end_of, least_of, ranged, range_ended, NumberList, in_pos, in_set}
+use Rattle.pref_term.proofs.Common.{low_kind, high_kind, around_kind, pos_kind, centre_of, first_of, named, opened, columned, number_due, number_signed, centred, listed, filled}
+use Rattle.pref_term.proofs.Common.{NumberHole, UnaryHole, State, reading, completed, run, led, judged, next, between_kind, start_of, end_of, least_of, ranged, range_ended, NumberList, in_pos}
 use Rattle.pref_term.proofs.Common.{closing, list_closed, stepped, seen, ahead, taken, behind_token, Cursor, Lexeme, Digits, Goes, Fails, IsOther, NotNext, Passes, WantsColumn, TakesColumn}
-use Rattle.pref_term.proofs.Common.{ReadsOpened, IsNoWord, FailsColumn, FailsOpened, ReadsNumber, ReadsSome, ReadsNumbers, ReadsBase, FailsNumber, FailsNumbers, FailsBase, list_hole, ReadsEnd}
+use Rattle.pref_term.proofs.Common.{ReadsOpened, FailsColumn, FailsOpened, ReadsNumber, ReadsSome, ReadsNumbers, ReadsBase, FailsNumber, FailsNumbers, FailsBase, list_hole, ReadsEnd}
 use Rattle.pref_term.proofs.Common.{FailsEnd, first_place, TermFault, Unexpected, OutOfMemory, EmptyRange, NumberRange, All, FitsSigned, ◌≢◌, IsErrAnd, IfErr, unwrap_or, int_lt, Option, scored, low}
 use Rattle.pref_term.proofs.Common.{high, around, one_of, between, all_ascii_digits, map-append, All-append, All-cons, All-nil}
 use Rattle.pref_table.specs.Columns.{column_of}
@@ -73,15 +73,10 @@ opened_read names ts us vs col c t =
     }
 
 wants_opened : (h : UnaryHole) (k : BaseKind) → WantsColumn (reading h (opened k)) (λ letters. reading h (columned k letters))
-wants_opened h k = record { takes = λ letters. refl; only = only }
-  where
-    only : (t : Token) → IsNoWord t → next (reading h (opened k)) t ≡ None
-    only (word letters) n = absurd n
-    only _ n = refl
+wants_opened h k = record { takes = λ letters. refl; only = λ t n. grind arith }
 
 pub named_only : (h : UnaryHole) (k : BaseKind) (u : Token) → u ≢ sign left → next (reading h (named k)) u ≡ None
-named_only h k (sign left) ne = absurd (ne refl)
-named_only h k _ ne = refl
+named_only h k u ne = grind arith
 
 pub opened_fails : (names : Names) (ts us : List Placed) (f : TermFault) → Passes (sign left) ts us → FailsColumn names us f → FailsOpened names ts f
 opened_fails names ts us f c r h k =
@@ -175,27 +170,16 @@ behind_column high_kind = right
 behind_column _ = comma
 
 column_stuck : (h : UnaryHole) (k : BaseKind) (column : List ℕ) (u : Token) → u ≢ sign (behind_column k) → next (reading h (columned k column)) u ≡ None
-column_stuck h low_kind column (sign right) ne = absurd (ne refl)
-column_stuck h high_kind column (sign right) ne = absurd (ne refl)
-column_stuck h around_kind column (sign comma) ne = absurd (ne refl)
-column_stuck h between_kind column (sign comma) ne = absurd (ne refl)
-column_stuck h pos_kind column (sign comma) ne = absurd (ne refl)
-column_stuck h layered_kind column (sign comma) ne = absurd (ne refl)
-column_stuck h _ column _ ne = refl
+column_stuck h k column u ne = grind arith
 
 pub column_end_fails : (names : Names) (k : BaseKind) (ts us : List Placed) (col : ℕ) (f : TermFault) → ReadsOpened names ts col us → IsOther (sign (behind_column k)) us f → FailsBase names k ts f
 column_end_fails names k ts us col f r o h = goes_fails names _ _ ts us f (r.goes h k) (other_fails names (sign (behind_column k)) us f _ o (column_stuck h k r.letters))
 
 pub around_closes : (h : UnaryHole) (column : List ℕ) (centre : NumberText) (u : Token) → u ≢ sign right → next (reading h (centred column centre)) u ≡ None
-around_closes h column centre (sign right) ne = absurd (ne refl)
-around_closes h column centre _ ne = refl
+around_closes h column centre u ne = grind arith
 
 pub listed_stuck : (h : UnaryHole) (l : NumberList) (first : NumberText) (others : List NumberText) (u : Token) → u ≢ sign comma → u ≢ sign (closing l) → next (reading h (listed l first others)) u ≡ None
-listed_stuck h l first others (sign comma) nc nr = absurd (nc refl)
-listed_stuck h (in_pos column) first others (sign right) nc nr = absurd (nr refl)
-listed_stuck h (in_set column sets) first others (sign right_brace) nc nr = absurd (nr refl)
-listed_stuck h (in_pos column) first others _ nc nr = refl
-listed_stuck h (in_set column sets) first others _ nc nr = refl
+listed_stuck h l first others u nc nr = grind arith
 
 -- ---- the numbers of a list
 
@@ -207,8 +191,7 @@ cons_not_none h = cc
 
 -- behind a number of a list
 list_goes_on : (h : UnaryHole) (l : NumberList) (some : List NumberText) (n : NumberText) → next (reading h (filled (list_hole l some) n)) (sign comma) ≡ Some (mark comma, reading h (number_due (list_hole l (some ++ n ∷ []))))
-list_goes_on h l [] n = refl
-list_goes_on h l (f ∷ os) n = refl
+list_goes_on h l some n = grind arith
 
 list_closes : (h : UnaryHole) (l : NumberList) (first : NumberText) (others : List NumberText) (close : Sign) → closing l ≡ close → next (reading h (listed l first others)) (sign close) ≡ Some (mark close, stepped h (list_closed l first others))
 list_closes h l first others close e = subst (λ (s : Sign). next (reading h (listed l first others)) (sign s) ≡ Some (mark s, stepped h (list_closed l first others))) e (list_ends h l first others)
@@ -219,8 +202,7 @@ list_stuck h l (f ∷ os) n close e u nc nr = listed_stuck h l f (os ++ n ∷ []
 
 -- a number of a list may be any
 list_plain : (l : NumberList) (some : List NumberText) (n : NumberText) → below (least_of (list_hole l some)) (number_value n) ≡ None
-list_plain l [] n = refl
-list_plain l (f ∷ os) n = refl
+list_plain l some n = grind arith
 
 -- the first number is due
 pub some_none : (close : Sign) (ts : List Placed) → ReadsSome close ts [] ts
@@ -325,12 +307,10 @@ around_end_fails names ts us vs ws col centre f r c n o h =
     (other_fails names (sign right) ws f _ o (around_closes h r.letters n.number))
 
 pub ranged_goes_on : (h : UnaryHole) (column : List ℕ) (l : NumberText) (u : Token) → u ≢ sign comma → next (reading h (ranged column l)) u ≡ None
-ranged_goes_on h column l (sign comma) ne = absurd (ne refl)
-ranged_goes_on h column l _ ne = refl
+ranged_goes_on h column l u ne = grind arith
 
 pub range_closes : (h : UnaryHole) (column : List ℕ) (l r : NumberText) (u : Token) → u ≢ sign right → next (reading h (range_ended column l r)) u ≡ None
-range_closes h column l r (sign right) ne = absurd (ne refl)
-range_closes h column l r _ ne = refl
+range_closes h column l r u ne = grind arith
 
 pub between_comma_fails : (names : Names) (ts us vs ws : List Placed) (col : ℕ) (l : ℤ) (f : TermFault) → ReadsOpened names ts col us → Passes (sign comma) us vs → ReadsNumber vs l ws → IsOther (sign comma) ws f → FailsBase names between_kind ts f
 between_comma_fails names ts us vs ws col l f r c n o h =

@@ -126,16 +126,13 @@ shape_meaning (product p) names = product_meaning p names
 shape_meaning (ranked r) names = prior_meaning r names
 
 pub prior_same : (s : Shape) (names : Names) → prior_meaning (as_prior s) names ≡ shape_meaning s names
-prior_same (factor u) names = refl
-prior_same _ names = refl
+prior_same s names = grind arith
 
 product_same : (s : Shape) (names : Names) → product_meaning (as_product s) names ≡ shape_meaning s names
-product_same (factor u) names = refl
-product_same _ names = refl
+product_same s names = grind arith
 
 factor_same : (s : Shape) (names : Names) → unary_meaning (as_factor s) names ≡ shape_meaning s names
-factor_same (factor u) names = refl
-factor_same _ names = refl
+factor_same s names = grind arith
 
 pub own_numerals : IsNumeralModel (λ ds. all_ascii_digits ds ≡ true) (digits_value 10)
 own_numerals = numerals_by_value (λ ds. all_ascii_digits ds ≡ true) tells_all_ascii_digits
@@ -256,8 +253,7 @@ parentheses : (r : PriorText) (depth : ℕ) (text : List ℕ) → leaves_text (p
 parentheses r depth text h = ap (λ xs. codes "(" ++ xs) (leaves_text-append (prior_leaves r (depth + 1)) (mark right ∷ []) ∙ ap (λ xs. xs ++ codes ")") h)
 
 pub prior_text : (s : Shape) (depth : ℕ) → leaves_text (prior_leaves (as_prior s) depth) ≡ leaves_text (shape_leaves s depth)
-prior_text (factor u) depth = refl
-prior_text _ depth = refl
+prior_text s depth = grind arith
 
 product_text : (names : Names) (p : Preference) → Shows names p → (depth : ℕ) → leaves_text (product_leaves (as_product (shape_of names p)) depth) ≡ held (is_prior p) (shown_term names p)
 product_text names (prior p q) h depth = parentheses (then_product (as_prior (shape_of names p)) (as_product (shape_of names q))) depth _ (h (depth + 1))

@@ -23,16 +23,14 @@ pushed_high n i inside =
     bit_of_rest (n * 2 ^ 1) (suc i) inside ∙ (bit_at-suc (n * 2 ^ 1) i ∙ ap (λ m. bit_at m i) half)
 
 bit_low : (b : Bool) → bit_at (from_bool b) 0 ≡ from_bool b
-bit_low true = refl
-bit_low false = refl
+bit_low b = grind arith
 
 bit_high : (b : Bool) (i : ℕ) → bit_at (from_bool b) (suc i) ≡ 0
 bit_high true i = bit_at-suc 1 i ∙ bit_at-zero i
 bit_high false i = bit_at-zero (suc i)
 
 bool_le : (b c : Bool) → (b ≡ true → c ≡ true) → from_bool b ≤ from_bool c
-bool_le true c h = let is = ap from_bool (h refl) in omega (arith, is)
-bool_le false c h = omega arith
+bool_le b c h = grind arith
 
 -- one more bit on each
 pushed_covered : (x y : ℕ) (b c : Bool) → Covered x y → (b ≡ true → c ≡ true) → Covered (with_bit x b) (with_bit y c)
@@ -83,8 +81,7 @@ signed_covered (b ∷ bs) (c ∷ cs) h x y covered = signed_covered bs cs h.1 (w
 
 -- a signature has 64 bits
 one_below : (b : Bool) → from_bool b < 2 ^ 64
-one_below true = omega arith
-one_below false = omega arith
+one_below b = grind arith
 
 bit_below : (x : ℕ) (b : Bool) → with_bit x b < 2 ^ 64
 bit_below x b = or_lt 64 (x * 2 ^ 1 % 2 ^ 64) (from_bool b) (omega arith) (one_below b)

@@ -1,8 +1,9 @@
 -- Reading answers as the grammar says: the ask that is spelled, or the first fault.
-use Rattle.pref_term.proofs.Common.{◌≡◌, ℕ, List, [], ◌∷◌, ◌++◌, Option, Some, None, Result, Ok, Err, refl, sym, ap, subst, ◌∙◌, append_assoc, append-nil, ◌⊎◌, inl, inr, IfSome, MatchResult}
+use Rattle.pref_term.proofs.Common.{◌≡◌, arith, ℕ, List, [], ◌∷◌, ◌++◌, Option, Some, None, Result, Ok, Err, refl, sym, ap, subst, ◌∙◌, append_assoc, append-nil, ◌⊎◌, inl, inr, IfSome, MatchResult}
 use Rattle.pref_term.proofs.Common.{AllByRecursion, map-append, Token, finish, Placed, PriorText, AskText, rated, skyline, IsText, IsWritten, Leaf, token_of, ask_leaves, Names, tokens_in, tokens_on}
 use Rattle.pref_term.proofs.Common.{IsGood, own_fault, OwnFault, Starts, reported, reported_at, last_place, IsUnexpected, HasOwnFault, FirstFault, State, start, reading, after, group_listed}
-use Rattle.pref_term.proofs.Common.{dims_listed, done, read_of, next, run, led, judged, ended, PriorHole, whole, finished, BasePart, named, base_next, outer, closed, TermFault, Unexpected}
+use Rattle.pref_term.proofs.Common.{dims_listed, done, read_of, next, run, led, judged, ended, PriorHole, whole, finished, BasePart, base_next, outer, closed, TermFault, Unexpected}
+use Rattle.std.proofs.lemmas.Option.{none-some, same_Some}
 use Rattle.pref_term.proofs.GrammarSound.{next_grows, Grows}
 use Rattle.pref_term.proofs.GrammarComplete.{Reads, reads_on, reads_ask, can_end}
 
@@ -57,12 +58,6 @@ reads_cut s (leaf ∷ a) b n h =
     let k = reads_cut h.0 a b n h.2 in
     record { mid = k.mid; front = (h.0, h.1, k.front); back = k.back }
 
-some_one : {A : Type 0} {x y : A} → Some x ≡ Some y → x ≡ y
-some_one h = cc
-
-none_some : {A : Type 0} {x : A} → Some x ≡ None → ⊥
-none_some h = cc
-
 -- the same tokens lead to the same state
 pub reads_one : (s : State) (a b : List Leaf) (m n : State) → tokens_on a ≡ tokens_on b → Reads s a m → Reads s b n → m ≡ n
 reads_one s [] [] m n e h k = sym h ∙ k
@@ -71,7 +66,7 @@ reads_one s (x ∷ a) [] m n e h k = cc
 reads_one s (x ∷ a) (y ∷ b) m n e h k =
     let t : token_of x ≡ token_of y = cc in
     let r : tokens_on a ≡ tokens_on b = cc in
-    let q : h.0 ≡ k.0 = ap (λ (r : Leaf × State). r.1) (some_one (sym h.1 ∙ (ap (next s) t ∙ k.1))) in
+    let q : h.0 ≡ k.0 = ap (λ (r : Leaf × State). r.1) (same_Some _ _ (sym h.1 ∙ (ap (next s) t ∙ k.1))) in
     reads_one h.0 a b m n r h.2 (subst (λ (z : State). Reads z b n) (sym q) k.2)
 
 -- ---- what a reading so far knows
@@ -120,8 +115,7 @@ reached_stuck names before s t r e leaves b plays =
     go [] mid same plays h = cc
     go (leaf ∷ back) mid same plays h =
         let u : token_of leaf ≡ t = cc in
-        let x : Some (leaf, h.0) ≡ None = sym h.1 ∙ (ap (next mid) u ∙ (ap (λ z. next z t) same ∙ e)) in
-        none_some x
+        none-some (leaf, h.0) (sym (ap (λ z. next z t) same ∙ e) ∙ (sym (ap (next mid) u) ∙ h.1))
 
 -- ---- the run
 
@@ -144,8 +138,7 @@ finished_done (whole head) r = (rated head r [], refl)
 finished_done _ r = tt
 
 base_unfinished : (b : BasePart) → base_next b finish ≡ None
-base_unfinished (named k) = refl
-base_unfinished _ = refl
+base_unfinished b = grind arith
 
 finish_done : (s : State) → IfSome (next s finish) (λ x. IsDone x.1)
 finish_done (after h p) = finished_done (outer h) (closed h p)

@@ -1,4 +1,4 @@
-use Rattle.pref_term.proofs.Common.{◌≡◌, ◌≤◌, ℕ, ℤ, List, [], ◌∷◌, length, Bool, true, false, cond, not, nat_lt, Some, None, Option, refl, ap, ◌∙◌, arith, w64, rules, tests, to_z, of_z, ◌+◌}
+use Rattle.pref_term.proofs.Common.{◌≡◌, ◌≤◌, ℕ, ℤ, List, [], ◌∷◌, length, Bool, cond, nat_lt, Some, None, Option, refl, ap, ◌∙◌, arith, w64, rules, tests, to_z, of_z}
 use Rattle.pref_term.proofs.Common.{unwrap_or, list_any, position_or_len, int_eq, ltb-false, to_z-of_z, sets_before}
 use Rattle.std.proofs.lemmas.Iterator.{YieldsList-from_slice}
 use Rattle.std.proofs.lemmas.Iterator.Search.{position_from_yields_List}
@@ -6,16 +6,11 @@ use Rattle.pref_term.proofs.key.sets_before.Goals as goal
 
 first_within : {X : Type 0} (test : X → Bool) (xs : List X) → position_or_len test xs ≤ length xs
 first_within test [] = omega arith
-first_within test (x ∷ xs) = go (test x) (first_within test xs)
-  where
-    go : (b : Bool) → position_or_len test xs ≤ length xs → cond (not b) (1 + position_or_len test xs) 0 ≤ length (x ∷ xs)
-    go true h = omega arith
-    go false h = omega arith
+first_within test (x ∷ xs) = grind (arith, first_within test xs)
 
 -- the first place, or the length where there is none
 first_or_length : (i n : ℕ) (b : Bool) → i ≤ n → nat_lt i n ≡ b → unwrap_or (cond b (Some i) None) n ≡ i
-first_or_length i n true h e = refl
-first_or_length i n false h e = omega (arith, ltb-false i n e)
+first_or_length i n b h e = grind (arith, ltb-false i n)
 
 pub returns : goal.returns
 returns c =
