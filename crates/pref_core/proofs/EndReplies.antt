@@ -1,9 +1,9 @@
 -- What a machine returns at each act is the system's reply: ends of queries, and reads.
 use Rattle.pref_core.proofs.Common.{◌≡◌, ℕ, ◌-◌, ◌<◌, ◌^◌, Bool, true, false, cond, nat_lt, length, Option, Some, None, is_some, Ok, Err, Result, ⊎_elim, inl, inr, refl, sym, ap, ◌∙◌, subst, arith}
-use Rattle.pref_core.proofs.Common.{List, Does, option_map, Ranked, answer_of, Call, Finish, Abandon, Op, CoreFault, NoSuchClient, Spent, NoQuery, NotDone, MissingRow, OutOfMemory, ActFinish}
+use Rattle.pref_core.proofs.Common.{List, Does, option_map, Ranked, answer_of, Call, Finish, Abandon, Op, CoreFault, NoSuchClient, NoQuery, NotDone, MissingRow, OutOfMemory, ActFinish}
 use Rattle.pref_core.proofs.Common.{ActAbandon, ActGet, ActRoom, Reply, Answer, Abandoned, Found, Room, Refused, Row, Line, line_of, entries, State, Snapshot, is_change, seat, with_seat, refusal}
 use Rattle.pref_core.proofs.Common.{refusal_of, refusal_by_query, begun_after, needed, Open, Member, System, Step, snapshot, state_of, refused, counted_with, finish, step, Contents, StandsFor}
-use Rattle.pref_core.proofs.Common.{applied, Scan, Running, StandsForMember, StandsForSystem, Returns, is_refusal, AnswersAt, step_of, same_Some}
+use Rattle.pref_core.proofs.Common.{applied, Scan, Running, StandsForSystem, Returns, is_refusal, AnswersAt, step_of}
 use Rattle.std.specs.Global.{Vec}
 use Rattle.pref_core.specs.MachineParts.{numbered}
 use Rattle.pref_core.proofs.QueryLaws.{follows_answered}
@@ -14,16 +14,8 @@ use Rattle.pref_core.proofs.ScanReplies.{IsAsking-from, IsIdle-from, nobody_ther
 -- A call that ends a query is refused where there is none.
 ends_refused : (system : System) (member : Member) (fault : CoreFault) (right : Open → Step) (call : Call) → refusal_by_query true call ≡ None → refusal_by_query false call ≡ Some NoQuery → (q : Option Open) → refusal_of (Some member.calls) (is_some (option_map snapshot q)) call ≡ Some fault
     → numbered member system (elim q as (λ x. Step) [ None ↦ refused NoQuery system | Some query ↦ right query ]) ≡ refused fault system
-ends_refused system member fault right call t f None e = go (nat_lt member.calls (2 ^ 56)) (ap (λ r. cond (nat_lt member.calls (2 ^ 56)) r (Some Spent)) (sym f) ∙ e)
-  where
-    go : (b : Bool) → cond b (Some NoQuery) (Some Spent) ≡ Some fault → cond b (refused NoQuery system) (refused Spent system) ≡ refused fault system
-    go true h = ap (λ g. refused g system) (same_Some NoQuery fault h)
-    go false h = ap (λ g. refused g system) (same_Some Spent fault h)
-ends_refused system member fault right call t f (Some query) e = go (nat_lt member.calls (2 ^ 56)) (ap (λ r. cond (nat_lt member.calls (2 ^ 56)) r (Some Spent)) (sym t) ∙ e)
-  where
-    go : (b : Bool) → cond b None (Some Spent) ≡ Some fault → cond b (right query) (refused Spent system) ≡ refused fault system
-    go true h = absurd (cc)
-    go false h = ap (λ g. refused g system) (same_Some Spent fault h)
+ends_refused system member fault right call t f None e = grind (arith)
+ends_refused system member fault right call t f (Some query) e = grind (arith)
 
 pub abandon_not : (old : Running) (client : ℕ) (fault : CoreFault) → PlansAlways old.contents client Abandon (Err fault) → Does old client ActAbandon (Err fault) old
 abandon_not old client fault plans = refused_does old client ActAbandon Abandon fault refuses plans
@@ -147,12 +139,7 @@ record IsSomebody (system : System) (client : ℕ) : Type 0 where
   at : seat client system.members ≡ Some who
 
 somebody_there : (running : Running) (system : System) (client : ℕ) → StandsForSystem running system → is_some (seat client running.scans) ≡ true → IsSomebody system client
-somebody_there running system client h t = go (seat client running.scans) (seat client system.members) refl t (h.members client)
-  where
-    go : (o : Option (Option Scan)) (m : Option Member) → seat client system.members ≡ m → is_some o ≡ true → StandsForMember running.contents.slots o m → IsSomebody system client
-    go None m e t s = absurd (cc)
-    go (Some place) None e t s = absurd s
-    go (Some place) (Some member) e t s = record { who = member; at = e }
+somebody_there running system client h t = grind (arith)
 
 abbrev pub found_or_missing : ℕ → Option Row → Result Reply CoreFault
 found_or_missing id None = Err (MissingRow id)

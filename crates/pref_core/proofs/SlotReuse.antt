@@ -1,6 +1,6 @@
 -- New versions go into slots that aren't needed.
-use Rattle.pref_core.proofs.Common.{◌≡◌, ℕ, zero, suc, ◌+◌, Bool, true, false, not, cond, List, [], ◌∷◌, ◌++◌, map, length, Option, Some, None, slice_get, slice_set, refl, ap, ◌∙◌, subst, arith}
-use Rattle.pref_core.proofs.Common.{AllByRecursion, not-true, Version, Entry, State, Contents, StandsFor, seen, is_needed, stamps, begins, new_version, is_free, filled}
+use Rattle.pref_core.proofs.Common.{◌≡◌, ℕ, zero, suc, ◌+◌, Bool, true, false, cond, List, [], ◌∷◌, ◌++◌, map, length, Option, Some, None, slice_get, slice_set, refl, ap, ◌∙◌, subst, arith}
+use Rattle.pref_core.proofs.Common.{AllByRecursion, Version, Entry, State, Contents, StandsFor, seen, is_needed, stamps, begins, new_version, is_free, filled}
 use Rattle.pref_core.proofs.StandsForLaws.{Shows-set, hidden_unneeded, clients-set}
 use Rattle.pref_core.proofs.SlotKeys.{AreDifferent-set, within-set}
 
@@ -11,11 +11,7 @@ pub record IsFree (ns : List ℕ) (slots : List (Option Version)) (place : ℕ) 
   pub unneeded : is_needed ns old ≡ false
 
 pub IsFree-from : (ns : List ℕ) (slots : List (Option Version)) (place : ℕ) → is_free ns slots place ≡ true → IsFree ns slots place
-IsFree-from ns slots place h = go (slice_get slots place) refl h
-  where
-    go : (found : Option (Option Version)) → slice_get slots place ≡ found → elim found as (λ f. Bool) [ None ↦ false | Some slot ↦ not (is_needed ns slot) ] ≡ true → IsFree ns slots place
-    go None e h = absurd (cc)
-    go (Some slot) e h = record { old = slot; at = e; unneeded = not-true _ h }
+IsFree-from ns slots place h = grind (arith)
 
 set_stands : (contents : Contents) (state : State) (place : ℕ) (new : Option Version) → IsFree (stamps contents) contents.slots place
     → StandsFor (record { slots = new ∷ contents.slots; stamp = contents.stamp; next_id = contents.next_id; callers = contents.callers }) state
@@ -51,9 +47,7 @@ Stands contents state slots = StandsFor (record { slots = slots; stamp = content
 pub filled_stands : (contents : Contents) (state : State) (made : ℕ) (places : List ℕ) (begun : List Entry) (slots after : List (Option Version)) → filled (stamps contents) made places begun slots ≡ Some after
     → StandsFor (record { slots = map (new_version made) begun ++ slots; stamp = contents.stamp; next_id = contents.next_id; callers = contents.callers }) state
     → StandsFor (record { slots = after; stamp = contents.stamp; next_id = contents.next_id; callers = contents.callers }) state
-filled_stands contents state made [] [] slots after e h =
-    let same : slots ≡ after = cc in
-    subst (λ l. StandsFor (record { slots = l; stamp = contents.stamp; next_id = contents.next_id; callers = contents.callers }) state) same h
+filled_stands contents state made [] [] slots after e h = grind (arith)
 filled_stands contents state made (place ∷ places) (fresh ∷ rest) slots after e h =
     go (is_free (stamps contents) slots place) refl e (λ f. filled_stands contents state made places rest (slice_set slots place (new_version made fresh)) after f)
   where

@@ -143,11 +143,7 @@ module _ (order positions : List ℕ) (place to : ℕ) (inv : IsInverse order po
 -- Numbers of positions: past each bound before, ..
 pub number_past : (bounds : List ℕ) (x j : ℕ) → j < number_at bounds x → get_or bounds j 0 ≤ x
 number_past [] x j l = absurd (omega arith)
-number_past (bound ∷ bounds) x zero l = go (nat_lt x bound) refl l
-  where
-    go : (b : Bool) → nat_lt x bound ≡ b → zero < cond b 0 (suc (number_at bounds x)) → bound ≤ x
-    go true e l = absurd (omega arith)
-    go false e l = ltb-false _ _ e
+number_past (bound ∷ bounds) x zero l = grind (arith)
 number_past (bound ∷ bounds) x (suc j) l = go (nat_lt x bound) l (λ m. number_past bounds x j m)
   where
     go : (b : Bool) → suc j < cond b 0 (suc (number_at bounds x)) → (j < number_at bounds x → get_or bounds j 0 ≤ x) → get_or bounds j 0 ≤ x
@@ -186,15 +182,7 @@ zone_number bounds x k e = sym (number_numbered (number_at bounds x)) ∙ ap num
 -- The free places are below the first bound.
 pub free_number : (bounds : List ℕ) (x : ℕ) → 0 < length bounds → is_free_use (use_at bounds x) ≡ nat_lt x (get_or bounds 0 0)
 free_number [] x l = absurd (omega arith)
-free_number (bound ∷ bounds) x l = go (nat_lt x bound)
-  where
-    held : (n : ℕ) → is_free_use (numbered (suc n)) ≡ false
-    held zero = refl
-    held (suc n) = refl
-
-    go : (b : Bool) → is_free_use (numbered (cond b 0 (suc (number_at bounds x)))) ≡ b
-    go true = refl
-    go false = held (number_at bounds x)
+free_number (bound ∷ bounds) x l = grind (arith)
 
 pub zone_free : (bounds : List ℕ) (x : ℕ) → 0 < length bounds → x < get_or bounds 0 0 → use_at bounds x ≡ Free
 zone_free bounds x l h = ap numbered (number_is bounds x 0 l (λ j m. absurd (omega arith)) h)

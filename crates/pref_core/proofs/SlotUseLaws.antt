@@ -1,7 +1,7 @@
 -- The zones of slots, and how many are free.
-use Rattle.pref_core.proofs.Common.{◌≡◌, ℕ, zero, suc, ◌+◌, ◌<◌, Bool, true, false, not, ◌&&◌, ◌||◌, cond, eqb, List, [], ◌∷◌, map, length, Option, Some, None, slice_get, is_some, refl, sym, ap, ◌∙◌}
-use Rattle.pref_core.proofs.Common.{subst, arith, count_by, cons_option, AllByRecursion, option_to_list, sum_by-cons, le-leb, and_parts, or_right, Version, Caller, Ended, Line, among, has, is_visible}
-use Rattle.pref_core.proofs.Common.{seen, visible, line, is_needed, begins, IsWithin, EndsBy, close, close_at, is_free, is_free_use, free_at, kept_from, use_of, is_spare, row_at}
+use Rattle.pref_core.proofs.Common.{◌≡◌, ℕ, zero, suc, ◌+◌, ◌<◌, Bool, true, false, not, ◌&&◌, ◌||◌, cond, eqb, List, [], ◌∷◌, map, length, Option, Some, None, slice_get, refl, sym, ap, ◌∙◌}
+use Rattle.pref_core.proofs.Common.{subst, arith, count_by, cons_option, AllByRecursion, option_to_list, sum_by-cons, le-leb, or_right, Version, Caller, Ended, Line, among, has, is_visible}
+use Rattle.pref_core.proofs.Common.{seen, visible, line, is_needed, begins, IsWithin, EndsBy, close, is_free, is_free_use, free_at, kept_from, use_of, is_spare, row_at}
 use Rattle.pref_core.proofs.NeededCounts.{is_needed-empty}
 
 pub count_by-cons : {X : Type 0} (p : X → Bool) (x : X) (xs : List X) → count_by p (x ∷ xs) ≡ cond (p x) 1 0 + count_by p xs
@@ -14,15 +14,7 @@ holds_there P (y ∷ xs) (suc k) x at h = holds_there P xs k x at h.1
 
 -- A slot is needed where the first caller's begin sees it, or another one's.
 pub needed_cons : (caller : Caller) (callers : List Caller) (slot : Option Version) → is_needed (begins (caller ∷ callers)) slot ≡ (is_needed (option_to_list caller.at_begin) slot || is_needed (begins callers) slot)
-needed_cons caller callers slot = go caller.at_begin
-  where
-    either : (b c : Bool) → (b || c) ≡ ((b || false) || c)
-    either true c = refl
-    either false c = refl
-
-    go : (b : Option ℕ) → is_needed (cons_option b (begins callers)) slot ≡ (is_needed (option_to_list b) slot || is_needed (begins callers) slot)
-    go None = refl
-    go (Some stamp) = either (is_some (seen stamp slot)) (is_needed (begins callers) slot)
+needed_cons caller callers slot = grind (arith)
 
 kept_spare : (keeper : ℕ) (callers : List Caller) (slot : Option Version) → is_free_use (kept_from keeper callers slot) ≡ not (is_needed (begins callers) slot)
 kept_spare keeper [] slot = refl
@@ -98,19 +90,13 @@ one_no b e = ap (λ t. cond t 1 0) e
 
 pub close_idle : (ids : List ℕ) (made : ℕ) (slot : Option Version) → live ids slot ≡ false → close ids made slot ≡ slot
 close_idle ids made None h = refl
-close_idle ids made (Some version) h = at_death version.death h
-  where
-    at_death : (death : Option ℕ) → live_by ids version.id death ≡ false → ◌≡◌ {A = Option Version} (Some (record version { death = close_at made (among ids version.id) death })) (Some (record version { death = death }))
-    at_death (Some death) h = refl
-    at_death None h = ap (λ b. Some (record version { death = close_at made b None })) h
+close_idle ids made (Some version) h = grind (arith)
 
 -- A place that shows an id's row is in the table.
 pub has_row_at : (stamp id : ℕ) (slots : List (Option Version)) (place : ℕ) → row_at stamp id slots place ≡ true → has (visible stamp slots) id ≡ true
 has_row_at stamp id [] place h = absurd (cc)
 has_row_at stamp id (None ∷ slots) zero h = absurd (cc)
-has_row_at stamp id (Some version ∷ slots) zero h =
-    let parts = and_parts (eqb version.id id) (is_visible stamp version) h in
-    rw (parts.1, parts.0) refl
+has_row_at stamp id (Some version ∷ slots) zero h = grind (arith)
 has_row_at stamp id (slot ∷ slots) (suc place) h = more (seen stamp slot) (has_row_at stamp id slots place h)
   where
     more : (s : Option Line) → has (visible stamp slots) id ≡ true → has (cons_option s (visible stamp slots)) id ≡ true

@@ -1,8 +1,8 @@
 -- What an open query was shown at its begin stays, though slots are used again.
-use Rattle.pref_core.proofs.Common.{map-set_same, get_or_from_slice_get, ◌≡◌, ℕ, zero, suc, ◌+◌, ◌*◌, ◌<◌, ◌≤◌, Bool, true, false, ◌&&◌, cond, nat_lt, ◌^◌, List, [], ◌∷◌, map, take, drop, Option}
+use Rattle.pref_core.proofs.Common.{map-set_same, get_or_from_slice_get, ◌≡◌, ℕ, zero, suc, ◌*◌, ◌<◌, ◌≤◌, Bool, true, false, ◌&&◌, cond, List, [], ◌∷◌, map, take, drop, Option}
 use Rattle.pref_core.proofs.Common.{Some, None, is_some, slice_get, slice_set, refl, sym, ap, ap₂, ◌∙◌, subst, arith, ⊎_elim, AllByRecursion, filter_map, cons_option, take-map, drop-map, cases_eq}
-use Rattle.pref_core.proofs.Common.{eq-eqb, Version, Caller, Call, Insert, Update, Delete, Commit, Begin, Finish, Abandon, QueryOpen, Spent, Op, Line, Entry, seat, with_seat, is_change, ended, begun}
-use Rattle.pref_core.proofs.Common.{added, succeeds, refusal_of, Contents, seen, visible, begins, stamps, caller_begun, caller_calls, block_of, new_version, close, is_free, filled, refusal_at}
+use Rattle.pref_core.proofs.Common.{eq-eqb, Version, Caller, Call, Insert, Update, Delete, Commit, Begin, Finish, Abandon, Op, Line, Entry, seat, with_seat, is_change, ended, begun}
+use Rattle.pref_core.proofs.Common.{succeeds, refusal_of, Contents, seen, visible, begins, stamps, caller_begun, caller_calls, block_of, new_version, close, is_free, filled, refusal_at}
 use Rattle.pref_core.proofs.Common.{begin_after, callers_after, is_next, slots_after, stepped, applied, ran, is_end, ends_query, IsStable}
 use Rattle.pref_core.proofs.VisibleLaws.{seen_close-before, seen_born-before}
 use Rattle.pref_core.proofs.StandsForLaws.{hidden_unneeded}
@@ -37,11 +37,7 @@ shown_set stamp slots place old new at same = map-set_same (seen stamp) slots pl
 -- the client's begin is one of the begins
 hidden_at : (callers : List Caller) (k : ℕ) (caller : Caller) (stamp : ℕ) (P : ℕ → Type 0) → slice_get callers k ≡ Some caller → caller.at_begin ≡ Some stamp → AllByRecursion P (begins callers) → P stamp
 hidden_at [] k caller stamp P at is h = absurd (cc)
-hidden_at (first ∷ callers) zero caller stamp P at is h =
-    let same : first ≡ caller = cc in
-    let begun : first.at_begin ≡ Some stamp = ap (λ (c : Caller). c.at_begin) same ∙ is in
-    let all : AllByRecursion P (cons_option (Some stamp) (begins callers)) = subst (λ b. AllByRecursion P (cons_option b (begins callers))) begun h in
-    all.0
+hidden_at (first ∷ callers) zero caller stamp P at is h = grind (arith)
 hidden_at (first ∷ callers) (suc k) caller stamp P at is h = hidden_at callers k caller stamp P at is (rest first.at_begin h)
   where
     rest : (b : Option ℕ) → AllByRecursion P (cons_option b (begins callers)) → AllByRecursion P (begins callers)
@@ -131,11 +127,7 @@ begin_after-kept calls (Update id row) now stamp r e = refl
 begin_after-kept calls (Delete id) now stamp r e = refl
 begin_after-kept calls (Commit changes) now stamp r e = refl
 begin_after-kept None Begin now stamp r e = absurd (cc)
-begin_after-kept (Some n) Begin now stamp r e = absurd (refused (nat_lt n (2 ^ 56)) r)
-  where
-    refused : (b : Bool) → cond b (Some QueryOpen) (Some Spent) ≡ None → ⊥
-    refused true h = cc
-    refused false h = cc
+begin_after-kept (Some n) Begin now stamp r e = grind (arith)
 begin_after-kept calls Finish now stamp r e = absurd (cc)
 begin_after-kept calls Abandon now stamp r e = absurd (cc)
 
@@ -174,11 +166,7 @@ pub record Lasts (client stamp : ℕ) (before after : Contents) : Type 0 where
 
 lasts_stepped : (contents : Contents) (client stamp : ℕ) (op : Op) (slots : List (Option Version)) → begun_at (seat client (callers_after contents.stamp contents.callers op.client op.call)) ≡ Some stamp → stamp ≤ contents.stamp → shown stamp slots ≡ shown stamp contents.slots
     → Lasts client stamp contents (stepped contents op slots)
-lasts_stepped contents client stamp op slots begun l shows =
-    elim (is_change op.call && succeeds op.outcome) as (λ b. Lasts client stamp contents (cond b
-    (record { slots = slots; stamp = suc contents.stamp; next_id = contents.next_id + added op.call; callers = callers_after contents.stamp contents.callers op.client op.call })
-    (record { slots = slots; stamp = contents.stamp; next_id = contents.next_id; callers = callers_after contents.stamp contents.callers op.client op.call })))
-    [ true ↦ record { at_begin = begun; within = omega arith; shows = shows } | false ↦ record { at_begin = begun; within = l; shows = shows } ]
+lasts_stepped contents client stamp op slots begun l shows = grind (arith)
 
 pub lasts_applied : (contents : Contents) (client stamp : ℕ) (op : Op) → caller_begun contents client ≡ Some stamp → stamp ≤ contents.stamp → ends_query client op ≡ false → Lasts client stamp contents (applied contents op)
 lasts_applied contents client stamp op is l open_ = go (is_next contents op) refl (slots_after contents op) refl
