@@ -179,11 +179,10 @@ fn listed_tasks(alloc: Global, acts: Vec<Vec<Act>>) -> Result<Vec<Listed>, Alloc
 fn all_replies(alloc: Global, tasks: Vec<Listed>) -> Result<Vec<Vec<Reply>>, AllocError>
     ensures { IfOk result (λ all. all.items ≡ map (λ listed. listed.replies) tasks.items) }
 {
-    let mut all = Vec::new(alloc);
-    for listed in tasks {
-        all.push(listed.into_replies())?;
-    }
-    Ok(all)
+    tasks
+        .into_iter()
+        .map(|listed| listed.into_replies())
+        .collect(alloc)
 }
 
 /// Each client with its task.
@@ -364,20 +363,20 @@ fn reports_of<J: BoardBrand>(
 ) -> Result<Vec<Report<J>>, AllocError>
     ensures { IfOk result (λ reports. reports.items ≡ map report_of all.items) }
 {
-    let mut reports = Vec::new(alloc);
-    for worked in all {
-        let Worked {
-            client,
-            task,
-            stopped,
-        } = worked;
-        reports.push(Report {
-            client,
-            replies: task.into_replies(),
-            stopped,
-        })?;
-    }
-    Ok(reports)
+    all.into_iter()
+        .map(|worked| {
+            let Worked {
+                client,
+                task,
+                stopped,
+            } = worked;
+            Report {
+                client,
+                replies: task.into_replies(),
+                stopped,
+            }
+        })
+        .collect(alloc)
 }
 
 /// The tasks, where no client stopped; else why the first did that stopped.
