@@ -54,14 +54,12 @@ left_stands o ops store legal is = subst (λ (s : Contents). StandsFor s (state_
 pub planned : (o : Opening) (ops : List Op) (store : Contents) (client : ℕ) (call : Call) (op : Op) → IsLegalFrom o ops → store ≡ contents_at o ops
     → ((state : State) → StandsFor store state → PlansIn state store client call (Ok op)) → (op.client ≡ client) × (op.call ≡ call) × MayFollow o ops op
 planned o ops store client call op legal is plans =
-    subst (λ (x : Contents). (op.client ≡ client) × (op.call ≡ call) × IsLegal (state_at o ops) x op) is
-    (plans (state_at o ops) (subst (λ (x : Contents). StandsFor x (state_at o ops)) (sym is) (legal_stands o ops legal)))
+    subst (λ (x : Contents). (op.client ≡ client) × (op.call ≡ call) × IsLegal (state_at o ops) x op) is (plans (state_at o ops) (left_stands o ops store legal is))
 
 -- .. and a refusal to plan is the sequential table's.
 pub unplanned : (o : Opening) (ops : List Op) (store : Contents) (client : ℕ) (call : Call) (fault : CoreFault) → IsLegalFrom o ops → store ≡ contents_at o ops
     → ((state : State) → StandsFor store state → PlansIn state store client call (Err fault)) → refusal (state_at o ops) client call ≡ Some fault
-unplanned o ops store client call fault legal is plans =
-    plans (state_at o ops) (subst (λ (x : Contents). StandsFor x (state_at o ops)) (sym is) (legal_stands o ops legal))
+unplanned o ops store client call fault legal is plans = plans (state_at o ops) (left_stands o ops store legal is)
 
 pub legal_capacity : (o : Opening) (ops : List Op) → length o.rows ≤ o.limits.capacity → length (contents_at o ops).slots ≡ o.limits.capacity
 legal_capacity o ops fits = length-ran ops (first_contents o) ∙ (opens o fits).1

@@ -89,8 +89,7 @@ are_worked {A} {J} {T} o says left took history client task jobs before after cl
 
 -- what the lists of two kinds at one place are
 same_at : {A B C : Type 0} (f : A → C) (g : B → C) (xs : List A) (ys : List B) → map f xs ≡ map g ys → (i : ℕ) (x : A) (y : B) → slice_get xs i ≡ Some x → slice_get ys i ≡ Some y → f x ≡ g y
-same_at {A} {B} {C} f g xs ys same i x y x_at y_at =
-    let both : Some (f x) ≡ Some (g y) = sym (mapped f xs i x x_at) ∙ ap (λ (l : List C). slice_get l i) same ∙ mapped g ys i y y_at in cc both
+same_at {A} {B} {C} f g xs ys same i x y x_at y_at = same_Some (f x) (g y) (sym (mapped f xs i x x_at) ∙ ap (λ (l : List C). slice_get l i) same ∙ mapped g ys i y y_at)
 
 -- The reports of lists of acts.
 pub are_reports : {J : Type 0} (o : Opening) (says : ℕ → ℕ → Bool → Type 0) (left : Listed → List Act) (clients : List Standing) (acts : List (Vec Act)) (tasks : List Listed) (all : List (Worked J Listed)) (reports : List (Report J))

@@ -92,21 +92,14 @@ let_in_more contents (x ∷ xs) op let_in next fits = (let_in.0, let_in.1, let_i
 pub published_left : (o : Opening) (book : Book) (x : Published) (history : List Op) → HoldsHistory (first_contents o) book x → x.seen.log ≡ history → x.store ≡ contents_at o history
 published_left o book x history stands same = stands.store ∙ ap (contents_at o) same
 
--- the copy after the stamp of the next operation stands for the history with it
-stamped_stands : (opening : Contents) (book : Book) (x : Published) (s : Stamp) (op : Op) → op ≡ boxed_op s.op → HoldsHistory opening book x → s.seen.log ≡ x.seen.log ++ op ∷ [] → is_next (ran opening x.seen.log) op ≡ true → is_some (slots_after (ran opening x.seen.log) op) ≡ true
-    → s.len ≡ length s.seen.log → s.seen.book ≡ book → HoldsHistory opening book (stamped x s)
-stamped_stands opening book x s op is stands ends next fits len in_book = record {
-  legal = subst (AreLetIn opening) (sym ends) (let_in_more opening x.seen.log op stands.legal next fits);
-  store = ap (applied x.store) (sym is) ∙ (ap (λ (t : Contents). applied t op) stands.store ∙ (sym (ran-append opening x.seen.log (op ∷ [])) ∙ ap (ran opening) (sym ends)));
-  len = len;
-  in_book = in_book;
-}
-
 -- the copy that a planned operation leaves
 pub published_next : (o : Opening) (book : Book) (x : Published) (s : Stamp) (op : Op) (history : List Op) → op ≡ boxed_op s.op → IsLegalFrom o history → x.seen.log ≡ history → HoldsHistory (first_contents o) book x → MayFollow o history op → s.seen.log ≡ history ++ op ∷ [] → s.len ≡ length s.seen.log → s.seen.book ≡ book
     → HoldsHistory (first_contents o) book (stamped x s)
 published_next o book x s op history is legal same stands may ends len in_book =
     let next : is_next (contents_at o history) op ≡ true = is_next-from (contents_at o history) (state_at o history) op (legal_stands o history legal) may.next in
-    stamped_stands (first_contents o) book x s op is stands (ends ∙ ap (λ (l : List Op). l ++ op ∷ []) (sym same))
-    (subst (λ (l : List Op). is_next (ran (first_contents o) l) op ≡ true) (sym same) next)
-    (subst (λ (l : List Op). is_some (slots_after (ran (first_contents o) l) op) ≡ true) (sym same) may.fits) len in_book
+    record {
+      legal = subst (AreLetIn (first_contents o)) (sym ends) (let_in_more (first_contents o) history op (subst (AreLetIn (first_contents o)) same stands.legal) next may.fits);
+      store = ap (applied x.store) (sym is) ∙ ap (λ (t : Contents). applied t op) (published_left o book x history stands same) ∙ sym (ran-append (first_contents o) history (op ∷ [])) ∙ ap (contents_at o) (sym ends);
+      len = len;
+      in_book = in_book;
+    }
