@@ -61,9 +61,6 @@ get_refused o s t id (Core core) l h = subst (λ x. Performs o s (Get id) (reply
 get_refused o s t id Closed l h = (sees_same o s t l h, refl)
 get_refused o s t id fault l h = absurd h
 
-pub room_refused : (o : Opening) (s t : Standing) (fault : ShareFault) → IsLegalFrom o s.seen → (fault ≡ Closed) × (t ≡ s) → Performs o s Room (reply_or_stop fault) t
-room_refused o s t fault l h = subst (λ x. Performs o s Room (reply_or_stop x) t) (sym h.0) (sees_same o s t l h.1, refl)
-
 -- what holds of a fault holds of the error by which it is passed on
 pub passed_on : {T : Type 0} (result : Result T ShareFault) (fault : ShareFault) (P : ShareFault → Type 0) → IsErrAnd result (λ passed. passed ≡ fault) → P fault → IfErr result P
 passed_on (Ok done) fault P same h = tt

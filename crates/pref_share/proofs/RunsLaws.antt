@@ -1,6 +1,6 @@
 -- Runs of acts, one act longer, and what stands at a place of two lists.
-use Rattle.pref_share.proofs.Common.{option_map, length-map, ◌≡◌, ℕ, zero, suc, ◌<◌, Bool, true, false, List, [], ◌∷◌, ◌++◌, ◌+◌, ◌^◌, length, map, get_or, Some, Result, Ok, slice_get, refl, sym, ap, ◌∙◌, subst, arith, inr}
-use Rattle.pref_share.proofs.Common.{⊎_elim, cases_eq, append_assoc, get_or-map, length-append, get_or_from_slice_get, slice_get_within, Vec, All, IfOk, Act, Reply, ShareFault, Core, ClientInUse}
+use Rattle.pref_share.proofs.Common.{option_map, length-map, ◌≡◌, ℕ, zero, suc, ◌<◌, Bool, true, false, List, [], ◌∷◌, ◌++◌, ◌+◌, length, map, get_or, Some, Result, Ok, slice_get, refl, sym, ap, ◌∙◌, subst, arith, inr}
+use Rattle.pref_share.proofs.Common.{same_Some, ⊎_elim, cases_eq, append_assoc, get_or-map, length-append, slice_get_within, All, IfOk, Act, Reply, ShareFault, Core, ClientInUse}
 use Rattle.pref_share.proofs.Common.{Held, Closed, Sees, IsLegalFrom, Opening, Standing, StepsTo, Runs, none, then, RunsTo, StopsAt, nobody, DidActs, Ends, WasLetIn}
 use Rattle.std.proofs.lemmas.Option.{slice_get-map}
 use Rattle.pref_share.proofs.ActSteps.{sees_same}
@@ -130,12 +130,8 @@ behind (y ∷ ys) after x = behind ys after x
 pub given_at : {A B C : Type 0} (client : A → B) (acts : A → C) (jobs : List A) (clients : List B) (lists : List C) → map client jobs ≡ clients → map acts jobs ≡ lists
     → (i : ℕ) (s : B) (list : C) → slice_get clients i ≡ Some s → slice_get lists i ≡ Some list → (job : A) × (slice_get jobs i ≡ Some job) × (client job ≡ s) × (acts job ≡ list)
 given_at {A} {B} {C} client acts jobs clients lists paired listed i s list at listed_at =
-    let within : i < length jobs = (let a = slice_get_within clients i s at in let b = ap length paired in let c = length-map jobs client in omega arith) in
-    let job = there jobs i within in
-    let j : A = job.0 in
-    let client_is : client j ≡ s = (let a : slice_get (map client jobs) i ≡ Some (client j) = mapped client jobs i j job.1 in let b : slice_get clients i ≡ Some (client j) = ap (λ (l : List B). slice_get l i) (sym paired) ∙ a in let e : Some (client j) ≡ Some s = sym b ∙ at in cc) in
-    let acts_is : acts j ≡ list = (let a : slice_get (map acts jobs) i ≡ Some (acts j) = mapped acts jobs i j job.1 in let b : slice_get lists i ≡ Some (acts j) = ap (λ (l : List C). slice_get l i) (sym listed) ∙ a in let e : Some (acts j) ≡ Some list = sym b ∙ listed_at in cc) in
-    (j, job.1, client_is, acts_is)
+    let (j, j_at) = there jobs i (omega (arith, slice_get_within clients i s at, ap length paired, length-map jobs client)) in
+    (j, j_at, same_Some (client j) s (sym (mapped client jobs i j j_at) ∙ ap (λ (l : List B). slice_get l i) paired ∙ at), same_Some (acts j) list (sym (mapped acts jobs i j j_at) ∙ ap (λ (l : List C). slice_get l i) listed ∙ listed_at))
 
 -- what holds of all images holds so of what has them
 pub all_mapped : {A B : Type 0} (f : A → B) (P : B → Type 0) (xs : List A) (ys : List B) → map f xs ≡ ys → All P ys → All (λ x. P (f x)) xs
@@ -144,11 +140,3 @@ all_mapped f P xs ys same all = λ i d lt. subst P (ap (λ l. get_or l i (f d)) 
 -- what the results at a place say, all of which are there
 pub told_at : {A E : Type 0} (P : A → Type 0) (all : List (Result A E)) (xs : List A) → map Ok xs ≡ all → (i : ℕ) (d : A) → i < length xs → IfOk (get_or all i (Ok d)) P → P (get_or xs i d)
 told_at P all xs same i d lt h = let is = ap (λ l. get_or l i (Ok d)) (sym same) ∙ get_or-map Ok xs i d (Ok d) lt in rw is at h
-
--- lists that a vector holds are short
-pub few_each : {A : Type 0} (f : A → List Act) (xs : List A) (acts : List (Vec Act)) → map f xs ≡ map (λ list. list.items) acts → All (λ x. length (f x) < 2 ^ 63) xs
-few_each f xs acts same = λ i d lt.
-    let (list, at) = there acts i (omega (arith, lt, ap length same, length-map xs f, length-map acts (λ (l : Vec Act). l.items))) in
-    let here : get_or (map f xs) i (f d) ≡ list.items = get_or_from_slice_get (map f xs) i list.items (f d) (ap (λ (l : List (List Act)). slice_get l i) same ∙ mapped (λ (l : Vec Act). l.items) acts i list at) in
-    let is : f (get_or xs i d) ≡ list.items = sym (get_or-map f xs i d (f d) lt) ∙ here in
-    omega (arith, ap length is, list.ok.0, list.ok.1, list.small)

@@ -1,19 +1,16 @@
 -- What a client's counter and query are along the history that it sees.
-use Rattle.pref_share.proofs.Common.{first_contents, ◌≡◌, ℕ, suc, ◌^◌, ◌<◌, ◌≤◌, Bool, true, false, cond, nat_lt, ◌&&◌, ◌==◌, List, [], ◌∷◌, ◌++◌, length, Option, Some, None, is_some, Result, Ok, Err, refl, sym, ap}
+use Rattle.pref_share.proofs.Common.{first_contents, ◌≡◌, ℕ, suc, ◌^◌, ◌<◌, ◌≤◌, true, false, ◌&&◌, ◌==◌, List, [], ◌∷◌, ◌++◌, Option, Some, None, is_some, Result, Ok, Err, refl, sym, ap}
 use Rattle.pref_share.proofs.Common.{◌∙◌, subst, arith, inl, inr, MatchResult, IfOk, IfErr, AllByRecursion, unwrap_or, Vec, IsPrefix, Call, Op, Added, Done, Full, ShareFault, CoreFault, State, Client}
-use Rattle.pref_share.proofs.Common.{Snapshot, is_change, calls_of, begun_of, begun_after, after, success_outcome, outcome, refusal, refusal_of, committed_of, Contents, StandsFor, Shows, ShowsBegin}
+use Rattle.pref_share.proofs.Common.{Snapshot, is_change, calls_of, begun_of, begun_after, after, outcome, refusal, refusal_of, Contents, StandsFor, Shows, ShowsBegin}
 use Rattle.pref_share.proofs.Common.{eqb-true, same_number, state_after, begin, NextIsNew, IsScanned, Answers, begun_after-change, Opening, IsLegalFrom, HasCall}
-use Rattle.pref_share.proofs.Common.{history_of, contents_at, state_at, calls_at, first_state, Asking, Standing, Sees, Joins, Changes, Commits, RefusesChange, IsAnswer, own_refusal}
+use Rattle.pref_share.proofs.Common.{history_of, contents_at, state_at, calls_at, first_state, Asking, Standing, Sees, Joins, Changes, RefusesChange, IsAnswer, own_refusal}
 use Rattle.pref_share.proofs.Common.{AsksOrNone, Asks, Stands, IsAppended, IsJoined, GivesNone, snapshot_at, outcome_or_refusal}
 use Rattle.pref_term.specs.Question.{Question}
 use Rattle.pref_sky.specs.declared.entry.Ranked.{Ranked}
 use Rattle.pref_core.specs.declared.store.caller.Caller.{Caller}
-use Rattle.pref_core.specs.declared.call.Call.TheVariants.{Commit, Begin, Finish, Abandon}
+use Rattle.pref_core.specs.declared.call.Call.TheVariants.{Begin, Finish, Abandon}
 use Rattle.pref_core.specs.declared.call.Outcome.{Outcome}
 use Rattle.pref_core.specs.declared.call.Outcome.TheVariants.{NoSuchRow}
-use Rattle.pref_core.specs.declared.changes.Change.{Change}
-use Rattle.pref_core.specs.declared.event.Committed.{Committed}
-use Rattle.pref_core.specs.Changes.{added_by}
 use Rattle.pref_core.specs.Stability.{is_end, ends_query}
 use Rattle.pref_core.specs.Scans.{Scan}
 use Rattle.std.proofs.Math.Bool.{and-false}
@@ -189,15 +186,6 @@ joins o old new call returned seen stamp accepted j same up number =
       same = number;
     }
 
-end_is_done : (capacity : ℕ) (state : State) (call : Call) → is_end call ≡ true → outcome capacity state call ≡ Done
-end_is_done capacity state Finish h = refl
-end_is_done capacity state Abandon h = refl
-end_is_done capacity state call h = absurd (cc)
-
--- the end of a query is done
-pub joins_as_done : (o : Opening) (old new : Standing) (call : Call) (returned : Outcome) → is_end call ≡ true → Joins o old call returned new → Joins o old call Done new
-joins_as_done o old new call returned ends j = subst (λ (t : Outcome). Joins o old call t new) (j.reply ∙ end_is_done o.limits.capacity (state_at o j.before) call ends) j
-
 -- the table at an open query's begin is what the slots show there
 shows_begun : (contents : Contents) (state : State) (client : ℕ) (snapshot : Snapshot) → StandsFor contents state → begun_of state client ≡ Some snapshot → Shows contents.slots snapshot.commits snapshot.table
 shows_begun contents state client snapshot h is = go (same_seat contents.slots contents.stamp contents.callers state.clients client h.clients) is
@@ -284,18 +272,6 @@ change_told o old new call returned result e j q = subst (λ (r : Result Outcome
     go Done j = ((j, q), tt)
     go (NoSuchRow id) j = (tt, (j, q))
     go (Full needed) j = (tt, (j, q))
-
--- what a commit tells that is done
-pub commit_told : (o : Opening) (old new : Standing) (commit : List Change) (outcome : Outcome) (returned : Committed) (next_id : ℕ) → Changes o old (Commit commit) outcome new → outcome ≡ success_outcome next_id (Commit commit)
-    → returned ≡ committed_of next_id commit → Commits o old commit returned new
-commit_told o old new commit outcome returned next_id joined is told_is = (
-  subst (λ (x : Outcome). Changes o old (Commit commit) x new) (is ∙ (same (nat_lt 0 (added_by commit))).0 ∙ ap (λ (x : Committed). success_outcome x.first (Commit commit)) (sym told_is)) joined,
-  told_is ∙ ap (λ (id : ℕ). record { changes = length commit; first = id }) (same (nat_lt 0 (added_by commit))).1 ∙ ap (λ (x : Committed). committed_of x.first commit) (sym told_is),
-)
-  where
-    same : (adds : Bool) → (cond adds (Added next_id) Done ≡ cond adds (Added (cond adds next_id 0)) Done) × (cond adds next_id 0 ≡ cond adds (cond adds next_id 0) 0)
-    same true = (refl, refl)
-    same false = (refl, refl)
 
 pub sees : (o : Opening) (old new : Standing) → IsPrefix old.seen new.seen → IsLegalFrom o new.seen → new.counter ≡ old.counter → new.number ≡ old.number → new.query ≡ old.query → Sees o old new
 sees o old new further legal counted same query = record { further = further; legal = legal; counted = counted; same = same; query = query }

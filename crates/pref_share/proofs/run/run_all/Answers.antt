@@ -1,15 +1,11 @@
-use Rattle.pref_share.proofs.Common.{sendable, ◌≡◌, List, ap, arith, length, sym, subst, into_iter_items, Listed, IsJointRun, Standing}
+use Rattle.pref_share.proofs.Common.{sendable, ◌≡◌, List, ap, arith, length, sym, subst, IsJointRun, Standing}
 use Rattle.pref_share.proofs.InterleavingsLaws.{joint_runs_are_sequential, length-newcomers}
 use Rattle.pref_share.proofs.ReportsLaws.{joint_of_lists}
-use Rattle.pref_share.proofs.RunsLaws.{few_each}
 use Rattle.pref_share.proofs.SendLaws.{listed_send}
 use Rattle.pref_share.proofs.run.run_all.Goals as goal
 
 pub run_tasks-requires-send-T : goal.run_tasks-requires-send-T
 run_tasks-requires-send-T g c κs within = search (sendable, listed_send)
-
-pub run_tasks-requires-clause-few : goal.run_tasks-requires-clause-few
-run_tasks-requires-clause-few g c κs within = few_each (λ (listed : Listed). into_iter_items listed.acts) c.in_ok-tasks.tasks.items c.args.acts.items c.in_ok-tasks.ensures.acts
 
 pub returns-clause-joint : goal.returns-clause-joint
 returns-clause-joint g c =

@@ -1,14 +1,10 @@
-use Rattle.pref_share.proofs.Common.{sendable, Listed, into_iter_items}
+use Rattle.pref_share.proofs.Common.{sendable, into_iter_items}
 use Rattle.pref_share.proofs.SendLaws.{listed_send}
 use Rattle.pref_share.proofs.ReportsLaws.{are_reports}
-use Rattle.pref_share.proofs.RunsLaws.{few_each}
 use Rattle.pref_share.proofs.run.run_each.Goals as goal
 
 pub work_tasks-requires-send-T : goal.work_tasks-requires-send-T
 work_tasks-requires-send-T g c κs within = search (sendable, listed_send)
-
-pub work_tasks-requires-clause-few : goal.work_tasks-requires-clause-few
-work_tasks-requires-clause-few g c κs within = few_each (λ (listed : Listed). into_iter_items listed.acts) c.in_ok-tasks.tasks.items c.args.acts.items c.in_ok-tasks.ensures.acts
 
 pub returns : goal.returns
 returns g c =

@@ -15,23 +15,6 @@ returns-in-Err-clause-refused g c =
     subst (λ (l : List Op). (refusal (state_at o l) c.args.client c.args.call ≡ Some c.in-Err.fault) ⊎ ((c.in-Err.fault ≡ OutOfMemory) × (nat_lt 0 (added c.args.call) ≡ true))) c.self.view_is
     (inl (ap (refusal (state_at o c.self.inside.history) c.args.client) (sym c.lend-lent.ensures) ∙ unplanned o c.self.inside.history c.published_store-store.result.now c.args.client c.lend-lent.result c.in-Err.fault c.self.invariant.0 left c.in-Err.ensures.state))
 
-pub look_up-requires : goal.look_up-requires
-look_up-requires g c =
-    let o = g.J.BoardBrand.opening in
-    let left : c.published_store-store.result.now ≡ contents_at o c.self.inside.history = rw (c.published_store-store.ensures, c.deref.ensures) (published_left o g.J.BoardBrand.book (manually_drop_value c.self.inside.writer).desk.shown.value c.self.inside.history c.self.invariant.3 c.self.invariant.2) in
-    subst (λ (s : Contents). IsIndexOf s c.self.inside.index) (sym left) c.self.invariant.1
-
-pub reindex-requires-clause-plan : goal.reindex-requires-clause-plan
-reindex-requires-clause-plan g c =
-    let plan = c.in-Ok.ensures.exact in
-    record { by = refl; what = refl; next = plan.next; fits = plan.fits }
-
-pub reindex-requires-clause-index : goal.reindex-requires-clause-index
-reindex-requires-clause-index g c =
-    let o = g.J.BoardBrand.opening in
-    let left : c.published_store-store.result.now ≡ contents_at o c.self.inside.history = rw (c.published_store-store.ensures, c.deref.ensures) (published_left o g.J.BoardBrand.book (manually_drop_value c.self.inside.writer).desk.shown.value c.self.inside.history c.self.invariant.3 c.self.invariant.2) in
-    subst (λ (s : Contents). IsIndexOf s c.self.inside.index) (sym left) c.self.invariant.1
-
 pub invariant_of-self : goal.invariant_of-self
 invariant_of-self g c =
     let o = g.J.BoardBrand.opening in
