@@ -1,8 +1,8 @@
 -- The ask that is computed is the one that the text spells, and the fault the one that it has.
 use Rattle.pref_term.proofs.Common.{◌≡◌, ◌≤◌, ◌<◌, ◌+◌, ℕ, zero, suc, List, [], ◌∷◌, Bool, true, false, cond, length, nat_lt, Option, Some, None, Result, Ok, Err, refl, sym, ap, subst, ◌∙◌, ◌⊎◌, inl}
 use Rattle.pref_term.proofs.Common.{inr, arith, MatchResult, IfOk, IfErr, nat_tests, is_blank, Placed, more_bytes, token_from, tokens_from, tokens_of, plain, says_distinct}
-use Rattle.pref_term.proofs.Common.{without_third, AskText, rated, skyline, Preference, Best, option_map, Names, Spells, Faults, LacksOrder, FirstFault, UnlessMemory}
-use Rattle.pref_term.proofs.Common.{question, product_of, orders_of, groups_of, Question, FitsWidth, start, run, ordered, meant, asked, TermFault, TooLong, NoMinOrMax, AsksWhole, AsksWholeNothing}
+use Rattle.pref_term.proofs.Common.{without_third, AskText, rated, skyline, Names, Spells, Faults, LacksOrder, FirstFault, UnlessMemory}
+use Rattle.pref_term.proofs.Common.{question, Question, FitsWidth, start, run, ordered, meant, asked, TermFault, TooLong, NoMinOrMax, AsksWhole, AsksWholeNothing}
 use Rattle.pref_term.proofs.LedLemmas.{unless_map}
 use Rattle.pref_term.proofs.SpellsLaws.{Finishes, Due, Spelt, Answers, run_answers, spelt_run, fault_run}
 
@@ -47,15 +47,11 @@ text_answers names text = run_answers names (plain (tokens_of text)) [] start (r
 
 pub asked_long : (names : Names) (text : List ℕ) → 4096 < length text → asked names text ≡ Err TooLong
 unfolding asked
-asked_long names text h =
-    let e : nat_lt 4096 (length text) ≡ true = grind (arith, nat_tests) in
-    ap (λ (b : Bool). cond b (Err TooLong) (meant names (says_distinct (tokens_of text)) (run names (plain (tokens_of text)) 0 start))) e
+asked_long names text h = grind (arith)
 
 pub asked_short : (names : Names) (text : List ℕ) → length text ≤ 4096 → asked names text ≡ meant names (says_distinct (tokens_of text)) (run names (plain (tokens_of text)) 0 start)
 unfolding asked
-asked_short names text h =
-    let e : nat_lt 4096 (length text) ≡ false = grind (arith, nat_tests) in
-    ap (λ (b : Bool). cond b (Err TooLong) (meant names (says_distinct (tokens_of text)) (run names (plain (tokens_of text)) 0 start))) e
+asked_short names text h = grind (arith)
 
 -- ---- and what the grammar says
 
@@ -65,14 +61,7 @@ IsAnswer names text r = MatchResult r (Spells names text) (Faults names text)
 -- whether of equal rows one is kept has no part in whether a tree asks something
 none_anyway : (names : Names) (d e : Bool) (tree : AskText) → question names d tree ≡ None → question names e tree ≡ None
 none_anyway names d e (rated head r group) h = cc
-none_anyway names d e (skyline s o first others) h = go (product_of (orders_of names (first ∷ others))) h
-  where
-    marked : Bool → Preference → Question
-    marked b p = record { preference = p; group = groups_of names (first ∷ others); mode = Best; distinct = b }
-
-    go : (x : Option Preference) → option_map (marked d) x ≡ None → option_map (marked e) x ≡ None
-    go None h = refl
-    go (Some p) h = cc
+none_anyway names d e (skyline s o first others) h = grind (arith)
 
 tree_answer : (names : Names) (text : List ℕ) (tree : AskText) → length text ≤ 4096 → Spelt names (plain (tokens_of text)) tree → IsAnswer names text (meant names (says_distinct (tokens_of text)) (Ok tree))
 tree_answer names text tree short s = go (question names (says_distinct (tokens_of text)) tree) refl

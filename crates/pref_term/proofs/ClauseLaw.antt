@@ -80,14 +80,7 @@ words_lexed rest =
 -- such a text says `distinct`, since the second token behind it is a word
 said_tokens : (ts : List Placed) (t w : List ℕ) (rest : List Token) → tokens_in ts ≡ word (codes "skyline") ∷ word (codes "of") ∷ word (codes "distinct") ∷ word t ∷ word w ∷ rest
     → (says_distinct ts ≡ true) × (tokens_in (plain ts) ≡ word (codes "skyline") ∷ word (codes "of") ∷ word t ∷ word w ∷ rest)
-said_tokens (a ∷ b ∷ c ∷ d ∷ e ∷ ts) t w rest h =
-    let first : a.token ≡ word (codes "skyline") = cc in
-    let second : b.token ≡ word (codes "of") = cc in
-    let third : c.token ≡ word (codes "distinct") = cc in
-    let fifth : e.token ≡ word w = cc in
-    let said : says_distinct (a ∷ b ∷ c ∷ d ∷ e ∷ ts) ≡ true = rw (first, second, third, fifth) refl in
-    let left : tokens_in (a ∷ b ∷ d ∷ e ∷ ts) ≡ word (codes "skyline") ∷ word (codes "of") ∷ word t ∷ word w ∷ rest = cc in
-    (said, ap (λ x. tokens_in (cond x (a ∷ b ∷ d ∷ e ∷ ts) (a ∷ b ∷ c ∷ d ∷ e ∷ ts))) said ∙ left)
+said_tokens (a ∷ b ∷ c ∷ d ∷ e ∷ ts) t w rest h = search
 said_tokens _ t w rest h = cc
 
 -- ---- its leaves are written, and have no fault

@@ -1,5 +1,5 @@
 -- What the word `distinct` of a clause leaves of a text, and what a clause behind it asks.
-use Rattle.pref_term.proofs.Common.{◌≡◌, arith, ℕ, List, [], ◌∷◌, ◌++◌, Bool, true, false, cond, Some, None, Ok, refl, sym, ap, subst, ◌∙◌, ◌≤◌, length, ◌&&◌, ◌≢◌, fold, codes, AllByRecursion, option_map}
+use Rattle.pref_term.proofs.Common.{◌≡◌, arith, ℕ, List, [], ◌∷◌, ◌++◌, Bool, true, false, cond, Some, None, Ok, refl, sym, ap, subst, ◌∙◌, ◌≤◌, length, ◌≢◌, fold, codes, AllByRecursion, option_map}
 use Rattle.pref_term.proofs.Common.{bytes_eq, str_to_ascii_lowercase, bytes_eq-Decides, Token, word, finish, Placed, tokens_of, seen, behind_token, CasedWord, skyline_word, of_word}
 use Rattle.pref_term.proofs.Common.{cased_letters, cased_of, cased, IsWritten, Direction, minimal, maximal, different, DimText, HeadText, PriorText, AskText, rated, skyline, best_head, top_level_head}
 use Rattle.pref_term.proofs.Common.{at_least_head, ask_leaves, IsText, is_in_any_case, is_distinct_ahead, says_distinct, without_third, plain, is_word, Names, column_at, order_by, orders_of}
@@ -93,10 +93,7 @@ product_is_clause names ds p e = go (orders_of names ds) (orders_fine names ds) 
 not_said : (ts : List Placed) (letters : List ℕ) (rest : List Token) → tokens_in ts ≡ word letters ∷ rest → bytes_eq (codes "skyline") (str_to_ascii_lowercase letters) ≡ false → says_distinct ts ≡ false
 not_said [] letters rest e h = refl
 not_said (t ∷ []) letters rest e h = refl
-not_said (t ∷ u ∷ us) letters rest e h =
-    let same : t.token ≡ word letters = cc in
-    ap (λ x. is_in_any_case (codes "skyline") x && (is_in_any_case (codes "of") u.token && is_distinct_ahead us)) same
-    ∙ ap (λ b. b && (is_in_any_case (codes "of") u.token && is_distinct_ahead us)) h
+not_said (t ∷ u ∷ us) letters rest e h = search
 
 pub head_said : (head : HeadText) (r : PriorText) (group : List (List ℕ)) (ts : List Placed) → tokens_in ts ≡ tokens_on (ask_leaves (rated head r group)) → says_distinct ts ≡ false
 head_said best_head r group ts e = not_said ts _ _ e refl

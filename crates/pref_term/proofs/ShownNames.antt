@@ -1,10 +1,9 @@
 -- Each name of a schema is a word, and its first column is its own.
-use Rattle.pref_term.proofs.Common.{or_parts, ◌≡◌, ◌<◌, ◌+◌, ◌-◌, ℕ, zero, suc, List, [], ◌∷◌, length, take, get_or, Bool, true, false, cond, not, ◌&&◌, nat_lt, nat_le, Some, None, Result, Ok, Err}
-use Rattle.pref_term.proofs.Common.{refl, sym, ap, subst, ◌∙◌, arith, position, is_ascii_alphabetic, AllByRecursion, list_any, list_all, position_or_len, bytes_eq, bytes_eq-Decides, nat_tests}
+use Rattle.pref_term.proofs.Common.{or_parts, ◌≡◌, ◌<◌, ◌+◌, ◌-◌, ℕ, zero, suc, List, [], ◌∷◌, length, take, get_or, Bool, true, false, cond, not, ◌&&◌, nat_lt, nat_le, Some, Result, Ok}
+use Rattle.pref_term.proofs.Common.{refl, sym, ap, subst, ◌∙◌, arith, position, is_ascii_alphabetic, AllByRecursion, list_any, list_all, position_or_len, bytes_eq, bytes_eq-Decides}
 use Rattle.pref_term.proofs.Common.{is_name, is_name_byte, name_after, name_in, schema_of, and_parts, Names, name_at}
 use Rattle.pref_table.specs.Columns.{column_of}
 use Rattle.pref_table.specs.Numbered.{all_from}
-use Rattle.pref_table.specs.declared.fault.TableFault.TheVariants.{SameName, BadName}
 use Rattle.pref_table.proofs.NumberedFacts.{all_from-parts}
 use Rattle.pref_table.proofs.NamesFacts.{schema-size, schema_of-some}
 
@@ -35,12 +34,7 @@ name_is_word (b ∷ bs) h =
 
 -- what the check of a name says
 after_says : (earlier : Names) (col : ℕ) (name : List ℕ) → name_after earlier col name ≡ Ok name → (is_name name ≡ true) × (list_any (λ other. bytes_eq other name) earlier ≡ false)
-after_says earlier col name h = go (is_name name) (list_any (λ other. bytes_eq other name) earlier) h
-  where
-    go : (word taken : Bool) → cond word (cond taken (Err (SameName col)) (Ok name)) (Err (BadName col)) ≡ Ok name → (word ≡ true) × (taken ≡ false)
-    go true false e = (refl, refl)
-    go true true e = cc
-    go false t e = cc
+after_says earlier col name h = grind (arith)
 
 -- the checks of a list, one by one
 all_from-at : {A E : Type 0} (f : ℕ → A → Result A E) (n : ℕ) (xs ys : List A) (i : ℕ) (d : A) → all_from f n xs ≡ Ok ys → i < length xs → f (n + i) (get_or xs i d) ≡ Ok (get_or ys i d)
@@ -66,9 +60,7 @@ first_place p (x ∷ xs) (suc i) d k here before =
     ap (λ c. cond (not c) (1 + position_or_len p xs) 0) parts.0 ∙ (ap (λ n. 1 + n) (first_place p xs i d inside here parts.1) ∙ one)
 
 first_position : {A : Type 0} (p : A → Bool) (xs : List A) (i : ℕ) → i < length xs → position_or_len p xs ≡ i → position p xs ≡ Some i
-first_position p xs i k e =
-    let inside : nat_lt i (length xs) ≡ true = grind (arith, nat_tests) in
-    ap (λ n. cond (nat_lt n (length xs)) (Some n) None) e ∙ ap (λ b. cond b (Some i) None) inside
+first_position p xs i k e = grind (arith)
 
 -- each column of a schema has a name of its own
 pub is_named : (names : Names) → schema_of names ≡ Ok names → (col : ℕ) → col < length names → IsNamed names col
