@@ -1,6 +1,6 @@
 -- What each act of a client is in the sequential table.
-use Rattle.pref_share.proofs.Common.{◌≡◌, ℕ, suc, ◌-◌, ◌^◌, ◌<◌, Bool, true, false, cond, nat_lt, ◌&&◌, List, [], ◌∷◌, map, length, Option, Some, None, is_some, refl, sym, ap, ◌∙◌, subst, arith, inl}
-use Rattle.pref_share.proofs.Common.{inr, option_map, Call, CallInsert, CallUpdate, CallDelete, CallCommit, CallBegin, CallFinish, CallAbandon, Added, Done, Full, Act, Insert, Update, Delete, Commit}
+use Rattle.pref_share.proofs.Common.{◌≡◌, ℕ, suc, ◌-◌, ◌^◌, ◌<◌, Bool, true, false, cond, nat_lt, List, [], ◌∷◌, map, length, Option, Some, None, is_some, refl, sym, ap, ◌∙◌, subst, arith, inl}
+use Rattle.pref_share.proofs.Common.{option_map, Call, CallInsert, CallUpdate, CallDelete, CallCommit, CallBegin, CallFinish, CallAbandon, Added, Done, Full, Act, Insert, Update, Delete, Commit}
 use Rattle.pref_share.proofs.Common.{Begin, ScanAct, Finish, Abandon, Get, Room, Reply, CoreFault, Spent, QueryOpen, NoQuery, AllScanned, NotDone, MissingRow, State, Snapshot, seat, with_seat}
 use Rattle.pref_share.proofs.Common.{is_change, begins_row, committed, ended, success_outcome, missing, needed, outcome, after, begun_after, refusal_of, refusal_by_query, Open, Member, System, Step, snapshot}
 use Rattle.pref_share.proofs.Common.{client_of, state_of, refused, counted_with, one_less, scanned_with, committed_of, changed, change, seat-with_seat_same, client_there, state_of-counted}
@@ -70,11 +70,7 @@ has_room o s t room sees is = stays o s t Room (RoomIs room) sees
 
 -- a numbered call that its client may not make
 spent_or : (member : Member) (system : System) (right : Step) (early : Option CoreFault) (fault : CoreFault) → ((f : CoreFault) → early ≡ Some f → right ≡ refused f system) → cond (nat_lt member.calls (2 ^ 56)) early (Some Spent) ≡ Some fault → numbered member system right ≡ refused fault system
-spent_or member system right early fault open_ e = go (nat_lt member.calls (2 ^ 56)) e
-  where
-    go : (b : Bool) → cond b early (Some Spent) ≡ Some fault → cond b right (refused Spent system) ≡ refused fault system
-    go true h = open_ fault h
-    go false h = let same : Spent ≡ fault = cc in ap (λ f. refused f system) same
+spent_or member system right early fault open_ e = grind (arith)
 
 -- a change is not refused for the query
 never : (b : Bool) (call : Call) → is_change call ≡ true → refusal_by_query b call ≡ None
@@ -118,22 +114,7 @@ joined_state o s t call returned j =
 -- an act that is a call which joined
 adds : (o : Opening) (s t : Standing) (act : Act) (call : Call) (returned : Outcome) (reply : Reply) (j : Joins o s call returned t) → call_of act ≡ Some call
     → ((system : System) → state_of system ≡ state_at o j.before → seat s.number system.members ≡ Some (member_of o s) → IsStep o s act reply t system) → StepsTo o s act reply t
-adds o s t act call returned reply j c steps = record {
-  at = j.before;
-  further = j.further;
-  legal = j.legal;
-  same = j.same;
-  joins = inr (record {
-    op = j.op;
-    seen = j.ends;
-    call = c ∙ ap Some (sym (ap (λ n. n.call) j.is));
-    by = ap (λ n. n.client) j.is;
-    number = ap (λ n. n.number) j.is;
-    counted = j.counted;
-    alone = j.alone;
-  });
-  returned = steps;
-}
+adds o s t act call returned reply j c steps = grind (arith)
 
 -- a change
 pub changes : (o : Opening) (s t : Standing) (act : Act) (call : Call) (returned : Outcome) (done : System → Reply) (reply : Reply) (j : Changes o s call returned t) → is_change call ≡ true → call_of act ≡ Some call
@@ -168,11 +149,7 @@ quiet o s t act call reply q j c act_is steps found same = adds o s t act call D
     })
 
 added_next : (capacity next_id after_it id : ℕ) → cond (nat_lt capacity after_it) (Full after_it) (Added next_id) ≡ Added id → next_id ≡ id
-added_next capacity next_id after_it id e = go (nat_lt capacity after_it) e
-  where
-    go : (b : Bool) → cond b (Full after_it) (Added next_id) ≡ Added id → next_id ≡ id
-    go true h = absurd (cc)
-    go false h = cc
+added_next capacity next_id after_it id e = grind (arith)
 
 -- the acts that change rows
 pub inserted : (o : Opening) (s t : Standing) (row : Row) (id : ℕ) → Changes o s (CallInsert row) (Added id) t → StepsTo o s (Insert row) (Inserted id) t
@@ -190,11 +167,7 @@ same_first : (capacity : ℕ) (begins : Bool) (lost : Option ℕ) (size next_id 
     → cond adds_any (Added next_id) Done ≡ outcome_of capacity begins lost size (cond adds_any (Added id) Done) → cond adds_any id 0 ≡ cond adds_any next_id 0
 same_first capacity begins lost size next_id id false e = refl
 same_first capacity begins (Some missing_id) size next_id id true e = absurd (cc)
-same_first capacity begins None size next_id id true e = go (begins && nat_lt capacity size) e
-  where
-    go : (full : Bool) → Added next_id ≡ cond full (Full size) (Added id) → id ≡ next_id
-    go true h = absurd (cc)
-    go false h = cc
+same_first capacity begins None size next_id id true e = grind (arith)
 
 granted_reply : (next_id : ℕ) (call : Call) (done : Reply) (x : System) (adds_any : Bool) → (changed (cond adds_any (Added next_id) Done) done call x).reply ≡ done
 granted_reply next_id call done x true = refl

@@ -1,18 +1,13 @@
 -- How many calls each client has made along a legal history.
-use Rattle.pref_share.proofs.Common.{◌≡◌, ℕ, zero, suc, ◌+◌, ◌*◌, ◌^◌, ◌<◌, ◌≤◌, Bool, true, false, cond, ◌==◌, List, [], ◌∷◌, length, Option, Some, None, is_some, refl, sym, ap, ◌∙◌, subst, arith, ⊎_elim, cases_eq}
-use Rattle.pref_share.proofs.Common.{same_Some, AllByRecursion, sum_by, ne_eqb, eqb-true, length-set, All-from_recursion, Call, Op, State, Client, Snapshot, seat, with_seat, is_change, succeeds, committed}
-use Rattle.pref_share.proofs.Common.{counted, begun_after, outcome, after, calls_of, begun_of, refusal_of, idle_clients, same_number, IsLegalCall, IsLegalHistory, state_after, numbered_of}
+use Rattle.pref_share.proofs.Common.{◌≡◌, ℕ, zero, suc, ◌+◌, ◌*◌, ◌^◌, ◌<◌, ◌≤◌, false, ◌==◌, List, [], ◌∷◌, length, Option, Some, None, refl, sym, ap, ◌∙◌, subst, arith, ⊎_elim, cases_eq}
+use Rattle.pref_share.proofs.Common.{same_Some, AllByRecursion, sum_by, ne_eqb, length-set, All-from_recursion, Call, Op, State, Client, Snapshot, seat, with_seat}
+use Rattle.pref_share.proofs.Common.{counted, begun_after, after, calls_of, begun_of, idle_clients, IsLegalCall, IsLegalHistory, state_after, numbered_of}
 use Rattle.pref_share.proofs.Common.{seat-with_seat_same, seat-with_seat_other, HasCall, history_of}
 use Rattle.std.proofs.lemmas.List.Sums.{sum_by-le}
-use Rattle.pref_core.proofs.BoundsLaws.{sum_by-set_suc, AllByRecursion-set, few_calls}
+use Rattle.pref_core.proofs.BoundsLaws.{sum_by-set_suc, AllByRecursion-set}
 
 pub after_clients : (n : ℕ) (s : State) (client : ℕ) (call : Call) → (after n s client call).clients ≡ counted s client call
-after_clients n s client call = go (is_change call) (succeeds (outcome n s call))
-  where
-    go : (b c : Bool) → (cond {A = State} b (cond {A = State} c (committed call (record s { clients = counted s client call })) (record s { clients = counted s client call })) (record s { clients = counted s client call })).clients ≡ counted s client call
-    go true true = refl
-    go true false = refl
-    go false c = refl
+after_clients n s client call = grind (arith)
 
 -- who makes a legal call
 pub record IsCaller (s : State) (op : Op) : Type 0 where
@@ -22,13 +17,7 @@ pub record IsCaller (s : State) (op : Op) : Type 0 where
   pub few : who.calls < 2 ^ 56
 
 pub caller : (n : ℕ) (s : State) (op : Op) → IsLegalCall n s (numbered_of op) → IsCaller s op
-caller n s op legal = go (seat op.client s.clients) refl legal.accepted legal.next
-  where
-    go : (o : Option Client) → seat op.client s.clients ≡ o
-        → refusal_of (elim o as (λ x. Option ℕ) [ None ↦ None | Some found ↦ Some found.calls ]) (is_some (elim o as (λ x. Option Snapshot) [ None ↦ None | Some found ↦ found.at_begin ])) op.call ≡ None
-        → same_number (elim o as (λ x. Option ℕ) [ None ↦ None | Some found ↦ Some found.calls ]) op.number ≡ true → IsCaller s op
-    go None at a b = absurd (cc)
-    go (Some who) at a b = record { who = who; at = at; number = sym (eqb-true _ _ b); few = few_calls who.calls (is_some who.at_begin) op.call a }
+caller n s op legal = grind (arith)
 
 -- the client after its call
 abbrev pub one_more : State → Call → Client → Client

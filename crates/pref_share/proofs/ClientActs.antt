@@ -1,5 +1,5 @@
 -- The parts of all clients in a history, and the last act of each.
-use Rattle.pref_share.proofs.Common.{◌≡◌, ◌==◌, ℕ, suc, ◌<◌, ◌≤◌, cond, List, [], ◌∷◌, ◌++◌, length, Some, refl, sym, ap, ◌∙◌, subst, arith, ◌⊎◌, inl, inr, ⊎_elim, cases_eq, eq-eqb, ne_eqb}
+use Rattle.pref_share.proofs.Common.{◌≡◌, ◌==◌, ℕ, suc, ◌<◌, ◌≤◌, cond, List, [], ◌∷◌, ◌++◌, length, Some, refl, sym, ap, ◌∙◌, subst, arith, ◌⊎◌, inl, inr, eq-eqb, ne_eqb}
 use Rattle.pref_share.proofs.Common.{append-nil, length-append, IsPrefix, Op, Act, Reply, Opening, IsLegalFrom, calls_at, Standing, newcomer, StepsTo, Looks, Adds, Runs, none, then, RunsTo}
 use Rattle.std.proofs.lemmas.List.{same_from_push}
 use Rattle.pref_share.specs.SeenHistory.{IsIn}
@@ -41,9 +41,7 @@ with_part-other number p parts client apart = ap (λ b. cond b p (parts client))
 
 -- what holds of this client's new part, and of the parts of all others
 pub with_part-each : (Q : ℕ → Part → Type 0) (number : ℕ) (p : Part) (parts : ℕ → Part) → Q number p → ((client : ℕ) → (client ≡ number → ⊥) → Q client (parts client)) → (client : ℕ) → Q client (with_part number p parts client)
-with_part-each Q number p parts own others client =
-    ⊎_elim (λ (e : client ≡ number). subst (λ n. Q n (with_part number p parts n)) (sym e) (subst (Q number) (sym (with_part-own number p parts)) own))
-    (λ (apart : client ≡ number → ⊥). subst (Q client) (sym (with_part-other number p parts client apart)) (others client apart)) (cases_eq client number)
+with_part-each Q number p parts own others client = grind (arith)
 
 pub with_part-same : (number : ℕ) (p : Part) (parts : ℕ → Part) → parts number ≡ p → with_part number p parts ≡ parts
 with_part-same number p parts e = λ i client. with_part-each (λ n x. x ≡ parts n) number p parts (sym e) (λ n apart. refl) client i

@@ -1,6 +1,6 @@
 -- The sequential table along events: one event more, and the clients that an event leaves alone.
-use Rattle.pref_share.proofs.Common.{◌≡◌, ℕ, zero, suc, ◌-◌, ◌^◌, ◌<◌, ◌≤◌, Bool, true, false, cond, nat_lt, List, [], ◌∷◌, ◌++◌, map, replicate, Option, Some, None, refl, ap, ◌∙◌, arith, Call}
-use Rattle.pref_share.proofs.Common.{CallInsert, CallUpdate, CallDelete, CallCommit, Act, Insert, Update, Delete, Commit, Begin, Scan, Finish, Abandon, Get, Room, Reply, NoSuchClient, Spent}
+use Rattle.pref_share.proofs.Common.{◌≡◌, ℕ, zero, suc, ◌-◌, ◌<◌, ◌≤◌, Bool, true, false, cond, nat_lt, List, [], ◌∷◌, ◌++◌, map, replicate, Option, Some, None, refl, ap, ◌∙◌, arith, Call}
+use Rattle.pref_share.proofs.Common.{CallInsert, CallUpdate, CallDelete, CallCommit, Act, Insert, Update, Delete, Commit, Begin, Scan, Finish, Abandon, Get, Room, Reply, NoSuchClient}
 use Rattle.pref_share.proofs.Common.{AllScanned, NotDone, seat, outcome, idle_clients, Open, Member, System, Step, committed_of, client_of, state_of, refused, counted_with, scanned_with, one_less}
 use Rattle.pref_share.proofs.Common.{change, finish, scan, step, replies_from, seat-with_seat_other, members-changed}
 use Rattle.pref_core.specs.declared.event.Event.{Event}
@@ -28,11 +28,7 @@ abbrev Leaves : ℕ → System → Step → Type 0
 Leaves other system after = seat other after.next.members ≡ seat other system.members
 
 numbered_leaves : (other : ℕ) (member : Member) (system : System) (right : Step) → Leaves other system right → Leaves other system (numbered member system right)
-numbered_leaves other member system right h = go (nat_lt member.calls (2 ^ 56))
-  where
-    go : (b : Bool) → Leaves other system (cond b right (refused Spent system))
-    go true = h
-    go false = refl
+numbered_leaves other member system right h = grind (arith)
 
 counted_leaves : (other client : ℕ) (member : Member) (system : System) (query : Option Open) → (other ≡ client → ⊥) → seat other (counted_with query client member system).members ≡ seat other system.members
 counted_leaves other client member system query apart = seat-with_seat_other system.members other client (record { calls = suc member.calls; query = query }) apart
