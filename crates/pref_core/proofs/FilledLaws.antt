@@ -9,14 +9,14 @@ use Rattle.pref_core.proofs.AppliedLaws.{IsAllowed-from, succeeds-missing}
 use Rattle.pref_core.proofs.LinksOfSlots.{id_at-here, id_at-there}
 use Rattle.pref_core.proofs.ChangesLaws.{among_append}
 use Rattle.pref_core.proofs.ChangeCounts.{drop_item, drop_inside}
-use Rattle.pref_core.proofs.RowEndLaws.{none_closed, one_closed, row_alive, within_closed, ids_closed, links_ended, closed_zones, filled_zones}
+use Rattle.pref_core.proofs.RowEndLaws.{none_closed, one_closed, row_alive, within_closed, ids_closed, links_ended, closed_uses, filled_uses}
 use Rattle.pref_core.proofs.IndexedRows.{other_place}
 use Rattle.pref_core.proofs.SlotKeys.{eqb_comm, within-set}
 use Rattle.pref_core.proofs.IdsAfterCommit.{links_born, fresh_begun, tracked_next}
 use Rattle.pref_core.proofs.IdChainsLaws.{shows_row}
 use Rattle.pref_core.proofs.PlanLaws.{close_none}
 use Rattle.pref_core.proofs.SlotsForAll.{filled_snoc, free_still, taken}
-use Rattle.pref_core.proofs.SlotUseLaws.{holds_there, free_zone, has_row_at, row_version}
+use Rattle.pref_core.proofs.SlotUseLaws.{holds_there, free_use, has_row_at, row_version}
 
 -- Slots fit rows where there are as many, each is free, and none comes twice.
 fills_where : (made : ℕ) (ns earlier : List ℕ) (before : List Entry) (slots now : List (Option Version)) (places : List ℕ) (begun : List Entry) → filled (made ∷ ns) made earlier before slots ≡ Some now → length places ≡ length begun
@@ -50,19 +50,19 @@ fills_not ns made (place ∷ places) (fresh ∷ rest) slots n = go (is_free ns s
     go true more = more
     go false more = refl
 
--- A free slot's zone is free, and it shows no row.
-pub free_there : (contents : Contents) (zones : List SlotUse) (links : List ℕ) (place : ℕ) → IsTracked contents zones links → is_free (stamps contents) contents.slots place ≡ true → slice_get zones place ≡ Some Free
-free_there contents zones links place h f = go (slice_get zones place) refl (ap (λ z. free_at z place) h.listed ∙ sym (free_zone contents.next_id contents.stamp contents.callers contents.slots place h.within) ∙ f)
+-- A free slot's slot_use is free, and it shows no row.
+pub free_there : (contents : Contents) (uses : List SlotUse) (links : List ℕ) (place : ℕ) → IsTracked contents uses links → is_free (stamps contents) contents.slots place ≡ true → slice_get uses place ≡ Some Free
+free_there contents uses links place h f = go (slice_get uses place) refl (ap (λ z. free_at z place) h.listed ∙ sym (free_use contents.next_id contents.stamp contents.callers contents.slots place h.within) ∙ f)
   where
-    go : (o : Option SlotUse) → slice_get zones place ≡ o → elim o as (λ x. Bool) [ None ↦ false | Some zone ↦ is_free_use zone ] ≡ true → slice_get zones place ≡ Some Free
+    go : (o : Option SlotUse) → slice_get uses place ≡ o → elim o as (λ x. Bool) [ None ↦ false | Some slot_use ↦ is_free_use slot_use ] ≡ true → slice_get uses place ≡ Some Free
     go None e is = absurd (cc)
     go (Some Free) e is = e
     go (Some (Ended keeper)) e is = absurd (cc)
     go (Some Live) e is = absurd (cc)
 
-pub free_inside : (contents : Contents) (zones : List SlotUse) (links : List ℕ) (place : ℕ) → IsTracked contents zones links → is_free (stamps contents) contents.slots place ≡ true → place < length contents.slots
-free_inside contents zones links place h f =
-    let inside = slice_get_within zones place Free (free_there contents zones links place h f) in
+pub free_inside : (contents : Contents) (uses : List SlotUse) (links : List ℕ) (place : ℕ) → IsTracked contents uses links → is_free (stamps contents) contents.slots place ≡ true → place < length contents.slots
+free_inside contents uses links place h f =
+    let inside = slice_get_within uses place Free (free_there contents uses links place h f) in
     let long = ap length h.listed ∙ length-map contents.slots (use_of contents.callers) in
     omega arith
 
@@ -216,14 +216,14 @@ begun_one start now new places used first rest all h is = record {
     same = ap (λ (s : Contents). s.slots) is
 
 -- One row ends, ..
-pub end_none : (contents : Contents) (zones : List SlotUse) (links : List ℕ) (id : ℕ) → IsTracked contents zones links → IsPlaceOf contents.stamp id contents.slots None → contents ≡ with_slots (map (close (id ∷ []) contents.stamp) contents.slots) contents
-end_none contents zones links id h absent = ap (λ l. with_slots l contents) (sym (none_closed contents.next_id contents.stamp id contents.slots h.within absent))
+pub end_none : (contents : Contents) (uses : List SlotUse) (links : List ℕ) (id : ℕ) → IsTracked contents uses links → IsPlaceOf contents.stamp id contents.slots None → contents ≡ with_slots (map (close (id ∷ []) contents.stamp) contents.slots) contents
+end_none contents uses links id h absent = ap (λ l. with_slots l contents) (sym (none_closed contents.next_id contents.stamp id contents.slots h.within absent))
 
 -- a version that stands in the table has no end
 no_end : (next made id : ℕ) (version : Version) → IsWithin next made (Some version) → is_row made id (Some version) ≡ true → version.death ≡ None
 no_end next made id version within row = grind (arith)
 
-module _ (contents : Contents) (zones : List SlotUse) (links : List ℕ) (id place : ℕ) (version : Version) (h : IsTracked contents zones links) (row : row_at contents.stamp id contents.slots place ≡ true) (at : slice_get contents.slots place ≡ Some (Some version)) where
+module _ (contents : Contents) (uses : List SlotUse) (links : List ℕ) (id place : ℕ) (version : Version) (h : IsTracked contents uses links) (row : row_at contents.stamp id contents.slots place ≡ true) (at : slice_get contents.slots place ≡ Some (Some version)) where
   abbrev last : Option Version
   last = Some (record version { death = Some contents.stamp })
 
@@ -239,18 +239,18 @@ module _ (contents : Contents) (zones : List SlotUse) (links : List ℕ) (id pla
   pub end_inside : place < length contents.slots
   end_inside = slice_get_within contents.slots place (Some version) at
 
-  pub end_alive : slice_get zones place ≡ Some Live
+  pub end_alive : slice_get uses place ≡ Some Live
   end_alive = ap (λ z. slice_get z place) h.listed ∙ slice_get-map (use_of contents.callers) contents.slots place ∙ ap (option_map (use_of contents.callers)) at ∙ ap Some (row_alive contents.next_id contents.stamp id contents.callers version within_here row_here)
 
   pub end_slots : set contents.slots place last ≡ map (close (id ∷ []) contents.stamp) contents.slots
   end_slots = ap (set contents.slots place) (sym closes) ∙ sym (one_closed contents.next_id contents.stamp id contents.slots h.within place version h.ids row at)
 
-  pub end_tracked : (zone : SlotUse) (zones_new : List SlotUse) (links_new : List ℕ) → zone ≡ use_of contents.callers last → zones_new ≡ set zones place zone → AreLinks (set (ids_of contents.stamp contents.slots) place None) links_new
-      → IsTracked (with_slots (set contents.slots place last) contents) zones_new links_new
-  end_tracked zone zones_new links_new is returned linked = record {
+  pub end_tracked : (slot_use : SlotUse) (uses_new : List SlotUse) (links_new : List ℕ) → slot_use ≡ use_of contents.callers last → uses_new ≡ set uses place slot_use → AreLinks (set (ids_of contents.stamp contents.slots) place None) links_new
+      → IsTracked (with_slots (set contents.slots place last) contents) uses_new links_new
+  end_tracked slot_use uses_new links_new is returned linked = record {
     seats = h.seats;
     within = subst (AllByRecursion (IsWithin contents.next_id contents.stamp)) (sym end_slots) (within_closed (id ∷ []) contents.next_id contents.stamp contents.slots h.within);
-    listed = closed_zones contents.callers contents.slots zones zones_new place last zone h.listed is returned;
+    listed = closed_uses contents.callers contents.slots uses uses_new place last slot_use h.listed is returned;
     linked = subst (λ s. AreLinks (ids_of contents.stamp (set contents.slots place s)) links_new) closes (links_ended contents.stamp place contents.slots version links_new within_here.2 linked);
     ids = subst (λ l. AreIds (2 ^ 64) (id_at (ids_of contents.stamp l))) (sym end_slots) (ids_closed (id ∷ []) contents.stamp contents.slots h.ids);
   }
@@ -265,11 +265,11 @@ module _ (contents : Contents) (zones : List SlotUse) (links : List ℕ) (id pla
   here : (new : Option Version) → get_or contents.slots place new ≡ Some version
   here new = ap (λ o. unwrap_or o new) (sym (slice_get-get_or contents.slots place new end_inside) ∙ at)
 
-  pub replace_tracked : (entry : Entry) (new : Option Version) → entry.id ≡ id → new ≡ new_version contents.stamp entry → IsTracked (with_slots (set contents.slots place new) contents) zones links
+  pub replace_tracked : (entry : Entry) (new : Option Version) → entry.id ≡ id → new ≡ new_version contents.stamp entry → IsTracked (with_slots (set contents.slots place new) contents) uses links
   replace_tracked entry new same is =
       let named : version.id ≡ id = eqb-true version.id id visible_here.0 in
       let low : entry.id < contents.next_id = omega (arith, within_here.0, named, same) in
-      let zone : use_of contents.callers new ≡ use_of contents.callers (get_or contents.slots place new) =
+      let slot_use : use_of contents.callers new ≡ use_of contents.callers (get_or contents.slots place new) =
       ap (use_of contents.callers) is ∙ sym (ap (use_of contents.callers) (here new) ∙ row_alive contents.next_id contents.stamp id contents.callers version within_here row_here) in
       let fresh : shown contents.stamp (new_version contents.stamp entry) ≡ Some entry.id = rw (le-leb contents.stamp contents.stamp (omega arith)) refl in
       let before : shown contents.stamp (Some version) ≡ Some version.id = rw visible_here.1 refl in
@@ -279,21 +279,21 @@ module _ (contents : Contents) (zones : List SlotUse) (links : List ℕ) (id pla
       record {
         seats = h.seats;
         within = subst (λ r. AllByRecursion (IsWithin contents.next_id contents.stamp) (set contents.slots place r)) (sym is) (within-set contents.next_id contents.stamp contents.slots place (new_version contents.stamp entry) (low, omega arith, tt) h.within);
-        listed = h.listed ∙ sym (map-set_same (use_of contents.callers) contents.slots place new new zone);
+        listed = h.listed ∙ sym (map-set_same (use_of contents.callers) contents.slots place new new slot_use);
         linked = subst (λ ids. AreLinks ids links) (sym ids_same) h.linked;
         ids = subst (λ ids. AreIds (2 ^ 64) (id_at ids)) (sym ids_same) h.ids;
       }
 
 -- .. or begins.
-pub begin_tracked : (contents : Contents) (zones : List SlotUse) (links : List ℕ) (entry : Entry) (place : ℕ) (row : Option Version) (zones_new : List SlotUse) (links_new : List ℕ) → IsTracked contents zones links → is_free (stamps contents) contents.slots place ≡ true
-    → has (visible contents.stamp contents.slots) entry.id ≡ false → entry.id < contents.next_id → entry.id < 2 ^ 64 → row ≡ new_version contents.stamp entry → zones_new ≡ set zones place Live → AreLinks (set (ids_of contents.stamp contents.slots) place (Some entry.id)) links_new
-    → IsTracked (with_slots (set contents.slots place row) contents) zones_new links_new
-begin_tracked contents zones links entry place row zones_new links_new h free absent low small is returned linked = record {
+pub begin_tracked : (contents : Contents) (uses : List SlotUse) (links : List ℕ) (entry : Entry) (place : ℕ) (row : Option Version) (uses_new : List SlotUse) (links_new : List ℕ) → IsTracked contents uses links → is_free (stamps contents) contents.slots place ≡ true
+    → has (visible contents.stamp contents.slots) entry.id ≡ false → entry.id < contents.next_id → entry.id < 2 ^ 64 → row ≡ new_version contents.stamp entry → uses_new ≡ set uses place Live → AreLinks (set (ids_of contents.stamp contents.slots) place (Some entry.id)) links_new
+    → IsTracked (with_slots (set contents.slots place row) contents) uses_new links_new
+begin_tracked contents uses links entry place row uses_new links_new h free absent low small is returned linked = record {
   seats = h.seats;
   within = subst (λ r. AllByRecursion (IsWithin contents.next_id contents.stamp) (set contents.slots place r)) (sym is) (within-set contents.next_id contents.stamp contents.slots place (new_version contents.stamp entry) (low, omega arith, tt) h.within);
-  listed = filled_zones contents.callers contents.slots zones zones_new place row entry contents.stamp h.listed is returned;
+  listed = filled_uses contents.callers contents.slots uses uses_new place row entry contents.stamp h.listed is returned;
   linked = links_born contents.stamp place entry row contents.slots links_new is linked;
-  ids = subst (λ r. AreIds (2 ^ 64) (id_at (ids_of contents.stamp (set contents.slots place r)))) (sym is) (ids_born contents.stamp place entry contents.slots small (free_inside contents zones links place h free) absent h.ids);
+  ids = subst (λ r. AreIds (2 ^ 64) (id_at (ids_of contents.stamp (set contents.slots place r)))) (sym is) (ids_born contents.stamp place entry contents.slots small (free_inside contents uses links place h free) absent h.ids);
 }
 
 -- Whether an op's slots fit.
@@ -349,12 +349,12 @@ pub commit_filled : (now start closed : Contents) (op : Op) (first : ℕ) → st
 commit_filled now start closed op first is next ends c s = grind (arith)
 
 -- An update whose row stays in its slot writes this slot alone.
-pub commit_replaced : (now : Contents) (zones : List SlotUse) (links : List ℕ) (op : Op) (entry : Entry) (place : ℕ) → IsTracked now zones links → op.call ≡ Update entry.id entry.row → op.slots ≡ place ∷ []
+pub commit_replaced : (now : Contents) (uses : List SlotUse) (links : List ℕ) (op : Op) (entry : Entry) (place : ℕ) → IsTracked now uses links → op.call ≡ Update entry.id entry.row → op.slots ≡ place ∷ []
     → row_at (suc now.stamp) entry.id now.slots place ≡ true → is_change op.call ≡ true → succeeds op.outcome ≡ true → is_some (slots_after now op) ≡ true
     → slots_after now op ≡ Some (set now.slots place (new_version (suc now.stamp) entry))
-commit_replaced now zones links op entry place h call slots row c s fits =
+commit_replaced now uses links op entry place h call slots row c s fits =
     let start = begun_commit now (added op.call) in
-    let tracked = tracked_next now zones links (added op.call) h in
+    let tracked = tracked_next now uses links (added op.call) h in
     let found = row_version (suc now.stamp) entry.id now.slots place row in
     let new = new_version (suc now.stamp) entry in
     let closed : Contents = with_slots (map (close (entry.id ∷ []) (suc now.stamp)) now.slots) start in
@@ -362,7 +362,7 @@ commit_replaced now zones links op entry place h call slots row c s fits =
     let returned : slots_after now op ≡ filled (stamps closed) (suc now.stamp) (place ∷ []) (entry ∷ []) closed.slots =
     sym (commit_filled now start closed op now.next_id refl refl ends c s) ∙ ap₂ (λ places a. filled (stamps closed) (suc now.stamp) places (begun now.next_id a) closed.slots) slots call in
     returned ∙ (go (is_free (stamps closed) closed.slots place) (set closed.slots place new) (ap is_some (sym returned) ∙ fits)
-    ∙ ap Some (replace_slots start zones links entry.id place found.0 tracked row found.1 new))
+    ∙ ap Some (replace_slots start uses links entry.id place found.0 tracked row found.1 new))
   where
     go : (free : Bool) (after : List (Option Version)) → is_some (cond free (Some after) None) ≡ true → cond free (Some after) None ≡ Some after
     go true after e = refl

@@ -2,7 +2,7 @@
 use Rattle.pref_core.proofs.Common.{◌≡◌, ℕ, zero, suc, ◌+◌, ◌<◌, ◌≤◌, nat_lt, Bool, true, false, ◌||◌, eqb, List, [], ◌∷◌, map, length, take, get_or, Option, Some, None, slice_get, refl, sym, ap, ◌∙◌}
 use Rattle.pref_core.proofs.Common.{subst, arith, ⊎_elim, option_map, slice_get_within, slice_get-map, slice_get-get_or, get_or_from_slice_get, eqb-true, eq-eqb, or_cases, or_right, SlotUse, Free}
 use Rattle.pref_core.proofs.Common.{Ended, Live, numbered, number_at, use_at, is_free_use, free_at, IsArranged, among}
-use Rattle.pref_core.proofs.SlotSetsLaws.{number_past, number_below, number_is, number_here, free_number, zone_free, free_from}
+use Rattle.pref_core.proofs.SlotSetsLaws.{number_past, number_below, number_is, number_here, free_number, use_free, free_from}
 
 -- The free places are the first ones of the order.
 record TakenAt (count p : ℕ) (order : List ℕ) : Type 0 where
@@ -31,18 +31,18 @@ free_listed order positions bounds p a h =
     let there = taken_at (get_or bounds 0 0) order p h in
     let position : get_or positions p 0 ≡ there.at = ap (λ q. get_or positions q 0) (sym there.is) ∙ a.inverse.there there.at there.inside in
     let room : p < length positions = let within = a.inverse.places there.at there.inside in let long = a.inverse.long in let same = there.is in omega arith in
-    ap (λ (o : Option SlotUse). elim o as (λ x. Bool) [ None ↦ false | Some zone ↦ is_free_use zone ])
-    (slice_get-map (use_at bounds) positions p ∙ ap (option_map (use_at bounds)) (slice_get-get_or positions p 0 room) ∙ ap (λ x. Some (use_at bounds x)) position ∙ ap Some (zone_free bounds there.at (let n = a.bounded in omega arith) there.less))
+    ap (λ (o : Option SlotUse). elim o as (λ x. Bool) [ None ↦ false | Some slot_use ↦ is_free_use slot_use ])
+    (slice_get-map (use_at bounds) positions p ∙ ap (option_map (use_at bounds)) (slice_get-get_or positions p 0 room) ∙ ap (λ x. Some (use_at bounds x)) position ∙ ap Some (use_free bounds there.at (let n = a.bounded in omega arith) there.less))
 
 pub listed_free : (order positions bounds : List ℕ) (p : ℕ) → IsArranged order positions bounds → free_at (map (use_at bounds) positions) p ≡ true → among (take (get_or bounds 0 0) order) p ≡ true
-listed_free order positions bounds p a h = go (slice_get positions p) refl (ap (λ (o : Option SlotUse). elim o as (λ x. Bool) [ None ↦ false | Some zone ↦ is_free_use zone ]) (sym (slice_get-map (use_at bounds) positions p)) ∙ h)
+listed_free order positions bounds p a h = go (slice_get positions p) refl (ap (λ (o : Option SlotUse). elim o as (λ x. Bool) [ None ↦ false | Some slot_use ↦ is_free_use slot_use ]) (sym (slice_get-map (use_at bounds) positions p)) ∙ h)
   where
-    is_free : (zone : SlotUse) → is_free_use zone ≡ true → zone ≡ Free
+    is_free : (slot_use : SlotUse) → is_free_use slot_use ≡ true → slot_use ≡ Free
     is_free Free e = refl
     is_free (Ended keeper) e = absurd (cc)
     is_free Live e = absurd (cc)
 
-    go : (o : Option ℕ) → slice_get positions p ≡ o → elim (option_map (use_at bounds) o) as (λ x. Bool) [ None ↦ false | Some zone ↦ is_free_use zone ] ≡ true → among (take (get_or bounds 0 0) order) p ≡ true
+    go : (o : Option ℕ) → slice_get positions p ≡ o → elim (option_map (use_at bounds) o) as (λ x. Bool) [ None ↦ false | Some slot_use ↦ is_free_use slot_use ] ≡ true → among (take (get_or bounds 0 0) order) p ≡ true
     go None e f = absurd (cc)
     go (Some at) e f =
         let less = free_from bounds at (let n = a.bounded in omega arith) (is_free (use_at bounds at) f) in
@@ -55,9 +55,9 @@ listed_free order positions bounds p a h = go (slice_get positions p) refl (ap (
 
 -- Whether a place is free, by its position.
 pub free_there : (positions bounds : List ℕ) (p : ℕ) → 0 < length bounds → free_at (map (use_at bounds) positions) p ≡ elim (slice_get positions p) as (λ x. Bool) [ None ↦ false | Some at ↦ nat_lt at (get_or bounds 0 0) ]
-free_there positions bounds p some = ap (λ (o : Option SlotUse). elim o as (λ x. Bool) [ None ↦ false | Some zone ↦ is_free_use zone ]) (slice_get-map (use_at bounds) positions p) ∙ go (slice_get positions p)
+free_there positions bounds p some = ap (λ (o : Option SlotUse). elim o as (λ x. Bool) [ None ↦ false | Some slot_use ↦ is_free_use slot_use ]) (slice_get-map (use_at bounds) positions p) ∙ go (slice_get positions p)
   where
-    go : (o : Option ℕ) → elim (option_map (use_at bounds) o) as (λ x. Bool) [ None ↦ false | Some zone ↦ is_free_use zone ] ≡ elim o as (λ x. Bool) [ None ↦ false | Some at ↦ nat_lt at (get_or bounds 0 0) ]
+    go : (o : Option ℕ) → elim (option_map (use_at bounds) o) as (λ x. Bool) [ None ↦ false | Some slot_use ↦ is_free_use slot_use ] ≡ elim o as (λ x. Bool) [ None ↦ false | Some at ↦ nat_lt at (get_or bounds 0 0) ]
     go None = refl
     go (Some at) = free_number bounds at some
 

@@ -11,7 +11,7 @@ use Rattle.pref_core.proofs.SlotKeys.{within-close}
 use Rattle.pref_core.proofs.IdsAfterCommit.{known_ids}
 use Rattle.pref_core.proofs.IdChainsLaws.{row_shown}
 use Rattle.pref_core.proofs.StabilityLaws.{slice_get-set_other}
-use Rattle.pref_core.proofs.SlotUseLaws.{count_by-cons, holds_there, live, live_by, close_idle, has_row_at, row_version, free_zone, used_zones, spare_zone, one_no}
+use Rattle.pref_core.proofs.SlotUseLaws.{count_by-cons, holds_there, live, live_by, close_idle, has_row_at, row_version, free_use, needed_uses, spare_use, one_no}
 
 -- What was found of the first of these rows.
 pub record FreesUpTo (contents : Contents) (ids done freed : List ℕ) : Type 0 where
@@ -91,15 +91,15 @@ same_count (x ∷ xs) (y ∷ ys) long same =
     let rest : count_by is_free_use ys ≡ count_by is_free_use xs = same_count xs ys (omega arith) (λ p. same (suc p)) in
     omega arith
 
-free_written : (zones : List SlotUse) (mark : ℕ) → mark < length zones → free_at (set zones mark Free) mark ≡ true
+free_written : (uses : List SlotUse) (mark : ℕ) → mark < length uses → free_at (set uses mark Free) mark ≡ true
 free_written [] mark l = absurd (omega arith)
 free_written (z ∷ zs) zero l = refl
 free_written (z ∷ zs) (suc mark) l = free_written zs mark (omega arith)
 
-free_other : (zones : List SlotUse) (mark p : ℕ) → (p ≡ mark → ⊥) → free_at (set zones mark Free) p ≡ free_at zones p
-free_other zones mark p n = ap (λ (o : Option SlotUse). elim o as (λ x. Bool) [ None ↦ false | Some zone ↦ is_free_use zone ]) (slice_get-set_other zones p mark Free n)
+free_other : (uses : List SlotUse) (mark p : ℕ) → (p ≡ mark → ⊥) → free_at (set uses mark Free) p ≡ free_at uses p
+free_other uses mark p n = ap (λ (o : Option SlotUse). elim o as (λ x. Bool) [ None ↦ false | Some slot_use ↦ is_free_use slot_use ]) (slice_get-set_other uses p mark Free n)
 
-count_one : (zones : List SlotUse) (mark : ℕ) → mark < length zones → free_at zones mark ≡ false → count_by is_free_use (set zones mark Free) ≡ suc (count_by is_free_use zones)
+count_one : (uses : List SlotUse) (mark : ℕ) → mark < length uses → free_at uses mark ≡ false → count_by is_free_use (set uses mark Free) ≡ suc (count_by is_free_use uses)
 count_one [] mark l f = absurd (omega arith)
 count_one (z ∷ zs) zero l f =
     let a = count_by-cons is_free_use z zs in
@@ -148,8 +148,8 @@ module _ (contents : Contents) (state : State) (bounded : IsBounded contents) (s
   abbrev made : ℕ
   made = suc contents.stamp
 
-  abbrev zones : List SlotUse
-  zones = map (use_of contents.callers) contents.slots
+  abbrev uses : List SlotUse
+  uses = map (use_of contents.callers) contents.slots
 
   one_row : (id p q : ℕ) → row_at contents.stamp id contents.slots p ≡ true → row_at contents.stamp id contents.slots q ≡ true → p ≡ q
   one_row id p q a b = (known_ids contents state bounded stands).once p q id (row_shown contents.stamp id contents.slots p a) (row_shown contents.stamp id contents.slots q b)
@@ -229,20 +229,20 @@ module _ (contents : Contents) (state : State) (bounded : IsBounded contents) (s
       go true e = let facts = alive version.death e in (version.id, facts.0, rw (eq-eqb version.id version.id refl) facts.1)
       go false e = absurd (true≢false (sym f ∙ ap (λ s. is_free_use (use_of contents.callers s)) (close_idle ids made (Some version) e) ∙ n))
 
-  frees_zone : (ids : List ℕ) (place : ℕ) → free_at (map (use_of contents.callers) (map (close ids made) contents.slots)) place ≡ frees_at ns ids made contents.slots place
-  frees_zone ids place =
-      ap (λ (o : Option SlotUse). elim o as (λ x. Bool) [ None ↦ false | Some zone ↦ is_free_use zone ]) (slice_get-map (use_of contents.callers) (map (close ids made) contents.slots) place ∙ ap (option_map (use_of contents.callers)) (slice_get-map (close ids made) contents.slots place))
+  frees_use : (ids : List ℕ) (place : ℕ) → free_at (map (use_of contents.callers) (map (close ids made) contents.slots)) place ≡ frees_at ns ids made contents.slots place
+  frees_use ids place =
+      ap (λ (o : Option SlotUse). elim o as (λ x. Bool) [ None ↦ false | Some slot_use ↦ is_free_use slot_use ]) (slice_get-map (use_of contents.callers) (map (close ids made) contents.slots) place ∙ ap (option_map (use_of contents.callers)) (slice_get-map (close ids made) contents.slots place))
       ∙ go (slice_get contents.slots place)
     where
-      go : (o : Option (Option Version)) → elim (option_map (use_of contents.callers) (option_map (close ids made) o)) as (λ x. Bool) [ None ↦ false | Some zone ↦ is_free_use zone ]
+      go : (o : Option (Option Version)) → elim (option_map (use_of contents.callers) (option_map (close ids made) o)) as (λ x. Bool) [ None ↦ false | Some slot_use ↦ is_free_use slot_use ]
           ≡ elim o as (λ x. Bool) [ None ↦ false | Some slot ↦ is_spare ns (close ids made slot) ]
       go None = refl
-      go (Some slot) = spare_zone contents.callers (close ids made slot)
+      go (Some slot) = spare_use contents.callers (close ids made slot)
 
-  zone_there : (place : ℕ) (o : Option (Option Version)) → slice_get contents.slots place ≡ o → free_at zones place ≡ elim o as (λ x. Bool) [ None ↦ false | Some slot ↦ is_free_use (use_of contents.callers slot) ]
-  zone_there place o e = ap (λ (o : Option SlotUse). elim o as (λ x. Bool) [ None ↦ false | Some zone ↦ is_free_use zone ]) (slice_get-map (use_of contents.callers) contents.slots place ∙ ap (option_map (use_of contents.callers)) e) ∙ go o
+  use_there : (place : ℕ) (o : Option (Option Version)) → slice_get contents.slots place ≡ o → free_at uses place ≡ elim o as (λ x. Bool) [ None ↦ false | Some slot ↦ is_free_use (use_of contents.callers slot) ]
+  use_there place o e = ap (λ (o : Option SlotUse). elim o as (λ x. Bool) [ None ↦ false | Some slot_use ↦ is_free_use slot_use ]) (slice_get-map (use_of contents.callers) contents.slots place ∙ ap (option_map (use_of contents.callers)) e) ∙ go o
     where
-      go : (o : Option (Option Version)) → elim (option_map (use_of contents.callers) o) as (λ x. Bool) [ None ↦ false | Some zone ↦ is_free_use zone ] ≡ elim o as (λ x. Bool) [ None ↦ false | Some slot ↦ is_free_use (use_of contents.callers slot) ]
+      go : (o : Option (Option Version)) → elim (option_map (use_of contents.callers) o) as (λ x. Bool) [ None ↦ false | Some slot_use ↦ is_free_use slot_use ] ≡ elim o as (λ x. Bool) [ None ↦ false | Some slot ↦ is_free_use (use_of contents.callers slot) ]
       go None = refl
       go (Some slot) = refl
 
@@ -251,30 +251,30 @@ module _ (contents : Contents) (state : State) (bounded : IsBounded contents) (s
     where
       go : (o : Option (Option Version)) → elim o as (λ x. Bool) [ None ↦ false | Some slot ↦ is_spare ns (close ids made slot) ] ≡ elim o as (λ x. Bool) [ None ↦ false | Some slot ↦ is_free_use (use_of contents.callers (close ids made slot)) ]
       go None = refl
-      go (Some slot) = sym (spare_zone contents.callers (close ids made slot))
+      go (Some slot) = sym (spare_use contents.callers (close ids made slot))
 
   -- a place is free once rows ended where they leave it free, ..
   pub frees_closed : (ids : List ℕ) (place : ℕ) → frees_at ns ids made contents.slots place ≡ true → is_free (made ∷ ns) (map (close ids made) contents.slots) place ≡ true
-  frees_closed ids place f = free_zone contents.next_id made contents.callers (map (close ids made) contents.slots) place (within-close ids contents.next_id contents.stamp contents.slots stands.within) ∙ frees_zone ids place ∙ f
+  frees_closed ids place f = free_use contents.next_id made contents.callers (map (close ids made) contents.slots) place (within-close ids contents.next_id contents.stamp contents.slots stands.within) ∙ frees_use ids place ∙ f
 
   -- .. or where it was free
-  pub free_closed : (ids : List ℕ) (place : ℕ) → free_at zones place ≡ true → is_free (made ∷ ns) (map (close ids made) contents.slots) place ≡ true
+  pub free_closed : (ids : List ℕ) (place : ℕ) → free_at uses place ≡ true → is_free (made ∷ ns) (map (close ids made) contents.slots) place ≡ true
   free_closed ids place f = frees_closed ids place (go (slice_get contents.slots place) refl)
     where
       go : (o : Option (Option Version)) → slice_get contents.slots place ≡ o → frees_at ns ids made contents.slots place ≡ true
-      go None e = absurd (true≢false (sym f ∙ zone_there place None e))
-      go (Some slot) e = frees_there ids place (Some slot) e ∙ slot_freed ids slot (sym (zone_there place (Some slot) e) ∙ f)
+      go None e = absurd (true≢false (sym f ∙ use_there place None e))
+      go (Some slot) e = frees_there ids place (Some slot) e ∙ slot_freed ids slot (sym (use_there place (Some slot) e) ∙ f)
 
   -- where a row stands it isn't
-  pub row_taken : (id place : ℕ) → row_at contents.stamp id contents.slots place ≡ true → free_at zones place ≡ false
+  pub row_taken : (id place : ℕ) → row_at contents.stamp id contents.slots place ≡ true → free_at uses place ≡ false
   row_taken id place row =
       let found = row_version contents.stamp id contents.slots place row in
       let shows : is_row contents.stamp id (Some found.0) ≡ true = ap (λ o. elim o as (λ x. Bool) [ None ↦ false | Some s ↦ is_row contents.stamp id s ]) (sym found.1) ∙ row in
-      zone_there place (Some (Some found.0)) found.1
+      use_there place (Some (Some found.0)) found.1
       ∙ ap is_free_use (row_alive contents.next_id contents.stamp id contents.callers found.0 (holds_there (IsWithin contents.next_id contents.stamp) contents.slots place (Some found.0) found.1 stands.within) shows)
 
   -- the slot of a place is free once rows ended where it was free, or one of them stood there and nobody needs it
-  frees_open : (ids olds : List ℕ) (place : ℕ) → AreOldPlaces contents.stamp ids contents.slots olds → frees_at ns ids made contents.slots place ≡ (free_at zones place || (among olds place && frees_at ns ids made contents.slots place))
+  frees_open : (ids olds : List ℕ) (place : ℕ) → AreOldPlaces contents.stamp ids contents.slots olds → frees_at ns ids made contents.slots place ≡ (free_at uses place || (among olds place && frees_at ns ids made contents.slots place))
   frees_open ids olds place stand = at (slice_get contents.slots place) refl
     where
       by : (f z a : Bool) → (z ≡ true → f ≡ true) → (f ≡ true → z ≡ false → a ≡ true) → f ≡ (z || (a && f))
@@ -284,12 +284,12 @@ module _ (contents : Contents) (state : State) (bounded : IsBounded contents) (s
       by false false true up down = refl
       by false false false up down = refl
 
-      at : (o : Option (Option Version)) → slice_get contents.slots place ≡ o → frees_at ns ids made contents.slots place ≡ (free_at zones place || (among olds place && frees_at ns ids made contents.slots place))
-      at None e = by (frees_at ns ids made contents.slots place) (free_at zones place) (among olds place) (λ z. absurd (true≢false (sym z ∙ zone_there place None e))) (λ f z. absurd (true≢false (sym f ∙ frees_there ids place None e)))
-      at (Some slot) e = by (frees_at ns ids made contents.slots place) (free_at zones place) (among olds place)
-          (λ z. frees_there ids place (Some slot) e ∙ slot_freed ids slot (sym (zone_there place (Some slot) e) ∙ z))
+      at : (o : Option (Option Version)) → slice_get contents.slots place ≡ o → frees_at ns ids made contents.slots place ≡ (free_at uses place || (among olds place && frees_at ns ids made contents.slots place))
+      at None e = by (frees_at ns ids made contents.slots place) (free_at uses place) (among olds place) (λ z. absurd (true≢false (sym z ∙ use_there place None e))) (λ f z. absurd (true≢false (sym f ∙ frees_there ids place None e)))
+      at (Some slot) e = by (frees_at ns ids made contents.slots place) (free_at uses place) (among olds place)
+          (λ z. frees_there ids place (Some slot) e ∙ slot_freed ids slot (sym (use_there place (Some slot) e) ∙ z))
           (λ f z.
-          let ended = row_freed ids slot (holds_there (IsWithin contents.next_id contents.stamp) contents.slots place slot e stands.within) (sym (zone_there place (Some slot) e) ∙ z) (sym (frees_there ids place (Some slot) e) ∙ f) in
+          let ended = row_freed ids slot (holds_there (IsWithin contents.next_id contents.stamp) contents.slots place slot e stands.within) (sym (use_there place (Some slot) e) ∙ z) (sym (frees_there ids place (Some slot) e) ∙ f) in
           let here : row_at contents.stamp ended.0 contents.slots place ≡ true = ap (λ o. elim o as (λ x. Bool) [ None ↦ false | Some s ↦ is_row contents.stamp ended.0 s ]) e ∙ ended.2 in
           let old = old_place ids olds ended.0 stand ended.1 in
           subst (λ p. among olds p ≡ true) (one_row ended.0 old.place place old.row here) old.among_olds)
@@ -298,12 +298,12 @@ module _ (contents : Contents) (state : State) (bounded : IsBounded contents) (s
   pub freed_all : (ids freed : List ℕ) → AreApart ids → FreesUpTo contents ids ids freed → IsFreed contents ids freed
   freed_all ids freed apart h = record {
     there = all_there contents.stamp contents.slots ids h.olds h.stand;
-    opens = λ place. free_zone contents.next_id made contents.callers (map (close ids made) contents.slots) place (within-close ids contents.next_id contents.stamp contents.slots stands.within) ∙ opens place;
+    opens = λ place. free_use contents.next_id made contents.callers (map (close ids made) contents.slots) place (within-close ids contents.next_id contents.stamp contents.slots stands.within) ∙ opens place;
     counted =
-        let all = used_zones contents.next_id made contents.callers (map (close ids made) contents.slots) (within-close ids contents.next_id contents.stamp contents.slots stands.within) in
+        let all = needed_uses contents.next_id made contents.callers (map (close ids made) contents.slots) (within-close ids contents.next_id contents.stamp contents.slots stands.within) in
         let long = length-map contents.slots (close ids made) in
-        let same : length zones ≡ length (map (use_of contents.callers) (map (close ids made) contents.slots)) = length-map contents.slots (use_of contents.callers) ∙ sym (length-map (map (close ids made) contents.slots) (use_of contents.callers) ∙ long) in
-        let marks = marked_count zones (map (use_of contents.callers) (map (close ids made) contents.slots)) freed same
+        let same : length uses ≡ length (map (use_of contents.callers) (map (close ids made) contents.slots)) = length-map contents.slots (use_of contents.callers) ∙ sym (length-map (map (close ids made) contents.slots) (use_of contents.callers) ∙ long) in
+        let marks = marked_count uses (map (use_of contents.callers) (map (close ids made) contents.slots)) freed same
         (subst AreApart (sym h.freed_is) (filter_apart (frees_at ns ids made contents.slots) h.olds (olds_apart ids h.olds h.stand apart))) marked opens in
         omega arith;
   }
@@ -311,10 +311,10 @@ module _ (contents : Contents) (state : State) (bounded : IsBounded contents) (s
       found : (place : ℕ) → among freed place ≡ (among h.olds place && frees_at ns ids made contents.slots place)
       found place = ap (λ l. among l place) h.freed_is ∙ among_filter (frees_at ns ids made contents.slots) h.olds place
 
-      opens : (place : ℕ) → free_at (map (use_of contents.callers) (map (close ids made) contents.slots)) place ≡ is_open zones freed place
-      opens place = frees_zone ids place ∙ frees_open ids h.olds place h.stand ∙ ap (λ b. free_at zones place || b) (sym (found place))
+      opens : (place : ℕ) → free_at (map (use_of contents.callers) (map (close ids made) contents.slots)) place ≡ is_open uses freed place
+      opens place = frees_use ids place ∙ frees_open ids h.olds place h.stand ∙ ap (λ b. free_at uses place || b) (sym (found place))
 
-      marked : (p : ℕ) → among freed p ≡ true → (p < length zones) × (free_at zones p ≡ false)
+      marked : (p : ℕ) → among freed p ≡ true → (p < length uses) × (free_at uses p ≡ false)
       marked p a =
           let parts = and_parts (among h.olds p) (frees_at ns ids made contents.slots p) (sym (found p) ∙ a) in
           let old = old_id ids h.olds p h.stand parts.0 in

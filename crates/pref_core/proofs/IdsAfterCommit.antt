@@ -38,9 +38,9 @@ ids_next next now [] h = refl
 ids_next next now (slot ∷ slots) h = ap₂ ◌∷◌ (shown_next next now slot h.0) (ids_next next now slots h.1)
 
 -- .. and they are known as a commit begins: nothing is ahead of it, and the lists beside the slots are as before.
-pub tracked_next : (contents : Contents) (zones : List SlotUse) (links : List ℕ) (more : ℕ) → IsTracked contents zones links
-    → IsTracked (record { slots = contents.slots; stamp = suc contents.stamp; next_id = contents.next_id + more; callers = contents.callers }) zones links
-tracked_next contents zones links more h = record {
+pub tracked_next : (contents : Contents) (uses : List SlotUse) (links : List ℕ) (more : ℕ) → IsTracked contents uses links
+    → IsTracked (record { slots = contents.slots; stamp = suc contents.stamp; next_id = contents.next_id + more; callers = contents.callers }) uses links
+tracked_next contents uses links more h = record {
   seats = h.seats;
   within = within-more contents.next_id (contents.next_id + more) (suc contents.stamp) contents.slots (omega arith)
       (subst (AllByRecursion (IsWithin contents.next_id (suc contents.stamp))) (close_none (suc contents.stamp) contents.slots) (within-close [] contents.next_id contents.stamp contents.slots h.within));

@@ -4,7 +4,7 @@ use Rattle.pref_core.proofs.Common.{count_by, range_with_len, length-map, length
 use Rattle.pref_core.proofs.Common.{lt-ltb, le-ltb, ltb-true, ltb-false, SlotUse, Free, Live, use_at, is_free_use, IsInverse, IsArranged, rotated, sum_by-replicate, get_or-append_right}
 use Rattle.pref_core.proofs.Common.{get_or-replicate}
 use Rattle.std.proofs.Math.ListN.{get_or-append}
-use Rattle.pref_core.proofs.SlotSetsLaws.{zone_free}
+use Rattle.pref_core.proofs.SlotSetsLaws.{use_free}
 
 abbrev all : ℕ → ℕ → List ℕ
 all capacity first = map (rotated capacity first) (range_with_len 0 capacity)
@@ -53,13 +53,13 @@ opened_ascend capacity free zero (suc j) h le l = let e = get_or-replicate 9 j c
 opened_ascend capacity free (suc i) zero h le l = absurd (omega arith)
 opened_ascend capacity free (suc i) (suc j) h le l = let e = get_or-replicate 9 i capacity 0 (omega arith) in let f = get_or-replicate 9 j capacity 0 (omega arith) in omega arith
 
-zone_live : (capacity free x : ℕ) → free ≤ x → x < capacity → use_at (opened capacity free) x ≡ Live
-zone_live capacity free x past below = rw (le-ltb x free past, lt-ltb x capacity below) refl
+use_live : (capacity free x : ℕ) → free ≤ x → x < capacity → use_at (opened capacity free) x ≡ Live
+use_live capacity free x past below = rw (le-ltb x free past, lt-ltb x capacity below) refl
 
--- the zones, pointwise and as a list
-zone : (capacity rows p : ℕ) → rows ≤ capacity → p < capacity → (d : SlotUse)
+-- the uses, pointwise and as a list
+slot_use : (capacity rows p : ℕ) → rows ≤ capacity → p < capacity → (d : SlotUse)
     → use_at (opened capacity (capacity - rows)) (rotated capacity (capacity - rows) p) ≡ get_or (replicate rows Live ++ replicate (capacity - rows) Free) p d
-zone capacity rows p r l d = go (nat_lt p rows) refl
+slot_use capacity rows p r l d = go (nat_lt p rows) refl
   where
     size : length (replicate rows Live) ≡ rows
     size = length-replicate rows Live
@@ -68,22 +68,22 @@ zone capacity rows p r l d = go (nat_lt p rows) refl
     go true e =
         let here = ltb-true _ _ e in
         let is = low capacity (capacity - rows) p (omega arith) in
-        zone_live capacity (capacity - rows) (rotated capacity (capacity - rows) p) (omega arith) (omega arith) ∙ sym (get_or-append (replicate rows Live) (replicate (capacity - rows) Free) d p (omega (arith, size, here)) ∙ get_or-replicate rows p Live d here)
+        use_live capacity (capacity - rows) (rotated capacity (capacity - rows) p) (omega arith) (omega arith) ∙ sym (get_or-append (replicate rows Live) (replicate (capacity - rows) Free) d p (omega (arith, size, here)) ∙ get_or-replicate rows p Live d here)
     go false e =
         let here = ltb-false _ _ e in
         let is = high capacity (capacity - rows) p (omega arith) in
-        zone_free (opened capacity (capacity - rows)) (rotated capacity (capacity - rows) p) (omega arith) (omega arith)
+        use_free (opened capacity (capacity - rows)) (rotated capacity (capacity - rows) p) (omega arith) (omega arith)
         ∙ sym (get_or-append_right (replicate rows Live) (replicate (capacity - rows) Free) p d (omega (arith, size, here)) ∙ get_or-replicate (capacity - rows) (p - length (replicate rows Live)) Free d (omega (arith, size, here, r, l)))
 
-pub turned_zones : (capacity rows : ℕ) → rows ≤ capacity → map (use_at (opened capacity (capacity - rows))) (map (rotated capacity (capacity - rows)) (range_with_len 0 capacity)) ≡ replicate rows Live ++ replicate (capacity - rows) Free
-turned_zones capacity rows r = same_lists _ _
+pub turned_uses : (capacity rows : ℕ) → rows ≤ capacity → map (use_at (opened capacity (capacity - rows))) (map (rotated capacity (capacity - rows)) (range_with_len 0 capacity)) ≡ replicate rows Live ++ replicate (capacity - rows) Free
+turned_uses capacity rows r = same_lists _ _
     (length-map (all capacity (capacity - rows)) (use_at (opened capacity (capacity - rows))) ∙ long capacity (capacity - rows) ∙ sym (length-append (replicate rows Live) (replicate (capacity - rows) Free) ∙ ap₂ ◌+◌ (length-replicate rows Live) (length-replicate (capacity - rows) Free) ∙ (let all_of : rows + (capacity - rows) ≡ capacity = omega arith in all_of)))
     (λ p d l.
     let m : p < capacity = let e = length-map (all capacity (capacity - rows)) (use_at (opened capacity (capacity - rows))) in let f = long capacity (capacity - rows) in omega arith in
     let n : p < length (all capacity (capacity - rows)) = let f = long capacity (capacity - rows) in omega arith in
     get_or-map (use_at (opened capacity (capacity - rows))) (all capacity (capacity - rows)) p 0 d n
     ∙ ap (use_at (opened capacity (capacity - rows))) (at capacity (capacity - rows) p m)
-    ∙ zone capacity rows p r m d)
+    ∙ slot_use capacity rows p r m d)
 
 pub turned_arranged : (capacity rows : ℕ) → capacity ≤ 65536 → rows ≤ capacity → IsArranged (map (rotated capacity rows) (range_with_len 0 capacity)) (map (rotated capacity (capacity - rows)) (range_with_len 0 capacity)) (opened capacity (capacity - rows))
 turned_arranged capacity rows few r =
@@ -94,7 +94,7 @@ turned_arranged capacity rows few r =
       bounded = refl;
       ascending = λ i j le l. opened_ascend capacity (capacity - rows) i j (omega arith) le l;
       inside = λ i l. let e = opened_less capacity (capacity - rows) i (omega arith) l in omega arith;
-      counted = ap (count_by is_free_use) (turned_zones capacity rows r) ∙ counted;
+      counted = ap (count_by is_free_use) (turned_uses capacity rows r) ∙ counted;
     }
   where
     counted : count_by is_free_use (replicate rows Live ++ replicate (capacity - rows) Free) ≡ capacity - rows

@@ -44,30 +44,30 @@ keeps_still stamp id place row slots (Set other next ∷ changes) [] here keep =
 keeps_still stamp id place row slots (Set other next ∷ changes) (at ∷ places) here keep = (stands_still stamp id place row slots other at here keep.0, keeps_still stamp id place row slots changes places here keep.1)
 
 -- One row is replaced and the others end, in either order.
-closed_still : (contents : Contents) (zones : List SlotUse) (links : List ℕ) (id place : ℕ) (row : Row) (ids : List ℕ) → IsTracked contents zones links → row_at contents.stamp id contents.slots place ≡ true → among ids id ≡ false
+closed_still : (contents : Contents) (uses : List SlotUse) (links : List ℕ) (id place : ℕ) (row : Row) (ids : List ℕ) → IsTracked contents uses links → row_at contents.stamp id contents.slots place ≡ true → among ids id ≡ false
     → set (map (close (id ∷ ids) contents.stamp) contents.slots) place (new_version contents.stamp (record { id = id; row = row })) ≡ map (close ids contents.stamp) (set contents.slots place (new_version contents.stamp (record { id = id; row = row })))
-closed_still contents zones links id place row ids h here apart =
+closed_still contents uses links id place row ids h here apart =
     let found = row_version contents.stamp id contents.slots place here in
     let new = new_version contents.stamp (record { id = id; row = row }) in
     let last : Option Version = Some (record found.0 { death = Some contents.stamp }) in
     let one : map (close (id ∷ ids) contents.stamp) contents.slots ≡ set (map (close ids contents.stamp) contents.slots) place (close ids contents.stamp last) =
-    sym (close_more (id ∷ []) ids contents.stamp contents.slots) ∙ ap (map (close ids contents.stamp)) (sym (end_slots contents zones links id place found.0 h here found.1)) ∙ map-set (close ids contents.stamp) contents.slots place last in
+    sym (close_more (id ∷ []) ids contents.stamp contents.slots) ∙ ap (map (close ids contents.stamp)) (sym (end_slots contents uses links id place found.0 h here found.1)) ∙ map-set (close ids contents.stamp) contents.slots place last in
     let same : new ≡ close ids contents.stamp new = ap (λ b. Some (record { id = id; row = row; birth = contents.stamp; death = close_at contents.stamp b None })) (sym apart) in
     ap (λ l. set l place new) one ∙ set-set (map (close ids contents.stamp) contents.slots) place (close ids contents.stamp last) new ∙ ap (set (map (close ids contents.stamp) contents.slots) place) same
     ∙ sym (map-set (close ids contents.stamp) contents.slots place new)
 
-pub rows_replaced : (contents : Contents) (zones : List SlotUse) (links : List ℕ) (next : ℕ) (changes : List Change) (places : List ℕ) → IsTracked contents zones links → AreApart (ended_by changes) → KeepSlots contents.stamp contents.slots changes places
+pub rows_replaced : (contents : Contents) (uses : List SlotUse) (links : List ℕ) (next : ℕ) (changes : List Change) (places : List ℕ) → IsTracked contents uses links → AreApart (ended_by changes) → KeepSlots contents.stamp contents.slots changes places
     → is_some (filled (stamps contents) contents.stamp places (begun_by next changes) (map (close (ended_by changes) contents.stamp) contents.slots)) ≡ true
     → filled (stamps contents) contents.stamp places (begun_by next changes) (map (close (ended_by changes) contents.stamp) contents.slots) ≡ Some (replaced contents.stamp changes places contents.slots)
-rows_replaced contents zones links next [] [] h apart keep fits = ap Some (close_none contents.stamp contents.slots)
-rows_replaced contents zones links next [] (place ∷ places) h apart keep fits = absurd (cc)
-rows_replaced contents zones links next (Add row ∷ changes) places h apart keep fits = absurd keep
-rows_replaced contents zones links next (Remove id ∷ changes) places h apart keep fits = absurd keep
-rows_replaced contents zones links next (Set id row ∷ changes) [] h apart keep fits = absurd keep
-rows_replaced contents zones links next (Set id row ∷ changes) (place ∷ places) h apart keep fits =
+rows_replaced contents uses links next [] [] h apart keep fits = ap Some (close_none contents.stamp contents.slots)
+rows_replaced contents uses links next [] (place ∷ places) h apart keep fits = absurd (cc)
+rows_replaced contents uses links next (Add row ∷ changes) places h apart keep fits = absurd keep
+rows_replaced contents uses links next (Remove id ∷ changes) places h apart keep fits = absurd keep
+rows_replaced contents uses links next (Set id row ∷ changes) [] h apart keep fits = absurd keep
+rows_replaced contents uses links next (Set id row ∷ changes) (place ∷ places) h apart keep fits =
     go (is_free (stamps contents) (map (close (id ∷ ended_by changes) contents.stamp) contents.slots) place) fits
-    (rows_replaced (with_slots (set contents.slots place new) contents) zones links next changes places
-    (replace_tracked contents zones links id place found.0 h keep.0 found.1 (record { id = id; row = row }) new refl refl) apart.1 (keeps_still contents.stamp id place row contents.slots changes places keep.0 keep.1))
+    (rows_replaced (with_slots (set contents.slots place new) contents) uses links next changes places
+    (replace_tracked contents uses links id place found.0 h keep.0 found.1 (record { id = id; row = row }) new refl refl) apart.1 (keeps_still contents.stamp id place row contents.slots changes places keep.0 keep.1))
   where
     new : Option Version
     new = new_version contents.stamp (record { id = id; row = row })
@@ -79,7 +79,7 @@ rows_replaced contents zones links next (Set id row ∷ changes) (place ∷ plac
     rest slots = filled (stamps contents) contents.stamp places (begun_by next changes) slots
 
     moved : set (map (close (id ∷ ended_by changes) contents.stamp) contents.slots) place new ≡ map (close (ended_by changes) contents.stamp) (set contents.slots place new)
-    moved = closed_still contents zones links id place row (ended_by changes) h keep.0 apart.0
+    moved = closed_still contents uses links id place row (ended_by changes) h keep.0 apart.0
 
     go : (free : Bool) → is_some (cond free (rest (set (map (close (id ∷ ended_by changes) contents.stamp) contents.slots) place new)) None) ≡ true
         → (is_some (rest (map (close (ended_by changes) contents.stamp) (set contents.slots place new))) ≡ true → rest (map (close (ended_by changes) contents.stamp) (set contents.slots place new)) ≡ Some (replaced contents.stamp changes places (set contents.slots place new)))
@@ -88,13 +88,13 @@ rows_replaced contents zones links next (Set id row ∷ changes) (place ∷ plac
     go true f more = ap rest moved ∙ more (ap (λ l. is_some (rest l)) (sym moved) ∙ f)
 
 -- A commit whose rows stay in their slots writes these alone.
-pub commit_kept : (now : Contents) (zones : List SlotUse) (links : List ℕ) (op : Op) → IsTracked now zones links → AreApart (ended op.call) → KeepSlots (suc now.stamp) now.slots (changes_of op.call) op.slots
+pub commit_kept : (now : Contents) (uses : List SlotUse) (links : List ℕ) (op : Op) → IsTracked now uses links → AreApart (ended op.call) → KeepSlots (suc now.stamp) now.slots (changes_of op.call) op.slots
     → is_change op.call ≡ true → succeeds op.outcome ≡ true → is_some (slots_after now op) ≡ true → slots_after now op ≡ Some (replaced (suc now.stamp) (changes_of op.call) op.slots now.slots)
-commit_kept now zones links op h apart keep c s fits =
+commit_kept now uses links op h apart keep c s fits =
     let start = begun_commit now (added op.call) in
     let closed : Contents = with_slots (map (close (ended op.call) (suc now.stamp)) now.slots) start in
     let returned = sym (commit_filled now start closed op now.next_id refl refl refl c s) in
-    returned ∙ rows_replaced start zones links now.next_id (changes_of op.call) op.slots (tracked_next now zones links (added op.call) h) apart keep (ap is_some (sym returned) ∙ fits)
+    returned ∙ rows_replaced start uses links now.next_id (changes_of op.call) op.slots (tracked_next now uses links (added op.call) h) apart keep (ap is_some (sym returned) ∙ fits)
 
 -- What is left of the rows, when some were replaced.
 pub record ReplacedUpTo (start now : Contents) (changes : List Change) (places : List ℕ) (all : List (Option Version)) : Type 0 where

@@ -93,10 +93,10 @@ links_ended made place slots version links ends h = subst (λ l. AreLinks l link
     gone None e = rw (le-leb made made (omega arith), hidden) refl
     gone (Some death) e = rw (le-leb death made e, hidden) refl
 
--- One zone is written.
-pub closed_zones : (callers : List Caller) (slots : List (Option Version)) (zones new : List SlotUse) (place : ℕ) (slot : Option Version) (zone : SlotUse) → zones ≡ map (use_of callers) slots → zone ≡ use_of callers slot → new ≡ set zones place zone → new ≡ map (use_of callers) (set slots place slot)
-closed_zones callers slots zones new place slot zone listed is returned =
+-- One slot_use is written.
+pub closed_uses : (callers : List Caller) (slots : List (Option Version)) (uses new : List SlotUse) (place : ℕ) (slot : Option Version) (slot_use : SlotUse) → uses ≡ map (use_of callers) slots → slot_use ≡ use_of callers slot → new ≡ set uses place slot_use → new ≡ map (use_of callers) (set slots place slot)
+closed_uses callers slots uses new place slot slot_use listed is returned =
     returned ∙ (λ i. set (listed i) place (is i)) ∙ sym (map-set (use_of callers) slots place slot)
 
-pub filled_zones : (callers : List Caller) (closed : List (Option Version)) (zones new : List SlotUse) (place : ℕ) (row : Option Version) (fresh : Entry) (made : ℕ) → zones ≡ map (use_of callers) closed → row ≡ new_version made fresh → new ≡ set zones place Live → new ≡ map (use_of callers) (set closed place row)
-filled_zones callers closed zones new place row fresh made listed is returned = closed_zones callers closed zones new place row Live listed (sym (ap (use_of callers) is)) returned
+pub filled_uses : (callers : List Caller) (closed : List (Option Version)) (uses new : List SlotUse) (place : ℕ) (row : Option Version) (fresh : Entry) (made : ℕ) → uses ≡ map (use_of callers) closed → row ≡ new_version made fresh → new ≡ set uses place Live → new ≡ map (use_of callers) (set closed place row)
+filled_uses callers closed uses new place row fresh made listed is returned = closed_uses callers closed uses new place row Live listed (sym (ap (use_of callers) is)) returned

@@ -107,19 +107,19 @@ module _ (order positions : List ℕ) (place to : ℕ) (inv : IsInverse order po
       below : (k : ℕ) → k < length new_order → k < length order
       below k l = let e = length_order in omega arith
 
-  -- the zones after a move that shifts a border past the position
-  pub zones_moved : (bounds after : List ℕ) (zone : SlotUse) → use_at after to ≡ zone
+  -- the uses after a move that shifts a border past the position
+  pub uses_moved : (bounds after : List ℕ) (slot_use : SlotUse) → use_at after to ≡ slot_use
       → (from ≢ to → use_at after from ≡ use_at bounds to)
       → ((x : ℕ) → x ≢ from → x ≢ to → use_at after x ≡ use_at bounds x)
-      → map (use_at after) new_positions ≡ set (map (use_at bounds) positions) place zone
-  zones_moved bounds after zone here there elsewhere =
+      → map (use_at after) new_positions ≡ set (map (use_at bounds) positions) place slot_use
+  uses_moved bounds after slot_use here there elsewhere =
       same_lists _ _ long (λ k d l. each k (let e = length-map new_positions (use_at after) in let f = length_positions in omega arith) d)
     where
       before : List SlotUse
       before = map (use_at bounds) positions
 
-      long : length (map (use_at after) new_positions) ≡ length (set before place zone)
-      long = length-map new_positions (use_at after) ∙ length_positions ∙ sym inv.long ∙ sym (length-map positions (use_at bounds)) ∙ sym (length-set before place zone)
+      long : length (map (use_at after) new_positions) ≡ length (set before place slot_use)
+      long = length-map new_positions (use_at after) ∙ length_positions ∙ sym inv.long ∙ sym (length-map positions (use_at bounds)) ∙ sym (length-set before place slot_use)
 
       others : (k : ℕ) → k < length order → k ≢ place → use_at after (get_or new_positions k 0) ≡ use_at bounds (get_or positions k 0)
       others = position_goes (λ k x. k ≢ place → use_at after x ≡ use_at bounds (get_or positions k 0))
@@ -127,18 +127,18 @@ module _ (order positions : List ℕ) (place to : ℕ) (inv : IsInverse order po
           (λ n. there (λ e. n (sym (same_place e))) ∙ ap (use_at bounds) (sym other_at))
           (λ k l a b n. elsewhere (get_or positions k 0) (apart k l a) (apart_other k l b))
 
-      each : (k : ℕ) → k < length order → (d : SlotUse) → get_or (map (use_at after) new_positions) k d ≡ get_or (set before place zone) k d
+      each : (k : ℕ) → k < length order → (d : SlotUse) → get_or (map (use_at after) new_positions) k d ≡ get_or (set before place slot_use) k d
       each k l d =
           let long_new : k < length new_positions = let e = length_positions in omega arith in
           let long_old : k < length positions = lq k l in
           ⊎_elim (λ (e : k ≡ place).
           get_or-map (use_at after) new_positions k 0 d long_new
           ∙ ap (λ x. use_at after (get_or new_positions x 0)) e ∙ ap (use_at after) at_place ∙ here
-          ∙ sym (ap (λ x. get_or (set before place zone) x d) e ∙ get_or-set_same before place zone d (let m = length-map positions (use_at bounds) in let n = inv.long in omega arith)))
+          ∙ sym (ap (λ x. get_or (set before place slot_use) x d) e ∙ get_or-set_same before place slot_use d (let m = length-map positions (use_at bounds) in let n = inv.long in omega arith)))
           (λ (n : k ≡ place → ⊥).
           get_or-map (use_at after) new_positions k 0 d long_new
           ∙ others k l n
-          ∙ sym (get_or-set_other before place k zone d n ∙ get_or-map (use_at bounds) positions k 0 d long_old)) (cases_eq k place)
+          ∙ sym (get_or-set_other before place k slot_use d n ∙ get_or-map (use_at bounds) positions k 0 d long_old)) (cases_eq k place)
 
 -- Numbers of positions: past each bound before, ..
 pub number_past : (bounds : List ℕ) (x j : ℕ) → j < number_at bounds x → get_or bounds j 0 ≤ x
@@ -176,16 +176,16 @@ number_numbered zero = refl
 number_numbered (suc zero) = refl
 number_numbered (suc (suc n)) = refl
 
-pub zone_number : (bounds : List ℕ) (x k : ℕ) → use_at bounds x ≡ numbered k → number_at bounds x ≡ k
-zone_number bounds x k e = sym (number_numbered (number_at bounds x)) ∙ ap number_of e ∙ number_numbered k
+pub use_number : (bounds : List ℕ) (x k : ℕ) → use_at bounds x ≡ numbered k → number_at bounds x ≡ k
+use_number bounds x k e = sym (number_numbered (number_at bounds x)) ∙ ap number_of e ∙ number_numbered k
 
 -- The free places are below the first bound.
 pub free_number : (bounds : List ℕ) (x : ℕ) → 0 < length bounds → is_free_use (use_at bounds x) ≡ nat_lt x (get_or bounds 0 0)
 free_number [] x l = absurd (omega arith)
 free_number (bound ∷ bounds) x l = grind (arith)
 
-pub zone_free : (bounds : List ℕ) (x : ℕ) → 0 < length bounds → x < get_or bounds 0 0 → use_at bounds x ≡ Free
-zone_free bounds x l h = ap numbered (number_is bounds x 0 l (λ j m. absurd (omega arith)) h)
+pub use_free : (bounds : List ℕ) (x : ℕ) → 0 < length bounds → x < get_or bounds 0 0 → use_at bounds x ≡ Free
+use_free bounds x l h = ap numbered (number_is bounds x 0 l (λ j m. absurd (omega arith)) h)
 
 pub free_from : (bounds : List ℕ) (x : ℕ) → 0 < length bounds → use_at bounds x ≡ Free → x < get_or bounds 0 0
 free_from bounds x l h = ltb-true _ _ (sym (free_number bounds x l) ∙ ap is_free_use h)
@@ -213,7 +213,7 @@ inside_set bounds k bound most long lk le all i l = ⊎_elim
     (λ (n : i ≡ k → ⊥). let a = get_or-set_other bounds k i bound 0 n in let h = all i l in omega arith)
     (cases_eq i k)
 
--- The first bound, and whether the zones beside a bound are free.
+-- The first bound, and whether the uses beside a bound are free.
 lower_counted : (bounds : List ℕ) (k : ℕ) → 0 < length bounds → get_or (set bounds k (get_or bounds k 0 + 1)) 0 0 + cond (is_free_use (numbered (suc k))) 1 0 ≡ get_or bounds 0 0 + cond (is_free_use (numbered k)) 1 0
 lower_counted [] k l = absurd (omega arith)
 lower_counted (bound ∷ bounds) zero l = omega arith
@@ -226,29 +226,29 @@ raise_counted (bound ∷ bounds) zero l h = omega arith
 raise_counted (bound ∷ bounds) (suc zero) l h = refl
 raise_counted (bound ∷ bounds) (suc (suc k)) l h = refl
 
--- How many zones are of a kind, after one place's zone is another.
+-- How many uses are of a kind, after one place's slot_use is another.
 pub count_set : {X : Type 0} (p : X → Bool) (xs : List X) (place : ℕ) (old new : X) → slice_get xs place ≡ Some old → count_by p (set xs place new) + cond (p old) 1 0 ≡ count_by p xs + cond (p new) 1 0
 count_set p xs place old new at =
     subst (λ x. count_by p (set xs place new) + cond (p x) 1 0 ≡ count_by p xs + cond (p new) 1 0) (get_or_from_slice_get xs place old old at)
     (sum_by-set (λ x. cond (p x) 1 0) xs place new old (slice_get_within xs place old at))
 
--- One place of an arrangement changes its zone to the one beside it.
+-- One place of an arrangement changes its slot_use to the one beside it.
 module _ (order positions bounds : List ℕ) (place : ℕ) (a : IsArranged order positions bounds) where
-  abbrev zones : List SlotUse
-  zones = map (use_at bounds) positions
+  abbrev uses : List SlotUse
+  uses = map (use_at bounds) positions
 
-  pub zone_here : (old : SlotUse) → slice_get zones place ≡ Some old → (place < length order) × (use_at bounds (get_or positions place 0) ≡ old)
-  zone_here old at =
-      let inside : place < length zones = slice_get_within zones place old at in
-      let long : length zones ≡ length positions = length-map positions (use_at bounds) in
+  pub use_here : (old : SlotUse) → slice_get uses place ≡ Some old → (place < length order) × (use_at bounds (get_or positions place 0) ≡ old)
+  use_here old at =
+      let inside : place < length uses = slice_get_within uses place old at in
+      let long : length uses ≡ length positions = length-map positions (use_at bounds) in
       let same = a.inverse.long in
       let within : place < length positions = omega arith in
-      (omega arith, sym (get_or-map (use_at bounds) positions place 0 old within) ∙ get_or_from_slice_get zones place old old at)
+      (omega arith, sym (get_or-map (use_at bounds) positions place 0 old within) ∙ get_or_from_slice_get uses place old old at)
 
-  pub number_here : (k : ℕ) → slice_get zones place ≡ Some (numbered k) → number_at bounds (get_or positions place 0) ≡ k
-  number_here k at = zone_number bounds (get_or positions place 0) k (zone_here (numbered k) at).1
+  pub number_here : (k : ℕ) → slice_get uses place ≡ Some (numbered k) → number_at bounds (get_or positions place 0) ≡ k
+  number_here k at = use_number bounds (get_or positions place 0) k (use_here (numbered k) at).1
 
-  pub bound_some : (k : ℕ) → k < 9 → slice_get zones place ≡ Some (numbered k) → 1 ≤ get_or bounds k 0
+  pub bound_some : (k : ℕ) → k < 9 → slice_get uses place ≡ Some (numbered k) → 1 ≤ get_or bounds k 0
   bound_some k few at =
       let from = get_or positions place 0 in
       let number = number_here k at in
@@ -257,18 +257,18 @@ module _ (order positions bounds : List ℕ) (place : ℕ) (a : IsArranged order
       omega arith
 
   -- a move to the bound at a number, which shifts past it
-  pub record IsStep (k to bound : ℕ) (zone : SlotUse) : Type 0 where
+  pub record IsStep (k to bound : ℕ) (slot_use : SlotUse) : Type 0 where
     pub here : place < length order
     pub there : to < length order
     pub arranged : IsArranged (moved_order order positions place to) (moved_positions order positions place to) (set bounds k bound)
-    pub same : map (use_at (set bounds k bound)) (moved_positions order positions place to) ≡ set zones place zone
+    pub same : map (use_at (set bounds k bound)) (moved_positions order positions place to) ≡ set uses place slot_use
 
-  step_from : (k to bound : ℕ) (old zone : SlotUse) → slice_get zones place ≡ Some old → k < 10 → (lp : place < length order) (lt : to < length order)
-      → map (use_at (set bounds k bound)) (moved_positions order positions place to) ≡ set zones place zone
+  step_from : (k to bound : ℕ) (old slot_use : SlotUse) → slice_get uses place ≡ Some old → k < 10 → (lp : place < length order) (lt : to < length order)
+      → map (use_at (set bounds k bound)) (moved_positions order positions place to) ≡ set uses place slot_use
       → ((i : ℕ) → i < k → get_or bounds i 0 ≤ bound) → ((j : ℕ) → k < j → j < 10 → bound ≤ get_or bounds j 0) → bound ≤ length order
-      → get_or (set bounds k bound) 0 0 + cond (is_free_use old) 1 0 ≡ get_or bounds 0 0 + cond (is_free_use zone) 1 0
-      → IsStep k to bound zone
-  step_from k to bound old zone at lk lp lt same low high most count =
+      → get_or (set bounds k bound) 0 0 + cond (is_free_use old) 1 0 ≡ get_or bounds 0 0 + cond (is_free_use slot_use) 1 0
+      → IsStep k to bound slot_use
+  step_from k to bound old slot_use at lk lp lt same low high most count =
       let long = length_order order positions place to a.inverse lp lt in
       record {
         here = lp;
@@ -279,15 +279,15 @@ module _ (order positions bounds : List ℕ) (place : ℕ) (a : IsArranged order
           bounded = length-set bounds k bound ∙ a.bounded;
           ascending = ascending_set bounds k bound a.bounded lk low high a.ascending;
           inside = inside_set bounds k bound _ a.bounded lk (omega arith) (λ i l. let f = a.inside i l in omega arith);
-          counted = ap (count_by is_free_use) same ∙ (let e = count_set is_free_use zones place old zone at in let f = a.counted in omega arith);
+          counted = ap (count_by is_free_use) same ∙ (let e = count_set is_free_use uses place old slot_use at in let f = a.counted in omega arith);
         };
         same = same;
       }
 
   -- a place goes down, ..
-  pub lowers : (k : ℕ) → k < 9 → slice_get zones place ≡ Some (numbered (suc k)) → IsStep k (get_or bounds k 0) (get_or bounds k 0 + 1) (numbered k)
+  pub lowers : (k : ℕ) → k < 9 → slice_get uses place ≡ Some (numbered (suc k)) → IsStep k (get_or bounds k 0) (get_or bounds k 0 + 1) (numbered k)
   lowers k few at =
-      let lp = (zone_here (numbered (suc k)) at).0 in
+      let lp = (use_here (numbered (suc k)) at).0 in
       let from = get_or positions place 0 in
       let number = number_here (suc k) at in
       let long = a.bounded in
@@ -296,7 +296,7 @@ module _ (order positions bounds : List ℕ) (place : ℕ) (a : IsArranged order
       let within = a.inverse.within place lp in
       let lt : get_or bounds k 0 < length order = omega arith in
       step_from k (get_or bounds k 0) (get_or bounds k 0 + 1) (numbered (suc k)) (numbered k) at (omega arith) lp lt
-      (zones_moved order positions place (get_or bounds k 0) a.inverse lp lt bounds (set bounds k (get_or bounds k 0 + 1)) (numbered k)
+      (uses_moved order positions place (get_or bounds k 0) a.inverse lp lt bounds (set bounds k (get_or bounds k 0 + 1)) (numbered k)
       (ap numbered (number_is (set bounds k (get_or bounds k 0 + 1)) (get_or bounds k 0) k (let e = length-set bounds k (get_or bounds k 0 + 1) in omega arith)
       (λ j l. let e = get_or-set_other bounds k j (get_or bounds k 0 + 1) 0 (λ s. absurd (omega arith)) in let f = a.ascending j k (omega arith) (omega arith) in omega arith)
       (let e = get_or-set_same bounds k (get_or bounds k 0 + 1) 0 (omega arith) in omega arith)))
@@ -315,9 +315,9 @@ module _ (order positions bounds : List ℕ) (place : ℕ) (a : IsArranged order
           go false e = let l = ltb-false _ _ e in le-ltb x (get_or bounds k 0 + 1) (omega arith)
 
   -- .. or up.
-  pub raises : (k : ℕ) → k < 9 → slice_get zones place ≡ Some (numbered k) → IsStep k (get_or bounds k 0 - 1) (get_or bounds k 0 - 1) (numbered (suc k))
+  pub raises : (k : ℕ) → k < 9 → slice_get uses place ≡ Some (numbered k) → IsStep k (get_or bounds k 0 - 1) (get_or bounds k 0 - 1) (numbered (suc k))
   raises k few at =
-      let lp = (zone_here (numbered k) at).0 in
+      let lp = (use_here (numbered k) at).0 in
       let from = get_or positions place 0 in
       let number = number_here k at in
       let long = a.bounded in
@@ -327,7 +327,7 @@ module _ (order positions bounds : List ℕ) (place : ℕ) (a : IsArranged order
       let to = get_or bounds k 0 - 1 in
       let lt : get_or bounds k 0 - 1 < length order = omega arith in
       step_from k to to (numbered k) (numbered (suc k)) at (omega arith) lp lt
-      (zones_moved order positions place to a.inverse lp lt bounds (set bounds k to) (numbered (suc k))
+      (uses_moved order positions place to a.inverse lp lt bounds (set bounds k to) (numbered (suc k))
       (ap numbered (number_is (set bounds k to) to (suc k) (let e = length-set bounds k to in omega arith)
       (λ j l. ⊎_elim
       (λ (e : j ≡ k). let f = ap (λ n. get_or (set bounds k to) n 0) e in let g = get_or-set_same bounds k to 0 (omega arith) in omega arith)

@@ -1,4 +1,4 @@
--- The zones of slots, and how many are free.
+-- The uses of slots, and how many are free.
 use Rattle.pref_core.proofs.Common.{◌≡◌, ℕ, zero, suc, ◌+◌, ◌<◌, Bool, true, false, not, ◌&&◌, ◌||◌, cond, eqb, List, [], ◌∷◌, map, length, Option, Some, None, slice_get, refl, sym, ap, ◌∙◌}
 use Rattle.pref_core.proofs.Common.{subst, arith, count_by, cons_option, AllByRecursion, option_to_list, sum_by-cons, le-leb, or_right, Version, Caller, Ended, Line, among, has, is_visible}
 use Rattle.pref_core.proofs.Common.{seen, visible, line, is_needed, begins, IsWithin, EndsBy, close, is_free, is_free_use, free_at, kept_from, use_of, is_spare, row_at}
@@ -25,17 +25,17 @@ kept_spare keeper (caller ∷ callers) slot = go (is_needed (option_to_list call
     go false e = e
 
 -- A slot is free by the callers where it is by their begins.
-pub spare_zone : (callers : List Caller) (slot : Option Version) → is_free_use (use_of callers slot) ≡ is_spare (begins callers) slot
-spare_zone callers None = refl
-spare_zone callers (Some version) = at_death version.death
+pub spare_use : (callers : List Caller) (slot : Option Version) → is_free_use (use_of callers slot) ≡ is_spare (begins callers) slot
+spare_use callers None = refl
+spare_use callers (Some version) = at_death version.death
   where
     at_death : (death : Option ℕ) → is_free_use (use_of callers (Some (record version { death = death }))) ≡ is_spare (begins callers) (Some (record version { death = death }))
     at_death None = refl
     at_death (Some death) = kept_spare 0 callers (Some (record version { death = Some death }))
 
 -- A slot that isn't ahead of the store is needed where it isn't free.
-pub needed_zone : (next now : ℕ) (callers : List Caller) (slot : Option Version) → IsWithin next now slot → is_needed (now ∷ begins callers) slot ≡ not (is_free_use (use_of callers slot))
-needed_zone next now callers slot h = needed slot h ∙ sym (ap not (spare_zone callers slot))
+pub needed_use : (next now : ℕ) (callers : List Caller) (slot : Option Version) → IsWithin next now slot → is_needed (now ∷ begins callers) slot ≡ not (is_free_use (use_of callers slot))
+needed_use next now callers slot h = needed slot h ∙ sym (ap not (spare_use callers slot))
   where
     twice : (b : Bool) → b ≡ not (not b)
     twice true = refl
@@ -50,12 +50,12 @@ needed_zone next now callers slot h = needed slot h ∙ sym (ap not (spare_zone 
         at_death (Some death) ends = rw (le-leb version.birth now h.1, le-leb death now ends) (twice (is_needed (begins callers) (Some (record version { death = Some death }))))
 
 -- The slots that are needed, and those that are free, are all.
-pub used_zones : (next now : ℕ) (callers : List Caller) (slots : List (Option Version)) → AllByRecursion (IsWithin next now) slots → count_by (is_needed (now ∷ begins callers)) slots + count_by is_free_use (map (use_of callers) slots) ≡ length slots
-used_zones next now callers [] h = refl
-used_zones next now callers (slot ∷ slots) h =
+pub needed_uses : (next now : ℕ) (callers : List Caller) (slots : List (Option Version)) → AllByRecursion (IsWithin next now) slots → count_by (is_needed (now ∷ begins callers)) slots + count_by is_free_use (map (use_of callers) slots) ≡ length slots
+needed_uses next now callers [] h = refl
+needed_uses next now callers (slot ∷ slots) h =
     let a = count_by-cons (is_needed (now ∷ begins callers)) slot slots in
     let b = count_by-cons is_free_use (use_of callers slot) (map (use_of callers) slots) in
-    let rest = used_zones next now callers slots h.1 in
+    let rest = needed_uses next now callers slots h.1 in
     let here = one in
     omega arith
   where
@@ -64,17 +64,17 @@ used_zones next now callers (slot ∷ slots) h =
     either false = refl
 
     one : cond (is_needed (now ∷ begins callers) slot) 1 0 + cond (is_free_use (use_of callers slot)) 1 0 ≡ 1
-    one = ap (λ b. cond b 1 0 + cond (is_free_use (use_of callers slot)) 1 0) (needed_zone next now callers slot h.0) ∙ either (is_free_use (use_of callers slot))
+    one = ap (λ b. cond b 1 0 + cond (is_free_use (use_of callers slot)) 1 0) (needed_use next now callers slot h.0) ∙ either (is_free_use (use_of callers slot))
 
--- A place is free by its slot where it is by its zone.
-pub free_zone : (next now : ℕ) (callers : List Caller) (slots : List (Option Version)) (place : ℕ) → AllByRecursion (IsWithin next now) slots → is_free (now ∷ begins callers) slots place ≡ free_at (map (use_of callers) slots) place
-free_zone next now callers [] place h = refl
-free_zone next now callers (slot ∷ slots) zero h = ap not (needed_zone next now callers slot h.0) ∙ twice (is_free_use (use_of callers slot))
+-- A place is free by its slot where it is by its slot_use.
+pub free_use : (next now : ℕ) (callers : List Caller) (slots : List (Option Version)) (place : ℕ) → AllByRecursion (IsWithin next now) slots → is_free (now ∷ begins callers) slots place ≡ free_at (map (use_of callers) slots) place
+free_use next now callers [] place h = refl
+free_use next now callers (slot ∷ slots) zero h = ap not (needed_use next now callers slot h.0) ∙ twice (is_free_use (use_of callers slot))
   where
     twice : (b : Bool) → not (not b) ≡ b
     twice true = refl
     twice false = refl
-free_zone next now callers (slot ∷ slots) (suc place) h = free_zone next now callers slots place h.1
+free_use next now callers (slot ∷ slots) (suc place) h = free_use next now callers slots place h.1
 
 -- Whether the slot holds a row of one of these ids that hasn't ended.
 abbrev pub live_by : List ℕ → ℕ → Option ℕ → Bool

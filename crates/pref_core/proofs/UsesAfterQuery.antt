@@ -1,4 +1,4 @@
--- What becomes of the zones where an open query begins or ends.
+-- What becomes of the uses where an open query begins or ends.
 use Rattle.pref_core.proofs.Common.{◌≡◌, ℕ, zero, suc, ◌+◌, ◌-◌, ◌<◌, ◌≤◌, ◌⊎◌, inl, inr, Bool, true, false, cond, List, [], ◌∷◌, ◌++◌, map, length, set, replicate, Option, Some, None}
 use Rattle.pref_core.proofs.Common.{is_some, slice_get, refl, sym, ap, ap₂, ◌∙◌, subst, arith, AllByRecursion, AllZip, option_to_list, length-set, slice_get_within, ne_eqb, Version, Caller}
 use Rattle.pref_core.proofs.Common.{SlotUse, Free, Ended, Live, Call, Insert, Update, Delete, Commit, Begin, Finish, Abandon, Op, Row, refusal_of, after, Contents, is_needed}
@@ -7,7 +7,7 @@ use Rattle.pref_core.proofs.Common.{is_kept_by, MayBecome, IsBounded, IsKept, us
 use Rattle.pref_core.proofs.AppliedLaws.{stepped_stands}
 use Rattle.pref_core.proofs.BoundsLaws.{IsBounded-stepped}
 
--- A caller whose begin sees of ended versions what it saw leaves the zones.
+-- A caller whose begin sees of ended versions what it saw leaves the uses.
 kept_still : (keeper : ℕ) (callers : List Caller) (k : ℕ) (found new : Caller) (slot : Option Version) → slice_get callers k ≡ Some found → is_needed (option_to_list new.at_begin) slot ≡ is_needed (option_to_list found.at_begin) slot
     → kept_from keeper (set callers k new) slot ≡ kept_from keeper callers slot
 kept_still keeper [] k found new slot at e = absurd (cc)
@@ -17,18 +17,18 @@ kept_still keeper (first ∷ callers) (suc k) found new slot at e = ap (λ z. co
 abbrev SeesStill : ℕ → ℕ → Caller → Caller → Type 0
 SeesStill next now found new = (version : Version) → IsWithin next now (Some version) → is_some version.death ≡ true → is_needed (option_to_list new.at_begin) (Some version) ≡ is_needed (option_to_list found.at_begin) (Some version)
 
-zone_still : (next now : ℕ) (callers : List Caller) (k : ℕ) (found new : Caller) (slot : Option Version) → slice_get callers k ≡ Some found → SeesStill next now found new → IsWithin next now slot → use_of (set callers k new) slot ≡ use_of callers slot
-zone_still next now callers k found new None at still h = refl
-zone_still next now callers k found new (Some version) at still h = at_death version.death h.2
+use_still : (next now : ℕ) (callers : List Caller) (k : ℕ) (found new : Caller) (slot : Option Version) → slice_get callers k ≡ Some found → SeesStill next now found new → IsWithin next now slot → use_of (set callers k new) slot ≡ use_of callers slot
+use_still next now callers k found new None at still h = refl
+use_still next now callers k found new (Some version) at still h = at_death version.death h.2
   where
     at_death : (death : Option ℕ) → EndsBy now death → use_of (set callers k new) (Some (record version { death = death })) ≡ use_of callers (Some (record version { death = death }))
     at_death None ends = refl
     at_death (Some death) ends = kept_still 0 callers k found new (Some (record version { death = Some death })) at (still (record version { death = Some death }) (h.0, h.1, ends) refl)
 
-zones_still : (next now : ℕ) (callers : List Caller) (k : ℕ) (found new : Caller) (slots : List (Option Version)) → slice_get callers k ≡ Some found → SeesStill next now found new → AllByRecursion (IsWithin next now) slots
+uses_still : (next now : ℕ) (callers : List Caller) (k : ℕ) (found new : Caller) (slots : List (Option Version)) → slice_get callers k ≡ Some found → SeesStill next now found new → AllByRecursion (IsWithin next now) slots
     → map (use_of (set callers k new)) slots ≡ map (use_of callers) slots
-zones_still next now callers k found new [] at still h = refl
-zones_still next now callers k found new (slot ∷ slots) at still h = ap₂ ◌∷◌ (zone_still next now callers k found new slot at still h.0) (zones_still next now callers k found new slots at still h.1)
+uses_still next now callers k found new [] at still h = refl
+uses_still next now callers k found new (slot ∷ slots) at still h = ap₂ ◌∷◌ (use_still next now callers k found new slot at still h.0) (uses_still next now callers k found new slots at still h.1)
 
 -- No ended version is seen now.
 sees_begun : (next now : ℕ) (found new : Caller) → found.at_begin ≡ None → new.at_begin ≡ Some now → SeesStill next now found new
@@ -38,11 +38,11 @@ begin_closed : (calls : ℕ) (b : Option ℕ) → refusal_of (Some calls) (is_so
 begin_closed calls None h = refl
 begin_closed calls (Some n) h = grind (arith)
 
--- Every call that doesn't end a query leaves the zones.
-pub zones_kept : (contents : Contents) (client : ℕ) (call : Call) → refusal_at contents client call ≡ None → is_end call ≡ false → AllByRecursion (IsWithin contents.next_id contents.stamp) contents.slots
+-- Every call that doesn't end a query leaves the uses.
+pub uses_kept : (contents : Contents) (client : ℕ) (call : Call) → refusal_at contents client call ≡ None → is_end call ≡ false → AllByRecursion (IsWithin contents.next_id contents.stamp) contents.slots
     → map (use_of (callers_after contents.stamp contents.callers client call)) contents.slots ≡ uses_of contents
-zones_kept contents zero call accepted stays within = refl
-zones_kept contents (suc k) call accepted stays within = there (slice_get contents.callers k) refl accepted
+uses_kept contents zero call accepted stays within = refl
+uses_kept contents (suc k) call accepted stays within = there (slice_get contents.callers k) refl accepted
   where
     same : (call : Call) (found new : Caller) → new.at_begin ≡ begin_after contents.stamp call found.at_begin → begin_after contents.stamp call found.at_begin ≡ found.at_begin → SeesStill contents.next_id contents.stamp found new
     same call found new is e version h d = ap (λ b. is_needed (option_to_list b) (Some version)) (is ∙ e)
@@ -61,7 +61,7 @@ zones_kept contents (suc k) call accepted stays within = there (slice_get conten
     there None at r = refl
     there (Some found) at r =
         let new : Caller = record { calls = suc found.calls; at_begin = begin_after contents.stamp call found.at_begin } in
-        zones_still contents.next_id contents.stamp contents.callers k found new contents.slots at (still call found new refl r stays) within
+        uses_still contents.next_id contents.stamp contents.callers k found new contents.slots at (still call found new refl r stays) within
 
 -- A client whose call gets a number is one of the callers.
 pub seated : (contents : Contents) (client : ℕ) (call : Call) → refusal_at contents client call ≡ None → (1 ≤ client) × (client ≤ length contents.callers)
@@ -99,34 +99,34 @@ kept_few start (caller ∷ callers) slot = go (is_needed (option_to_list caller.
     go true more = omega arith
     go false more = omega arith
 
-pub zone_few : (callers : List Caller) (slot : Option Version) → length callers ≤ 8 → number_of (use_of callers slot) < 10
-zone_few callers None few = omega arith
-zone_few callers (Some version) few = at_death version.death
+pub use_few : (callers : List Caller) (slot : Option Version) → length callers ≤ 8 → number_of (use_of callers slot) < 10
+use_few callers None few = omega arith
+use_few callers (Some version) few = at_death version.death
   where
     at_death : (death : Option ℕ) → number_of (use_of callers (Some (record version { death = death }))) < 10
     at_death None = omega arith
     at_death (Some death) = let less = kept_few 0 callers (Some (record version { death = Some death })) in omega arith
 
 -- Where a caller's query ends, what it kept goes elsewhere.
-zone_left : (start k keeper : ℕ) (callers : List Caller) (new : Caller) (slot : Option Version) → keeper ≡ start + k → k < length callers → new.at_begin ≡ None → MayBecome keeper (kept_from start callers slot) (kept_from start (set callers k new) slot)
-zone_left start k keeper [] new slot is l e = absurd (omega arith)
-zone_left start zero keeper (first ∷ callers) new slot is l e =
+use_left : (start k keeper : ℕ) (callers : List Caller) (new : Caller) (slot : Option Version) → keeper ≡ start + k → k < length callers → new.at_begin ≡ None → MayBecome keeper (kept_from start callers slot) (kept_from start (set callers k new) slot)
+use_left start k keeper [] new slot is l e = absurd (omega arith)
+use_left start zero keeper (first ∷ callers) new slot is l e =
     subst (λ z. MayBecome keeper (kept_from start (first ∷ callers) slot) z) (sym (ap (λ b. cond (is_needed (option_to_list b) slot) (Ended start) (kept_from (suc start) callers slot)) e))
     (kept_past (suc start) keeper callers slot (omega arith), either (is_needed (option_to_list first.at_begin) slot))
   where
     either : (b : Bool) → (cond b (Ended start) (kept_from (suc start) callers slot) ≡ kept_from (suc start) callers slot) ⊎ (cond b (Ended start) (kept_from (suc start) callers slot) ≡ Ended keeper)
     either true = inr (ap (λ n. Ended n) (let same : start ≡ keeper = omega arith in same))
     either false = inl refl
-zone_left start (suc k) keeper (first ∷ callers) new slot is l e = go (is_needed (option_to_list first.at_begin) slot) (zone_left (suc start) k keeper callers new slot (omega arith) (omega arith) e)
+use_left start (suc k) keeper (first ∷ callers) new slot is l e = go (is_needed (option_to_list first.at_begin) slot) (use_left (suc start) k keeper callers new slot (omega arith) (omega arith) e)
   where
     go : (b : Bool) → MayBecome keeper (kept_from (suc start) callers slot) (kept_from (suc start) (set callers k new) slot)
         → MayBecome keeper (cond b (Ended start) (kept_from (suc start) callers slot)) (cond b (Ended start) (kept_from (suc start) (set callers k new) slot))
     go true more = (ne_eqb start keeper (λ e. absurd (omega arith)), inl refl)
     go false more = more
 
-zones_left : (keeper : ℕ) (callers : List Caller) (new : Caller) (slots : List (Option Version)) → keeper < length callers → new.at_begin ≡ None → AllZip (MayBecome keeper) (map (use_of callers) slots) (map (use_of (set callers keeper new)) slots)
-zones_left keeper callers new [] l e = tt
-zones_left keeper callers new (slot ∷ slots) l e = (first slot, zones_left keeper callers new slots l e)
+uses_left : (keeper : ℕ) (callers : List Caller) (new : Caller) (slots : List (Option Version)) → keeper < length callers → new.at_begin ≡ None → AllZip (MayBecome keeper) (map (use_of callers) slots) (map (use_of (set callers keeper new)) slots)
+uses_left keeper callers new [] l e = tt
+uses_left keeper callers new (slot ∷ slots) l e = (first slot, uses_left keeper callers new slots l e)
   where
     first : (slot : Option Version) → MayBecome keeper (use_of callers slot) (use_of (set callers keeper new) slot)
     first None = (refl, inl refl)
@@ -134,12 +134,12 @@ zones_left keeper callers new (slot ∷ slots) l e = (first slot, zones_left kee
       where
         at_death : (death : Option ℕ) → MayBecome keeper (use_of callers (Some (record version { death = death }))) (use_of (set callers keeper new) (Some (record version { death = death })))
         at_death None = (refl, inl refl)
-        at_death (Some death) = zone_left 0 keeper keeper callers new (Some (record version { death = Some death })) (omega arith) l e
+        at_death (Some death) = use_left 0 keeper keeper callers new (Some (record version { death = Some death })) (omega arith) l e
 
-pub zones_end : (contents : Contents) (client : ℕ) (call : Call) → refusal_at contents client call ≡ None → is_end call ≡ true
+pub uses_end : (contents : Contents) (client : ℕ) (call : Call) → refusal_at contents client call ≡ None → is_end call ≡ true
     → AllZip (MayBecome (client - 1)) (uses_of contents) (map (use_of (callers_after contents.stamp contents.callers client call)) contents.slots)
-zones_end contents zero call accepted e = absurd (cc)
-zones_end contents (suc k) call accepted e = subst (λ n. AllZip (MayBecome n) (uses_of contents) (map (use_of (callers_after contents.stamp contents.callers (suc k) call)) contents.slots)) (let same : k ≡ suc k - 1 = omega arith in same)
+uses_end contents zero call accepted e = absurd (cc)
+uses_end contents (suc k) call accepted e = subst (λ n. AllZip (MayBecome n) (uses_of contents) (map (use_of (callers_after contents.stamp contents.callers (suc k) call)) contents.slots)) (let same : k ≡ suc k - 1 = omega arith in same)
     (there (slice_get contents.callers k) refl accepted)
   where
     gone : (call : Call) (b : Option ℕ) → is_end call ≡ true → begin_after contents.stamp call b ≡ None
@@ -154,7 +154,7 @@ zones_end contents (suc k) call accepted e = subst (λ n. AllZip (MayBecome n) (
     there : (o : Option Caller) → slice_get contents.callers k ≡ o → refusal_of (elim o as (λ x. Option ℕ) [ None ↦ None | Some caller ↦ Some caller.calls ]) (is_some (elim o as (λ x. Option ℕ) [ None ↦ None | Some caller ↦ caller.at_begin ])) call ≡ None
         → AllZip (MayBecome k) (uses_of contents) (map (use_of (elim o as (λ x. List Caller) [ None ↦ contents.callers | Some found ↦ set contents.callers k (record { calls = suc found.calls; at_begin = begin_after contents.stamp call found.at_begin }) ])) contents.slots)
     there None at r = absurd (cc)
-    there (Some found) at r = zones_left k contents.callers (record { calls = suc found.calls; at_begin = begin_after contents.stamp call found.at_begin }) contents.slots (slice_get_within contents.callers k found at) (gone call found.at_begin e)
+    there (Some found) at r = uses_left k contents.callers (record { calls = suc found.calls; at_begin = begin_after contents.stamp call found.at_begin }) contents.slots (slice_get_within contents.callers k found at) (gone call found.at_begin e)
 
 -- What a legal op leaves is what applying it makes, ..
 pub stepped_is : (contents : Contents) (op : Op) (slots : List (Option Version)) (new : Contents) → is_next contents op ≡ true → slots_after contents op ≡ Some slots → new ≡ stepped contents op slots → new ≡ applied contents op
@@ -168,11 +168,11 @@ kept_stepped contents op slots new h next fits is = record {
   stands = subst (λ s. StandsFor s (after (length contents.slots) h.state op.client op.call)) (sym is) (stepped_stands contents h.state op slots h.stands next fits);
 }
 
--- The zones as a store is opened.
-zones_opening : (callers : List Caller) (before : ℕ) (rows : List Row) (empty : ℕ) → map (use_of callers) (opening_slots before rows ++ replicate empty None) ≡ replicate (length rows) Live ++ replicate empty Free
-zones_opening callers before [] zero = refl
-zones_opening callers before [] (suc empty) = ap (λ l. Free ∷ l) (zones_opening callers before [] empty)
-zones_opening callers before (row ∷ rows) empty = ap (λ l. Live ∷ l) (zones_opening callers (suc before) rows empty)
+-- The uses as a store is opened.
+uses_opening : (callers : List Caller) (before : ℕ) (rows : List Row) (empty : ℕ) → map (use_of callers) (opening_slots before rows ++ replicate empty None) ≡ replicate (length rows) Live ++ replicate empty Free
+uses_opening callers before [] zero = refl
+uses_opening callers before [] (suc empty) = ap (λ l. Free ∷ l) (uses_opening callers before [] empty)
+uses_opening callers before (row ∷ rows) empty = ap (λ l. Live ∷ l) (uses_opening callers (suc before) rows empty)
 
-pub zones_opened : (callers : List Caller) (capacity : ℕ) (rows : List Row) (slots : List (Option Version)) (zones : List SlotUse) → slots ≡ opening_slots 0 rows ++ replicate (capacity - length rows) None → zones ≡ replicate (length rows) Live ++ replicate (capacity - length rows) Free → zones ≡ map (use_of callers) slots
-zones_opened callers capacity rows slots zones is returned = returned ∙ sym (zones_opening callers 0 rows (capacity - length rows)) ∙ ap (map (use_of callers)) (sym is)
+pub uses_opened : (callers : List Caller) (capacity : ℕ) (rows : List Row) (slots : List (Option Version)) (uses : List SlotUse) → slots ≡ opening_slots 0 rows ++ replicate (capacity - length rows) None → uses ≡ replicate (length rows) Live ++ replicate (capacity - length rows) Free → uses ≡ map (use_of callers) slots
+uses_opened callers capacity rows slots uses is returned = returned ∙ sym (uses_opening callers 0 rows (capacity - length rows)) ∙ ap (map (use_of callers)) (sym is)

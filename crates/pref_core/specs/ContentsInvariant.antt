@@ -29,10 +29,10 @@ abbrev pub uses_of : Contents → List SlotUse
 uses_of contents = map (use_of contents.callers) contents.slots
 
 -- At each step of a commit no version is ahead, and the lists beside the slots go along with them.
-pub record IsTracked (contents : Contents) (zones : List SlotUse) (links : List ℕ) : Type 0 where
+pub record IsTracked (contents : Contents) (uses : List SlotUse) (links : List ℕ) : Type 0 where
   pub seats : length contents.callers ≤ 8
   pub within : AllByRecursion (IsWithin contents.next_id contents.stamp) contents.slots
-  pub listed : zones ≡ uses_of contents
+  pub listed : uses ≡ uses_of contents
   pub linked : AreLinks (ids_of contents.stamp contents.slots) links
   pub ids : AreIds (2 ^ 64) (id_at (ids_of contents.stamp contents.slots))
 
@@ -58,7 +58,7 @@ frees_at begins ids stamp slots place = elim (slice_get slots place) [ None ↦ 
 
 -- a place that can be used once rows ended: it is free, or they leave it free
 abbrev pub is_open : List SlotUse → List ℕ → ℕ → Bool
-is_open zones freed place = free_at zones place || among freed place
+is_open uses freed place = free_at uses place || among freed place
 
 -- The rows of these ids are there, and these slots are left free when they end.
 pub record IsFreed (contents : Contents) (ids freed : List ℕ) : Type 0 where

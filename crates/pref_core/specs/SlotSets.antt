@@ -43,7 +43,7 @@ is_kept_by keeper (Ended other) = other == keeper
 
 -- whether there is a place of this number, and it is free
 abbrev pub free_at : List SlotUse → ℕ → Bool
-free_at zones place = elim (slice_get zones place) [ None ↦ false | Some zone ↦ is_free_use zone ]
+free_at uses place = elim (slice_get uses place) [ None ↦ false | Some slot_use ↦ is_free_use slot_use ]
 
 -- each place is once in the order, at its position
 pub record IsInverse (order positions : List ℕ) : Type 0 where

@@ -140,8 +140,8 @@ impl Contents {
         };
         self.slots.end(place);
         let slots = self.slots.as_slice();
-        let zone = use_of(&slots[place as usize], &self.callers);
-        self.places.put(place, SlotUse::Live, zone);
+        let next_use = use_of(&slots[place as usize], &self.callers);
+        self.places.put(place, SlotUse::Live, next_use);
     }
 
     /// Begins all rows that the op's call begins, each in its slot; added ones get the ids from this one on.

@@ -116,15 +116,15 @@ impl SlotSets {
     /// free. Goes over these places alone.
     pub(crate) fn sweep(&mut self, keeper: u8, slots: &[Option<Version>], callers: &[Caller])
         requires seats { (keeper < 8) × (length callers.now ≤ 8) }
-        requires zones { AllZip (MayBecome keeper) self.old (map (use_of callers.now) slots.now) }
+        requires uses { AllZip (MayBecome keeper) self.old (map (use_of callers.now) slots.now) }
         ensures { self.new ≡ map (use_of callers.now) slots.now }
     {
         for _turn in 0..slots.len() {
             let Some(place) = self.any_kept(keeper) else {
                 return;
             };
-            let zone = use_of(&slots[place as usize], callers);
-            self.put(place, SlotUse::Ended { keeper }, zone);
+            let next_use = use_of(&slots[place as usize], callers);
+            self.put(place, SlotUse::Ended { keeper }, next_use);
         }
     }
 
@@ -203,8 +203,8 @@ impl SlotSets {
         requires few { (from ≤ to) × (to < 10) }
         ensures { self.new ≡ slice_set self.old place (numbered to) }
     {
-        for zone in from..to {
-            self.raise(place, zone);
+        for number in from..to {
+            self.raise(place, number);
         }
     }
 

@@ -2,8 +2,8 @@ use Rattle.pref_core.proofs.Common.{◌≡◌, ℕ, ◌||◌, true, false, Optio
 use Rattle.pref_core.proofs.store.contents.Contents.choose.Goals.{After-any_free_but}
 use Rattle.pref_core.proofs.store.contents.Contents.choose.Goals as goal
 
-zones : (c : After-any_free_but) → c.self.inside.places ≡ uses_of c.args.self.now
-zones c = c.self.invariant.listed ∙ ap uses_of c.self.view_is
+uses : (c : After-any_free_but) → c.self.inside.places ≡ uses_of c.args.self.now
+uses c = c.self.invariant.listed ∙ ap uses_of c.self.view_is
 
 pub returns-clause-found : goal.returns-clause-found
 returns-clause-found c = go c.any_free_but.result c.any_free_but.ensures.found
@@ -11,7 +11,7 @@ returns-clause-found c = go c.any_free_but.result c.any_free_but.ensures.found
     go : (o : Option ℕ) → IfSome o (λ place. (free_at c.self.inside.places place ≡ true) × (among c.args.chosen.now place ≡ false))
         → IfSome o (λ place. (is_open (uses_of c.args.self.now) c.args.freed.now place ≡ true) × (among c.args.chosen.now place ≡ false))
     go None f = f
-    go (Some place) f = (ap (λ b. b || among c.args.freed.now place) (ap (λ z. free_at z place) (sym (zones c)) ∙ f.0), f.1)
+    go (Some place) f = (ap (λ b. b || among c.args.freed.now place) (ap (λ z. free_at z place) (sym (uses c)) ∙ f.0), f.1)
 
 pub returns-clause-none : goal.returns-clause-none
 returns-clause-none c = go c.any_free_but.result c.any_free_but.ensures.none
@@ -19,7 +19,7 @@ returns-clause-none c = go c.any_free_but.result c.any_free_but.ensures.none
     go : (o : Option ℕ) → IfNone o ((place : ℕ) → free_at c.self.inside.places place ≡ true → among c.args.chosen.now place ≡ true)
         → IfNone o ((place : ℕ) → is_open (uses_of c.args.self.now) c.args.freed.now place ≡ true → among c.args.chosen.now place ≡ true)
     go None f = λ place opens. ⊎_elim
-        (λ free. f place (ap (λ z. free_at z place) (zones c) ∙ free))
+        (λ free. f place (ap (λ z. free_at z place) (uses c) ∙ free))
         (λ freed. c.in_default.ensures.none place (ap (λ l. among l place) c.as_slice.ensures.same ∙ freed))
         (or_cases (free_at (uses_of c.args.self.now) place) (among c.args.freed.now place) opens)
     go (Some place) f = f

@@ -1,5 +1,5 @@
 use Rattle.pref_core.proofs.Common.{◌≡◌, ◌-◌, ◌≤◌, length, map, sym, ap, ap₂, ◌∙◌, subst, arith, AllZip, with_items_is, uses_of, callers_after, refusal_at, MayBecome, use_of, Contents}
-use Rattle.pref_core.proofs.UsesAfterQuery.{callers_long, seated, zones_kept, zones_end}
+use Rattle.pref_core.proofs.UsesAfterQuery.{callers_long, seated, uses_kept, uses_end}
 use Rattle.pref_core.proofs.store.contents.Contents.count.Goals as goal
 
 pub overflow_sub-client : goal.overflow_sub-client
@@ -16,9 +16,9 @@ sweep-requires c =
     let counted = c.deref.ensures.value ∙ with_items_is now.callers c.count.new.callers long ∙ c.count.ensures ∙ ap₂ (λ n l. callers_after n l c.args.client c.args.call.now) c.stamp.ensures c.deref_mut.ensures.value in
     record {
       seats = (omega arith, subst (λ callers. length callers ≤ 8) (sym counted) (let same = callers_long now.slots.stamp now.callers.items c.args.client c.args.call.now in omega arith));
-      zones = subst (λ zones. AllZip (MayBecome (c.args.client - 1)) zones (map (use_of c.deref.result.now) c.as_slice.result.now)) (sym c.self.invariant.listed)
+      uses = subst (λ uses. AllZip (MayBecome (c.args.client - 1)) uses (map (use_of c.deref.result.now) c.as_slice.result.now)) (sym c.self.invariant.listed)
           (subst (AllZip (MayBecome (c.args.client - 1)) (uses_of contents)) (sym (λ i. map (use_of (counted i)) (c.as_slice.ensures i)))
-          (zones_end contents c.args.client c.args.call.now accepted (sym c.ends_query.ensures ∙ c.if-ends_query.true)));
+          (uses_end contents c.args.client c.args.call.now accepted (sym c.ends_query.ensures ∙ c.if-ends_query.true)));
     }
 
 pub invariant_of-self-else-ends_query : goal.invariant_of-self-else-ends_query
@@ -29,7 +29,7 @@ invariant_of-self-else-ends_query c =
     let long : length c.count.new.callers ≡ now.callers.len = omega arith in
     let counted = with_items_is now.callers c.count.new.callers long ∙ c.count.ensures ∙ ap₂ (λ n l. callers_after n l c.args.client c.args.call.now) c.stamp.ensures c.deref_mut.ensures.value in
     let accepted = ap (λ (s : Contents). refusal_at s c.args.client c.args.call.now) c.self.view_is ∙ c.requires in
-    let kept = zones_kept contents c.args.client c.args.call.now accepted (sym c.ends_query.ensures ∙ c.if-ends_query.false) c.self.invariant.within in
+    let kept = uses_kept contents c.args.client c.args.call.now accepted (sym c.ends_query.ensures ∙ c.if-ends_query.false) c.self.invariant.within in
     record {
       seats = subst (λ callers. length callers ≤ 8) (sym counted) (let same = callers_long now.slots.stamp now.callers.items c.args.client c.args.call.now in omega arith);
       within = c.self.invariant.within;

@@ -1,6 +1,6 @@
 use Rattle.pref_core.proofs.Common.{◌≡◌, ◌<◌, ◌≤◌, [], ◌∷◌, length, length-set, map, get_or, Some, sym, ap, ap₂, ◌∙◌, subst, arith, slice_get, slice_get_within}
 use Rattle.pref_core.proofs.Common.{get_or-set_same, Version, IsPlaceOf, IsTracked, StampedSlots, with_slots, close, number_of, use_of, Contents}
-use Rattle.pref_core.proofs.UsesAfterQuery.{zone_few}
+use Rattle.pref_core.proofs.UsesAfterQuery.{use_few}
 use Rattle.pref_core.proofs.FilledLaws.{end_none, end_alive, end_slots, end_tracked}
 use Rattle.pref_core.proofs.SlotUseLaws.{row_version}
 use Rattle.pref_core.proofs.store.contents.Contents.end_row.Goals.{In-Some}
@@ -36,7 +36,7 @@ put-requires c =
     let some = (goal.at.put-requires c).In-Some in
     record {
       there = end_alive _ now.places now.links c.args.id c.in-Some.place (found some).0 c.self.invariant c.in-Some.ensures.place (found some).1;
-      few = (omega arith, subst (λ zone. number_of zone < 10) (sym c.use_of-zone.ensures) (zone_few _ _ (subst (λ callers. length callers ≤ 8) (sym c.deref.ensures.value) c.self.invariant.seats)));
+      few = (omega arith, subst (λ slot_use. number_of slot_use < 10) (sym c.use_of-next_use.ensures) (use_few _ _ (subst (λ callers. length callers ≤ 8) (sym c.deref.ensures.value) c.self.invariant.seats)));
     }
 
 pub invariant_of-self-2 : goal.invariant_of-self-2
@@ -48,9 +48,9 @@ invariant_of-self-2 c =
     let last = Some (record version { death = Some now.slots.stamp }) in
     let returned = c.end.ensures version (found some).1 in
     let slot = c.index-slots-place.is ∙ ap (λ l. get_or l c.in-Some.place c.index-slots-place.result) (c.as_slice-slots.ensures ∙ ap (λ (s : StampedSlots). s.slots) returned) ∙ get_or-set_same now.slots.slots c.in-Some.place last c.index-slots-place.result (inside some) in
-    let zone = c.use_of-zone.ensures ∙ ap₂ (λ callers slot. use_of callers slot) c.deref.ensures.value slot in
+    let slot_use = c.use_of-next_use.ensures ∙ ap₂ (λ callers slot. use_of callers slot) c.deref.ensures.value slot in
     subst (λ (s : StampedSlots). IsTracked (record { slots = s.slots; stamp = s.stamp; next_id = now.next_id; callers = now.callers.items }) c.put.new.self c.take.new.self) (sym returned)
-    (end_tracked contents now.places now.links c.args.id c.in-Some.place version c.self.invariant c.in-Some.ensures.place (found some).1 c.use_of-zone.result c.put.new.self c.take.new.self zone c.put.ensures c.in-Some.ensures.some)
+    (end_tracked contents now.places now.links c.args.id c.in-Some.place version c.self.invariant c.in-Some.ensures.place (found some).1 c.use_of-next_use.result c.put.new.self c.take.new.self slot_use c.put.ensures c.in-Some.ensures.some)
 
 pub returns : goal.returns
 returns c =

@@ -21,11 +21,11 @@ loop-at-preserved c =
           let place = w.in-Add-Some.place.now in
           let more = w.used-is in
           let slot = slice_get-get_or places used place (ltb-true _ _ (sym w.in-Add-Some.ensures'.lookup.0)) ∙ ap Some (sym w.in-Add-Some.ensures'.lookup.1) in
-          let zones = c.self.invariant.listed ∙ ap uses_of c.self.view_is in
+          let uses = c.self.invariant.listed ∙ ap uses_of c.self.view_is in
           record {
             fits = subst (FitsUpTo now call places (at + 1)) (sym more)
                 (fits_added now call places at used w.in-Add-Some.field-0-0.now place c.requires.kept w.in-Add-Some.ensures slot
-                (ap (λ z. free_at z place) (sym zones) ∙ sym w.is_free.ensures ∙ w.if-is_free.true) (sym w.is_listed.ensures ∙ w.if-not-is_listed.true) c.loop-at.invariant.fits);
+                (ap (λ z. free_at z place) (sym uses) ∙ sym w.is_free.ensures ∙ w.if-is_free.true) (sym w.is_listed.ensures ∙ w.if-not-is_listed.true) c.loop-at.invariant.fits);
             used = omega arith;
           }
       | in-Set-Some w ↦

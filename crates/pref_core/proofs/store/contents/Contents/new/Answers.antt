@@ -1,5 +1,5 @@
 use Rattle.pref_core.proofs.Common.{◌+◌, length, arith, refl, ap, sym, ◌∙◌, subst, IsKept, AreLinks, StampedSlots, ids_of}
-use Rattle.pref_core.proofs.UsesAfterQuery.{zones_opened}
+use Rattle.pref_core.proofs.UsesAfterQuery.{uses_opened}
 use Rattle.pref_core.proofs.IdsAfterCommit.{known_ids}
 use Rattle.pref_core.proofs.OpeningChains.{opening_is}
 use Rattle.pref_core.proofs.OpeningLaws.{opened_kept}
@@ -17,7 +17,7 @@ invariant_of-result c =
     record {
       seats = kept.bounded.callers;
       within = kept.stands.within;
-      listed = zones_opened c.in_ok-callers.callers.items capacity rows slots.slots c.in_ok-places.places opened c.in_ok-places.ensures;
+      listed = uses_opened c.in_ok-callers.callers.items capacity rows slots.slots c.in_ok-places.places opened c.in_ok-places.ensures;
       linked = subst (λ ids. AreLinks ids c.in_ok-links.links) (opening_is capacity rows slots.slots (omega arith) opened ∙ ap (λ n. ids_of n slots.slots) (sym stamp)) c.in_ok-links.ensures;
       ids = known_ids _ kept.state kept.bounded kept.stands;
     }

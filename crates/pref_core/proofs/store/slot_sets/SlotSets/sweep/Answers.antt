@@ -1,11 +1,11 @@
 use Rattle.pref_core.proofs.Common.{◌≡◌, ℕ, ◌+◌, ◌<◌, map, get_or, length, set, Option, Some, IfNone, slice_get, ap, sym, ◌∙◌, subst, arith, length-map, get_or-map, slice_get_within, SlotUse, Live}
 use Rattle.pref_core.proofs.Common.{Ended, MayBecome, number_of, use_of}
-use Rattle.pref_core.proofs.UsesAfterQuery.{zone_few}
+use Rattle.pref_core.proofs.UsesAfterQuery.{use_few}
 use Rattle.pref_core.proofs.SweepLaws.{IsSweeping, AllZip-length, sweep_begins, sweep_goes, swept, swept_all}
 use Rattle.pref_core.proofs.store.slot_sets.SlotSets.sweep.Goals as goal
 
 pub loop-turn-init : goal.loop-turn-init
-loop-turn-init c = sweep_begins c.args.keeper c.args.self.now _ c.requires.zones
+loop-turn-init c = sweep_begins c.args.keeper c.args.self.now _ c.requires.uses
 
 pub returns-in_default : goal.returns-in_default
 returns-in_default c = swept c.args.keeper c.loop-turn.self _ c.loop-turn.invariant.may
@@ -21,7 +21,7 @@ bounds-slots-place c =
 pub put-requires-clause-few : goal.put-requires-clause-few
 put-requires-clause-few c =
     let few = c.requires.seats.0 in
-    (omega arith, subst (λ (zone : SlotUse). number_of zone < 10) (sym c.use_of-zone.ensures) (zone_few c.args.callers.now _ c.requires.seats.1))
+    (omega arith, subst (λ (slot_use : SlotUse). number_of slot_use < 10) (sym c.use_of-next_use.ensures) (use_few c.args.callers.now _ c.requires.seats.1))
 
 pub loop-turn-preserved : goal.loop-turn-preserved
 loop-turn-preserved c =
@@ -30,9 +30,9 @@ loop-turn-preserved c =
     let long = AllZip-length (MayBecome c.args.keeper) _ _ c.loop-turn.invariant.may in
     let same = length-map c.args.slots.now (use_of c.args.callers.now) in
     let within : c.in-Some.place < length c.args.slots.now = omega arith in
-    let zone : get_or after c.in-Some.place Live ≡ c.use_of-zone.result
-    = get_or-map (use_of c.args.callers.now) c.args.slots.now c.in-Some.place c.index-slots-place.result Live within ∙ ap (use_of c.args.callers.now) (sym c.index-slots-place.is) ∙ sym c.use_of-zone.ensures in
-    subst (λ zones. IsSweeping c.args.keeper (c.loop-turn._turn + 1) zones after) (sym (c.put.ensures ∙ ap (set c.loop-turn.self c.in-Some.place) (sym zone)))
+    let slot_use : get_or after c.in-Some.place Live ≡ c.use_of-next_use.result
+    = get_or-map (use_of c.args.callers.now) c.args.slots.now c.in-Some.place c.index-slots-place.result Live within ∙ ap (use_of c.args.callers.now) (sym c.index-slots-place.is) ∙ sym c.use_of-next_use.ensures in
+    subst (λ uses. IsSweeping c.args.keeper (c.loop-turn._turn + 1) uses after) (sym (c.put.ensures ∙ ap (set c.loop-turn.self c.in-Some.place) (sym slot_use)))
     (sweep_goes c.args.keeper c.loop-turn._turn c.in-Some.place c.loop-turn.self after c.loop-turn.invariant c.in-Some.ensures.found)
 
 pub returns : goal.returns
