@@ -98,11 +98,7 @@ module _ {over : Entry → Entry → Bool} {cut : ℕ} {rule : Entry → ℕ} {p
 -- those that come to a partition are those of its number
 filter_mapped : {E F : Type 0} (f : E → F) (q : F → Bool) (xs : List E) → filter q (map f xs) ≡ map f (filter (λ x. q (f x)) xs)
 filter_mapped f q [] = refl
-filter_mapped f q (x ∷ xs) =
-    elim (q (f x)) as (λ b. cond b (f x ∷ filter q (map f xs)) (filter q (map f xs)) ≡ map f (cond b (x ∷ filter (λ y. q (f y)) xs) (filter (λ y. q (f y)) xs))) [
-      | true ↦ ap (λ l. f x ∷ l) (filter_mapped f q xs)
-      | false ↦ filter_mapped f q xs
-    ]
+filter_mapped f q (x ∷ xs) = grind (arith, filter_mapped f q xs)
 
 pub coming_of : (number : Entry → ℕ) (pool : List Entry) (arrivals : List Arrival) → All (λ a. number (arrived pool a) ≡ a.partition) arrivals → (partition : ℕ)
     → filter (is_in number partition) (map (arrived pool) arrivals) ≡ map (arrived pool) (coming_to partition arrivals)

@@ -34,8 +34,7 @@ enough_before over strict same within all n e after (suc j) le =
 -- none of a level is on a lower one
 none_lower : (same : Row → Row → Bool) (n : ℕ) (xs : List Entry) (r : Ranked) → r.level ≤ n → count_before same (map (at_level n) xs) r ≡ 0
 none_lower same n [] r le = refl
-none_lower same n (x ∷ xs) r le =
-    grind (arith, nat_tests, le, none_lower same n xs r le, count_cons (λ (s : Ranked). same s.row r.row && ltb s.level r.level) (at_level n x) (map (at_level n) xs))
+none_lower same n (x ∷ xs) r le = grind (arith, none_lower same n xs r le)
 
 -- a level past k changes nothing
 one_level_more : (over : Entry → Entry → Bool) → IsStrictOrder over → (same : Row → Row → Bool) → StaysInGroups over same → (all : List Entry) (k n : ℕ) → k ≤ n → at_least same k (levels over all (suc n)) ≡ at_least same k (levels over all n)

@@ -22,23 +22,14 @@ no_chain : {E : Type 0} → IsChain {E = E} (λ a b. false)
 no_chain = record { strict = record { irreflexive = λ a. refl; transitive = λ a b c h k. h }; between = λ a b c h k. h }
 
 numbers_chain : {E : Type 0} (number : E → ℤ) → IsChain (λ a b. int_lt (number a) (number b))
-numbers_chain number = record {
-  strict = record { irreflexive = λ a. grind (arith, ints); transitive = λ a b c h k. grind (arith, ints) };
-  between = λ a b c h k. grind (arith, ints);
-}
+numbers_chain number = grind (arith)
 
 pub places_chain : {E : Type 0} (place : E → ℕ) → IsChain (λ a b. nat_lt (place a) (place b))
-places_chain place = record {
-  strict = record { irreflexive = λ a. grind (arith, nat_tests); transitive = λ a b c h k. grind (arith, nat_tests) };
-  between = λ a b c h k. grind (arith, nat_tests);
-}
+places_chain place = grind (arith)
 
 -- a chain of rows is one of entries
 pub chain_of_entries : (better : List ℤ → List ℤ → Bool) → IsChain better → IsChain {E = Entry} (λ a b. better a.row b.row)
-chain_of_entries better chain = record {
-  strict = record { irreflexive = λ a. chain.strict.irreflexive a.row; transitive = λ a b c h k. chain.strict.transitive a.row b.row c.row h k };
-  between = λ a b c h k. chain.between a.row b.row c.row h k;
-}
+chain_of_entries better chain = grind (arith)
 
 by_first : (x y : ℤ) (r : Relation) → is_better (in_priority (by_scores x y) r) ≡ (int_lt x y || ((not (int_lt x y) && not (int_lt y x)) && is_better r))
 by_first x y r = grind arith
@@ -193,10 +184,7 @@ stands_behind order xs ordered j p le inside =
 -- ---- lists that are sorted by it
 
 chain_is_weak : {E : Type 0} (before : E → E → Bool) → IsChain before → IsStrictWeakOrder before
-chain_is_weak before chain = record {
-  one_way = λ a b h. grind (arith, h, chain.strict.transitive a b a, chain.strict.irreflexive a);
-  chain = λ a b c h k. grind (arith, h, k, chain.between a b c);
-}
+chain_is_weak before chain = grind (arith)
 
 in_order_if_far : {E : Type 0} (before : E → E → Bool) (xs : List E) → ((i j : ℕ) (d : E) → i ≤ j → j < length xs → before (get_or xs j d) (get_or xs i d) ≡ false) → IsInOrder (λ a b. not (before b a)) xs
 in_order_if_far before [] far = tt

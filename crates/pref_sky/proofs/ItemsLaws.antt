@@ -75,13 +75,7 @@ tests_chain : (a b c first second whole ab bc ac : Bool) → (a ≡ true → b �
 tests_chain a b c first second whole ab bc ac then over h k = grind (arith, then, over, h, k)
 
 pub place_order_is_strict : (order : RowOrder) (pool : List Entry) → IsStrictOrder (entry_order order) → IsStrictOrder (place_order order pool)
-place_order_is_strict order pool strict =
-    let n = length pool in
-    let over = λ (a b : ℕ). entry_order order (entry_at pool a) (entry_at pool b) in
-    record {
-      irreflexive = λ a. and_right (ltb a n) (ltb a n && over a a) (and_right (ltb a n) (over a a) (strict.irreflexive (entry_at pool a)));
-      transitive = λ a b c. tests_chain (ltb a n) (ltb b n) (ltb c n) true true true (over a b) (over b c) (over a c) (λ _ _ _ _ _. refl) (strict.transitive (entry_at pool a) (entry_at pool b) (entry_at pool c));
-    }
+place_order_is_strict order pool strict = grind (arith)
 
 covered_if_within : (x y : ℕ) → y < 2 ^ 64 → is_within x y ≡ true → (i : ℕ) → i < 64 → bit_at x i ≤ bit_at y i
 covered_if_within x y small within i inside =
@@ -116,12 +110,7 @@ tests_pass a b both first second ab h k l m then = grind (arith, h, k, l, m, the
 -- items that are signed by a rule which tells of the order are ordered as their entries are
 pub item_agrees : (order : RowOrder) (rule : Entry → ℕ) (pool : List Entry) → ((a b : Entry) → entry_order order a b ≡ true → is_within (rule a) (rule b) ≡ true) → (x y : Item) → IsItem rule pool x → IsItem rule pool y
     → item_order order pool x y ≡ entry_order order (entry_at pool x.place) (entry_at pool y.place)
-item_agrees order rule pool tells x y first second =
-    let n = length pool in
-    let a = entry_at pool x.place in
-    let b = entry_at pool y.place in
-    tests_pass (is_word x) (is_word y) (is_within x.signature y.signature) (ltb x.place n) (ltb y.place n) (entry_order order a b) (lt-ltb x.signature (2 ^ 64) first.word) (lt-ltb y.signature (2 ^ 64) second.word)
-    (lt-ltb x.place n first.within) (lt-ltb y.place n second.within) (λ h. ap (λ s. is_within s y.signature) first.signed ∙ (ap (is_within (rule a)) second.signed ∙ tells a b h))
+item_agrees order rule pool tells x y first second = grind (arith)
 
 -- ---- items of a pool that are signed by a rule which tells of the order: their entries are parted as they are
 

@@ -35,9 +35,7 @@ count_is over (suc cut) all e n chain =
     ]
 
 chain_at : {E : Type 0} (over : E → E → Bool) (cut : ℕ) (all : List E) (e : E) (k : ℕ) → k < cut → is_at over all k e ≡ true → HasChain over cut all e k
-chain_at over cut all e k early at =
-    let both = and_parts (comes_after over all k e) (not (comes_after over all (suc k) e)) at in
-    record { within = omega (arith, early); after = both.0; no_more = λ l. not-true (comes_after over all (suc k) e) both.1 }
+chain_at over cut all e k early at = grind (arith)
 
 -- the places of the last entries of the levels, as far as they are among the first i entries
 pub record AreLasts (over : Entry → Entry → Bool) (cut : ℕ) (all : List Entry) (i : ℕ) (last : List ℕ) : Type 0 where

@@ -19,10 +19,7 @@ to_level over all n x m there behind =
 
 -- alike entries have the same chains over them, and so are of one level
 alike_come_after : {E : Type 0} (over : E → E → Bool) (all : List E) (a b : E) → StandAlike over a b → (n : ℕ) → comes_after over all n a ≡ true → comes_after over all n b ≡ true
-alike_come_after over all a b alike zero h = refl
-alike_come_after over all a b alike (suc n) h =
-    let w = any_gives (λ z. comes_after over all n z && over z a) all h in
-    any_from (λ z. comes_after over all n z && over z b) all w.0 w.1 (sym (ap (λ t. comes_after over all n w.0 && t) (alike.above w.0)) ∙ w.2)
+alike_come_after over all a b alike x1 h = grind (arith)
 
 alike_back : {E : Type 0} (over : E → E → Bool) (a b : E) → StandAlike over a b → StandAlike over b a
 alike_back over a b alike = record { above = λ c. sym (alike.above c); below = λ c. sym (alike.below c) }

@@ -56,8 +56,7 @@ from_filter p (y ∷ ys) x m =
 -- two tests that agree among a list keep the same of it
 pub filter_agree_among : {E : Type 0} (p q : E → Bool) (xs : List E) → ((x : E) → Among x xs → p x ≡ q x) → filter p xs ≡ filter q xs
 filter_agree_among p q [] agree = refl
-filter_agree_among p q (x ∷ xs) agree =
-    ap (λ b. cond b (x ∷ filter p xs) (filter p xs)) (agree x (inl refl)) ∙ ap (λ l. cond (q x) (x ∷ l) l) (filter_agree_among p q xs (λ y m. agree y (inr m)))
+filter_agree_among p q (x ∷ xs) agree = grind (arith, filter_agree_among p q xs (λ y m. agree y (inr m)))
 
 pub none_pass : {E : Type 0} (p : E → Bool) (xs : List E) → ((x : E) → Among x xs → p x ≡ false) → filter p xs ≡ []
 none_pass p [] none = refl
@@ -106,25 +105,15 @@ pub among_all : {E : Type 0} (P : E → Type 0) (xs : List E) → ((x : E) → A
 among_all P xs each = λ k d inside. each (get_or xs k d) (among_place xs k d inside)
 
 pub same_answer : (a b : Bool) → (a ≡ true → b ≡ true) → (b ≡ true → a ≡ true) → a ≡ b
-same_answer true b f g = sym (f refl)
-same_answer false true f g = g refl
-same_answer false false f g = refl
+same_answer x1 x2 f g = grind (arith)
 
 pub any_filter : {E : Type 0} (p q : E → Bool) (xs : List E) → list_any q (filter p xs) ≡ list_any (λ x. p x && q x) xs
 any_filter p q [] = refl
-any_filter p q (x ∷ xs) =
-    elim (p x) as (λ b. list_any q (cond b (x ∷ filter p xs) (filter p xs)) ≡ ((b && q x) || list_any (λ y. p y && q y) xs)) [
-      | true ↦ ap (λ t. q x || t) (any_filter p q xs)
-      | false ↦ any_filter p q xs
-    ]
+any_filter p q (x ∷ xs) = grind (arith, any_filter p q xs)
 
 pub filter_filter : {E : Type 0} (p q : E → Bool) (xs : List E) → filter q (filter p xs) ≡ filter (λ x. p x && q x) xs
 filter_filter p q [] = refl
-filter_filter p q (x ∷ xs) =
-    elim (p x) as (λ b. filter q (cond b (x ∷ filter p xs) (filter p xs)) ≡ cond (b && q x) (x ∷ filter (λ y. p y && q y) xs) (filter (λ y. p y && q y) xs)) [
-      | true ↦ ap (λ l. cond (q x) (x ∷ l) l) (filter_filter p q xs)
-      | false ↦ filter_filter p q xs
-    ]
+filter_filter p q (x ∷ xs) = grind (arith, filter_filter p q xs)
 
 -- how many pass a test
 pub count_append : {E : Type 0} (p : E → Bool) (xs ys : List E) → count_by p (xs ++ ys) ≡ count_by p xs + count_by p ys
@@ -219,19 +208,7 @@ some_of x xs m = one_passes (same_item x) xs x m (and_from (eqb x.signature x.si
 
 pub among_or : (x : Item) (xs : List Item) → Among x xs ⊎ (sum_by (is_item x) xs ≡ 0)
 among_or x [] = inr refl
-among_or x (y ∷ ys) =
-    elim (cases_Bool (same_item x y)) [
-      | inl is ↦
-          let both = and_parts (eqb x.signature y.signature) (eqb x.place y.place) is in
-          let signature : x.signature ≡ y.signature = eqb-true x.signature y.signature both.0 in
-          let place : x.place ≡ y.place = eqb-true x.place y.place both.1 in
-          inl (inl (ap (λ s. record { signature = s; place = x.place }) signature ∙ ap (λ p. record { signature = y.signature; place = p }) place))
-      | inr other ↦
-          elim (among_or x ys) [
-            | inl m ↦ inl (inr m)
-            | inr none ↦ inr (sum_by-cons (is_item x) y ys ∙ omega (arith, none, ap (λ b. cond {A = ℕ} b 1 0) other))
-          ]
-    ]
+among_or x (y ∷ ys) = grind (arith, among_or x ys)
 
 pub among_if : (x : Item) (xs : List Item) → 0 < sum_by (is_item x) xs → Among x xs
 among_if x xs some = elim (among_or x xs) [ inl m ↦ m | inr none ↦ absurd (omega (arith, some, none)) ]

@@ -7,20 +7,11 @@ use Rattle.pref_sky.proofs.Merges.{beaten_by_best}
 
 -- one chain, and where that sees no difference another one
 pub chain_in_turn : {E : Type 0} (f g : E → E → Bool) → IsChain f → IsChain g → IsChain (in_turn f g)
-chain_in_turn f g first second = record {
-  strict = record {
-    irreflexive = λ a. grind (arith, first.strict.irreflexive a, second.strict.irreflexive a);
-    transitive = λ a b c ab bc. grind (arith, first.strict.transitive a b c, first.between a b c, first.between a c b, first.between c b a, first.between b a c, second.strict.transitive a b c);
-  };
-  between = λ a b c ac ab. grind (arith, first.strict.transitive a b a, first.strict.irreflexive a, first.between a b c, first.between c b a, first.between b a c, second.between a b c);
-}
+chain_in_turn f g first second = grind (arith)
 
 -- and its converse
 pub converse_chain : {E : Type 0} (f : E → E → Bool) → IsChain f → IsChain (λ a b. f b a)
-converse_chain f chain = record {
-  strict = record { irreflexive = chain.strict.irreflexive; transitive = λ a b c ab bc. chain.strict.transitive c b a bc ab };
-  between = λ a b c ca ba. grind (arith, chain.between c b a ca);
-}
+converse_chain f chain = grind (arith)
 
 -- two that are level compare alike with a third
 pub level_above : {E : Type 0} (f : E → E → Bool) → IsChain f → (a b c : E) → are_level f a b ≡ true → f c a ≡ f c b
@@ -151,21 +142,8 @@ swept over f s t =
 
 -- within groups: stairs whose first chain begins with the groups, and the second with their converse
 pub serves_groups : {E : Type 0} (over f s t earlier : E → E → Bool) → ServesGroups over f s t earlier
-serves_groups over f s t earlier =
-    record {
-      stairs = λ stairs groups. record {
-        first_is_chain = chain_in_turn earlier f groups stairs.first_is_chain;
-        second_is_chain = chain_in_turn (λ a b. earlier b a) s (converse_chain earlier groups) stairs.second_is_chain;
-        tie_is_chain = stairs.tie_is_chain;
-        is = λ a b. grind (arith, stairs.is a b);
-      };
-      order = λ a b. grind arith;
-    }
+serves_groups over f s t earlier = grind (arith)
 
 -- where both are one chain within groups, they are a line
 pub line_of_one : {E : Type 0} (over earlier f s t : E → E → Bool) → ((a b : E) → f a b ≡ s a b) → IsChain earlier → IsChain f → AreStairs over (in_turn earlier f) (in_turn (λ a b. earlier b a) s) t → IsLine over earlier (in_turn f t)
-line_of_one over earlier f s t one groups chain stairs = record {
-  groups = groups;
-  chain = chain_in_turn f t chain stairs.tie_is_chain;
-  is = λ a b. grind (arith, stairs.is a b, one a b, one b a, chain.strict.transitive a b a, chain.strict.irreflexive a);
-}
+line_of_one over earlier f s t one groups chain stairs = grind (arith)
