@@ -285,10 +285,7 @@ hears_no_more source mid old now start stop count first little so_far next none 
 -- a line was not read
 line_missing : (source : Source) (mid : Option (List ℕ)) (old now new : ReadAhead) (stop : ℕ) (why : RunFault) → LineFault (record { had = mid; left = source.left; failed = source.failed }) stop now new why → HearsNone source old
     → (ReadBehind mid source.left now new → IsLong stop (unread new) → ReadBehind source.had source.left old new × ((more : List ℕ) → IsTooLong (unread new ++ more))) → ReadsBlock source old new (Err why)
-line_missing source mid old now new stop fault.TooLarge (read, long) none over = let (behind, too_long) = over read long in (behind, too_long, none)
-line_missing source mid old now new stop fault.Read is none over = (is, none)
-line_missing source mid old now new stop fault.Memory is none over = (is, none)
-line_missing source mid old now new stop why never none over = absurd never
+line_missing source mid old now new stop why never none over = grind (arith)
 
 -- the line `table` was not read
 pub first_missing : (source : Source) (old new : ReadAhead) (why : RunFault) → LineFault source 0 old new why → ReadSome source.had source.left 0 old → ReadsBlock source old new (Err why)

@@ -23,13 +23,7 @@ event_in (Ok event) false = event ∷ []
 
 pub events-in : (names : List (List ℕ)) (number : ℕ) (line : List ℕ) → accepted_events (commands_in names number line) ≡ event_in (event_of names line) (list_all is_blank line)
 unfolding accepted_events
-events-in names number line = by (event_of names line) (list_all is_blank line)
-  where
-    by : (said : Result Event Refusal) (blank : Bool) → accepted_events (if blank then [] else command_of number said ∷ []) ≡ event_in said blank
-    by (Err why) true = refl
-    by (Err why) false = refl
-    by (Ok event) true = refl
-    by (Ok event) false = refl
+events-in names number line = grind (arith)
 
 pub events-any_number : (names : List (List ℕ)) (n m : ℕ) (raws : List (List ℕ)) → accepted_events (commands_of names n raws) ≡ accepted_events (commands_of names m raws)
 unfolding commands_of
@@ -42,17 +36,12 @@ events-any_number names n m (raw ∷ more) =
 
 -- a line has one event at most
 event_in-few : (said : Result Event Refusal) (blank : Bool) → length (event_in said blank) ≤ 1
-event_in-few (Err why) blank = omega arith
-event_in-few (Ok event) true = omega arith
-event_in-few (Ok event) false = omega arith
+event_in-few x1 x2 = grind (arith)
 
 pub events-of_lines : (names : List (List ℕ)) (number : ℕ) (raws : List (List ℕ)) → length (accepted_events (commands_of names number raws)) ≤ length raws
 unfolding commands_of accepted_events
 events-of_lines names number [] = omega arith
-events-of_lines names number (raw ∷ more) =
-    let line = commands_in names number (without_line_end raw) in
-    let rest = commands_of names (number + 1) more in
-    omega (arith, ap length (accepted_events-append line rest), length-append (accepted_events line) (accepted_events rest), ap length (events-in names number (without_line_end raw)), event_in-few (event_of names (without_line_end raw)) (list_all is_blank (without_line_end raw)), events-of_lines names (number + 1) more)
+events-of_lines names number (raw ∷ more) = grind (arith, events-of_lines names (number + 1) more)
 
 -- what follows the last line feed is one line at most
 last-few : (part : List ℕ) → length (with_line_feeds (part ∷ [])) ≤ 1
@@ -62,14 +51,7 @@ last-few part = elim (cases_Bool (length part == 0)) [ inl none ↦ rw none (ome
 pub lines-few : (text : List ℕ) → length (raw_lines text) ≤ length text
 unfolding raw_lines
 lines-few [] = omega arith
-lines-few (byte ∷ rest) = by (is_line_feed byte) (slice_split is_line_feed rest) (lines-few rest)
-  where
-    by : (feed : Bool) (parts : List (List ℕ)) → length (with_line_feeds parts) ≤ length rest → length (with_line_feeds (cond feed ([] ∷ parts) (onto_first byte parts))) ≤ length (byte ∷ rest)
-    by true [] few = omega arith
-    by true (part ∷ parts) few = omega (arith, few)
-    by false [] few = omega arith
-    by false (part ∷ []) few = omega (arith, last-few (byte ∷ part))
-    by false (part ∷ next ∷ parts) few = omega (arith, few)
+lines-few (byte ∷ rest) = grind (arith, lines-few rest)
 
 -- what is printed for a line that belongs to no client: a line of blanks, an event, and a refused line
 module _ (clients width : ℕ) (names : List (List ℕ)) (number : ℕ) (line : List ℕ) where

@@ -138,12 +138,7 @@ turn_failed limits had held source sink old new before after why so_far never = 
 
 -- how much was read where the table was refused
 none_heard : (limits : Limits) (source : Source) (ahead : ReadAhead) (why : RunFault) → OpensLive limits source ahead (Err why) → HeardNone source
-none_heard limits source ahead fault.Read (failed, heard) = heard
-none_heard limits source ahead fault.TooLarge (long, heard) = heard
-none_heard limits source ahead fault.Memory heard = heard
-none_heard limits source ahead fault.Write never = absurd never
-none_heard limits source ahead (fault.Threads why) never = absurd never
-none_heard limits source ahead why shows = shows.0
+none_heard limits source ahead why shows = grind (arith)
 
 -- no byte was written
 nothing-written : (held holds : Option (List ℕ)) → Appends held holds [] → Keeps held holds
