@@ -8,12 +8,12 @@ use std::alloc::Global;
 use std::process::Abort;
 use std::test::Fail;
 
-/// A row is deleted and its slot is wanted while a query needs it.
+/// A row is inserted; then one is deleted, and its slot is wanted while a query needs it.
 const SCRIPT: &[u8] =
-    b"table\nx\n5\n7\n9\nend\nas 1 begin best low(x)\nas 1 scan\nas 2 commit delete 1; insert 1\nas 2 room\nas 1 scan\nas 1 finish\n";
+    b"table\nx\n5\n7\nend\nas 2 insert 9\nas 1 begin best low(x)\nas 1 scan\nas 2 commit delete 1; insert 1\nas 2 room\nas 1 scan\nas 1 finish\n";
 
 const TOLD: &[u8] =
-    b"1 begun 2\n1 left 1\n2 committed 2 first 4\n2 room 0\n1 left 0\n1 answer 1\nlevel 1 id 1: 5\n";
+    b"2 inserted 3\n1 begun 2\n1 left 1\n2 committed 2 first 4\n2 room 0\n1 left 0\n1 answer 1\nlevel 1 id 1: 5\n";
 
 /// A writer that asks for no memory while there is room in what it writes to.
 fn into(taken: Vec<u8>) -> Narrow {
