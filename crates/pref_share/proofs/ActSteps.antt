@@ -299,6 +299,3 @@ all_scanned o s t asking sees is none =
     (λ system state.
     ap (step_of o.limits system s.number (member_of o s) ScanAct) (ap (option_map (open_of o)) is)
     ∙ ap (λ b. cond b (record { reply = Left (query.left - 1); next = scanned_with (one_less query) s.number (member_of o s) system }) (refused AllScanned system)) (no_left query.left none))
-
--- the reply to each act that is not refused
-pub ruleset act_steps = (inserted, updated, deleted, commits, begun, scanned_step, finished, abandoned, got, has_room)

@@ -53,7 +53,6 @@ fn reply_to_refusal(fault: ShareFault) -> Result<Reply, ShareFault>
 }
 
 /// The reply where the client's call is not refused.
-#[tactic(auto, using(crate::proofs::ActSteps::act_steps))]
 fn answer<J: BoardBrand, R: Wait>(
     rt: &R,
     alloc: Global,
