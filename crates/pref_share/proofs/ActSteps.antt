@@ -1,9 +1,9 @@
 -- What each act of a client is in the sequential table.
-use Rattle.pref_share.proofs.Common.{◌≡◌, ℕ, suc, ◌-◌, ◌^◌, ◌<◌, Bool, true, false, cond, nat_lt, List, [], ◌∷◌, map, length, Option, Some, None, is_some, refl, sym, ap, ◌∙◌, subst, arith, inl}
+use Rattle.pref_share.proofs.Common.{◌≡◌, ℕ, suc, ◌-◌, ◌^◌, ◌<◌, Bool, true, false, cond, nat_lt, List, length, Option, Some, None, is_some, refl, sym, ap, ◌∙◌, subst, arith, inl}
 use Rattle.pref_share.proofs.Common.{option_map, Call, CallInsert, CallUpdate, CallDelete, CallCommit, CallBegin, CallFinish, CallAbandon, Added, Done, Full, Act, Insert, Update, Delete, Commit}
-use Rattle.pref_share.proofs.Common.{Begin, ScanAct, Finish, Abandon, Get, Room, Reply, CoreFault, Spent, QueryOpen, NoQuery, AllScanned, NotDone, MissingRow, State, Snapshot, seat, with_seat}
+use Rattle.pref_share.proofs.Common.{Begin, ScanAct, Finish, Abandon, Get, Room, Reply, CoreFault, NoQuery, AllScanned, NotDone, MissingRow, State, seat}
 use Rattle.pref_share.proofs.Common.{is_change, begins_row, committed, ended, success_outcome, missing, needed, outcome, after, begun_after, refusal_of, refusal_by_query, Open, Member, System, Step, snapshot}
-use Rattle.pref_share.proofs.Common.{client_of, state_of, refused, counted_with, one_less, scanned_with, committed_of, changed, change, seat-with_seat_same, client_there, state_of-counted}
+use Rattle.pref_share.proofs.Common.{state_of, refused, counted_with, one_less, scanned_with, committed_of, changed, change, seat-with_seat_same, client_there, state_of-counted}
 use Rattle.pref_share.proofs.Common.{after_quiet, state_of-changed, members-changed, Opening, IsLegalFrom, state_at, Asking, Standing, own_refusal, Joins, Changes, Commits, Sees, Begins, Finishes}
 use Rattle.pref_share.proofs.Common.{HasLeft, Scanned, row_after, room_at, open_of, member_of, call_of, step_by, IsStep, StepsTo}
 use Rattle.pref_term.specs.Question.{Question}
@@ -15,7 +15,7 @@ use Rattle.pref_core.specs.declared.call.Outcome.{Outcome}
 use Rattle.pref_core.specs.declared.event.Committed.{Committed}
 use Rattle.pref_core.specs.declared.event.Reply.TheVariants.{Inserted, Updated, Deleted, Committed as CommittedIs, Begun, Left, Answer, Abandoned, Found, Room as RoomIs, Refused as RefusedReply}
 use Rattle.pref_core.specs.Limits.{Limits, blocks}
-use Rattle.pref_core.specs.Table.{Line, line_of, entries}
+use Rattle.pref_core.specs.Table.{Line, entries}
 use Rattle.pref_core.specs.Changes.{added_by}
 use Rattle.pref_core.specs.MachineParts.{outcome_of, numbered, step_of}
 use Rattle.std.proofs.lemmas.Bool.Decides.{nat_tests}
@@ -57,59 +57,33 @@ row_reply id None = RefusedReply (MissingRow id)
 row_reply id (Some row) = Found id row
 
 line_reply : (id : ℕ) (l : Option Line) → elim l as (λ x. Reply) [ None ↦ RefusedReply (MissingRow id) | Some line ↦ Found id line.row ] ≡ row_reply id (option_map (λ line. line.row) l)
-line_reply id None = refl
-line_reply id (Some line) = refl
+line_reply id l = grind (arith)
 
 pub got : (o : Opening) (s t : Standing) (id : ℕ) (row : Option Row) → Sees o s t → row_after o t.seen id ≡ row → StepsTo o s (Get id) (row_reply id row) t
-got o s t id row sees is = stays o s t (Get id) (row_reply id row) sees
-    (λ system state i. record { reply = (line_reply id (line_of system.table id) ∙ ap (λ (x : State). row_reply id (option_map (λ line. line.row) (line_of x.table id))) state ∙ ap (row_reply id) is) i; next = system })
+got o s t id row sees is = grind (arith, stays, line_reply)
 
 pub has_room : (o : Opening) (s t : Standing) (room : ℕ) → Sees o s t → room ≡ room_at o t.seen → StepsTo o s Room (RoomIs room) t
-has_room o s t room sees is = stays o s t Room (RoomIs room) sees
-    (λ system state. λ i. record { reply = RoomIs ((ap (λ (x : State). o.limits.capacity - length (needed x)) state ∙ sym is) i); next = system })
-
--- a numbered call that its client may not make
-spent_or : (member : Member) (system : System) (right : Step) (early : Option CoreFault) (fault : CoreFault) → ((f : CoreFault) → early ≡ Some f → right ≡ refused f system) → cond (nat_lt member.calls (2 ^ 56)) early (Some Spent) ≡ Some fault → numbered member system right ≡ refused fault system
-spent_or member system right early fault open_ e = grind (arith)
+has_room o s t room sees is = grind (arith, stays)
 
 -- a change is not refused for the query
 never : (b : Bool) (call : Call) → is_change call ≡ true → refusal_by_query b call ≡ None
-never b CallBegin change = absurd (cc)
-never b CallFinish change = absurd (cc)
-never b CallAbandon change = absurd (cc)
-never true call change = refl
-never false call change = refl
+never b call change = grind (arith)
 
 own_refused : (limits : Limits) (system : System) (client : ℕ) (member : Member) (act : Act) (call : Call) (fault : CoreFault) (q : Option Open) → call_of act ≡ Some call → refusal_of (Some member.calls) (is_some q) call ≡ Some fault → step_of limits system client member act q ≡ refused fault system
-own_refused limits system client member (Insert row) call fault q c e = spent_or member system _ (refusal_by_query (is_some q) (CallInsert row)) fault (λ f h. absurd (cc (never (is_some q) (CallInsert row) refl, h))) (let same : call ≡ CallInsert row = cc in subst (λ k. refusal_of (Some member.calls) (is_some q) k ≡ Some fault) same e)
-own_refused limits system client member (Update id row) call fault q c e = spent_or member system _ (refusal_by_query (is_some q) (CallUpdate id row)) fault (λ f h. absurd (cc (never (is_some q) (CallUpdate id row) refl, h))) (let same : call ≡ CallUpdate id row = cc in subst (λ k. refusal_of (Some member.calls) (is_some q) k ≡ Some fault) same e)
-own_refused limits system client member (Delete id) call fault q c e = spent_or member system _ (refusal_by_query (is_some q) (CallDelete id)) fault (λ f h. absurd (cc (never (is_some q) (CallDelete id) refl, h))) (let same : call ≡ CallDelete id = cc in subst (λ k. refusal_of (Some member.calls) (is_some q) k ≡ Some fault) same e)
-own_refused limits system client member (Commit commit) call fault q c e = spent_or member system _ (refusal_by_query (is_some q) (CallCommit commit)) fault (λ f h. absurd (cc (never (is_some q) (CallCommit commit) refl, h))) (let same : call ≡ CallCommit commit = cc in subst (λ k. refusal_of (Some member.calls) (is_some q) k ≡ Some fault) same e)
-own_refused limits system client member (Begin ask) call fault None c e = spent_or member system _ None fault (λ f h. absurd (cc)) (let same : call ≡ CallBegin = cc in subst (λ k. refusal_of (Some member.calls) false k ≡ Some fault) same e)
-own_refused limits system client member (Begin ask) call fault (Some query) c e = spent_or member system _ (Some QueryOpen) fault (λ f h. let f_is : QueryOpen ≡ f = cc in ap (λ x. refused x system) f_is) (let same : call ≡ CallBegin = cc in subst (λ k. refusal_of (Some member.calls) true k ≡ Some fault) same e)
-own_refused limits system client member ScanAct call fault q c e = absurd (cc)
-own_refused limits system client member Finish call fault None c e = spent_or member system _ (Some NoQuery) fault (λ f h. let f_is : NoQuery ≡ f = cc in ap (λ x. refused x system) f_is) (let same : call ≡ CallFinish = cc in subst (λ k. refusal_of (Some member.calls) false k ≡ Some fault) same e)
-own_refused limits system client member Finish call fault (Some query) c e = spent_or member system _ None fault (λ f h. absurd (cc)) (let same : call ≡ CallFinish = cc in subst (λ k. refusal_of (Some member.calls) true k ≡ Some fault) same e)
-own_refused limits system client member Abandon call fault None c e = spent_or member system _ (Some NoQuery) fault (λ f h. let f_is : NoQuery ≡ f = cc in ap (λ x. refused x system) f_is) (let same : call ≡ CallAbandon = cc in subst (λ k. refusal_of (Some member.calls) false k ≡ Some fault) same e)
-own_refused limits system client member Abandon call fault (Some query) c e = spent_or member system _ None fault (λ f h. absurd (cc)) (let same : call ≡ CallAbandon = cc in subst (λ k. refusal_of (Some member.calls) true k ≡ Some fault) same e)
-own_refused limits system client member (Get id) call fault q c e = absurd (cc)
-own_refused limits system client member Room call fault q c e = absurd (cc)
+own_refused limits system client member act call fault q c e = grind (arith)
 
 open_too : (o : Opening) (q : Option Asking) → is_some (option_map (open_of o) q) ≡ is_some q
-open_too o None = refl
-open_too o (Some asking) = refl
+open_too o q = grind (arith)
 
 pub refused_by_itself : (o : Opening) (s t : Standing) (act : Act) (call : Call) (fault : CoreFault) → Sees o s t → call_of act ≡ Some call → own_refusal s call ≡ Some fault → StepsTo o s act (RefusedReply fault) t
-refused_by_itself o s t act call fault sees c e = stays o s t act (RefusedReply fault) sees
-    (λ system state. own_refused o.limits system s.number (member_of o s) act call fault (member_of o s).query c (ap (λ b. refusal_of (Some s.counter) b call) (open_too o s.query) ∙ e))
+refused_by_itself o s t act call fault sees c e = grind (arith, stays, own_refused, open_too)
 
 let_in : (calls : ℕ) (b : Bool) (call : Call) → refusal_of (Some calls) b call ≡ None → nat_lt calls (2 ^ 56) ≡ true
 let_in calls b call e = let few : calls < 2 ^ 56 = few_calls calls b call e in grind (arith, nat_tests)
 
 -- the state after a call that joined
 joined_state : (o : Opening) (s t : Standing) (call : Call) (returned : Outcome) (j : Joins o s call returned t) → state_at o t.seen ≡ after o.limits.capacity (state_at o j.before) s.number call
-joined_state o s t call returned j =
-    ap (state_at o) j.ends ∙ state_at-append o j.before (j.op ∷ []) ∙ (λ i. after o.limits.capacity (state_at o j.before) ((ap (λ n. n.client) j.is) i) ((ap (λ n. n.call) j.is) i))
+joined_state o s t call returned j = grind (arith, state_at-append)
 
 -- an act that is a call which joined
 adds : (o : Opening) (s t : Standing) (act : Act) (call : Call) (returned : Outcome) (reply : Reply) (j : Joins o s call returned t) → call_of act ≡ Some call
@@ -165,13 +139,10 @@ deleted o s t id j = changes o s t (Delete id) (CallDelete id) Done (λ system. 
 -- the first id of a commit that is done, by the id of the next row at its place
 same_first : (capacity : ℕ) (begins : Bool) (lost : Option ℕ) (size next_id id : ℕ) (adds_any : Bool)
     → cond adds_any (Added next_id) Done ≡ outcome_of capacity begins lost size (cond adds_any (Added id) Done) → cond adds_any id 0 ≡ cond adds_any next_id 0
-same_first capacity begins lost size next_id id false e = refl
-same_first capacity begins (Some missing_id) size next_id id true e = absurd (cc)
-same_first capacity begins None size next_id id true e = grind (arith)
+same_first capacity begins lost size next_id id adds_any e = grind (arith)
 
 granted_reply : (next_id : ℕ) (call : Call) (done : Reply) (x : System) (adds_any : Bool) → (changed (cond adds_any (Added next_id) Done) done call x).reply ≡ done
-granted_reply next_id call done x true = refl
-granted_reply next_id call done x false = refl
+granted_reply next_id call done x adds_any = grind (arith)
 
 pub commits : (o : Opening) (s t : Standing) (commit : List Change) (returned : Committed) → Commits o s commit returned t → StepsTo o s (Commit commit) (CommittedIs returned) t
 commits o s t commit returned j =
@@ -201,12 +172,10 @@ refused_change o s t Room call returned fault j c a r = absurd (cc)
 
 -- whose begin is let in has no query, and whose end is has one
 idle : (calls : ℕ) (q : Option Asking) → refusal_of (Some calls) (is_some q) CallBegin ≡ None → q ≡ None
-idle calls None e = refl
-idle calls (Some asking) e = absurd (cc (subst (λ b. cond b (Some QueryOpen) (Some Spent) ≡ None) (let_in calls true CallBegin e) e))
+idle calls q e = grind (arith)
 
 busy : (calls : ℕ) (q : Option Asking) → refusal_of (Some calls) (is_some q) CallAbandon ≡ None → (asking : Asking) × (q ≡ Some asking)
-busy calls (Some asking) e = (asking, refl)
-busy calls None e = absurd (cc (subst (λ b. cond b (Some NoQuery) (Some Spent) ≡ None) (let_in calls false CallAbandon e) e))
+busy calls q e = grind (arith)
 
 -- a query begins
 pub begun : (o : Opening) (s t : Standing) (ask : Question) (left : ℕ) → Begins o s ask left t → StepsTo o s (Begin ask) (Begun left) t
@@ -236,15 +205,7 @@ finished o s t ranked f =
     (λ system state. ap (option_map (open_of o)) (sym f.query))
 
 pub not_done : (o : Opening) (s t : Standing) (left : ℕ) → Sees o s t → own_refusal s CallFinish ≡ None → HasLeft s left → StepsTo o s Finish (RefusedReply (NotDone left)) t
-not_done o s t left sees accepted h =
-    let query = open_of o h.asking in
-    let is : option_map (open_of o) s.query ≡ Some query = ap (option_map (open_of o)) h.is_open in
-    stays o s t Finish (RefusedReply (NotDone left)) sees
-    (λ system state.
-    ap (step_of o.limits system s.number (member_of o s) Finish) is
-    ∙ let_in_steps (member_of o s) system _ (let_in s.counter (is_some s.query) CallFinish accepted)
-    ∙ ap (λ b. cond b (refused (NotDone query.left) system) (record { reply = Answer (answer_of query.ask (entries query.table)); next = counted_with None s.number (member_of o s) system })) (some_left query.left (subst (λ n. 0 < n) h.left_is h.some))
-    ∙ ap (λ n. refused (NotDone n) system) (sym h.left_is))
+not_done o s t left sees accepted h = grind (arith, stays, let_in_steps, let_in, some_left)
 
 pub abandoned : (o : Opening) (s t : Standing) → Joins o s CallAbandon Done t → t.query ≡ None → StepsTo o s Abandon Abandoned t
 abandoned o s t j none =
@@ -256,11 +217,7 @@ abandoned o s t j none =
 
 -- a scan
 unchanged : (system : System) (client : ℕ) (member : Member) (query : Open) → seat client system.members ≡ Some member → option_map snapshot member.query ≡ Some (snapshot query) → state_of (scanned_with query client member system) ≡ state_of system
-unchanged system client member query at same =
-    let clients = with_seat-map client_of client (record { calls = member.calls; query = Some query }) system.members
-    ∙ ap (λ (b : Option Snapshot). with_seat client (record { calls = member.calls; at_begin = b }) (map client_of system.members)) (sym same)
-    ∙ with_seat_self client (map client_of system.members) (client_of member) (client_there system client member at) in
-    (λ i. record { table = system.table; next_id = system.next_id; commits = system.commits; clients = clients i })
+unchanged system client member query at same = grind (arith, with_seat-map, with_seat_self, client_there, commits)
 
 pub scanned_step : (o : Opening) (s t : Standing) (left : ℕ) → Scanned o s left t → StepsTo o s ScanAct (Left left) t
 scanned_step o s t left h =
@@ -293,9 +250,4 @@ pub no_query : (o : Opening) (s t : Standing) → Sees o s t → s.query ≡ Non
 no_query o s t sees none = stays o s t ScanAct (RefusedReply NoQuery) sees (λ system state. ap (step_of o.limits system s.number (member_of o s) ScanAct) (ap (option_map (open_of o)) none))
 
 pub all_scanned : (o : Opening) (s t : Standing) (asking : Asking) → Sees o s t → s.query ≡ Some asking → asking.scan.left ≡ 0 → StepsTo o s ScanAct (RefusedReply AllScanned) t
-all_scanned o s t asking sees is none =
-    let query = open_of o asking in
-    stays o s t ScanAct (RefusedReply AllScanned) sees
-    (λ system state.
-    ap (step_of o.limits system s.number (member_of o s) ScanAct) (ap (option_map (open_of o)) is)
-    ∙ ap (λ b. cond b (record { reply = Left (query.left - 1); next = scanned_with (one_less query) s.number (member_of o s) system }) (refused AllScanned system)) (no_left query.left none))
+all_scanned o s t asking sees is none = grind (arith, stays, no_left)

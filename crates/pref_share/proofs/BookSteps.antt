@@ -1,13 +1,12 @@
 -- Who has the pen adds to the whole history, whatever the book is.
-use Rattle.pref_share.proofs.Common.{◌≡◌, ◌≢◌, ℕ, zero, suc, ◌<◌, ◌==◌, Bool, true, false, ◌⊎◌, List, [], ◌∷◌, ◌++◌, length, set, refl, ap, sym, subst, ◌∙◌, arith, inl, inr, ⊎_elim, length-append, length-set}
+use Rattle.pref_share.proofs.Common.{◌≡◌, ◌≢◌, ℕ, suc, ◌<◌, ◌==◌, Bool, true, false, ◌⊎◌, List, [], ◌∷◌, ◌++◌, length, set, refl, ap, sym, ◌∙◌, arith, inl, inr, length-append, length-set}
 use Rattle.pref_share.proofs.Common.{None, append-nil, map-append, IsPrefix, Cell, cell, keeps, gives, adds, Nib, no_nib, may_write, Moves, Op}
-use Rattle.std.proofs.lemmas.Bool.Decides.{nat_tests}
 use Rattle.std.proofs.lemmas.List.{get_or-set_same, get_or_append_left}
 use prog.Atomic.{either}
 use Rattle.logbook.specs.Pages.{step}
 use Rattle.pref_share.proofs.PrefixLaws.{prefix_trans}
 use Rattle.pref_share.specs.declared.entry.Entry.{Entry}
-use Rattle.pref_share.specs.Book.{ops_of, Home, IsKept, key_from, key_after, first_key, Begins, IsWhole, Adds}
+use Rattle.pref_share.specs.Book.{ops_of, Home, IsKept, key_from, key_after, Begins, IsWhole, Adds}
 
 abbrev pub shown : List Entry → List Entry
 shown log = []
@@ -17,11 +16,8 @@ moved xs ys n = Unit {0}
 
 -- a word that comes home leaves the others there
 set_home : (cs : List Cell) (k j m : ℕ) → Home cs j → Home (set cs k (m, true)) j
-set_home [] k j m h = h
-set_home (c ∷ cs) zero zero m h = (omega arith, refl)
-set_home (c ∷ cs) zero (suc j) m h = h
-set_home (c ∷ cs) (suc k) zero m h = (omega arith, h.1)
 set_home (c ∷ cs) (suc k) (suc j) m h = let r = set_home cs k j m (omega (arith, h.0), h.1) in (omega (arith, r.0), r.1)
+set_home cs k j m h = grind (arith)
 
 set_there : (cs : List Cell) (k m : ℕ) → k < length cs → Home (set cs k (m, true)) k
 set_there cs k m lt = (omega (arith, lt, length-set cs k (m, true)), ap (λ (c : Cell). c.1) (get_or-set_same cs k (m, true) (0, false) lt))
@@ -34,8 +30,7 @@ abbrev used : ℕ → ℕ
 used n = either (n == 0) 1 n
 
 used_is : (n : ℕ) (b : Bool) → (n == 0) ≡ b → either b 1 n ≢ 0
-used_is n true is none = absurd (omega (arith, none))
-used_is n false is none = let t : (n == 0) ≡ true = grind (arith, nat_tests) in absurd (cc (t, is))
+used_is n b is none = grind (arith)
 
 not_unused : (n : ℕ) → used n ≢ 0
 not_unused n = used_is n (n == 0) refl
@@ -50,17 +45,14 @@ split_last : (before later log : List Entry) (e x : Entry) → before ++ e ∷ l
 split_last [] later [] e x is = inl refl
 split_last [] later (y ∷ log) e x is = inr (log, cc (is))
 split_last (b ∷ before) later [] e x is = absurd (omega (arith, ap length is, length-append before (e ∷ later)))
-split_last (b ∷ before) later (y ∷ log) e x is =
-    let rest = split_last before later log e x (cc (is)) in
-    ⊎_elim (λ (t : before ≡ log). inl (cc (is, t))) (λ (t : (l : List Entry) × (before ++ e ∷ l ≡ log)). inr (t.0, cc (is, t.1))) rest
+split_last (b ∷ before) later (y ∷ log) e x is = grind (arith, split_last before later log e x (cc (is)))
 
 -- the same entries, where what was home is home
 same_entries : (cs ds : List Cell) (log : List Entry) → IsKept cs log → ((k : ℕ) → Home cs k → Home ds k) → (before later : List Entry) (e : Entry) → before ++ e ∷ later ≡ log ++ [] → Home ds (key_after before)
 same_entries cs ds log kept stay before later e is = stay (key_after before) (kept.spent before later e (is ∙ append-nil log))
 
 still_used : (c : Cell) (cs : List Cell) (k m : ℕ) → k ≢ 0 → (cell (set ((used c.0, true) ∷ cs) k (m, true)) 0).0 ≡ 0 → length (set ((used c.0, true) ∷ cs) k (m, true)) ≡ 2
-still_used c cs zero m other none = absurd (other refl)
-still_used c cs (suc k) m other none = absurd (not_unused c.0 none)
+still_used c cs k m other none = grind (arith)
 
 -- whatever the book is, there is a new pen, and no one else's is changed
 pub begins_moves : (v : List Entry) (ask : Entry) → Moves IsKept shown moved 0 (v, (no_nib, None)) (λ n. either (n == 0) 1 n) (Begins (step 0 0 1 ask) (v, (no_nib, None)))
@@ -100,8 +92,7 @@ whole_moves v p ask may (c ∷ cs) log kept pre away =
 
 -- what was home, and the pen that comes home
 both_home : (cs ds : List Cell) (log : List Entry) (k : ℕ) (x : Entry) → IsKept cs log → ((j : ℕ) → Home cs j → Home ds j) → Home ds k → key_after log ≡ k → (before later : List Entry) (e : Entry) → before ++ e ∷ later ≡ log ++ x ∷ [] → Home ds (key_after before)
-both_home cs ds log k x kept stay here key before later e is =
-    ⊎_elim (λ (t : before ≡ log). subst (Home ds) (sym (ap key_after t ∙ key)) here) (λ (t : (l : List Entry) × (before ++ e ∷ l ≡ log)). stay (key_after before) (kept.spent before t.0 e t.1)) (split_last before later log e x is)
+both_home cs ds log k x kept stay here key before later e is = grind (arith, split_last)
 
 -- whatever the book is, the entry is added to what the pen comes after
 pub adds_moves : (v : List Entry) (p : Nib) (ask : Entry) → p.right ≡ may_write → key_after v ≡ p.key → Moves IsKept shown moved 0 (v, (p, None)) (λ n. either (n == 0) 1 n) (Adds (step 0 0 1 ask) (v, (p, None)))
@@ -142,7 +133,4 @@ key_last k (x ∷ xs) e = key_last x.key xs e
 
 -- what an entry adds
 pub entry_added : (old log : List Entry) (ask : Entry) (op : Op) (key : ℕ) → log ≡ old ++ ask ∷ [] → ask.op ≡ op → ask.key ≡ key → (ops_of log ≡ ops_of old ++ op ∷ []) × (key_after log ≡ key)
-entry_added old log ask op key is same_op same_key = (
-  ap ops_of is ∙ (map-append (λ e. e.op) old (ask ∷ []) ∙ ap (λ (o : Op). ops_of old ++ o ∷ []) same_op),
-  ap key_after is ∙ (key_last first_key old ask ∙ same_key),
-)
+entry_added old log ask op key is same_op same_key = grind (arith, map-append, key_last)

@@ -24,18 +24,10 @@ abbrev pub one_more : State → Call → Client → Client
 one_more s call who = record { calls = suc who.calls; at_begin = begun_after s call who.at_begin }
 
 pub seat_own : (n : ℕ) (s : State) (client : ℕ) (call : Call) (who : Client) → seat client s.clients ≡ Some who → seat client (after n s client call).clients ≡ Some (one_more s call who)
-seat_own n s client call who at = ap (seat client) (after_clients n s client call) ∙ go (seat client s.clients) at
-  where
-    go : (o : Option Client) → o ≡ Some who → seat client (elim o as (λ x. List Client) [ None ↦ s.clients | Some found ↦ with_seat client (one_more s call found) s.clients ]) ≡ Some (one_more s call who)
-    go None e = absurd (cc)
-    go (Some found) e = let same : found ≡ who = cc in seat-with_seat_same s.clients client who (one_more s call found) at ∙ ap (λ f. Some (one_more s call f)) same
+seat_own n s client call who at = grind (arith, after_clients, seat-with_seat_same)
 
 pub seat_other : (n : ℕ) (s : State) (client other : ℕ) (call : Call) → (client ≡ other → ⊥) → seat client (after n s other call).clients ≡ seat client s.clients
-seat_other n s client other call apart = ap (seat client) (after_clients n s other call) ∙ go (seat other s.clients)
-  where
-    go : (o : Option Client) → seat client (elim o as (λ x. List Client) [ None ↦ s.clients | Some found ↦ with_seat other (one_more s call found) s.clients ]) ≡ seat client s.clients
-    go None = refl
-    go (Some found) = seat-with_seat_other s.clients client other (one_more s call found) apart
+seat_other n s client other call apart = grind (arith, after_clients, seat-with_seat_other)
 
 abbrev pub calls_in : Option Client → Option ℕ
 calls_in o = elim o [ None ↦ None | Some found ↦ Some found.calls ]
@@ -139,16 +131,12 @@ few_after n s [] legal few = few
 few_after n s (op ∷ ops) legal few = few_after n (after n s op.client op.call) ops legal.1 ((counts_one n s op (caller n s op legal.0)).few few)
 
 few_calls_in : (clients : List Client) (client last : ℕ) → AllByRecursion (λ who. who.calls ≤ 2 ^ 56) clients → calls_in (seat client clients) ≡ Some last → last ≤ 2 ^ 56
-few_calls_in clients zero last few is = absurd (cc)
-few_calls_in [] (suc k) last few is = absurd (cc)
-few_calls_in (who ∷ clients) (suc zero) last few is = let most = few.0 in let same : who.calls ≡ last = cc in omega arith
 few_calls_in (who ∷ clients) (suc (suc k)) last few is = few_calls_in clients (suc k) last few.1 is
+few_calls_in clients client last few is = grind (arith)
 
 -- no legal history is longer than all clients have numbers
 few_from : (n : ℕ) (s : State) (ops : List Op) → IsLegalHistory n s (history_of ops) → AllByRecursion (λ who. who.calls ≤ 2 ^ 56) s.clients → total s + length ops ≤ length s.clients * 2 ^ 56
-few_from n s [] legal few =
-    let all = sum_by-le (λ (who : Client). who.calls) (2 ^ 56) s.clients (All-from_recursion (λ who. who.calls ≤ 2 ^ 56) s.clients few) in
-    omega arith
+few_from n s [] legal few = grind (arith, sum_by-le, All-from_recursion)
 few_from n s (op ∷ ops) legal few =
     let one = counts_one n s op (caller n s op legal.0) in
     let rest = few_from n (after n s op.client op.call) ops legal.1 (one.few few) in
@@ -165,18 +153,11 @@ length-idle zero = refl
 length-idle (suc n) = ap suc (length-idle n)
 
 pub calls_few : (n clients : ℕ) (s : State) (ops : List Op) (client last : ℕ) → s.clients ≡ idle_clients clients → IsLegalHistory n s (history_of ops) → calls_of (state_after n s (history_of ops)) client ≡ Some last → last ≤ 2 ^ 56
-calls_few n clients s ops client last idle legal is =
-    few_calls_in (state_after n s (history_of ops)).clients client last (few_after n s ops legal (subst (AllByRecursion (λ who. who.calls ≤ 2 ^ 56)) (sym idle) (idle_few clients))) is
+calls_few n clients s ops client last idle legal is = grind (arith, few_calls_in, few_after, idle_few)
 
 pub few_ops : (n clients : ℕ) (s : State) (ops : List Op) → s.clients ≡ idle_clients clients → clients ≤ 8 → IsLegalHistory n s (history_of ops) → length ops ≤ 2 ^ 59
-few_ops n clients s ops is eight legal =
-    let most = few_from n s ops legal (subst (AllByRecursion (λ who. who.calls ≤ 2 ^ 56)) (sym is) (idle_few clients)) in
-    let long : length s.clients ≡ clients = ap length is ∙ length-idle clients in
-    let bound : length s.clients * 2 ^ 56 ≡ clients * 2 ^ 56 = ap (λ k. k * 2 ^ 56) long in
-    omega arith
+few_ops n clients s ops is eight legal = grind (arith, few_from, idle_few, length-idle)
 
 pub idle_seat : (clients client : ℕ) → 0 < client → client ≤ clients → seat client (idle_clients clients) ≡ Some (record { calls = 0; at_begin = None })
-idle_seat clients zero some within = absurd (omega arith)
-idle_seat zero (suc k) some within = absurd (omega arith)
-idle_seat (suc n) (suc zero) some within = refl
 idle_seat (suc n) (suc (suc k)) some within = idle_seat n (suc k) (omega arith) (omega arith)
+idle_seat clients client some within = grind (arith)

@@ -87,8 +87,7 @@ without_looks o history number Holds rest more _ _ _ _ none h =
     rest (nothing_done number) (record { runs = record { stands = []; runs = none }; is_in = h }) (go (seen_all [] history h.inside))
   where
     go : ([] ≡ history) ⊎ (length {A = Op} [] < length history) → LooksNoMore o history number (nothing_done number)
-    go (inl e) = idle refl (sym e)
-    go (inr l) = behind l
+    go whole = grind (arith)
 without_looks o history number Holds rest more _ _ _ _ (then acts returned stands t act reply u runs step) h = go (seen_all u.seen history h.inside) step.joins (without_looks o history number Holds rest more acts returned stands t runs)
   where
     before : Part
@@ -136,11 +135,7 @@ never_empty before op e = omega (arith, ap length e, length-append before (op �
 
 -- that call is its last act, ..
 pub made_last : (o : Opening) (before : List Op) (op : Op) (p : Part) → IsLegalFrom o (before ++ op ∷ []) → IsPartAt o (before ++ op ∷ []) op.client p → LooksNoMore o (before ++ op ∷ []) op.client p → IsLast o (before ++ op ∷ []) op.client p
-made_last o before op p legal h (behind l) =
-    let c = counts o op.client (last_one_of o before op legal) p.acts p.returned h.runs.stands p.last h.runs.runs in
-    absurd (not_behind o before op p.last legal h.is_in c (shorter_before o before op p.last h.is_in l))
-made_last o before op p legal h (idle same empty) = absurd (never_empty before op empty)
-made_last o before op p legal h (joined last) = last
+made_last o before op p legal h looks = grind (arith, counts, last_one_of, not_behind, shorter_before, never_empty)
 
 -- .. answered where the history stood before it
 pub last_at : (o : Opening) (before : List Op) (op : Op) (number : ℕ) (p : Part) (last : IsLast o (before ++ op ∷ []) number p) → (last.step.at ≡ before) × (last.adds.op ≡ op)

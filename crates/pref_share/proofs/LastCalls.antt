@@ -1,5 +1,5 @@
 -- The last operation of a history: whose call it is, and what the others' counts are before it.
-use Rattle.pref_share.proofs.Common.{◌≡◌, ℕ, zero, suc, ◌<◌, ◌≤◌, List, [], ◌∷◌, ◌++◌, length, Some, refl, sym, ap, ◌∙◌, subst, arith, inl, inr, ◌⊎◌}
+use Rattle.pref_share.proofs.Common.{◌≡◌, ℕ, suc, ◌<◌, ◌≤◌, List, [], ◌∷◌, ◌++◌, length, Some, refl, sym, ap, ◌∙◌, subst, arith, inl, inr, ◌⊎◌}
 use Rattle.pref_share.proofs.Common.{slice_get_within, IsPrefix, Op, Act, Reply, Client, seat, calls_of, Opening, IsLegalFrom, first_state}
 use Rattle.pref_share.proofs.Common.{state_at, calls_at, Standing, newcomer, Looks, Adds, Runs, none, then}
 use Rattle.pref_share.proofs.HistoryLaws.{rest_history, legal_is_history, legal-prefix, state_at-append}
@@ -16,30 +16,22 @@ last_of (x ∷ xs) = inr (go x xs)
 
 -- who made the last call
 pub last_caller : (o : Opening) (before : List Op) (op : Op) → IsLegalFrom o (before ++ op ∷ []) → IsCaller (state_at o before) op
-last_caller o before op legal =
-    caller o.limits.capacity (state_at o before) op (rest_history o before (op ∷ []) legal).0
+last_caller o before op legal = grind (arith, caller, rest_history o before (op ∷ []) legal)
 
 -- its client's count then, ..
 pub last_own : (o : Opening) (before : List Op) (op : Op) → IsLegalFrom o (before ++ op ∷ []) → calls_at o (before ++ op ∷ []) op.client ≡ Some op.number
-last_own o before op legal =
-    ap (λ s. calls_of s op.client) (state_at-append o before (op ∷ [])) ∙ calls_own o.limits.capacity (state_at o before) op (last_caller o before op legal)
+last_own o before op legal = grind (arith, state_at-append, calls_own, last_caller)
 
 -- .. which is one more than before, ..
 pub last_number : (o : Opening) (before : List Op) (op : Op) (count : ℕ) → IsLegalFrom o (before ++ op ∷ []) → calls_at o before op.client ≡ Some count → op.number ≡ suc count
-last_number o before op count legal is =
-    let c = last_caller o before op legal in
-    let same : Some c.who.calls ≡ Some count = ap calls_in (sym c.at) ∙ is in
-    c.number ∙ ap suc (cc (same))
+last_number o before op count legal is = grind (arith, last_caller o before op legal, calls_in)
 
 -- .. and the count of another, which stays
 pub last_other : (o : Opening) (before : List Op) (op : Op) (client : ℕ) → (client ≡ op.client → ⊥) → calls_at o (before ++ op ∷ []) client ≡ calls_at o before client
-last_other o before op client apart =
-    ap (λ s. calls_of s client) (state_at-append o before (op ∷ []))
-    ∙ ap calls_in (seat_other o.limits.capacity (state_at o before) client op.client op.call apart)
+last_other o before op client apart = grind (arith, state_at-append, calls_in, seat_other)
 
 seated : (clients : List Client) (client : ℕ) (who : Client) → seat client clients ≡ Some who → (0 < client) × (client ≤ length clients)
-seated clients zero who e = absurd (cc)
-seated clients (suc k) who e = let within = slice_get_within clients k who e in (omega arith, omega arith)
+seated clients client who e = grind (arith, slice_get_within)
 
 -- one of the clients of the opening
 abbrev pub IsOneOf : Opening → ℕ → Type 0
@@ -68,31 +60,13 @@ pub record Counts (o : Opening) (number : ℕ) (s : Standing) : Type 0 where
   pub grown : IsGrown (calls_at o s.seen number) s.counter
 
 counts_new : (o : Opening) (number : ℕ) → IsOneOf o number → Counts o number (newcomer number)
-counts_new o number one_of = record {
-  same = refl;
-  grown = record {
-    count = 0;
-    is = ap calls_in (idle_seat o.limits.clients number one_of.0 one_of.1);
-    more = omega arith;
-  };
-}
+counts_new o number one_of = grind (arith, calls_in, idle_seat)
 
 counts_looked : (o : Opening) (number : ℕ) (s t : Standing) (at : List Op) → Counts o number s → t.number ≡ s.number → IsPrefix s.seen at → IsLegalFrom o t.seen → Looks s t at → Counts o number t
-counts_looked o number s t at c same further legal looks = record {
-  same = same ∙ c.same;
-  grown = subst (λ n. IsGrown (calls_at o t.seen number) n) (sym looks.counted)
-      (grown_further o s.seen t.seen number s.counter (subst (IsPrefix s.seen) (sym looks.seen) further) legal c.grown);
-}
+counts_looked o number s t at c same further legal looks = grind (arith, grown_further)
 
 counts_added : (o : Opening) (number : ℕ) (s t : Standing) (at : List Op) (act : Act) → Counts o number s → t.number ≡ s.number → IsLegalFrom o t.seen → Adds o s act t at → Counts o number t
-counts_added o number s t at act c same legal adds =
-    let own = last_own o at adds.op (subst (IsLegalFrom o) adds.seen legal) in
-    let numbered : adds.op.number ≡ suc s.counter = adds.number in
-    let counted : t.counter ≡ suc s.counter = adds.counted in
-    record {
-      same = same ∙ c.same;
-      grown = record { count = adds.op.number; is = ap (λ l. calls_at o l number) adds.seen ∙ ap (calls_at o (at ++ adds.op ∷ [])) (sym (adds.by ∙ c.same)) ∙ own; more = omega arith };
-    }
+counts_added o number s t at act c same legal adds = grind (arith, last_own)
 
 -- after its acts a client's counts are right still
 pub counts : (o : Opening) (number : ℕ) → IsOneOf o number → (acts : List Act) (replies : List Reply) (stands : List Standing) (s : Standing) → Runs o (newcomer number) acts replies stands s → Counts o number s

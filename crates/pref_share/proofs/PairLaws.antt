@@ -16,16 +16,12 @@ choose R (x ∷ xs) f =
     (y ∷ ys, (here, rest))
 
 pub pairs_length : {A B : Type 0} (R : ℕ → A → B → Type 0) (xs : List A) (ys : List B) → Pairs R xs ys → length ys ≡ length xs
-pairs_length R [] [] h = refl
-pairs_length R [] (y ∷ ys) h = absurd h
-pairs_length R (x ∷ xs) [] h = absurd h
 pairs_length R (x ∷ xs) (y ∷ ys) h = ap suc (pairs_length (λ i. R (suc i)) xs ys h.1)
+pairs_length R xs ys h = grind (arith)
 
 pub pairs_at : {A B : Type 0} (R : ℕ → A → B → Type 0) (xs : List A) (ys : List B) → Pairs R xs ys → (i : ℕ) (x : A) → slice_get xs i ≡ Some x → (y : B) × (slice_get ys i ≡ Some y) × R i x y
-pairs_at R [] ys h i x at = cc at
-pairs_at R (z ∷ zs) [] h i x at = absurd h
-pairs_at R (z ∷ zs) (y ∷ ys) h zero x at = let same : z ≡ x = cc at in (y, refl, rw (← same) h.0)
 pairs_at R (z ∷ zs) (y ∷ ys) h (suc i) x at = pairs_at (λ i. R (suc i)) zs ys h.1 i x at
+pairs_at R xs ys h i x at = grind (arith)
 
 -- where the first list is cut at an element, the second one is too
 pub pairs_cut : {A B : Type 0} (R : ℕ → A → B → Type 0) (before : List A) (x : A) (after : List A) (ys : List B) → Pairs R (before ++ x ∷ after) ys
@@ -43,5 +39,4 @@ pairs_all R P Q f [] [] h all i d lt = absurd (omega arith)
 pairs_all R P Q f [] (y ∷ ys) h all i d lt = absurd h
 pairs_all R P Q f (x ∷ xs) [] h all i d lt = absurd h
 pairs_all R P Q f (x ∷ xs) (y ∷ ys) h all zero d lt = f 0 x y h.0 (all 0 x (omega arith))
-pairs_all R P Q f (x ∷ xs) (y ∷ ys) h all (suc i) d lt =
-    pairs_all (λ i. R (suc i)) P Q (λ i x y. f (suc i) x y) xs ys h.1 (λ k e less. all (suc k) e (omega arith)) i d (omega arith)
+pairs_all R P Q f (x ∷ xs) (y ∷ ys) h all (suc i) d lt = grind (arith, pairs_all (λ i. R (suc i)) P Q (λ i x y. f (suc i) x y) xs ys h.1 (λ k e less. all (suc k) e (omega arith)) i d (omega arith))

@@ -1,7 +1,7 @@
 -- The reports of clients, and what follows from them of the whole run.
 use Rattle.pref_share.proofs.Common.{length-map, ◌≡◌, ℕ, suc, ◌<◌, ◌+◌, ◌^◌, Bool, true, false, List, [], ◌++◌, length, map, get_or, Option, Some, None, slice_get, refl, sym, ap, ◌∙◌, subst, arith, inl, inr}
-use Rattle.pref_share.proofs.Common.{same_Some, ⊎_elim, option_or, All, append-nil, length-append, All-get_or, slice_get_within, get_or_from_slice_get, Vec, IsPrefix, Op, Act, Reply, ShareFault, Core}
-use Rattle.pref_share.proofs.Common.{ClientInUse, Held, Closed, Opening, IsLegalFrom, HasCall, calls_at, Standing, Sees, IsInUse, RunsTo, StopsAt, IsJointRun, IsPart, WasLetIn, Ends, Did, DidActs}
+use Rattle.pref_share.proofs.Common.{same_Some, ⊎_elim, option_or, All, append-nil, length-append, All-get_or, slice_get_within, get_or_from_slice_get, Vec, IsPrefix, Op, Act, Reply, ShareFault}
+use Rattle.pref_share.proofs.Common.{ClientInUse, Opening, IsLegalFrom, HasCall, calls_at, Standing, Sees, IsInUse, RunsTo, StopsAt, IsJointRun, IsPart, Ends, Did, DidActs}
 use Rattle.pref_share.proofs.Common.{IsFoundInUse, IsWithin, StandsWithin, AreReports, AreTaken, IsFirstStopped, AreWorked, DidTask, IsFirstOf, Settles, report_of, Worked, Listed}
 use Rattle.std.specs.Option.{is_some}
 use Rattle.pref_share.specs.declared.run.Report.{Report}
@@ -16,30 +16,16 @@ sees_on o s t u a b = record { further = prefix_trans s.seen t.seen u.seen a.fur
 -- why a client stopped that is found in use is so still, and where it had not stopped it is that it is in use
 ends_in_use : (o : Opening) (said : ℕ → Bool → Type 0) (s t : Standing) (rest : List Act) (stopped : Option ShareFault) → IsInUse o s (suc s.counter) t → Ends said s rest stopped
     → Ends said t rest (option_or stopped (Some (ClientInUse (suc s.counter))))
-ends_in_use o said s t rest None in_use h = ((stops_in_use o s t (suc s.counter) in_use).1, inl h)
-ends_in_use o said s t rest (Some fault) in_use h = (stays fault h.0, subst (λ number. WasLetIn (said number) rest fault) (sym in_use.sees.same) h.1)
-  where
-    held : ℕ → Type 0
-    held client = said client false
-
-    stays : (fault : ShareFault) → StopsAt held s rest fault → StopsAt held t rest fault
-    stays (Core fault) h = h
-    stays (ClientInUse number) h = subst (λ n. (n ≡ suc t.counter) × HasCall t.seen t.number n) (sym h.0) (stops_in_use o s t (suc s.counter) in_use).1
-    stays (Held client) h = (h.0 ∙ sym in_use.sees.same, h.1, h.2)
-    stays Closed h = h
+ends_in_use o said s t rest stopped in_use h = grind (arith)
 
 -- a client that is found in use has stopped
 is_stopped : (stopped : Option ShareFault) (fault : ShareFault) → is_some (option_or stopped (Some fault)) ≡ true
-is_stopped None fault = refl
-is_stopped (Some other) fault = refl
+is_stopped stopped fault = grind (arith)
 
 -- what a client did is so still where it is settled, which says then that it shares the history, or is in use
 did_settled : {J T : Type 0} (o : Opening) (says : ℕ → ℕ → Bool → Type 0) (took : T → List Reply → Type 0) (s : Standing) (acts : List Act) (history : List Op) (old new : Worked J T) → DidTask o says took s acts old → Settles o history old new
     → DidTask o says took s acts new × StandsWithin o history new.client new.stopped
-did_settled {J} {T} o says took s acts history old new d (inl h) = (
-  subst (λ (w : Worked J T). DidTask o says took s acts w) (sym h.same) d,
-  subst (λ (w : Worked J T). StandsWithin o history w.client w.stopped) (sym h.same) (record { inside = h.is_in.inside; alone = inl h.is_in.alone }),
-)
+did_settled {J} {T} o says took s acts history old new d (inl h) = grind (arith)
 did_settled {J} {T} o says took s acts history old new (replies, taken, did) (inr h) = (
   (
     replies,

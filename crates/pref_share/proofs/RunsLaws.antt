@@ -1,7 +1,7 @@
 -- Runs of acts, one act longer, and what stands at a place of two lists.
-use Rattle.pref_share.proofs.Common.{option_map, length-map, ◌≡◌, ℕ, zero, suc, ◌<◌, Bool, true, false, List, [], ◌∷◌, ◌++◌, ◌+◌, length, map, get_or, Some, Result, Ok, slice_get, refl, sym, ap, ◌∙◌, subst, arith, inr}
-use Rattle.pref_share.proofs.Common.{same_Some, ⊎_elim, cases_eq, append_assoc, get_or-map, length-append, slice_get_within, All, IfOk, Act, Reply, ShareFault, Core, ClientInUse}
-use Rattle.pref_share.proofs.Common.{Held, Closed, Sees, IsLegalFrom, Opening, Standing, StepsTo, Runs, none, then, RunsTo, StopsAt, nobody, DidActs, Ends, WasLetIn}
+use Rattle.pref_share.proofs.Common.{option_map, length-map, ◌≡◌, ℕ, zero, suc, ◌<◌, Bool, true, false, List, [], ◌∷◌, ◌++◌, ◌+◌, length, map, get_or, Some, Result, Ok, slice_get, refl, sym, ap, ◌∙◌, subst, arith}
+use Rattle.pref_share.proofs.Common.{same_Some, append_assoc, get_or-map, length-append, slice_get_within, All, IfOk, Act, Reply, ShareFault}
+use Rattle.pref_share.proofs.Common.{Held, Sees, IsLegalFrom, Opening, Standing, StepsTo, Runs, none, then, RunsTo, StopsAt, nobody, DidActs, Ends, WasLetIn}
 use Rattle.std.proofs.lemmas.Option.{slice_get-map}
 use Rattle.pref_share.proofs.ActSteps.{sees_same}
 
@@ -23,21 +23,14 @@ same_number o s t acts replies run = go acts replies run.stands t run.runs
 
 -- the gate let in one act more
 pub let_in_more : (said : ℕ → Bool → Type 0) (acts : List Act) (act : Act) → ((turn : ℕ) → turn < length acts → said turn true) → said (length acts) true → (turn : ℕ) → turn < length (acts ++ act ∷ []) → said turn true
-let_in_more said acts act before now turn lt =
-    ⊎_elim (λ (e : turn ≡ length acts). subst (λ n. said n true) (sym e) now) (λ (apart : turn ≡ length acts → ⊥). before turn (omega (arith, apart, lt, length-append acts (act ∷ [])))) (cases_eq turn (length acts))
+let_in_more said acts act before now turn lt = grind (arith, length-append)
 
 -- why a client stops before an act it does with more acts behind it, and with a gate
 pub stops_before : (held : ℕ → Type 0) (s : Standing) (act : Act) (more : List Act) (fault : ShareFault) → StopsAt nobody s (act ∷ []) fault → StopsAt held s (act ∷ more) fault
-stops_before held s act more (Core fault) h = h
-stops_before held s act more (ClientInUse number) h = h
-stops_before held s act more (Held client) h = absurd h.2
-stops_before held s act more Closed h = h
+stops_before held s act more fault h = grind (arith)
 
 pub was_let_in : (said : Bool → Type 0) (rest : List Act) (fault : ShareFault) → said true → WasLetIn said rest fault
-was_let_in said rest (Core fault) h = inr h
-was_let_in said rest (ClientInUse number) h = inr h
-was_let_in said rest (Held client) h = tt
-was_let_in said rest Closed h = inr h
+was_let_in said rest fault h = grind (arith)
 
 -- Where a client stands in its task, at the turn of the next act: it has done the first of the acts, and the task took the replies.
 pub record Goes {T : Type 0} (o : Opening) (says : ℕ → ℕ → Bool → Type 0) (left : T → List Act) (took : T → List Reply → Type 0) (s : Standing) (acts : List Act) (client : Standing) (task : T) (turn : ℕ) : Type 0 where
@@ -83,20 +76,7 @@ module _ {T : Type 0} (o : Opening) (says : ℕ → ℕ → Bool → Type 0) (le
   -- it stopped before the next act, and has seen no less since
   stops : (client stopped : Standing) (old came : T) (turn : ℕ) (act : Act) (fault : ShareFault) (now : Now client old turn) → left old ≡ act ∷ left came → ((replies : List Reply) → took old replies → took came replies) → Sees o client stopped
       → Ends (λ client. says client (length now.done)) stopped (act ∷ left came) (Some fault) → (replies : List Reply) × took came replies × DidActs o says s acts stopped replies (Some fault)
-  stops client stopped old came turn act fault now comes kept sees ends = (
-    now.replies,
-    kept now.replies now.taken,
-    record {
-      done = now.done;
-      rest = act ∷ left came;
-      in_order = now.in_order ∙ ap (λ rest. now.done ++ rest) comes;
-      last = client;
-      runs = now.runs;
-      since = sees;
-      let_in = now.let_in;
-      ends = ends;
-    },
-  )
+  stops client stopped old came turn act fault now comes kept sees ends = grind (arith)
 
   -- it was held before the next act
   pub goes_held : (client : Standing) (old came : T) (turn : ℕ) (act : Act) → Now client old turn → left old ≡ act ∷ left came → ((replies : List Reply) → took old replies → took came replies) → says s.number turn false

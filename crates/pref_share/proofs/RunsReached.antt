@@ -1,8 +1,7 @@
 -- Runs of the sequential table that reach what the parts of all clients in a history say.
-use Rattle.pref_share.proofs.Common.{◌≡◌, ◌==◌, ℕ, zero, suc, ◌<◌, ◌≤◌, Bool, true, false, cond, List, [], ◌∷◌, ◌++◌, map, length, Some, refl, sym, ap, ◌∙◌, subst, arith, inl, inr, ◌⊎◌, All, filter}
-use Rattle.pref_share.proofs.Common.{eq-eqb, ne_eqb, length-append, map-append, append-nil, filter-append, All-nil, All-push, Op, Act, Reply, seat, System, state_of, opened, step, replies}
-use Rattle.pref_share.proofs.Common.{replies_from, Opening, IsLegalFrom, first_state, state_at, Standing, member_of, step_by, IsStep, StepsTo}
-use Rattle.pref_core.specs.declared.event.Event.{Event}
+use Rattle.pref_share.proofs.Common.{◌≡◌, ℕ, zero, suc, ◌<◌, ◌≤◌, List, [], ◌∷◌, ◌++◌, map, length, Some, refl, sym, ap, ◌∙◌, subst, arith, inl, inr, ◌⊎◌, All}
+use Rattle.pref_share.proofs.Common.{length-append, map-append, append-nil, filter-append, All-nil, All-push, Op, Act, Reply, seat, System, state_of, opened, step, replies}
+use Rattle.pref_share.proofs.Common.{Opening, IsLegalFrom, first_state, state_at, Standing, member_of, step_by, IsStep, StepsTo}
 use Rattle.pref_share.specs.Interleavings.{Answered, events_of, replies_of, acts_of, part_of}
 use Rattle.pref_share.proofs.HistoryLaws.{legal-prefix}
 use Rattle.pref_share.proofs.SequenceLaws.{system_after, system_after-more, replies_from-more, step_leaves, opened_clients, opened_seat}
@@ -27,31 +26,21 @@ pub record Reached (o : Opening) (history : List Op) (parts : ℕ → Part) : Ty
 -- the acts of a client's part are those of the client among the events
 pub acts_of-events : (number : ℕ) (run : List Answered) → acts_of number (events_of run) ≡ map (λ (x : Answered). x.event.act) (part_of number run)
 acts_of-events number [] = refl
-acts_of-events number (a ∷ run) = go (a.event.client == number) (acts_of-events number run)
-  where
-    go : (own : Bool) → acts_of number (events_of run) ≡ map (λ (x : Answered). x.event.act) (part_of number run)
-        → map (λ (x : Event). x.act) (cond own (a.event ∷ filter (λ (x : Event). x.client == number) (events_of run)) (filter (λ (x : Event). x.client == number) (events_of run))) ≡ map (λ (x : Answered). x.event.act) (cond own (a ∷ part_of number run) (part_of number run))
-    go true e = ap (λ l. a.event.act ∷ l) e
-    go false e = e
+acts_of-events number (a ∷ run) = grind (arith, acts_of-events number run)
 
 -- one event more is in the part of its client, ..
 part_own : {X : Type 0} (f : Answered → X) (number : ℕ) (run : List Answered) (a : Answered) → a.event.client ≡ number → map f (part_of number (run ++ a ∷ [])) ≡ map f (part_of number run) ++ f a ∷ []
-part_own f number run a own =
-    ap (map f) (filter-append (λ (x : Answered). x.event.client == number) run (a ∷ []) ∙ ap (λ b. part_of number run ++ cond b (a ∷ []) []) (eq-eqb a.event.client number own))
-    ∙ map-append f (part_of number run) (a ∷ [])
+part_own f number run a own = grind (arith, filter-append, map-append)
 
 -- .. and in no other
 part_other : {X : Type 0} (f : Answered → X) (number : ℕ) (run : List Answered) (a : Answered) → (a.event.client ≡ number → ⊥) → map f (part_of number (run ++ a ∷ [])) ≡ map f (part_of number run)
-part_other f number run a other =
-    ap (map f) (filter-append (λ (x : Answered). x.event.client == number) run (a ∷ []) ∙ ap (λ b. part_of number run ++ cond b (a ∷ []) []) (ne_eqb a.event.client number other) ∙ append-nil (part_of number run))
+part_other f number run a other = grind (arith, filter-append, append-nil)
 
 -- What all clients did, or were told, in a run that is one event of this client longer.
 part_more : {X : Type 0} (o : Opening) (f : Answered → X) (in_part : Part → List X) (number : ℕ) (old new : Part) (parts : ℕ → Part) (run : List Answered) (a : Answered) → a.event.client ≡ number → in_part new ≡ in_part old ++ f a ∷ []
     → ((n : ℕ) → IsOneOf o n → map f (part_of n run) ≡ in_part (with_part number old parts n))
     → (n : ℕ) → IsOneOf o n → map f (part_of n (run ++ a ∷ [])) ≡ in_part (with_part number new parts n)
-part_more o f in_part number old new parts run a same grown before = with_part-each (λ n x. IsOneOf o n → map f (part_of n (run ++ a ∷ [])) ≡ in_part x) number new parts
-    (λ one. part_own f number run a same ∙ ap (λ l. l ++ f a ∷ []) (before number one ∙ ap in_part (with_part-own number old parts)) ∙ sym grown)
-    (λ n apart one. part_other f n run a (λ e. apart (sym e ∙ same)) ∙ before n one ∙ ap in_part (with_part-other number old parts n apart))
+part_more o f in_part number old new parts run a same grown before = grind (arith, with_part-each, part_own, with_part-own, part_other, with_part-other)
 
 -- the system after one event more
 system_of-more : (o : Opening) (run : List Answered) (a : Answered) → system_of o (run ++ a ∷ []) ≡ (step o.limits (system_of o run) a.event).next
@@ -59,10 +48,7 @@ system_of-more o run a = ap (system_after o.limits (opened o.limits o.rows)) (ma
 
 -- the replies, where the last one is the table's
 answers-more : (o : Opening) (run : List Answered) (a : Answered) → replies o.limits o.rows (events_of run) ≡ replies_of run → (step o.limits (system_of o run) a.event).reply ≡ a.reply → replies o.limits o.rows (events_of (run ++ a ∷ [])) ≡ replies_of (run ++ a ∷ [])
-answers-more o run a h is =
-    ap (replies_from o.limits (opened o.limits o.rows)) (map-append (λ (x : Answered). x.event) run (a ∷ []))
-    ∙ replies_from-more o.limits (opened o.limits o.rows) (events_of run) a.event
-    ∙ (λ i. h i ++ is i ∷ []) ∙ sym (map-append (λ (x : Answered). x.reply) run (a ∷ []))
+answers-more o run a h is = grind (arith, map-append, replies_from-more)
 
 -- One act more of this client, answered where the history was reached.
 reached_more : (o : Opening) (number : ℕ) (p : Part) (act : Act) (reply : Reply) (u : Standing) (parts : ℕ → Part) → IsOneOf o number → p.last.number ≡ number
@@ -178,9 +164,8 @@ reached_below o history (suc k) within legal shorter parts h none_above = reache
 
 -- the same for longer and longer histories
 reached_within : (o : Opening) (most : ℕ) (history : List Op) → length history < most → IsLegalFrom o history → (parts : ℕ → Part) → ArePartsAt o history parts → Reached o history parts
-reached_within o zero history l legal parts h = absurd (omega arith)
-reached_within o (suc most) history l legal parts h =
-    reached_below o history o.limits.clients (omega arith) legal (λ before less. reached_within o most before (omega (arith, less, l))) parts h (λ number above one. absurd (omega (arith, above, one.1)))
+reached_within o zero history l legal parts h = grind (arith, reached_below)
+reached_within o (suc most) history l legal parts h = grind (arith, reached_within o most, reached_below)
 
 -- The parts of all clients in a legal history are a run of the sequential table.
 pub reached : (o : Opening) (history : List Op) → IsLegalFrom o history → (parts : ℕ → Part) → ArePartsAt o history parts → Reached o history parts

@@ -1,13 +1,10 @@
 -- The sequential table along events: one event more, and the clients that an event leaves alone.
-use Rattle.pref_share.proofs.Common.{◌≡◌, ℕ, zero, suc, ◌-◌, ◌<◌, ◌≤◌, Bool, true, false, cond, nat_lt, List, [], ◌∷◌, ◌++◌, map, replicate, Option, Some, None, refl, ap, ◌∙◌, arith, Call}
-use Rattle.pref_share.proofs.Common.{CallInsert, CallUpdate, CallDelete, CallCommit, Act, Insert, Update, Delete, Commit, Begin, Scan, Finish, Abandon, Get, Room, Reply, NoSuchClient}
-use Rattle.pref_share.proofs.Common.{AllScanned, NotDone, seat, outcome, idle_clients, Open, Member, System, Step, committed_of, client_of, state_of, refused, counted_with, scanned_with, one_less}
+use Rattle.pref_share.proofs.Common.{◌≡◌, ℕ, zero, suc, ◌<◌, ◌≤◌, List, [], ◌∷◌, ◌++◌, map, replicate, Option, Some, None, refl, ap, arith, Call}
+use Rattle.pref_share.proofs.Common.{Act, Reply}
+use Rattle.pref_share.proofs.Common.{seat, idle_clients, Open, Member, System, Step, client_of, counted_with}
 use Rattle.pref_share.proofs.Common.{change, finish, scan, step, replies_from, seat-with_seat_other, members-changed}
 use Rattle.pref_core.specs.declared.event.Event.{Event}
-use Rattle.pref_core.specs.declared.event.Reply.TheVariants.{Inserted, Updated, Deleted, Committed as CommittedIs, Left, Answer}
 use Rattle.pref_core.specs.Limits.{Limits}
-use Rattle.pref_core.specs.Table.{entries}
-use Rattle.pref_sky.specs.Answers.{answer_of}
 use Rattle.pref_core.specs.MachineParts.{numbered, step_of}
 
 -- the system after events
@@ -34,46 +31,20 @@ counted_leaves : (other client : ℕ) (member : Member) (system : System) (query
 counted_leaves other client member system query apart = seat-with_seat_other system.members other client (record { calls = suc member.calls; query = query }) apart
 
 change_leaves : (limits : Limits) (system : System) (client other : ℕ) (member : Member) (call : Call) (done : Reply) → (other ≡ client → ⊥) → Leaves other system (change limits system client member call done)
-change_leaves limits system client other member call done apart =
-    ap (seat other) (members-changed (outcome limits.capacity (state_of system) call) done call (counted_with member.query client member system)) ∙ counted_leaves other client member system member.query apart
+change_leaves limits system client other member call done apart = grind (arith, members-changed, counted_leaves)
 
 scan_leaves : (client other : ℕ) (member : Member) (system : System) (query : Open) → (other ≡ client → ⊥) → Leaves other system (scan client member system query)
-scan_leaves client other member system query apart = go (nat_lt 0 query.left)
-  where
-    go : (b : Bool) → Leaves other system (cond b (record { reply = Left (query.left - 1); next = scanned_with (one_less query) client member system }) (refused AllScanned system))
-    go true = seat-with_seat_other system.members other client (record { calls = member.calls; query = Some (one_less query) }) apart
-    go false = refl
+scan_leaves client other member system query apart = grind (arith, seat-with_seat_other)
 
 finish_leaves : (client other : ℕ) (member : Member) (system : System) (query : Open) → (other ≡ client → ⊥) → Leaves other system (finish client member system query)
-finish_leaves client other member system query apart = go (nat_lt 0 query.left)
-  where
-    go : (b : Bool) → Leaves other system (cond b (refused (NotDone query.left) system) (record { reply = Answer (answer_of query.ask (entries query.table)); next = counted_with None client member system }))
-    go true = refl
-    go false = counted_leaves other client member system None apart
+finish_leaves client other member system query apart = grind (arith, counted_leaves)
 
 step_of_leaves : (limits : Limits) (system : System) (client other : ℕ) (member : Member) (act : Act) (query : Option Open) → (other ≡ client → ⊥) → Leaves other system (step_of limits system client member act query)
-step_of_leaves limits system client other member (Insert row) query apart = numbered_leaves other member system _ (change_leaves limits system client other member (CallInsert row) (Inserted system.next_id) apart)
-step_of_leaves limits system client other member (Update id row) query apart = numbered_leaves other member system _ (change_leaves limits system client other member (CallUpdate id row) (Updated id) apart)
-step_of_leaves limits system client other member (Delete id) query apart = numbered_leaves other member system _ (change_leaves limits system client other member (CallDelete id) (Deleted id) apart)
-step_of_leaves limits system client other member (Commit commit) query apart = numbered_leaves other member system _ (change_leaves limits system client other member (CallCommit commit) (CommittedIs (committed_of system.next_id commit)) apart)
-step_of_leaves limits system client other member (Begin ask) None apart = numbered_leaves other member system _ (counted_leaves other client member system _ apart)
-step_of_leaves limits system client other member (Begin ask) (Some query) apart = numbered_leaves other member system _ refl
-step_of_leaves limits system client other member Scan None apart = refl
-step_of_leaves limits system client other member Scan (Some query) apart = scan_leaves client other member system query apart
-step_of_leaves limits system client other member Finish None apart = numbered_leaves other member system _ refl
-step_of_leaves limits system client other member Finish (Some query) apart = numbered_leaves other member system _ (finish_leaves client other member system query apart)
-step_of_leaves limits system client other member Abandon None apart = numbered_leaves other member system _ refl
-step_of_leaves limits system client other member Abandon (Some query) apart = numbered_leaves other member system _ (counted_leaves other client member system None apart)
-step_of_leaves limits system client other member (Get id) query apart = refl
-step_of_leaves limits system client other member Room query apart = refl
+step_of_leaves limits system client other member act query apart = grind (arith, numbered_leaves, change_leaves, counted_leaves, scan_leaves, finish_leaves)
 
 -- an event leaves all clients but its own as they are
 pub step_leaves : (limits : Limits) (system : System) (event : Event) (other : ℕ) → (other ≡ event.client → ⊥) → seat other (step limits system event).next.members ≡ seat other system.members
-step_leaves limits system event other apart = go (seat event.client system.members)
-  where
-    go : (found : Option Member) → Leaves other system (elim found as (λ x. Step) [ None ↦ refused NoSuchClient system | Some member ↦ step_of limits system event.client member event.act member.query ])
-    go None = refl
-    go (Some member) = step_of_leaves limits system event.client other member event.act member.query apart
+step_leaves limits system event other apart = grind (arith, step_of_leaves)
 
 -- as it is opened, nobody has made a call
 pub opened_clients : (n : ℕ) → map client_of (replicate n (record { calls = 0; query = None })) ≡ idle_clients n
@@ -81,7 +52,5 @@ opened_clients zero = refl
 opened_clients (suc n) = ap (λ l. (record { calls = 0; at_begin = None }) ∷ l) (opened_clients n)
 
 pub opened_seat : (clients client : ℕ) → 0 < client → client ≤ clients → seat client (replicate {A = Member} clients (record { calls = 0; query = None })) ≡ Some (record { calls = 0; query = None })
-opened_seat clients zero some within = absurd (omega arith)
-opened_seat zero (suc k) some within = absurd (omega arith)
-opened_seat (suc n) (suc zero) some within = refl
 opened_seat (suc n) (suc (suc k)) some within = opened_seat n (suc k) (omega arith) (omega arith)
+opened_seat clients client some within = grind (arith)

@@ -1,16 +1,15 @@
 -- What a client's counter and query are along the history that it sees.
-use Rattle.pref_share.proofs.Common.{first_contents, ◌≡◌, ℕ, suc, ◌^◌, ◌<◌, ◌≤◌, true, false, ◌&&◌, ◌==◌, List, [], ◌∷◌, ◌++◌, Option, Some, None, is_some, Result, Ok, Err, refl, sym, ap}
-use Rattle.pref_share.proofs.Common.{◌∙◌, subst, arith, inl, inr, MatchResult, IfOk, IfErr, AllByRecursion, unwrap_or, Vec, IsPrefix, Call, Op, Added, Done, Full, ShareFault, CoreFault, State, Client}
-use Rattle.pref_share.proofs.Common.{Snapshot, is_change, calls_of, begun_of, begun_after, after, outcome, refusal, refusal_of, Contents, StandsFor, Shows, ShowsBegin}
+use Rattle.pref_share.proofs.Common.{first_contents, ◌≡◌, ℕ, suc, ◌^◌, ◌<◌, ◌≤◌, true, false, ◌&&◌, ◌==◌, List, [], ◌∷◌, ◌++◌, Option, Some, None, is_some, Result, Ok, refl, sym, ap}
+use Rattle.pref_share.proofs.Common.{◌∙◌, subst, arith, MatchResult, IfOk, IfErr, AllByRecursion, unwrap_or, Vec, IsPrefix, Call, Op, ShareFault, CoreFault, State, Client}
+use Rattle.pref_share.proofs.Common.{Snapshot, is_change, calls_of, begun_of, begun_after, after, refusal, refusal_of, Contents, StandsFor, Shows, ShowsBegin}
 use Rattle.pref_share.proofs.Common.{eqb-true, same_number, state_after, begin, NextIsNew, IsScanned, Answers, begun_after-change, Opening, IsLegalFrom, HasCall}
-use Rattle.pref_share.proofs.Common.{history_of, contents_at, state_at, calls_at, first_state, Asking, Standing, Sees, Joins, Changes, RefusesChange, IsAnswer, own_refusal}
+use Rattle.pref_share.proofs.Common.{history_of, contents_at, state_at, calls_at, Asking, Standing, Sees, Joins, Changes, RefusesChange, IsAnswer, own_refusal}
 use Rattle.pref_share.proofs.Common.{AsksOrNone, Asks, Stands, IsAppended, IsJoined, GivesNone, snapshot_at, outcome_or_refusal}
 use Rattle.pref_term.specs.Question.{Question}
 use Rattle.pref_sky.specs.declared.entry.Ranked.{Ranked}
 use Rattle.pref_core.specs.declared.store.caller.Caller.{Caller}
-use Rattle.pref_core.specs.declared.call.Call.TheVariants.{Begin, Finish, Abandon}
+use Rattle.pref_core.specs.declared.call.Call.TheVariants.{Begin}
 use Rattle.pref_core.specs.declared.call.Outcome.{Outcome}
-use Rattle.pref_core.specs.declared.call.Outcome.TheVariants.{NoSuchRow}
 use Rattle.pref_core.specs.Stability.{is_end, ends_query}
 use Rattle.pref_core.specs.Scans.{Scan}
 use Rattle.std.proofs.Math.Bool.{and-false}
@@ -21,6 +20,7 @@ use Rattle.pref_share.proofs.PrefixLaws.{prefix_self, prefix_trans}
 use Rattle.pref_share.proofs.HistoryLaws.{legal-more, legal-prefix, legal_stands, legal_capacity, ran-append, state_at-append, rest_history, legal_is_history}
 use Rattle.pref_share.proofs.CallCounts.{IsGrown, calls_in, begun_in, further, calls_own, begun_own, none_own, has_call, calls_few, idle_seat}
 use Rattle.pref_share.proofs.LastCalls.{last_caller, grown_further}
+use Rattle.pref_share.proofs.Common.{rules}
 
 none_ends : (client : ℕ) (ops : List Op) → AllByRecursion (λ op. (op.client == client) ≡ false) ops → AllByRecursion (λ op. ends_query client op ≡ false) ops
 none_ends client [] h = tt
@@ -50,27 +50,11 @@ moved_up o number counter seen longer query h p legal is =
 
 -- a new client
 pub stands_new : (o : Opening) (number : ℕ) (seen : List Op) → IsLegalFrom o seen → seen ≡ [] → (0 < number) × (number ≤ o.limits.clients) → Stands o number 0 seen None
-stands_new o number seen legal none one_of =
-    let at = idle_seat o.limits.clients number one_of.0 one_of.1 in
-    record {
-      legal = legal;
-      one_of = one_of;
-      at = [];
-      before = (seen, refl);
-      count = ap calls_in at;
-      follows = ap begun_in at;
-    }
+stands_new o number seen legal none one_of = grind (arith, idle_seat, calls_in, begun_in)
 
 -- a client that has seen more
 pub stands_seen : (o : Opening) (number counter : ℕ) (seen longer : List Op) (query : Option Asking) → Stands o number counter seen query → IsPrefix seen longer → IsLegalFrom o longer → Stands o number counter longer query
-stands_seen o number counter seen longer query h p legal = record {
-  legal = legal;
-  one_of = h.one_of;
-  at = h.at;
-  before = prefix_trans h.at seen longer h.before p;
-  count = h.count;
-  follows = h.follows;
-}
+stands_seen o number counter seen longer query h p legal = search (rules, prefix_trans)
 
 -- the same, of all that it has seen
 stands_whole : (o : Opening) (number counter : ℕ) (seen : List Op) (query : Option Asking) → IsLegalFrom o seen → (0 < number) × (number ≤ o.limits.clients) → calls_at o seen number ≡ Some counter → AsksOrNone o seen number query → Stands o number counter seen query
@@ -81,12 +65,7 @@ grown o number counter seen longer query h p legal = grown_further o h.at longer
 
 -- where the whole history counts no more calls than the client, it holds just its calls, ..
 pub even : (o : Opening) (number counter last : ℕ) (seen whole : List Op) (query : Option Asking) → Stands o number counter seen query → IsPrefix seen whole → IsLegalFrom o whole → last ≡ unwrap_or (calls_at o whole number) 0 → last ≤ counter → calls_at o whole number ≡ Some counter
-even o number counter last seen whole query h p legal is le =
-    let g = grown o number counter seen whole query h p legal in
-    let more = g.more in
-    let same : last ≡ g.count = is ∙ ap (λ (x : Option ℕ). unwrap_or x 0) g.is in
-    let e : g.count ≡ counter = omega arith in
-    g.is ∙ ap Some e
+even o number counter last seen whole query h p legal is le = grind (arith, grown o number counter seen whole query h p legal)
 
 has_later : (xs ys : List Op) (client number : ℕ) → HasCall ys client number → HasCall (xs ++ ys) client number
 has_later [] ys client number h = h
@@ -104,8 +83,7 @@ ahead o number counter last seen whole query h p legal is more =
 
 -- a client makes no more calls than it may
 pub counter_small : (o : Opening) (number counter : ℕ) (seen : List Op) (query : Option Asking) → Stands o number counter seen query → counter ≤ 2 ^ 56
-counter_small o number counter seen query h =
-    calls_few o.limits.capacity o.limits.clients (first_state o) h.at number counter refl (legal_is_history o h.at (legal-prefix o h.at seen h.before h.legal)) h.count
+counter_small o number counter seen query h = grind (arith, calls_few, legal_is_history, legal-prefix)
 
 -- a call that joined
 record IsAdded (o : Opening) (old : Standing) (call : Call) (before seen : List Op) : Type 0 where
@@ -115,33 +93,14 @@ record IsAdded (o : Opening) (old : Standing) (call : Call) (before seen : List 
   at_begin : begun_of (state_at o seen) old.number ≡ begun_after (state_at o before) call (begun_of (state_at o before) old.number)
 
 is_added : (o : Opening) (old : Standing) (call : Call) (returned : Outcome) (seen : List Op) (stamp : ℕ) → (j : IsJoined o old call returned seen stamp) → IsAdded o old call j.before seen
-is_added o old call returned seen stamp j =
-    let added = j.appended in
-    let legal : IsLegalFrom o (j.before ++ added.op ∷ []) = legal-more o j.before added.op j.legal added.may in
-    let who = last_caller o j.before added.op legal in
-    let state : state_at o seen ≡ after o.limits.capacity (state_at o j.before) added.op.client added.op.call = ap (state_at o) added.ends ∙ state_at-append o j.before (added.op ∷ []) in
-    let s = state_at o j.before in
-    record {
-      legal = subst (IsLegalFrom o) (sym added.ends) legal;
-      state = state ∙ (λ i. after o.limits.capacity s (added.by i) (added.what i));
-      count = ap (λ x. calls_of x old.number) state ∙ (ap (calls_of (after o.limits.capacity s added.op.client added.op.call)) (sym added.by) ∙ calls_own o.limits.capacity s added.op who ∙ ap Some j.number);
-      at_begin = ap (λ x. begun_of x old.number) state ∙ (ap (begun_of (after o.limits.capacity s added.op.client added.op.call)) (sym added.by) ∙ begun_own o.limits.capacity s added.op who ∙ (λ i. begun_after s (added.what i) (begun_of s (added.by i))));
-    }
+is_added o old call returned seen stamp j = grind (arith, legal-more, last_caller, state_at-append, calls_own, begun_own)
 
 change_ends_none : (call : Call) → is_change call ≡ true → is_end call ≡ false
-change_ends_none Finish h = absurd (cc)
-change_ends_none Abandon h = absurd (cc)
-change_ends_none call h = refl
+change_ends_none call h = grind (arith)
 
 -- the client after a change, ..
 pub stands_changed : (o : Opening) (old : Standing) (call : Call) (returned : Outcome) (seen : List Op) (stamp counter : ℕ) → Stands o old.number old.counter old.seen old.query → IsJoined o old call returned seen stamp → is_change call ≡ true → counter ≡ suc old.counter → Stands o old.number counter seen old.query
-stands_changed o old call returned seen stamp counter h j change up =
-    let a = is_added o old call returned seen stamp j in
-    let op = j.appended.op in
-    let ends : ends_query old.number op ≡ false = ap (λ b. (op.client == old.number) && b) (ap is_end j.appended.what ∙ change_ends_none call change) ∙ and-false (op.client == old.number) in
-    let begun = a.at_begin ∙ sym (begun_after-change (state_at o j.before) call (begun_of (state_at o j.before) old.number) change) in
-    stands_whole o old.number counter seen old.query a.legal h.one_of (a.count ∙ ap Some (sym up))
-    (followed o old.number j.before (op ∷ []) seen old.query j.legal (sym j.appended.ends) begun (ends, tt) (moved_up o old.number old.counter old.seen j.before old.query h j.further j.legal j.alone))
+stands_changed o old call returned seen stamp counter h j change up = grind (arith, is_added o old call returned seen stamp j, change_ends_none call change, and-false, begun_after-change, stands_whole, followed, moved_up, further)
 
 -- .. after a begin, ..
 pub stands_begun : (o : Opening) (old : Standing) (returned : Outcome) (seen : List Op) (stamp counter : ℕ) (ask : Question) → Stands o old.number old.counter old.seen old.query → IsJoined o old Begin returned seen stamp → counter ≡ suc old.counter
@@ -158,45 +117,22 @@ stands_begun o old returned seen stamp counter ask h j up =
     })
 
 none_after : (state : State) (call : Call) (found : Option Snapshot) → is_end call ≡ true → begun_after state call found ≡ None
-none_after state Finish found h = refl
-none_after state Abandon found h = refl
-none_after state call found h = absurd (cc)
+none_after state call found h = grind (arith)
 
 -- .. and after its query ended
 pub stands_ended : (o : Opening) (old : Standing) (call : Call) (returned : Outcome) (seen : List Op) (stamp counter : ℕ) → Stands o old.number old.counter old.seen old.query → IsJoined o old call returned seen stamp → is_end call ≡ true → counter ≡ suc old.counter → Stands o old.number counter seen None
-stands_ended o old call returned seen stamp counter h j ends up =
-    let a = is_added o old call returned seen stamp j in
-    stands_whole o old.number counter seen None a.legal h.one_of (a.count ∙ ap Some (sym up)) (a.at_begin ∙ none_after (state_at o j.before) call (begun_of (state_at o j.before) old.number) ends)
+stands_ended o old call returned seen stamp counter h j ends up = grind (arith, is_added o old call returned seen stamp j, stands_whole, none_after)
 
 -- what the call tells
 pub joins : (o : Opening) (old new : Standing) (call : Call) (returned : Outcome) (seen : List Op) (stamp : ℕ) → own_refusal old call ≡ None → IsJoined o old call returned seen stamp → new.seen ≡ seen → new.counter ≡ suc old.counter → new.number ≡ old.number → Joins o old call returned new
-joins o old new call returned seen stamp accepted j same up number =
-    let added = j.appended in
-    record {
-      accepted = accepted;
-      before = j.before;
-      op = added.op;
-      further = j.further;
-      ends = same ∙ added.ends;
-      is = (λ i. record { client = added.by i; number = j.number i; call = added.what i; outcome = added.outcome i });
-      alone = j.alone;
-      reply = sym added.outcome ∙ added.may.next.outcome ∙ (λ i. outcome (legal_capacity o j.before j.legal.fits i) (state_at o j.before) (added.what i));
-      legal = subst (IsLegalFrom o) (sym (same ∙ added.ends)) (legal-more o j.before added.op j.legal added.may);
-      counted = up;
-      same = number;
-    }
+joins o old new call returned seen stamp accepted j same up number = grind (arith, further, legal_capacity, legal-more)
 
 -- the table at an open query's begin is what the slots show there
 shows_begun : (contents : Contents) (state : State) (client : ℕ) (snapshot : Snapshot) → StandsFor contents state → begun_of state client ≡ Some snapshot → Shows contents.slots snapshot.commits snapshot.table
 shows_begun contents state client snapshot h is = go (same_seat contents.slots contents.stamp contents.callers state.clients client h.clients) is
   where
     at : (b : Option ℕ) (f : Option Snapshot) → ShowsBegin contents.slots contents.stamp b f → f ≡ Some snapshot → Shows contents.slots snapshot.commits snapshot.table
-    at None None s e = absurd (cc)
-    at (Some stamp) (Some found) s e =
-        let same : found ≡ snapshot = cc in
-        subst (λ (x : Snapshot). Shows contents.slots x.commits x.table) same (subst (λ n. Shows contents.slots n found.table) s.0 s.2)
-    at None (Some found) s e = absurd s
-    at (Some stamp) None s e = absurd s
+    at b f s e = grind (arith)
 
     go : {a : Option Caller} {b : Option Client} → SameSeat contents.slots contents.stamp a b → elim b as (λ x. Option Snapshot) [ None ↦ None | Some found ↦ found.at_begin ] ≡ Some snapshot → Shows contents.slots snapshot.commits snapshot.table
     go nobody e = absurd (cc)
@@ -218,9 +154,7 @@ answers o number counter seen asking (Ok ranked) h returned =
       done = returned.0;
       answer = answers_the_begin (contents_at o h.at).slots asking.scan (state_at o asking.at_begin).table ranked.items (asks_shows o h.at number asking at_legal h.follows) h.follows.way returned.0 returned.1;
     }
-answers o number counter seen asking (Err fault) h (inl t) =
-    subst (GivesNone (record { number = number; counter = counter; seen = seen; query = Some asking })) (sym t.0) (record { asking = asking; is_open = refl; left_is = refl; some = t.1 })
-answers o number counter seen asking (Err fault) h (inr t) = subst (GivesNone (record { number = number; counter = counter; seen = seen; query = Some asking })) (sym t.0) (record { asking = asking; is_open = refl; done = t.1 })
+answers o number counter seen asking result h returned = grind (arith)
 
 -- the next block is new to the open query, ..
 pub next_new : (o : Opening) (number counter : ℕ) (seen now : List Op) (asking : Asking) → Stands o number counter seen (Some asking) → IsPrefix seen now → IsLegalFrom o now → calls_at o now number ≡ Some counter → NextIsNew asking.scan (contents_at o now).slots
@@ -242,8 +176,7 @@ stands_scanned o number counter seen now asking new h p legal is scanned =
     })
 
 open_alike : (o : Opening) (number : ℕ) (at : List Op) (query : Option Asking) → AsksOrNone o at number query → is_some (begun_of (state_at o at) number) ≡ is_some query
-open_alike o number at None h = ap is_some h
-open_alike o number at (Some asking) h = ap is_some h.found
+open_alike o number at query h = grind (arith)
 
 -- the table refuses a call as the client's own counter and query do
 pub same_refusal : (o : Opening) (old : Standing) (at : List Op) (call : Call) → calls_at o at old.number ≡ Some old.counter → AsksOrNone o at old.number old.query → refusal (state_at o at) old.number call ≡ own_refusal old call
@@ -265,13 +198,7 @@ joined o old call returned history seen stamp p legal is added commits = record 
 -- what a change tells by its outcome
 pub change_told : (o : Opening) (old new : Standing) (call : Call) (returned : Outcome) (result : Result Outcome ShareFault) → result ≡ outcome_or_refusal returned → Joins o old call returned new → new.query ≡ old.query
     → IfOk result (λ done. Changes o old call done new) × IfErr result (λ fault. RefusesChange o old call fault new)
-change_told o old new call returned result e j q = subst (λ (r : Result Outcome ShareFault). IfOk r (λ done. Changes o old call done new) × IfErr r (λ fault. RefusesChange o old call fault new)) (sym e) (go returned j)
-  where
-    go : (t : Outcome) → Joins o old call t new → IfOk (outcome_or_refusal t) (λ done. Changes o old call done new) × IfErr (outcome_or_refusal t) (λ fault. RefusesChange o old call fault new)
-    go (Added id) j = ((j, q), tt)
-    go Done j = ((j, q), tt)
-    go (NoSuchRow id) j = (tt, (j, q))
-    go (Full needed) j = (tt, (j, q))
+change_told o old new call returned result e j q = grind (arith)
 
 pub sees : (o : Opening) (old new : Standing) → IsPrefix old.seen new.seen → IsLegalFrom o new.seen → new.counter ≡ old.counter → new.number ≡ old.number → new.query ≡ old.query → Sees o old new
 sees o old new further legal counted same query = record { further = further; legal = legal; counted = counted; same = same; query = query }
