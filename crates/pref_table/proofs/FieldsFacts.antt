@@ -1,6 +1,6 @@
 -- A field of digits, perhaps behind a sign, read in the pass that finds its end.
 use Rattle.pref_table.proofs.Common.{◌≡◌, ◌∙◌, ℕ, ◌+◌, ◌-◌, ◌<◌, ◌≤◌, ◌*◌, ◌^◌, Bool, true, false, List, [], ◌∷◌, length, take, drop, get_or, sym, ap, refl, arith, add-one, zero, suc, Ok, ℤ, pos}
-use Rattle.pref_table.proofs.Common.{nat_lt, ◌==◌, prefix_len, suffix_len, all_ascii_digits, digits_value, starts_with_minus, without_leading_sign, eqb-false, eqb-true, le-leb, lt-ltb, ltb-true}
+use Rattle.pref_table.proofs.Common.{nat_lt, ◌==◌, prefix_len, suffix_len, all_ascii_digits, digits_value, starts_with_minus, without_leading_sign, eqb-false, eqb-true, le-leb, ltb-true}
 use Rattle.pref_table.proofs.Common.{ltb-false, ne_eqb, get_or-drop, get_or-take, length-drop, length-take-le, take_all, fits_cell, is_blank, number_of, signed_by, without_blanks, ArePlain, IsPlain}
 use Rattle.pref_table.proofs.Common.{below_more}
 use Rattle.std.proofs.Math.Nat.{pow-le-pow_right, pow-suc}
@@ -65,9 +65,7 @@ no_blanks field some first last =
     rw (front, back) (sym (take_all (length field - 0) field (omega arith)))
 
 pub small-fits : (negative : Bool) (value : ℕ) → value < 10 ^ 18 → fits_cell (signed_by negative value) ≡ true
-small-fits false value h = lt-ltb value (2 ^ 63) (omega arith)
-small-fits true zero h = refl
-small-fits true (suc n) h = lt-ltb n (2 ^ 63) (omega arith)
+small-fits negative value h = grind (arith)
 
 -- what a field of an optional sign and digits reads as
 field_reads : (field digits : List ℕ) (value : ℕ) → digits ≡ without_leading_sign field → 0 < length digits → AreDigits digits (length digits)

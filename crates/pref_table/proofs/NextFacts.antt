@@ -1,12 +1,12 @@
 -- The first record of a text, whose bytes are gone through one by one.
-use Rattle.pref_table.proofs.Common.{◌≡◌, ◌∙◌, ℕ, suc, ◌+◌, ◌<◌, ◌≤◌, Bool, true, false, List, [], ◌∷◌, ◌++◌, length, drop, get_or, Some, sym, ap, refl, arith, ◌⊎◌, inl, inr, ◌==◌, drop_more}
-use Rattle.pref_table.proofs.Common.{length-append, drop_of_length-le, Read, ends_at_end, fields_after, field_after, in_field, is_end, next_record, step, default_config, records}
-use Rattle.pref_table.proofs.Common.{records_from, State, BytesReader, HasLeft, IsNarrow, IsNext, IsWide, ReadsFirst, ReadsNext, state_at, cond_both}
+use Rattle.pref_table.proofs.Common.{◌≡◌, ◌∙◌, ℕ, suc, ◌+◌, ◌<◌, ◌≤◌, Bool, true, false, List, [], ◌∷◌, ◌++◌, length, drop, get_or, Some, sym, ap, refl, arith, ◌⊎◌, inl, inr, drop_more}
+use Rattle.pref_table.proofs.Common.{length-append, drop_of_length-le, Read, ends_at_end, fields_after, field_after, is_end, next_record, step, default_config, records}
+use Rattle.pref_table.proofs.Common.{records_from, State, BytesReader, HasLeft, IsNarrow, IsNext, IsWide, ReadsFirst, ReadsNext, state_at}
 use Rattle.std.specs.Bool.{MatchBool}
 use Rattle.std.specs.Borrow.{Bor}
 use Rattle.csv.specs.declared.parser.Action.{Action}
 use Rattle.pref_table.specs.declared.records.Next.{Next}
-use Rattle.pref_table.specs.declared.records.Next.TheVariants.{Nothing, Wide, Narrow}
+use Rattle.pref_table.specs.declared.records.Next.TheVariants.{Nothing, Narrow}
 use Rattle.pref_table.specs.declared.records.Place.{Place}
 use Rattle.pref_table.specs.declared.records.Place.TheVariants.{BetweenRecords}
 use Rattle.pref_table.proofs.LinesFacts.{records-after_return, records-first, records-of}
@@ -82,20 +82,11 @@ is_inside _ = false
 abbrev Stays : State × Action → Type 0
 Stays does = is_end does.1 ≡ false → is_inside does.0 ≡ true
 
-stays-in_field : (byte : ℕ) → Stays (in_field default_config byte)
-stays-in_field byte = grind (arith)
-
 stays : (s : State) (byte : ℕ) → is_inside s ≡ true → Stays (step default_config s byte)
-stays st.StartField byte inside = cond_both (byte == 34) (st.InQuoted, act.Skip) (in_field default_config byte) Stays (λ _ _. refl) (λ _. stays-in_field byte)
-stays st.InField byte inside = stays-in_field byte
-stays st.InQuoted byte inside = cond_both (byte == 34) (st.AfterQuote, act.Skip) (st.InQuoted, act.Copy) Stays (λ _ _. refl) (λ _ _. refl)
-stays st.AfterQuote byte inside = cond_both (byte == 34) (st.InQuoted, act.Copy) (in_field default_config byte) Stays (λ _ _. refl) (λ _. stays-in_field byte)
-stays _ byte inside = cc inside
+stays s byte inside = grind (arith)
 
 ends-at_end : (s : State) → is_inside s ≡ true → ends_at_end s ≡ true
-ends-at_end st.StartRecord inside = cc inside
-ends-at_end st.AfterCr inside = cc inside
-ends-at_end s inside = refl
+ends-at_end s inside = grind (arith)
 
 -- an action ends the record with a field more, or ends no more fields than there are
 more-ended : (action : Action) (fields : List (List ℕ)) (field : List ℕ) → is_end action ≡ true → length fields < length (fields_after action fields field)
@@ -153,12 +144,8 @@ reads-narrow old new found fields text after has reads (first, (is, few)) = by f
     by false none = let apart : first ∷ records default_config after ≡ [] = sym is ∙ none in absurd (cc apart)
 
 pub reads-other : (new : BytesReader) (text : List ℕ) (fields : List (List ℕ)) (next : Next) → ((rest : Bor (List ℕ)) → next ≡ Narrow rest → ⊥) → IsNext text next → ReadsNext new text fields next
-reads-other new text fields Nothing other is = is
-reads-other new text fields Wide other is = is
-reads-other new text fields (Narrow rest) other is = absurd (other rest refl)
+reads-other new text fields next other is = grind (arith)
 
 -- a text of whose records one is next
 pub some-left : (text : List ℕ) (next : Next) → (next ≡ Nothing → ⊥) → IsNext text next → (fields : List (List ℕ)) × (more : List (List (List ℕ))) × (records default_config text ≡ fields ∷ more)
-some-left text Nothing apart is = absurd (apart refl)
-some-left text Wide apart is = (is.0, is.1, is.2)
-some-left text (Narrow after) apart (fields, (is, few)) = (fields, records default_config after.now, is)
+some-left text next apart is = grind (arith)
