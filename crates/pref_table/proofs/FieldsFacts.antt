@@ -1,7 +1,7 @@
 -- A field of digits, perhaps behind a sign, read in the pass that finds its end.
-use Rattle.pref_table.proofs.Common.{◌≡◌, ◌∙◌, ℕ, ◌+◌, ◌-◌, ◌<◌, ◌≤◌, ◌*◌, ◌^◌, Bool, true, false, List, [], ◌∷◌, length, take, drop, get_or, sym, ap, refl, arith, add-one, zero, suc, Ok, ℤ, pos}
-use Rattle.pref_table.proofs.Common.{nat_lt, ◌==◌, prefix_len, suffix_len, all_ascii_digits, digits_value, starts_with_minus, without_leading_sign, eqb-false, eqb-true, le-leb, ltb-true}
-use Rattle.pref_table.proofs.Common.{ltb-false, ne_eqb, get_or-drop, get_or-take, length-drop, length-take-le, take_all, fits_cell, is_blank, number_of, signed_by, without_blanks, ArePlain, IsPlain}
+use Rattle.pref_table.proofs.Common.{◌≡◌, ℕ, ◌+◌, ◌-◌, ◌<◌, ◌≤◌, ◌*◌, ◌^◌, Bool, true, false, List, [], ◌∷◌, length, take, drop, get_or, sym, refl, arith, suc, Ok, ℤ, pos}
+use Rattle.pref_table.proofs.Common.{◌==◌, all_ascii_digits, digits_value, starts_with_minus, without_leading_sign, eqb-true, le-leb}
+use Rattle.pref_table.proofs.Common.{ne_eqb, get_or-drop, get_or-take, length-drop, length-take-le, take_all, fits_cell, is_blank, number_of, signed_by, without_blanks, ArePlain, IsPlain}
 use Rattle.pref_table.proofs.Common.{below_more}
 use Rattle.std.proofs.Math.Nat.{pow-le-pow_right, pow-suc}
 use Rattle.std.proofs.lemmas.Int.Digits.{digits_value_more}
@@ -42,27 +42,18 @@ pub room_below : (place most value : ℕ) → place ≤ most → value < 10 ^ pl
 room_below place most value h small = omega (arith, pow-le-pow_right {n = 10} (omega arith) h)
 
 pub value_more : (place value digit new : ℕ) → value < 10 ^ place → digit < 10 → new ≡ 10 * value + digit → new < 10 ^ (place + 1)
-value_more place value digit new small few e =
-    let next : 10 ^ (place + 1) ≡ 10 ^ place * 10 = rw add-one (pow-suc 10 place) in
-    omega (arith, next)
+value_more place value digit new small few e = grind (arith, pow-suc 10 place)
 
 pub digit_more : (text : List ℕ) (place value : ℕ) → place < length text → IsDigit (get_or text place 0) → value ≡ digits_value 10 (take place text)
     → (new : ℕ) → new ≡ 10 * value + (get_or text place 0 - 48) → new ≡ digits_value 10 (take (place + 1) text)
-digit_more text place value inside digit so_far new here =
-    let last = digits_value_more 10 text place inside in
-    let one = digit_value-of (get_or text place 0) digit.0 digit.1 in
-    omega (arith, last, one)
+digit_more text place value inside digit so_far new here = grind (arith, digits_value_more, digit_value-of)
 
 pub digits_more : (text : List ℕ) (place : ℕ) → AreDigits text place → IsDigit (get_or text place 0) → AreDigits text (place + 1)
 digits_more text place = below_more (λ k. IsDigit (get_or text k 0)) place
 
 -- a field that neither begins nor ends with a blank
 no_blanks : (field : List ℕ) → 0 < length field → is_blank (get_or field 0 0) ≡ false → is_blank (get_or field (length field - 1) 0) ≡ false → field ≡ without_blanks field
-no_blanks field some first last =
-    let front : prefix_len is_blank field ≡ 0 = prefix_len-drop_no is_blank field 0 0 some first in
-    let all : take (length field) field ≡ field = take_all (length field) field (omega arith) in
-    let back : suffix_len is_blank field ≡ 0 = ap (suffix_len is_blank) (sym all) ∙ suffix_len-take_no is_blank field (length field) 0 some (omega arith) last in
-    rw (front, back) (sym (take_all (length field - 0) field (omega arith)))
+no_blanks field some first last = grind (arith, prefix_len-drop_no is_blank field 0 0 some first, take_all (length field) field (omega arith), take_all (length field - 0) field (omega arith), suffix_len-take_no is_blank field (length field) 0 some (omega arith) last)
 
 pub small-fits : (negative : Bool) (value : ℕ) → value < 10 ^ 18 → fits_cell (signed_by negative value) ≡ true
 small-fits negative value h = grind (arith)
@@ -78,38 +69,18 @@ field_reads field digits value d some are blanks e small =
 -- a line is plain where its first field is of signs and digits, and what follows the comma is plain
 line_plain : (line : List ℕ) (size : ℕ) → ((k : ℕ) → k < size → IsSigned (get_or line k 0)) → (size < length line → get_or line size 0 ≡ 44)
     → ArePlain (drop (size + 1) line) → ArePlain line
-line_plain line size signed comma rest k inside = by (nat_lt k size) (k == size) refl refl
-  where
-    by : (before here : Bool) → nat_lt k size ≡ before → (k == size) ≡ here → IsPlain (get_or line k 0)
-    by true here b e = signed_plain _ (signed k (ltb-true k size b))
-    by false true b e =
-        let at : k ≡ size = eqb-true k size e in
-        rw (at, comma (omega arith)) (λ e. absurd (omega arith), λ e. absurd (omega arith), λ e. absurd (omega arith))
-    by false false b e =
-        let past : size < k = omega (arith, ltb-false k size b, eqb-false k size e) in
-        let place : size + 1 + (k - (size + 1)) ≡ k = omega arith in
-        let same : get_or (drop (size + 1) line) (k - (size + 1)) 0 ≡ get_or line k 0 = get_or-drop (size + 1) line (k - (size + 1)) 0 ∙ ap (λ n. get_or line n 0) place in
-        rw same at (rest (k - (size + 1)) (omega (arith, length-drop (size + 1) line)))
+line_plain line size signed comma rest k inside = grind (arith, signed_plain, get_or-drop (size + 1) line (k - (size + 1)) 0, length-drop (size + 1) line)
 
 -- a first field ends at its comma, or with the line
 field_ends : (line : List ℕ) (number : ℤ) (size : ℕ) → 0 < size → size ≤ length line → number_of (take size line) ≡ Ok number
     → ((k : ℕ) → k < size → IsSigned (get_or line k 0)) → (size < length line → get_or line size 0 ≡ 44) → IsPlainField line number size
-field_ends line number size some inside reads signed comma = record {
-  some = some;
-  inside = inside;
-  reads = reads;
-  cut = λ more. cut_at line size more (λ k h. ne_eqb _ 44 (signed k h).2) (comma more);
-  last = λ whole. cut_none line (λ k h. ne_eqb _ 44 (signed k (omega arith)).2);
-  plain = line_plain line size signed comma;
-}
+field_ends line number size some inside reads signed comma = grind (arith, cut_at, cut_none, line_plain)
 
 last_not_blank : (digits : List ℕ) (sign : ℕ) → 0 < length digits → AreDigits digits (length digits) → is_blank (get_or (sign ∷ digits) (length digits) 0) ≡ false
-last_not_blank [] sign some are = absurd (omega arith)
-last_not_blank (d ∷ ds) sign some are = not_blank _ (digit_signed _ (are (length ds) (omega arith)))
+last_not_blank digits sign some are = grind (arith)
 
 each_signed : (sign : ℕ) (line : List ℕ) (count : ℕ) → IsSigned sign → AreDigits line count → (k : ℕ) → k < suc count → IsSigned (get_or (sign ∷ line) k 0)
-each_signed sign line count signed are zero h = signed
-each_signed sign line count signed are (suc k) h = digit_signed _ (are k (omega arith))
+each_signed sign line count signed are k h = grind (arith)
 
 module _ (line : List ℕ) (value count : ℕ) (some : 0 < count) where
   -- digits alone

@@ -1,6 +1,6 @@
 -- Lines that csv reads as they are cut at their commas.
 use Rattle.pref_table.proofs.Common.{◌≡◌, ◌∙◌, ℕ, zero, suc, ◌+◌, ◌-◌, ◌<◌, ◌≤◌, Bool, true, false, List, [], ◌∷◌, ◌++◌, length, take, drop, get_or, unwrap_or, ◌≢◌, Option, Some, None, Result, Ok}
-use Rattle.pref_table.proofs.Common.{Err, ℤ, sym, ap, refl, arith, inl, inr, append_assoc, ◌==◌, onto_first, slice_split, eq-eqb, eqb-true, ne_eqb, append-nil, drop_more, get_or-take}
+use Rattle.pref_table.proofs.Common.{Err, ℤ, sym, ap, refl, arith, inl, inr, append_assoc, onto_first, slice_split, eq-eqb, eqb-true, ne_eqb, append-nil, drop_more, get_or-take}
 use Rattle.pref_table.proofs.Common.{get_or_append_left, length-append, length-take, take-append-drop, take_all, drop_of_length-le, length-slice_split, Read, ends_at_end, in_field, next_record}
 use Rattle.pref_table.proofs.Common.{start_field, step, default_config, is_bom, records, records_from, strip_bom, State, IsCutAtLine, IsLineBefore, IsLineEnd, IsPlainLine, header_names, rows_with}
 use Rattle.pref_table.proofs.Common.{◌>>=◌, ArePlain, IsPlain, is_comma, table_of_records, TableFault}
@@ -29,12 +29,10 @@ going_on field [] = field ∷ []
 going_on field (first ∷ more) = (field ++ first) ∷ more
 
 going_on-start : (fields : List (List ℕ)) → 0 < length fields → going_on [] fields ≡ fields
-going_on-start [] some = absurd (omega arith)
-going_on-start (first ∷ more) some = refl
+going_on-start fields some = grind (arith)
 
 going_on-byte : (field : List ℕ) (byte : ℕ) (fields : List (List ℕ)) → going_on (field ++ byte ∷ []) fields ≡ going_on field (onto_first byte fields)
-going_on-byte field byte [] = refl
-going_on-byte field byte (first ∷ more) = ap (λ (t : List ℕ). t ∷ more) (append_assoc field (byte ∷ []) first)
+going_on-byte field byte fields = grind (arith, append_assoc)
 
 split-some : (line : List ℕ) → 0 < length (slice_split is_comma line)
 split-some line = omega (arith, length-slice_split is_comma line)
@@ -52,23 +50,10 @@ ReadsOn line after ended left s = (fields : List (List ℕ)) (field : List ℕ)
 reads-byte : (byte : ℕ) (line after : List ℕ) (ended : State) (left : List ℕ) (s : State) → IsPlain byte → step default_config s byte ≡ in_field default_config byte
     → ((s : State) → IsInRecord s → ReadsOn line after ended left s) → ReadsOn (byte ∷ line) after ended left s
 unfolding next_record
-reads-byte byte line after ended left s (quote, return, feed) taken more fields field = by (byte == 44) refl
-  where
-    by : (comma : Bool) → (byte == 44) ≡ comma
-        → next_record default_config s fields field (byte ∷ line ++ after) ≡ Some (fields ++ going_on field (slice_split is_comma (byte ∷ line)), ended, left)
-    by true e =
-        let at : step default_config s byte ≡ (st.StartField, act.EndField) = taken ∙ rw e refl in
-        let parts : (fields ++ field ∷ []) ++ going_on [] (slice_split is_comma line) ≡ fields ++ ((field ++ []) ∷ slice_split is_comma line) =
-        rw (going_on-start (slice_split is_comma line) (split-some line), append-nil field) (append_assoc fields (field ∷ []) (slice_split is_comma line)) in
-        rw (at, e) (more st.StartField (record { plain = start_field-plain; feed = refl; return = refl; ends = refl }) (fields ++ field ∷ []) [] ∙ ap (λ (t : List (List ℕ)). Some (t, ended, left)) parts)
-    by false e =
-        let at : step default_config s byte ≡ (st.InField, act.Copy) = taken ∙ rw (e, ne_eqb byte 13 return, ne_eqb byte 10 feed) refl in
-        rw (at, e) (more st.InField (record { plain = λ byte h. refl; feed = refl; return = refl; ends = refl }) fields (field ++ byte ∷ [])
-        ∙ ap (λ (t : List (List ℕ)). Some (fields ++ t, ended, left)) (going_on-byte field byte (slice_split is_comma line)))
+reads-byte byte line after ended left s plain taken more fields field = grind (arith, going_on-start, split-some, append-nil, start_field-plain, going_on-byte, append_assoc, ne_eqb)
 
 reads-line : (line after : List ℕ) (ended : State) (left : List ℕ) → ArePlain line → Ends after ended left → (s : State) → IsInRecord s → ReadsOn line after ended left s
-reads-line [] after ended left plain ends s inside fields field =
-    ends s inside fields field ∙ ap (λ (t : List ℕ). Some (fields ++ (t ∷ []), ended, left)) (sym (append-nil field))
+reads-line [] after ended left plain ends s inside fields field = grind (arith, append-nil)
 reads-line (byte ∷ line) after ended left plain ends s inside fields field =
     reads-byte byte line after ended left s (plain 0 (omega arith)) (inside.plain byte (plain 0 (omega arith)))
     (reads-line line after ended left (λ k h. plain (suc k) (omega arith)) ends) fields field
@@ -85,8 +70,6 @@ reads-record (byte ∷ rest) after ended left line ends =
 -- any number past a text's length counts all its records
 records-enough : (n m : ℕ) (s : State) (xs : List ℕ) → ends_at_end s ≡ false → length xs < n → length xs < m
     → records_from default_config n s xs ≡ records_from default_config m s xs
-records-enough zero m s xs between a b = absurd (omega arith)
-records-enough (suc n) zero s xs between a b = absurd (omega arith)
 records-enough (suc n) (suc m) s xs between a b = by (next_record default_config s [] [] xs) refl (records-enough n m)
   where
     by : (read : Option Read) → next_record default_config s [] [] xs ≡ read
@@ -97,6 +80,7 @@ records-enough (suc n) (suc m) s xs between a b = by (next_record default_config
         let shorter = next-shorter xs s p between e in
         let after = next-facts xs s [] [] p e in
         records-some n s xs p e ∙ ap (λ (t : List (List (List ℕ))). p.0 ∷ t) (more p.1 p.2 after.0 (omega arith) (omega arith)) ∙ sym (records-some m s xs p e)
+records-enough n m s xs between a b = grind (arith)
 
 pub records-of : (n : ℕ) (xs : List ℕ) → length xs < n → records_from default_config n st.StartRecord xs ≡ records default_config xs
 records-of n xs enough = records-enough n (length xs + 1) st.StartRecord xs refl enough (omega arith)
@@ -112,9 +96,7 @@ records-first xs fields ended left rest e more =
 -- a line feed between two records changes none
 records-feed : (xs : List ℕ) → records default_config (10 ∷ xs) ≡ records default_config xs
 unfolding next_record records_from
-records-feed xs =
-    let same : records_from default_config (suc (suc (length xs))) st.StartRecord (10 ∷ xs) ≡ records_from default_config (suc (suc (length xs))) st.StartRecord xs = refl in
-    sym (records-of (suc (suc (length xs))) (10 ∷ xs) (omega arith)) ∙ same ∙ records-of (suc (suc (length xs))) xs (omega arith)
+records-feed xs = grind (arith, records-of (suc (suc (length xs))) (10 ∷ xs) (omega arith), records-of (suc (suc (length xs))) xs (omega arith))
 
 -- behind a carriage return a record begins as at the start of a text
 starts-after_return : (byte : ℕ) → step default_config st.AfterCr byte ≡ step default_config st.StartRecord byte
@@ -143,8 +125,7 @@ records-return line after plain ends =
     (reads-record line (13 ∷ after) st.AfterCr after plain (λ s inside fields field. rw inside.return refl)) (λ n h. records-after_return n after h)
 
 records-cut : (text line after : List ℕ) → IsLineBefore text line after → IsPlainLine line → IsLineEnd after → records default_config text ≡ slice_split is_comma line ∷ records default_config after
-records-cut text line after (inl parts) plain ends = rw parts (records-line line after plain ends)
-records-cut text line after (inr parts) plain ends = rw parts (records-return line after plain ends)
+records-cut text line after parts plain ends = grind (arith, records-line, records-return)
 
 -- a text whose first line is plain has the records of one without a carriage return there
 pub records-lines : (text line after : List ℕ) → IsLineBefore text line after → IsPlainLine line → IsLineEnd after → records default_config (line ++ after) ≡ records default_config text
@@ -153,11 +134,7 @@ records-lines text line after parts plain ends = records-line line after plain e
 -- the line that follows a line's end, where it is plain, is the next record
 pub records-next_line : (text line after : List ℕ) → IsLineEnd text → 1 ≤ length text → IsLineBefore (take (length text - 1) (drop 1 text)) line after → IsPlainLine line → IsLineEnd after
     → records default_config text ≡ slice_split is_comma line ∷ records default_config after
-records-next_line text line after (inl none) some parts plain ends = absurd (omega (arith, ap length none))
-records-next_line text line after (inr (more, feed)) some parts plain ends =
-    let rest : take (length (10 ∷ more) - 1) more ≡ more = take_all (length (10 ∷ more) - 1) more (omega arith) in
-    let cut = rw rest at (rw feed at parts) in
-    rw feed (records-feed more ∙ records-cut more line after cut plain ends)
+records-next_line text line after next some parts plain ends = grind (arith, take_all, records-feed, records-cut)
 
 -- a line's end alone has no record
 pub records-none_left : (after : List ℕ) → IsLineEnd after → length after ≤ 1 → records default_config after ≡ []
@@ -177,9 +154,7 @@ module _ (header lines : List ℕ) (plain : IsPlainLine header) (ends : IsLineEn
 
   pub table-lines : (names : List (List ℕ)) (rows : Result (List (List ℤ)) TableFault) → header_names (records default_config header) ≡ Ok names
       → rows_with (length names) [] (records default_config lines) ≡ rows → table_of_records (records default_config (header ++ lines)) ≡ (rows >>= λ rows. Ok (names, rows))
-  table-lines names rows h r =
-      table-rows (records default_config (header ++ lines)) names rows (same_names ∙ h)
-      (ap (rows_with (length names) []) (ap (drop 1) (records-line header lines plain ends)) ∙ r)
+  table-lines names rows h r = grind (arith, table-rows, same_names, records-line)
 
 -- no byte order mark begins a text that begins one without, nor what begins at a line's end
 strip-front : (xs ys : List ℕ) → strip_bom (xs ++ ys) ≡ xs ++ ys → strip_bom xs ≡ xs
@@ -191,25 +166,16 @@ strip-front (a ∷ b ∷ c ∷ rest) ys h = by (is_bom a b c) refl h
     by false e h = rw e refl
 strip-front _ ys h = refl
 
-strip-feed : (xs : List ℕ) → strip_bom (10 ∷ xs) ≡ 10 ∷ xs
-unfolding strip_bom
-strip-feed (a ∷ b ∷ rest) = refl
-strip-feed _ = refl
-
 pub strip-header : (text header after : List ℕ) → IsLineBefore text header after → strip_bom text ≡ text → strip_bom header ≡ header
-strip-header text header after (inl parts) h = strip-front header after (rw parts at h)
-strip-header text header after (inr parts) h = strip-front header (13 ∷ after) (rw parts at h)
+strip-header text header after parts h = grind (arith, strip-front)
 
 pub strip-line_end : (after : List ℕ) → IsLineEnd after → strip_bom after ≡ after
 unfolding strip_bom
-strip-line_end after (inl none) = rw none refl
-strip-line_end after (inr (left, feed)) = rw feed (strip-feed left)
+strip-line_end after ends = grind (arith)
 
 -- a byte of a line that the text begins with
 line-byte : (text line end : List ℕ) (size k : ℕ) → take size text ≡ line ++ end → k < length line → (k < size) × (get_or text k 0 ≡ get_or line k 0)
-line-byte text line end size k parts inside =
-    let before : k < size = omega (arith, ap length parts, length-append line end, length-take size text) in
-    (before, sym (get_or-take size text k 0 before) ∙ ap (λ (t : List ℕ). get_or t k 0) parts ∙ get_or_append_left line end 0 k inside)
+line-byte text line end size k parts inside = grind (arith, length-append line end, length-take size text, get_or-take size text k 0 (omega (arith, ap length parts, length-append line end, length-take size text)), get_or_append_left line end 0 k inside)
 
 line-inside : (text line : List ℕ) (size : ℕ) → IsLineBefore (take size text) line [] → ((k : ℕ) → k < size → get_or text k 0 ≢ 10) → (k : ℕ) → k < length line → get_or line k 0 ≢ 10
 line-inside text line size (inl parts) none k inside = let at = line-byte text line [] size k parts inside in rw at.1 at (none k at.0)
@@ -222,16 +188,11 @@ line-before text line size (inr parts) =
 
 -- a text cut at its first line feed, or at its end
 pub feed-inside : (text : List ℕ) (found : Option ℕ) → IsFirstByte (is_byte 10) text found → unwrap_or found (length text) ≤ length text
-feed-inside text None none = omega arith
-feed-inside text (Some place) (first, here) = omega (arith, first.high)
+feed-inside text found none = grind (arith)
 
 pub line-cut : (text line : List ℕ) (found : Option ℕ) (size : ℕ) → IsFirstByte (is_byte 10) text found → size ≡ unwrap_or found (length text)
     → IsLineBefore (take size text) line [] → IsCutAtLine text line (drop size text)
-line-cut text line None size none at parts = record {
-  parts = line-before text line size parts;
-  inside = line-inside text line size parts (λ k h same. none k (omega arith) (omega arith) (eq-eqb _ 10 same));
-  ends = inl (drop_of_length-le text {i = size} (omega arith));
-}
+line-cut text line None size none at parts = grind (arith, line-before text line size parts, line-inside, drop_of_length-le text)
 line-cut text line (Some place) size (first, here) at parts =
     let feed : get_or text size 0 ≡ 10 = rw at (eqb-true _ 10 here) in
     record {

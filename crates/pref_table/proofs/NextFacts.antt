@@ -25,12 +25,7 @@ pub record Stands (text : List ℕ) (at : ℕ) (s : State) (count : ℕ) : Type 
 stepped : (text : List ℕ) (at : ℕ) (s next : State) (count total : ℕ) (action : Action) → at < length text → step default_config s (get_or text at 0) ≡ (next, action) → is_end action ≡ false
     → ((fields : List (List ℕ)) (field : List ℕ) → length fields ≡ count → length (fields_after action fields field) ≡ total) → Stands text at s count → Stands text (at + 1) next total
 unfolding next_record
-stepped text at s next count total action inside does goes counts h = record {
-  fields = fields_after action h.fields h.field;
-  field = field_after action (get_or text at 0) h.field;
-  same = h.same ∙ rw (drop_more text at 0 inside, does, goes) refl;
-  counted = counts h.fields h.field h.counted;
-}
+stepped text at s next count total action inside does goes counts h = grind (arith, drop_more)
 
 pub stands-goes : (text : List ℕ) (at : ℕ) (s next : State) (count : ℕ) → at < length text → Stands text at s count
     → (step default_config s (get_or text at 0) ≡ (next, act.Skip)) ⊎ (step default_config s (get_or text at 0) ≡ (next, act.Copy)) → Stands text (at + 1) next count
@@ -90,13 +85,10 @@ ends-at_end s inside = grind (arith)
 
 -- an action ends the record with a field more, or ends no more fields than there are
 more-ended : (action : Action) (fields : List (List ℕ)) (field : List ℕ) → is_end action ≡ true → length fields < length (fields_after action fields field)
-more-ended act.EndRecord fields field ends = omega (arith, length-append fields (field ∷ []))
-more-ended _ fields field ends = cc ends
+more-ended action fields field ends = grind (arith, length-append)
 
 no-fewer : (action : Action) (fields : List (List ℕ)) (field : List ℕ) → length fields ≤ length (fields_after action fields field)
-no-fewer act.EndRecord fields field = omega (arith, length-append fields (field ∷ []))
-no-fewer act.EndField fields field = omega (arith, length-append fields (field ∷ []))
-no-fewer _ fields field = omega arith
+no-fewer action fields field = grind (arith, length-append)
 
 -- so a record that was begun ends, with one field more at least
 ends-later : (xs : List ℕ) (s : State) (fields : List (List ℕ)) (field : List ℕ) → is_inside s ≡ true → (p : Read) × (next_record default_config s fields field xs ≡ Some p) × (length fields < length p.0)
@@ -126,8 +118,7 @@ wide text at h =
 
 -- a place that is not between records is inside one
 pub outside-none : (place : Place) → (place ≡ BetweenRecords → ⊥) → ends_at_end (state_at place) ≡ true
-outside-none BetweenRecords apart = absurd (apart refl)
-outside-none _ apart = refl
+outside-none place apart = grind (arith)
 
 -- a reader that has the records of a text left reads the first of them, where it is narrow
 pub reads-narrow : (old new : BytesReader) (found : Bool) (fields : List (List ℕ)) (text after : List ℕ) → HasLeft old (records default_config text) → ReadsFirst old new found fields → (first : List (List ℕ)) × IsNarrow text first after
@@ -136,12 +127,7 @@ reads-narrow old new found fields text after has reads (first, (is, few)) = by f
   where
     by : (found : Bool) → MatchBool found ((rest : List (List (List ℕ))) × (records default_config text ≡ fields ∷ rest) × HasLeft new rest) (records default_config text ≡ [])
         → IsNarrow text fields after × HasLeft new (records default_config after)
-    by true (rest, some, left) =
-        let both : first ∷ records default_config after ≡ fields ∷ rest = sym is ∙ some in
-        let here : first ≡ fields = cc both in
-        let later : rest ≡ records default_config after = cc both in
-        ((rw (← here) is, rw (← here) few), rw (← later) left)
-    by false none = let apart : first ∷ records default_config after ≡ [] = sym is ∙ none in absurd (cc apart)
+    by found none = grind (arith)
 
 pub reads-other : (new : BytesReader) (text : List ℕ) (fields : List (List ℕ)) (next : Next) → ((rest : Bor (List ℕ)) → next ≡ Narrow rest → ⊥) → IsNext text next → ReadsNext new text fields next
 reads-other new text fields next other is = grind (arith)
