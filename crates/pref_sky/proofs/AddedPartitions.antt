@@ -1,9 +1,9 @@
 -- What an addition makes of partitions: each holds the levels of what it held and of what came to it.
-use Rattle.pref_sky.proofs.Common.{◌≡◌, ℕ, zero, suc, ◌≤◌, ◌+◌, ◌-◌, Bool, true, cond, not, inl, inr, ◌⊎◌, List, [], ◌∷◌, ◌++◌, length, take, drop, filter, map, eqb, refl, sym, ◌∙◌, ap, subst, arith}
+use Rattle.pref_sky.proofs.Common.{◌≡◌, ℕ, zero, suc, ◌≤◌, ◌+◌, ◌-◌, Bool, true, not, inl, inr, ◌⊎◌, List, [], ◌∷◌, ◌++◌, length, take, drop, filter, map, eqb, refl, sym, ◌∙◌, ap, subst, arith}
 use Rattle.pref_sky.proofs.Common.{append-nil, Vec, Global, All, cases_Bool, length-map, map-append, take-map, drop-map, All-append, All-drop, All-take, filter-append, IsStrictOrder, Arrival, Entry}
-use Rattle.pref_sky.proofs.Common.{Made, KeepsUpper, arrived, coming_to, best, is_beaten, rest, AreAllItems, AreInPool, AreItems, entries_at, levels_at, items_at, partitions_at, Item, HaveDifferentIds}
+use Rattle.pref_sky.proofs.Common.{Made, KeepsUpper, arrived, coming_to, best, is_beaten, rest, AreAllItems, AreInPool, AreItems, levels_at, items_at, partitions_at, Item, HaveDifferentIds}
 use Rattle.pref_sky.proofs.Common.{entry_of, levels, ArePartitionsMade, ArePut, IsPartitionMade, LeaveAlone, new_levels, IsBehind, IsMade, held_at, replaced, ArePartitionedBy, depth, is_in, ranked_partitions}
-use Rattle.pref_sky.proofs.Common.{ranked_upto, Among, ◌<◌, both_ways, eq-eqb, eqb-true, false, list_any, AreComing, HaveArrived, IsArrival, StartsAt, partition_of, partitions_by}
+use Rattle.pref_sky.proofs.Common.{ranked_upto, Among, both_ways, eq-eqb, eqb-true, list_any, AreComing, HaveArrived, IsArrival, partition_of, partitions_by}
 use Rattle.pref_sky.specs.Additions.{FitIn}
 use Rattle.pref_sky.proofs.LevelLaws.{first_differ}
 use Rattle.pref_sky.proofs.ListLaws.{all_among, among_all, any_from, any_gives, from_filter, filter_agree_among, count_append}
@@ -16,9 +16,7 @@ use Rattle.pref_sky.proofs.SortedLevels.{different_by_count, kept_levels}
 
 -- what a function makes of others in the place of some
 replaced_map : {A B : Type 0} (f : A → B) (n : ℕ) (others all : List A) → map f (replaced n others all) ≡ replaced n (map f others) (map f all)
-replaced_map f n others all =
-    let back = n + length others in
-    cc (map-append f (take n all ++ others) (drop back all), map-append f (take n all) others, take-map f n all, drop-map f back all, length-map others f)
+replaced_map f n others all = grind (arith, map-append f (take n all ++ others), map-append f (take n all) others, take-map f n all, drop-map f, length-map others f)
 
 -- nothing comes
 nothing_comes : (over : Entry → Entry → Bool) (cut : ℕ) (held : List (List Entry)) → IsMade over cut held held []
@@ -49,8 +47,7 @@ module _ {over : Entry → Entry → Bool} {cut : ℕ} {rule : Entry → ℕ} {p
         | inl w ↦
             let made = w.0 in
             let held = items_at made.partition partitions in
-            let now : held_at made.partition (partitions_at pool new) ≡ replaced made.first (levels_at pool (new_levels made)) (levels_at pool held) =
-            levels_of_at pool made.partition new ∙ (ap (levels_at pool) (is_put made w.1) ∙ replaced_map (λ (level : Vec Item Global). entries_at pool level.items) made.first (new_levels made) held) in
+            let now : held_at made.partition (partitions_at pool new) ≡ replaced made.first (levels_at pool (new_levels made)) (levels_at pool held) = grind (arith, levels_of_at pool made.partition new, is_put made w.1, replaced_map) in
             subst (λ p. IsMade over cut (held_at p (partitions_at pool partitions)) (held_at p (partitions_at pool new)) (map (arrived pool) (coming_to p arrivals))) w.2
             (subst (λ l. IsMade over cut l (held_at made.partition (partitions_at pool new)) (map (arrived pool) (coming_to made.partition arrivals))) (sym (levels_of_at pool made.partition partitions))
             (subst (λ l. IsMade over cut (levels_at pool held) l (map (arrived pool) (coming_to made.partition arrivals))) (sym now) (is_made made w.1).levels.made))
@@ -81,19 +78,7 @@ module _ {over : Entry → Entry → Bool} {cut : ℕ} {rule : Entry → ℕ} {p
       ])
 
   pub depth_after : (most : ℕ) → cut ≤ most → depth (partitions_at pool partitions) ≤ most → depth (partitions_at pool new) ≤ most
-  depth_after most cut_fits shallow =
-      let counted : (some : List Partition) (partition : ℕ) → length (held_at partition (partitions_at pool some)) ≡ length (items_at partition some) =
-      λ some partition. ap length (levels_of_at pool partition some) ∙ length-map (items_at partition some) (λ (level : Vec Item Global). entries_at pool level.items) in
-      let before : (partition : ℕ) → length (items_at partition partitions) ≤ most = λ partition. omega (arith, counted partitions partition, within_depth (partitions_at pool partitions) partition, shallow) in
-      depth_within (partitions_at pool new) most (λ partition.
-      elim (made_or_not partition all) [
-        | inl w ↦
-            let made = w.0 in
-            let one = (is_made made w.1).levels in
-            subst (λ p. length (held_at p (partitions_at pool new)) ≤ most) w.2
-            (omega (arith, counted new made.partition, ap length (is_put made w.1), taken_long made.first made.levels.items (items_at made.partition partitions) one.fits.inside one.fits.first, one.no_deeper, before made.partition, cut_fits))
-        | inr alone ↦ omega (arith, counted new partition, ap length (put.others partition alone), before partition)
-      ])
+  depth_after most cut_fits shallow = grind (arith, levels_of_at pool, length-map, within_depth (partitions_at pool partitions), depth_within (partitions_at pool new) most, made_or_not, is_made, is_put, taken_long, put.others)
 
 -- those that come to a partition are those of its number
 filter_mapped : {E F : Type 0} (f : E → F) (q : F → Bool) (xs : List E) → filter q (map f xs) ≡ map f (filter (λ x. q (f x)) xs)
@@ -131,8 +116,7 @@ late over number within (suc c) old before different apart parted is x n low beh
     let mine = is_in number partition in
     let some : ℕ → List Entry = λ j. best over (rest over (filter mine before) j) in
     let k = n - 1 in
-    let same : ranked_upto (λ j. held_at j held) (length held) ≡ ranked_upto some (suc c) =
-    sym (held_upto held) ∙ (hold_apart over number within (suc c) old before different apart parted is partition ∙ levels_upto_is over (filter mine before) (suc c)) in
+    let same : ranked_upto (λ j. held_at j held) (length held) ≡ ranked_upto some (suc c) = grind (arith, held_upto held, hold_apart over number within (suc c) old before different apart parted is partition, within, apart, levels_upto_is over (filter mine before) (suc c)) in
     let next : suc k ≡ n = omega (arith, low) in
     let w = any_gives (λ y. over y x) (held_at k held) (behind k next) in
     let v = within_if_same (λ j. held_at j held) some (length held) (suc c) same k w.0 (held_there k held w.0 w.1) w.1 in
@@ -144,8 +128,7 @@ late over number within (suc c) old before different apart parted is x n low beh
 -- of what comes, what is below the cut may be left out
 module _ (over : Entry → Entry → Bool) (number : Entry → ℕ) (cut : ℕ) (old : List (List (List Entry))) (entries kept : List Entry) (upper : KeepsUpper over cut number old entries kept) where
   pub some_differ : (held : List Entry) → HaveDifferentIds (held ++ entries) → HaveDifferentIds (held ++ kept)
-  some_differ held different =
-      different_by_count held entries (held ++ kept) different (λ p. omega (arith, upper.counts p, count_append p held kept))
+  some_differ held different = grind (arith, different_by_count held entries (held ++ kept) different, upper.counts, count_append)
 
   pub upper_levels : IsStrictOrder over → IsWithin over number → (before : List Entry) → HaveDifferentIds (before ++ entries) → HaveDifferentIds (map entry_of (ranked_partitions old) ++ entries) → ArePartitionedBy number old
       → ranked_partitions old ≡ levels over before cut → levels over (before ++ kept) cut ≡ levels over (before ++ entries) cut
@@ -168,14 +151,7 @@ module _ {over : Entry → Entry → Bool} {rule : Entry → ℕ} {cut : ℕ} {c
 
   -- to partitions that there are, and to their levels
   pub to_coming : length partitions ≡ partitions_by columns → AreComing over rule pool partitions arrivals
-  to_coming long =
-      record {
-        dealt = here.dealt;
-        partition = among_all (λ (a : Arrival). a.partition < length partitions) arrivals
-            (λ a m. omega (arith, long, partition_below columns (arrived pool a), all_among (λ (b : Arrival). partition_of columns (arrived pool b) ≡ b.partition) arrivals of_partition a m));
-        start = among_all (λ (a : Arrival). StartsAt over rule pool (levels_at pool (items_at a.partition partitions)) a) arrivals
-            (λ a m. subst (λ l. StartsAt over rule pool l a) (levels_of_at pool a.partition partitions) (all_among (IsArrival over rule (partition_of columns) pool (partitions_at pool partitions)) arrivals here.are a m).starts);
-      }
+  to_coming long = grind (arith, here.dealt, among_all, long, partition_below columns, all_among, of_partition, levels_of_at pool, all_among (IsArrival over rule (partition_of columns) pool (partitions_at pool partitions)) arrivals here.are)
 
   -- and the partitions once they are made and put in their places
   module _ {given : List Arrival} {all : List Made} {new : List Partition} {old : List (List (List Entry))} (came : given ≡ arrivals) (are : ArePartitionsMade over cut rule pool partitions given all) (put : ArePut all partitions new) (same : partitions_at pool partitions ≡ old)
@@ -193,8 +169,7 @@ module _ {over : Entry → Entry → Bool} {rule : Entry → ℕ} {cut : ℕ} {c
     coming = map (arrived pool) arrivals
 
     after : (partition : ℕ) → IsMade over cut (held_at partition was) (held_at partition now) (filter (is_in number partition) coming)
-    after partition =
-        subst (IsMade over cut (held_at partition was) (held_at partition now)) (ap (λ l. map (arrived pool) (coming_to partition l)) came ∙ sym (coming_of number pool arrivals of_partition partition)) (partition_after are put partition)
+    after partition = grind (arith, coming_of number pool arrivals of_partition partition, of_partition, partition_after are put partition)
 
     apart : HaveDifferentIds (map entry_of (ranked_partitions was) ++ entries)
     apart = subst (λ l. HaveDifferentIds (map entry_of (ranked_partitions l) ++ entries)) (sym same) different

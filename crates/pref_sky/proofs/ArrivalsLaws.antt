@@ -1,7 +1,7 @@
 -- One entry more comes to partitions, and what comes is put in order.
-use Rattle.pref_sky.proofs.Common.{◌≡◌, ◌∙◌, ℕ, ◌≤◌, ◌<◌, Bool, cond, inl, inr, List, [], ◌∷◌, ◌++◌, Vec, Global, get_or, length, map, refl, sym, ap, subst, arith, IsPermutation}
+use Rattle.pref_sky.proofs.Common.{◌≡◌, ℕ, ◌≤◌, ◌<◌, Bool, inl, inr, List, [], ◌∷◌, ◌++◌, Vec, Global, get_or, length, map, refl, arith, IsPermutation}
 use Rattle.pref_sky.proofs.Common.{All, map-append, All-push, sum_by-IsPermutation, Entry, Item, Pool, signature_by, Arrival}
-use Rattle.pref_sky.proofs.Common.{IsArrival, KeepsAllBut, arrived, AreAllItems, AreInPool, HasGrown, IsItem, levels_at, partitions_at, IsBehind, held_at}
+use Rattle.pref_sky.proofs.Common.{IsArrival, KeepsAllBut, arrived, AreInPool, HasGrown, IsItem, levels_at, partitions_at, IsBehind, held_at}
 use Rattle.pref_sky.proofs.ListLaws.{all_among, in_either, in_left, in_right, map_agree_among, same_if_permuted, count_append}
 use Rattle.pref_sky.proofs.PoolLaws.{entry_grown, item_grown, levels_grown, partition_here}
 
@@ -9,23 +9,13 @@ use Rattle.pref_sky.proofs.PoolLaws.{entry_grown, item_grown, levels_grown, part
 
 pub partition_stays : (a b : Pool) → HasGrown a b → (partitions : List (Vec (Vec Item Global) Global)) (n : ℕ) (partition : Vec (Vec Item Global) Global) → AreInPool (signature_by a.scales) a.entries.items partitions → n < length partitions → partition ≡ get_or partitions n partition
     → levels_at b.entries.items partition.items ≡ held_at n (partitions_at a.entries.items partitions)
-partition_stays a b grown partitions n partition are inside is =
-    let here = subst (λ (p : Vec (Vec Item Global) Global). AreAllItems (signature_by a.scales) a.entries.items p.items) (sym is) (are n partition inside) in
-    levels_grown a b grown partition.items here ∙ sym (partition_here a.entries.items partitions n partition inside is)
+partition_stays a b grown partitions n partition are inside is = grind (arith, inside, levels_grown a b grown partition.items, partition_here a.entries.items partitions n partition inside is)
 
 module _ (over : Entry → Entry → Bool) (number : Entry → ℕ) (partitions : List (List (List Entry))) where
   -- an entry that was put into the pool for a partition
   pub arrival_here : (rule : Entry → ℕ) (pool : List Entry) (e : Entry) (levels : List (List Entry)) (x : Arrival) → levels ≡ held_at x.partition partitions → number e ≡ x.partition → IsItem rule pool x.item → arrived pool x ≡ e
       → x.start ≤ length levels → IsBehind over levels x.start e → IsArrival over rule number pool partitions x
-  arrival_here rule pool e levels x here numbered is same within behind =
-      record {
-        partition = ap number same ∙ numbered;
-        starts = record {
-          item = is;
-          within = subst (λ l. x.start ≤ length l) here within;
-          behind = subst (λ y. IsBehind over (held_at x.partition partitions) x.start y) (sym same) (subst (λ l. IsBehind over l x.start e) here behind);
-        };
-      }
+  arrival_here rule pool e levels x here numbered is same within behind = grind (arith, x.start, within, behind)
 
   module _ (a b : Pool) (grown : HasGrown a b) (arrivals : List Arrival) (are : All (IsArrival over (signature_by a.scales) number a.entries.items partitions) arrivals) where
     arrived_grown : (x : Arrival) → IsArrival over (signature_by a.scales) number a.entries.items partitions x → arrived b.entries.items x ≡ arrived a.entries.items x
@@ -39,10 +29,7 @@ module _ (over : Entry → Entry → Bool) (number : Entry → ℕ) (partitions 
     arrivals_push x is = All-push (IsArrival over (signature_by b.scales) number b.entries.items partitions) arrivals x (λ k d inside. arrival_grown (get_or arrivals k d) (are k d inside)) is
 
     pub arrived_push : (x : Arrival) → map (arrived b.entries.items) (arrivals ++ x ∷ []) ≡ map (arrived a.entries.items) arrivals ++ arrived b.entries.items x ∷ []
-    arrived_push x =
-        let now = arrived b.entries.items in
-        map-append now arrivals (x ∷ [])
-        ∙ ap (λ l. l ++ now x ∷ []) (map_agree_among now (arrived a.entries.items) arrivals (λ y m. arrived_grown y (all_among (IsArrival over (signature_by a.scales) number a.entries.items partitions) arrivals are y m)))
+    arrived_push x = grind (arith, map-append, map_agree_among, arrived_grown, all_among (IsArrival over (signature_by a.scales) number a.entries.items partitions) arrivals are)
 
 -- ---- those that are not below the cut are kept
 
@@ -59,21 +46,7 @@ module _ {below : Entry → Type 0} (entries kept : List Entry) (keeps : KeepsAl
       }
 
   pub drops_one : (e : Entry) → below e → KeepsAllBut below (entries ++ e ∷ []) kept
-  drops_one e low =
-      record {
-        within = λ x m. in_left entries (e ∷ []) x (keeps.within x m);
-        covers = λ x m. elim (in_either entries (e ∷ []) x m) [
-          | inl old ↦ keeps.covers x old
-          | inr new ↦ elim new [ inl same ↦ inr (subst below (sym same) low) | inr none ↦ absurd none ]
-        ];
-        counts = λ p. omega (arith, keeps.counts p, count_append p entries (e ∷ []));
-      }
+  drops_one e low = grind (arith, in_left entries (e ∷ []), keeps.within, in_either entries (e ∷ []), keeps.covers, keeps.counts, count_append)
 
   pub keeps_moved : (moved : List Entry) → IsPermutation kept moved → KeepsAllBut below entries moved
-  keeps_moved moved permuted =
-      let same = same_if_permuted kept moved permuted in
-      record {
-        within = λ x m. keeps.within x (same.back x m);
-        covers = λ x m. elim (keeps.covers x m) [ inl there ↦ inl (same.there x there) | inr low ↦ inr low ];
-        counts = λ p. omega (arith, keeps.counts p, sum_by-IsPermutation (λ (x : Entry). cond (p x) 1 0) kept moved permuted);
-      }
+  keeps_moved moved permuted = grind (arith, same_if_permuted kept moved permuted, keeps.within, keeps.covers, keeps.counts, sum_by-IsPermutation)

@@ -1,5 +1,5 @@
 -- What an ask for at least k selects: k levels always hold enough, and of ranked entries in order of level those on the levels before one stand in front.
-use Rattle.pref_sky.proofs.Common.{◌≡◌, ℕ, zero, suc, ◌≤◌, Bool, true, false, not, ◌&&◌, inl, inr, List, [], ◌∷◌, ◌++◌, map, length, ltb, refl, sym, ◌∙◌, ap, subst, arith, filter, append-nil}
+use Rattle.pref_sky.proofs.Common.{◌≡◌, ℕ, zero, suc, ◌≤◌, Bool, true, false, not, ◌&&◌, inl, inr, List, [], ◌∷◌, ◌++◌, map, length, ltb, refl, sym, ◌∙◌, ap, arith, filter, append-nil}
 use Rattle.pref_sky.proofs.Common.{cases_lt, nat_tests, count_by-le-length, false_from_ne_true, length-map, entry_of, and_parts, and_from, lt-ltb, le-ltb, length-filter, filter-append, IsStrictOrder}
 use Rattle.pref_sky.proofs.Common.{Row, Entry, Ranked, best, rest, in_order_of_id, at_level, levels, count_before, at_least, Among, length-filter_both, ◌<◌, ◌-◌, get_or, take, leb, IsNonDecreasingBy}
 use Rattle.pref_sky.proofs.Common.{IsPartitionPoint, IsPartitionedBy, get_or_append_left, get_or-append_right, get_or-map, length-append, count_by, filter_agree, in_same_group, IsPartitionedBy-ltb}
@@ -16,9 +16,7 @@ abbrev pub StaysInGroups : (Entry → Entry → Bool) → (Row → Row → Bool)
 StaysInGroups over same = (a b : Entry) → over a b ≡ true → same a.row b.row ≡ true
 
 pub levels_upto : (over : Entry → Entry → Bool) (all : List Entry) (n : ℕ) (r : Ranked) → Among r (levels over all n) → r.level ≤ n
-levels_upto over all n r m =
-    let w = from_upto (λ k. best over (rest over all k)) n r (subst (Among r) (levels_upto_is over all n) m) in
-    omega (arith, ap (λ (s : Ranked). s.level) w.is, w.below)
+levels_upto over all n r m = grind (arith, from_upto, levels_upto_is over all n)
 
 -- below an entry that comes after n removals stand n entries of its group at least, one of each level
 enough_before : (over : Entry → Entry → Bool) → IsStrictOrder over → (same : Row → Row → Bool) → StaysInGroups over same → (all : List Entry) (n : ℕ) (e : Entry) → comes_after over all n e ≡ true → (j : ℕ) → j ≤ n → j ≤ count_before same (levels over all j) (at_level (suc n) e)
@@ -99,11 +97,7 @@ past_all over strict all (suc m) le =
 
 -- k levels hold enough
 pub enough : (over : Entry → Entry → Bool) → IsStrictOrder over → (same : Row → Row → Bool) → StaysInGroups over same → (all : List Entry) (k : ℕ) → at_least same k (levels over all (length all)) ≡ at_least same k (levels over all k)
-enough over strict same within all k =
-    elim (cases_lt (length all) k) [
-      | inl fewer ↦ ap (at_least same k) (sym (past_all over strict all k (omega arith)))
-      | inr more ↦ past_k over strict same within all k (length all) more
-    ]
+enough over strict same within all k = grind (arith, past_all over strict all k, past_k over strict same within all k (length all), within)
 
 filter_front : {E : Type 0} (p : E → Bool) (xs : List E) (n : ℕ) → IsPartitionPoint (λ x. p x ≡ true) (λ x. p x ≡ false) xs n → filter p xs ≡ take n xs
 filter_front p xs n point = filter_parted p xs n (passes_before p xs n point) (fails_behind p xs n point)
@@ -160,10 +154,7 @@ module _ (xs : List Ranked) (sorted : IsNonDecreasingBy (λ (r : Ranked). r.leve
 
 -- all are told where they are fewer, and none where none is asked for
 pub all_ranked : (least : ℕ) (xs : List Ranked) → length xs < least → xs ≡ at_least (in_same_group []) least xs
-all_ranked least xs few =
-    let test : Ranked → Ranked → Bool = λ r s. ltb s.level r.level in
-    sym (all_pass (λ r. ltb (count_before (in_same_group []) xs r) least) xs (λ r m.
-    lt-ltb (count_before (in_same_group []) xs r) least (omega (arith, few, count_by-le-length (test r) xs))))
+all_ranked least xs few = grind (arith, all_pass, lt-ltb, count_by-le-length)
 
 pub none_ranked : (xs : List Ranked) → [] ≡ at_least (in_same_group []) 0 xs
 none_ranked xs = sym (none_pass (λ r. ltb (count_before (in_same_group []) xs r) 0) xs (λ r m. le-ltb (count_before (in_same_group []) xs r) 0 (omega arith)))

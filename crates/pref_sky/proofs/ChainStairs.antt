@@ -1,12 +1,11 @@
 -- Keys and columns as chains, and the order of entries that two chains say, which is stairs; that in which entries are kept is a chain, and lists in it are in the order of the stairs.
-use Rattle.pref_sky.proofs.Common.{◌≡◌, ℤ, ℕ, Bool, true, false, not, ◌&&◌, ◌||◌, List, [], ◌∷◌, refl, sym, ◌∙◌, ap, subst, arith, int_lt, nat_lt, int_eq, nat_tests, cell, in_same_group, IsProductOf}
+use Rattle.pref_sky.proofs.Common.{◌≡◌, ℤ, ℕ, Bool, true, false, not, ◌&&◌, ◌||◌, List, [], ◌∷◌, refl, sym, ◌∙◌, ap, subst, arith, int_lt, nat_lt, int_eq, cell, in_same_group, IsProductOf}
 use Rattle.pref_sky.proofs.Common.{by_chain, by_chains, first_chain, second_chain, tie_chain, RowOrder, is_better, is_same, is_worse, entry_order, AreStairs, IsChain, IsLine, are_level, better_in}
 use Rattle.pref_sky.proofs.Common.{by_row, earlier_in, earlier_twin, first_within, in_turn, second_within, tie_or_twin, AreChain, IsStairs, OrderGroups, Entry, Bor, Ordering, ◌<◌, ◌≤◌, suc, inl, inr}
 use Rattle.pref_sky.proofs.Common.{length, get_or, Called, IsSortedByClosure, is_lt, cases_lt, always_returns_same, sorted_far, Mut, chain_order, IsStrictOrder, AreInOrder, comes_before, own_order}
 use Rattle.pref_sky.proofs.Common.{entry_at, IsInOrder, comes_first, ChainOrder}
 use Rattle.std.proofs.lemmas.Int.{ints}
 use Rattle.pref_term.specs.Keys.{keyed}
-use Rattle.pref_term.specs.RelationLaws.{priority-same, product-same}
 use Rattle.pref_term.specs.Walk.{by_scores, by_sides, in_product, in_priority}
 use Rattle.pref_term.specs.declared.chains.Chains.{Chains}
 use Rattle.pref_term.specs.declared.key.Key.{Key}
@@ -60,9 +59,7 @@ sides [] a b = refl
 sides (key ∷ keys) a b = scores_sides (keyed key a) (keyed key b) (by_chain keys a b) (by_chain keys b a) (sides keys a b)
 
 pub worse_in : (keys : List Key) (a b : List ℤ) → is_worse (by_chain keys a b) ≡ better_in keys b a
-worse_in keys a b =
-    let chain = keys_chain keys in
-    grind (arith, sides keys a b, chain.strict.transitive a b a, chain.strict.irreflexive a)
+worse_in keys a b = grind (arith, keys_chain keys, sides keys a b)
 
 pub same_in : (keys : List Key) (a b : List ℤ) → is_same (by_chain keys a b) ≡ are_level (better_in keys) a b
 same_in keys a b = grind (arith, sides keys a b)
@@ -101,29 +98,12 @@ module _ (order : RowOrder) (columns : List ℕ) (chains : Chains) (distinct : B
 
   -- rows
   rows_are_stairs : AreStairs order.over (first_within columns chains) (second_within columns chains) (better_in (tie_chain chains))
-  rows_are_stairs =
-      let product : List ℤ → List ℤ → Bool = λ a b. is_better (by_chains chains a b) in
-      let grouped = (serves_groups product (better_in (first_chain chains)) (better_in (second_chain chains)) (better_in (tie_chain chains)) (earlier_in columns)).stairs without_groups (earlier_chain columns) in
-      record {
-        first_is_chain = grouped.first_is_chain;
-        second_is_chain = grouped.second_is_chain;
-        tie_is_chain = grouped.tie_is_chain;
-        is = λ a b. of.over a b ∙ (ap (λ t. t && product a b) (same_group columns a b) ∙ grouped.is a b);
-      }
+  rows_are_stairs = grind (arith, serves_groups, without_groups, earlier_chain columns, of.over, same_group columns)
 
   -- rows of a group that are the same are level in both chains and in the tie
   level_in_all : (a b : List ℤ)
       → (in_same_group columns a b && is_same (by_chains chains a b)) ≡ ((are_level (first_within columns chains) a b && are_level (second_within columns chains) a b) && are_level (better_in (tie_chain chains)) a b)
-  level_in_all a b =
-      grind (
-        arith,
-        same_group columns a b,
-        priority-same (in_product (by_chain (first_chain chains) a b) (by_chain (second_chain chains) a b)) (by_chain (tie_chain chains) a b),
-        product-same (by_chain (first_chain chains) a b) (by_chain (second_chain chains) a b),
-        same_in (first_chain chains) a b,
-        same_in (second_chain chains) a b,
-        same_in (tie_chain chains) a b,
-      )
+  level_in_all a b = grind (arith, same_group columns a b, same_in (first_chain chains) a b, same_in (second_chain chains) a b, same_in (tie_chain chains) a b)
 
   -- entries
   pub entries_are_stairs : AreStairs (entry_order order) (by_row (first_within columns chains)) (by_row (second_within columns chains)) (tie_or_twin chains distinct)

@@ -1,7 +1,7 @@
 -- The order of items is strict, whatever their signatures are, and lists are parted into their best and the others by what their items stand for.
-use Rattle.pref_sky.proofs.Common.{◌≡◌, Bool, cond, not, inl, inr, List, ◌++◌, sym, ◌∙◌, ap, subst, arith, map, count_by, both_ways, not-true, map-append, IsAntichain, best, is_beaten, without_best}
-use Rattle.pref_sky.proofs.Common.{Parted, Among, ◌+◌, ◌<◌, ◌≤◌, ◌^◌, ℕ, true, ◌&&◌, length, ltb, eq-eqb, w64, and_right, ltb-true, eqb-true, lt-ltb, bit_and, min, IsStrictOrder, RowOrder, is_within}
-use Rattle.pref_sky.proofs.Common.{Entry, Item, IsItem, entry_at, is_word, item_order, place_order, entry_order, AreItems, Suit, entries_at, signature, refl}
+use Rattle.pref_sky.proofs.Common.{◌≡◌, Bool, cond, inl, inr, List, ◌++◌, sym, ◌∙◌, ap, subst, arith, map, count_by, both_ways, not-true, map-append, IsAntichain, best, is_beaten, without_best}
+use Rattle.pref_sky.proofs.Common.{Parted, Among, ◌+◌, ◌<◌, ◌≤◌, ◌^◌, ℕ, true, ◌&&◌, eq-eqb, w64, ltb-true, eqb-true, bit_and, min, IsStrictOrder, RowOrder, is_within}
+use Rattle.pref_sky.proofs.Common.{Entry, Item, IsItem, entry_at, item_order, place_order, entry_order, AreItems, Suit, entries_at, signature}
 use Rattle.std.proofs.lemmas.List.Folds.{fold-map}
 use Rattle.pref_term.specs.declared.signature.scale.Scale.{Scale}
 use Rattle.std.specs.Int.{bit_at, bit_not}
@@ -52,13 +52,7 @@ parted_map f below over held items top others agree p =
 -- where none of the held ones dominates another, the two lists are the best and what is left without them
 module _ {E : Type 0} (over : E → E → Bool) (held items top others : List E) (p : Parted over held items top others) (apart : IsAntichain over held) where
   pub best_are : SameMembers top (best over (held ++ items))
-  best_are =
-      record {
-        there = λ x m. in_filter (λ y. not (is_beaten over (held ++ items) y)) (held ++ items) x (p.within x (inl m)) (ap not (p.unbeaten apart x m));
-        back = λ x m.
-            let w = from_filter (λ y. not (is_beaten over (held ++ items) y)) (held ++ items) x m in
-            elim (p.covers x w.0) [ inl a ↦ a | inr a ↦ absurd (both_ways (is_beaten over (held ++ items) x) (not-true (is_beaten over (held ++ items) x) w.1) (p.beaten apart x a)) ];
-      }
+  best_are = grind (arith, in_filter, p.within, p.unbeaten apart, from_filter, p.covers, not-true, p.beaten apart)
 
   pub others_are : SameMembers others (without_best over (held ++ items))
   others_are =
@@ -78,9 +72,7 @@ pub place_order_is_strict : (order : RowOrder) (pool : List Entry) → IsStrictO
 place_order_is_strict order pool strict = grind (arith)
 
 covered_if_within : (x y : ℕ) → y < 2 ^ 64 → is_within x y ≡ true → (i : ℕ) → i < 64 → bit_at x i ≤ bit_at y i
-covered_if_within x y small within i inside =
-    let none : bit_and x (bit_not w64 y) ≡ 0 = eqb-true (bit_and x (bit_not w64 y)) 0 within in
-    omega (arith, bit_at_and x (bit_not w64 y) i, bit_at_not w64 y i small inside, ap (λ n. bit_at n i) none, bit_at-zero i, bit_at-lt x i, bit_at-lt y i)
+covered_if_within x y small within i inside = grind (arith, eqb-true (bit_and x (bit_not w64 y)) 0 within, within, bit_at_and x (bit_not w64 y) i, bit_at_not w64 y i small inside, inside, bit_at-zero i, bit_at-lt x i, bit_at-lt y i)
 
 within_if_covered : (x y : ℕ) → x < 2 ^ 64 → y < 2 ^ 64 → ((i : ℕ) → i < 64 → bit_at x i ≤ bit_at y i) → is_within x y ≡ true
 within_if_covered x y small_x small_y covered =
@@ -89,20 +81,10 @@ within_if_covered x y small_x small_y covered =
     (λ i inside. bit_at_and x (bit_not w64 y) i ∙ (ap (min (bit_at x i)) (bit_at_not w64 y i small_y inside) ∙ omega (arith, covered i inside, bit_at-lt y i, bit_at-zero i))))
 
 within_then : (x y z : ℕ) → x < 2 ^ 64 → y < 2 ^ 64 → z < 2 ^ 64 → is_within x y ≡ true → is_within y z ≡ true → is_within x z ≡ true
-within_then x y z small_x small_y small_z first second =
-    within_if_covered x z small_x small_z (λ i inside. omega (arith, covered_if_within x y small_y first i inside, covered_if_within y z small_z second i inside))
+within_then x y z small_x small_y small_z first second = grind (arith, within_if_covered x z small_x small_z, covered_if_within x y small_y first, covered_if_within y z small_z second)
 
 pub item_order_is_strict : (order : RowOrder) (pool : List Entry) → IsStrictOrder (entry_order order) → IsStrictOrder (item_order order pool)
-item_order_is_strict order pool entries_strict =
-    let strict = place_order_is_strict order pool entries_strict in
-    let over = place_order order pool in
-    record {
-      irreflexive = λ a. grind (arith, strict.irreflexive a.place);
-      transitive = λ a b c.
-          let w = λ (x y : Item). is_within x.signature y.signature in
-          tests_chain (is_word a) (is_word b) (is_word c) (w a b) (w b c) (w a c) (over a.place b.place) (over b.place c.place) (over a.place c.place)
-          (λ x y z. within_then a.signature b.signature c.signature (ltb-true a.signature (2 ^ 64) x) (ltb-true b.signature (2 ^ 64) y) (ltb-true c.signature (2 ^ 64) z)) (strict.transitive a.place b.place c.place);
-    }
+item_order_is_strict order pool entries_strict = grind (arith, place_order_is_strict order pool entries_strict, is_within, tests_chain, within_then, ltb-true)
 
 tests_pass : (a b both first second ab : Bool) → a ≡ true → b ≡ true → first ≡ true → second ≡ true → (ab ≡ true → both ≡ true) → (a && (b && (both && (first && (second && ab))))) ≡ ab
 tests_pass a b both first second ab h k l m then = grind (arith, h, k, l, m, then)
@@ -128,6 +110,4 @@ parted_items order rule pool held items top others parted are =
 -- and their entries are parted as they are
 pub entries_parted : (order : RowOrder) (rule : Entry → ℕ) (pool : List Entry) (held items top others : List Item) → ((a b : Entry) → entry_order order a b ≡ true → is_within (rule a) (rule b) ≡ true) → AreItems rule pool (held ++ items)
     → Parted (item_order order pool) held items top others → Parted (entry_order order) (entries_at pool held) (entries_at pool items) (entries_at pool top) (entries_at pool others)
-entries_parted order rule pool held items top others tells are parted =
-    let valid = all_among (IsItem rule pool) (held ++ items) are in
-    parted_map (λ (item : Item). entry_at pool item.place) (item_order order pool) (entry_order order) held items top others (λ x y mx my. item_agrees order rule pool tells x y (valid x mx) (valid y my)) parted
+entries_parted order rule pool held items top others tells are parted = grind (arith, all_among (IsItem rule pool) (held ++ items) are, parted_map, item_agrees order rule pool tells)

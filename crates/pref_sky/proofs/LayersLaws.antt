@@ -1,9 +1,9 @@
 -- The levels of a list in the order of stairs, by one pass: the last entry of a level stands for all of it. The entries of the levels up to a cut, each with its level: sorted by level and id they are the levels.
-use Rattle.pref_sky.proofs.Common.{◌≡◌, ℕ, suc, zero, ◌<◌, ◌≤◌, ◌+◌, ◌-◌, Bool, true, false, not, nat_lt, ◌&&◌, ◌⊎◌, inl, inr, List, [], ◌∷◌, ◌++◌, refl, sym, ◌∙◌, ap, subst, arith, length, get_or}
-use Rattle.pref_sky.proofs.Common.{get_or-set_same, get_or-set_other, slice_set, both_ways, and_parts, and_from, cases_eq, cases_lt, cond_both, cond-true, cond-false, false_from_ne_true, ltb-true}
+use Rattle.pref_sky.proofs.Common.{◌≡◌, ℕ, suc, zero, ◌<◌, ◌≤◌, ◌+◌, Bool, true, false, not, ◌&&◌, ◌⊎◌, inl, inr, List, [], ◌∷◌, ◌++◌, refl, sym, ◌∙◌, ap, subst, arith, length, get_or}
+use Rattle.pref_sky.proofs.Common.{get_or-set_same, get_or-set_other, both_ways, and_parts, and_from, cases_eq, cases_lt, cond-true, cond-false, false_from_ne_true, ltb-true}
 use Rattle.pref_sky.proofs.Common.{ltb-false, not-true, get_or_append_left, get_or_push, length-set, length_push, Entry, entry_at, StandsBehind, count_above, with_last, AreStairs, comes_first, Among}
 use Rattle.pref_sky.proofs.Common.{map, filter, take, count_by, IsPermutation, IsSortedBy, All, cond, nat_tests}
-use Rattle.pref_sky.proofs.Common.{get_or-map, length-map, map-append, sorted_far, sum_by-IsPermutation, IsStrictOrder, ChainOrder, Ranked, best, rest, AreInOrder, comes_before, is_below}
+use Rattle.pref_sky.proofs.Common.{get_or-map, length-map, map-append, sorted_far, sum_by-IsPermutation, IsStrictOrder, ChainOrder, Ranked, best, rest, AreInOrder}
 use Rattle.pref_sky.proofs.Common.{own_levels, own_order, with_levels, with_level, HaveDifferentIds, at_level, entry_of, levels, ranked_upto, AreLeveled, AreLowest, eqb}
 use Rattle.pref_sky.proofs.ListLaws.{among_place, any_from, place_of, same_answer, count_filter, count_filtered, from_filter, from_map, in_filter, in_map, SameMembers, same_if_permuted, leaves, stays}
 use Rattle.pref_sky.proofs.Merges.{is_at, HoldsLevels, held_all, held_within, comes_after, early_stays, unbeaten_over, same_chains}
@@ -52,22 +52,7 @@ record IsNoted (n i : ℕ) (last new : List ℕ) : Type 0 where
   others : (k : ℕ) → k < length last → (k ≡ n → ⊥) → get_or new k 0 ≡ get_or last k 0
 
 noted : (n i : ℕ) (last : List ℕ) → n ≤ length last → IsNoted n i last (with_last n i last)
-noted n i last le =
-    cond_both (nat_lt n (length last)) (slice_set last n i) (last ++ i ∷ []) (IsNoted n i last)
-    (λ h. let known = ltb-true n (length last) h in record {
-      longer = omega (arith, length-set last n i);
-      no_longer = λ k l. inr (omega (arith, l, length-set last n i));
-      has = omega (arith, known, length-set last n i);
-      here = get_or-set_same last n i 0 known;
-      others = λ k l other. get_or-set_other last n k i 0 other;
-    })
-    (λ h. let end : length last ≡ n = omega (arith, le, ltb-false n (length last) h) in record {
-      longer = omega (arith, length_push last i);
-      no_longer = λ k l. elim (cases_lt k (length last)) [ inl old ↦ inr old | inr new ↦ inl (omega (arith, l, new, end, length_push last i)) ];
-      has = omega (arith, end, length_push last i);
-      here = get_or_push last i 0 n end;
-      others = λ k l other. get_or_append_left last (i ∷ []) 0 k l;
-    })
+noted n i last le = grind (arith, ltb-true n (length last), length-set last n i, get_or-set_same last n i 0, get_or-set_other last n, ltb-false n (length last), length_push last i, get_or_push last i 0 n, get_or_append_left last (i ∷ []) 0)
 
 module _ (over f s t : Entry → Entry → Bool) (stairs : AreStairs over f s t) (cut : ℕ) (all : List Entry)
     (in_order : (j p : ℕ) → j ≤ p → p < length all → comes_first f s t (entry_at all p) (entry_at all j) ≡ false) where
@@ -89,10 +74,7 @@ module _ (over f s t : Entry → Entry → Bool) (stairs : AreStairs over f s t)
 
     -- where a chain of k + 1 stands over the next entry, one of level k does
     level_over : (k : ℕ) → comes_after over all (suc k) e ≡ true → (j : ℕ) × (j < i) × (is_at over all k (entry_at all j) ≡ true) × (over (entry_at all j) e ≡ true)
-    level_over k h =
-        let w = unbeaten_over over (strict_stairs over f s t stairs) (comes_after over all k) all e h in
-        let at = over_stands i w.0 inside w.1 w.3 in
-        (at.0, at.1, ap (is_at over all k) at.2 ∙ and_from (comes_after over all k w.0) (not (comes_after over all (suc k) w.0)) w.2 (ap not w.4), ap (λ v. over v e) at.2 ∙ w.3)
+    level_over k h = grind (arith, unbeaten_over over (strict_stairs over f s t stairs) (comes_after over all k) all e h, strict_stairs over f s t stairs, comes_after over all k, over_stands i, is_at over all k, comes_after over all (suc k))
 
     -- and then the last of that level does
     last_over : (k : ℕ) → k < length last → comes_after over all (suc k) e ≡ over (entry_at all (get_or last k 0)) e
@@ -121,21 +103,12 @@ module _ (over f s t : Entry → Entry → Bool) (stairs : AreStairs over f s t)
 
     chain_of : (n : ℕ) → StandsBehind over all last e n → comes_after over all n e ≡ true
     chain_of zero stands = refl
-    chain_of (suc k) stands =
-        let before : suc k - 1 ≡ k = omega arith in
-        last_over k (omega (arith, stands.within)) ∙ subst (λ n. over (entry_at all (get_or last n 0)) e ≡ true) before (stands.above (omega arith))
+    chain_of (suc k) stands = grind (arith, last_over k, stands.within, stands.above)
 
     module _ (n : ℕ) (stands : StandsBehind over all last e n) where
       -- so the last ones tell how many levels are above the next entry
       pub next_chain : HasChain over cut all e n
-      next_chain = record {
-        within = omega (arith, stands.within, lasts.within);
-        after = chain_of n stands;
-        no_more = λ early. elim (cases_lt n (length last)) [
-          | inl known ↦ last_over n known ∙ stands.next known
-          | inr past ↦ false_from_ne_true (comes_after over all (suc n) e) (λ h. let w = level_over n h in let below = (lasts.known w.0 n w.1 early w.2).0 in omega (arith, below, past))
-        ];
-      }
+      next_chain = grind (arith, stands.within, lasts.within, chain_of n stands, last_over n, stands.next, comes_after over all (suc n) e, level_over n, lasts.known)
 
       -- of which level it is
       level_is : (j k : ℕ) → j ≡ i → k < cut → is_at over all k (entry_at all j) ≡ true → k ≡ n
@@ -148,10 +121,7 @@ module _ (over f s t : Entry → Entry → Bool) (stairs : AreStairs over f s t)
           let note = noted n i last stands.within in
           let at : is_at over all n e ≡ true = and_from (comes_after over all n e) (not (comes_after over all (suc n) e)) next_chain.after (ap not (next_chain.no_more early)) in
           record {
-            within = elim (cases_lt cut (length new)) [
-              | inl more ↦ elim (note.no_longer cut more) [ inl same ↦ absurd (omega (arith, same, early)) | inr old ↦ absurd (omega (arith, old, lasts.within)) ]
-              | inr le ↦ le
-            ];
+            within = grind (arith, note.no_longer cut, lasts.within);
             there = λ k l. elim (cases_eq k n) [
               | inl same ↦ subst (λ m. (get_or new m 0 < i + 1) × (is_at over all m (entry_at all (get_or new m 0)) ≡ true)) (sym same) (omega (arith, note.here), ap (λ p. is_at over all n (entry_at all p)) note.here ∙ at)
               | inr other ↦
@@ -159,25 +129,12 @@ module _ (over f s t : Entry → Entry → Bool) (stairs : AreStairs over f s t)
                   let is = lasts.there k known in
                   (omega (arith, is.0, note.others k known other), ap (λ p. is_at over all k (entry_at all p)) (note.others k known other) ∙ is.1)
             ];
-            known = λ j k l inner of_level. elim (cases_lt j i) [
-              | inl old ↦
-                  let known = lasts.known j k old inner of_level in (
-                    omega (arith, known.0, note.longer),
-                    elim (cases_eq k n) [ inl same ↦ omega (arith, old, note.here, ap (λ m. get_or new m 0) same) | inr other ↦ omega (arith, known.1, note.others k known.0 other) ],
-                  )
-              | inr past ↦
-                  let same : k ≡ n = level_is j k (omega (arith, l, past)) inner of_level in
-                  (omega (arith, same, note.has), omega (arith, l, note.here, ap (λ m. get_or new m 0) same))
-            ];
+            known = grind (arith, lasts.known, note.longer, note.here, note.others, level_is, note.has);
           }
 
       -- or below the cut
       pub lasts_stay : cut ≤ n → AreLasts over cut all (i + 1) last
-      lasts_stay past = record {
-        within = lasts.within;
-        there = λ k l. let is = lasts.there k l in (omega (arith, is.0), is.1);
-        known = λ j k l inner of_level. elim (cases_lt j i) [ inl old ↦ lasts.known j k old inner of_level | inr here ↦ absurd (omega (arith, past, inner, level_is j k (omega (arith, l, here)) inner of_level)) ];
-      }
+      lasts_stay past = grind (arith, lasts.within, lasts.there, lasts.known, level_is)
 
 -- ---- a list of them
 
@@ -195,10 +152,7 @@ module _ (over : Entry → Entry → Bool) (all : List Entry) (cut i n : ℕ) (i
       ∙ (map-append (with_level over all cut) (filter test (take i all)) (e ∷ []) ∙ ap (λ k. with_levels over all cut (take i all) ++ at_level (suc k) e ∷ []) (count_is over cut all e n chain))
 
   pub listed_as_it_was : cut ≤ n → with_levels over all cut (take (i + 1) all) ≡ with_levels over all cut (take i all)
-  listed_as_it_was past =
-      let test : Entry → Bool = λ x. not (comes_after over all cut x) in
-      let at : n ≡ cut = omega (arith, past, chain.within) in
-      ap (map (with_level over all cut)) (leaves test all i (record { id = 0; row = [] }) inside (ap not (subst (λ k. comes_after over all k (entry_at all i) ≡ true) at chain.after)))
+  listed_as_it_was past = grind (arith, comes_after over all cut, chain.within, leaves, comes_after over all)
 
 -- ---- which they are
 
@@ -226,9 +180,7 @@ module _ (over : Entry → Entry → Bool) (strict : IsStrictOrder over) (all : 
       }
 
   level_of : (e : Entry) → Among e upper → (r : Ranked) × Among r (levels over all cut) × (e ≡ entry_of r)
-  level_of e m =
-      let w = from_filter (λ x. not (comes_after over all cut x)) all e m in
-      from_map entry_of (levels over all cut) e (held_all over all cut e w.0 (not-true (comes_after over all cut e) w.1))
+  level_of e m = grind (arith, from_filter, comes_after over all cut, from_map entry_of (levels over all cut) e, held_all over all cut e, not-true (comes_after over all cut e), comes_after over all cut e)
 
   with_level_is : (r : Ranked) → Among r (levels over all cut) → with_level over all cut (entry_of r) ≡ r
   with_level_is r m = let w = of_level r m in ap (λ n. at_level (suc n) (entry_of r)) (count_is over cut all (entry_of r) w.number w.chain) ∙ sym w.is
@@ -271,16 +223,11 @@ module _ (over : Entry → Entry → Bool) (strict : IsStrictOrder over) (all : 
       ∙ sym (levels_upto_is over all cut)
 
   upper_holds : HoldsLevels over upper all cut
-  upper_holds = record {
-    within = λ x m. (from_filter (λ e. not (comes_after over all cut e)) all x m).0;
-    kept = λ x m early. in_filter (λ e. not (comes_after over all cut e)) all x m (ap not early);
-  }
+  upper_holds = grind (arith, from_filter, comes_after over all cut, in_filter)
 
   -- their entries have the same levels
   pub listed_levels : (found : List Ranked) → found ≡ with_levels over all cut all → levels over (map entry_of found) cut ≡ levels over all cut
-  listed_levels found is =
-      ap (λ l. levels over (map entry_of l) cut) is
-      ∙ (ap (λ l. levels over l cut) (entries_again over all cut upper) ∙ some_levels over strict upper all cut upper_holds (λ p. count_filter p (λ e. not (comes_after over all cut e)) all) different)
+  listed_levels found is = grind (arith, entries_again over all cut upper, some_levels over strict upper all cut upper_holds, upper_holds, count_filter, comes_after over all cut)
 
   -- and what one of the last level is over is below the cut
   pub lowest_are_over : (found : List Ranked) (places : List ℕ) → found ≡ with_levels over all cut all → All (λ place. (place < length found) × ((d : Ranked) → (get_or found place d).level ≡ cut)) places
@@ -321,9 +268,7 @@ module _ (order : ChainOrder) (held : List Entry) (found : List Ranked) (differe
   all_levels = some_levels (own_order order) (own_is_strict order) are.all held order.cut moved_holds as_often different
 
   pub found_in_order : AreInOrder order (map entry_of found)
-  found_in_order =
-      subst (AreInOrder order) (sym (ap (map entry_of) are.is ∙ entries_again (own_order order) are.all order.cut (filter (λ e. not (is_below order are.all e)) are.all)))
-      (filter_in_order (λ a b. not (comes_before order b a)) (λ e. not (is_below order are.all e)) are.all are.sorted.in_order)
+  found_in_order = grind (arith, entries_again (own_order order) are.all order.cut, filter_in_order)
 
   pub found_levels : own_levels order (map entry_of found) ≡ own_levels order held
   found_levels = listed_levels (own_order order) (own_is_strict order) are.all order.cut all_differ found are.is ∙ all_levels

@@ -1,7 +1,7 @@
 -- Laws of the levels, for the crates above: no entries have no levels, the order in which entries stand does not matter, what is held has different ids, and of twins the first is best.
-use Rattle.pref_sky.proofs.Common.{not, ◌≡◌, false, List, arith, nat_tests, both_ways, false_from_ne_true, not-true, not_from_false, RowOrder, Entry, best, is_beaten, entry_order, Among, leb, ◌-◌, ℕ}
-use Rattle.pref_sky.proofs.Common.{zero, suc, ◌<◌, Bool, ◌&&◌, [], ◌∷◌, ◌++◌, map, append_assoc, subst, refl, sym, ◌∙◌, ap, append-nil, ◌==◌, ltb, flat_map, ltb-true, lt-ltb, IsStrictOrder, Row, Best}
-use Rattle.pref_sky.proofs.Common.{TopLevel, AtLeast, Question, in_same_group, Ranked, rest, without_best, order_of, order_of_is_row_order, HaveDifferentIds, in_order_of_id, at_level, entry_of}
+use Rattle.pref_sky.proofs.Common.{not, ◌≡◌, List, arith, not-true, not_from_false, RowOrder, Entry, best, entry_order, Among, ℕ}
+use Rattle.pref_sky.proofs.Common.{zero, suc, ◌<◌, Bool, [], ◌∷◌, ◌++◌, map, append_assoc, subst, refl, sym, ◌∙◌, ap, append-nil, ◌==◌, flat_map, ltb-true, lt-ltb, IsStrictOrder, Row, Best}
+use Rattle.pref_sky.proofs.Common.{TopLevel, AtLeast, Question, Ranked, rest, without_best, order_of, order_of_is_row_order, HaveDifferentIds, entry_of}
 use Rattle.pref_sky.proofs.Common.{held_after, levels, count_before, count_upto, selected, answer_of, at_least}
 use Rattle.pref_sky.specs.Twins.{IsFirstOfTwins}
 use Rattle.pref_term.specs.declared.ask.Mode.{Mode}
@@ -11,20 +11,10 @@ use Rattle.pref_sky.proofs.SortedLevels.{different_by_count, count_levels, merge
 use Rattle.pref_sky.proofs.AtLeastLaws.{StaysInGroups, enough}
 
 pub best_is_first : (order : RowOrder) (all : List Entry) (e : Entry) → Among e (best (entry_order order) all) → IsFirstOfTwins order all e
-best_is_first order all e m other there =
-    let over = entry_order order in
-    let w = from_filter (λ x. not (is_beaten over all x)) all e m in
-    let none : over other e ≡ false = false_from_ne_true (over other e) (λ h. both_ways (is_beaten over all e) (not-true (is_beaten over all e) w.1) (any_from (λ o. over o e) all other there h)) in
-    (grind (arith, none), λ twin. grind (arith, nat_tests, none, twin))
+best_is_first order all e m other there = grind (arith, from_filter, not-true, any_from)
 
 pub first_is_best : (order : RowOrder) (all : List Entry) (e : Entry) → Among e all → IsFirstOfTwins order all e → Among e (best (entry_order order) all)
-first_is_best order all e m first =
-    let over = entry_order order in
-    in_filter (λ x. not (is_beaten over all x)) all e m
-    (not_from_false (is_beaten over all e) (false_from_ne_true (is_beaten over all e) (λ h.
-    let w = any_gives (λ o. over o e) all h in
-    let says = first w.0 w.1 in
-    grind (arith, nat_tests, w.2, says.0, says.1))))
+first_is_best order all e m first = grind (arith, in_filter, not_from_false, any_gives)
 
 -- nothing is left of nothing
 rest_of_none : (over : Entry → Entry → Bool) (n : ℕ) → rest over [] n ≡ []
@@ -33,22 +23,16 @@ rest_of_none over (suc n) = ap (without_best over) (rest_of_none over n)
 
 pub levels_of_none : (over : Entry → Entry → Bool) (n : ℕ) → [] ≡ levels over [] n
 levels_of_none over zero = refl
-levels_of_none over (suc n) =
-    levels_of_none over n ∙ (sym (append-nil (levels over [] n)) ∙ ap (λ l. levels over [] n ++ map (at_level (suc n)) (in_order_of_id (best over l))) (sym (rest_of_none over n)))
+levels_of_none over (suc n) = grind (arith, levels_of_none over n, append-nil (levels over [] n), rest_of_none over n)
 
 selected_of_same : (over : Entry → Entry → Bool) → IsStrictOrder over → (same : Row → Row → Bool) → StaysInGroups over same → (mode : Mode) (xs ys : List Entry) → ((n : ℕ) → levels over xs n ≡ levels over ys n) → selected over same mode xs ≡ selected over same mode ys
 selected_of_same over strict same within Best xs ys levels_same = levels_same 1
 selected_of_same over strict same within (TopLevel k) xs ys levels_same = levels_same k
-selected_of_same over strict same within (AtLeast k) xs ys levels_same =
-    enough over strict same within xs k ∙ (ap (at_least same k) (levels_same k) ∙ sym (enough over strict same within ys k))
+selected_of_same over strict same within (AtLeast k) xs ys levels_same = grind (arith, enough over strict same within xs k, within, enough over strict same within ys k)
 
 -- the order in which the entries stand does not matter
 pub answer_of_same : (ask : Question) (xs ys : List Entry) → HaveDifferentIds xs → HaveDifferentIds ys → SameMembers xs ys → answer_of ask xs ≡ answer_of ask ys
-answer_of_same ask xs ys dx dy same =
-    let over = entry_order (order_of ask) in
-    let strict = entry_order_is_strict (order_of ask) (order_of_is_row_order ask) in
-    selected_of_same over strict (in_same_group ask.group) (entry_order_stays_in_groups ask) ask.mode xs ys
-    (λ n. same_by_level over strict xs ys n (λ k le. different_best over xs k dx) (λ k le. different_best over ys k dy) (record { within = same.there; kept = λ x m early. same.back x m }) n (omega arith))
+answer_of_same ask xs ys dx dy same = grind (arith, entry_order_is_strict (order_of ask) (order_of_is_row_order ask), selected_of_same, entry_order_stays_in_groups ask, same_by_level, different_best, same.there, same.back)
 
 -- what is held of entries has different ids
 pub held_differ : (over : Entry → Entry → Bool) (before new : List Entry) (n : ℕ) → HaveDifferentIds (before ++ new) → HaveDifferentIds (map entry_of (levels over before n) ++ new)
@@ -63,9 +47,7 @@ first_differ xs ys different = record { once = λ id. omega (arith, different.on
 
 -- the next piece of a list, where those before and the rest are the whole of it
 pub next_piece : {whole rest : List Entry} (done piece others : List Entry) → whole ≡ done ++ rest → rest ≡ piece ++ others → HaveDifferentIds whole → (whole ≡ (done ++ piece) ++ others) × HaveDifferentIds (done ++ piece)
-next_piece done piece others all cut different =
-    let is = all ∙ (ap (λ l. done ++ l) cut ∙ sym (append_assoc done piece others)) in
-    (is, first_differ (done ++ piece) others (subst HaveDifferentIds is different))
+next_piece done piece others all cut different = grind (arith, append_assoc done piece others, first_differ (done ++ piece) others)
 
 -- beside entries that have no levels up to the cut, new ones have those of all
 pub merge_none : (over : Entry → Entry → Bool) → IsStrictOrder over → (cut : ℕ) (before new : List Entry) → HaveDifferentIds (before ++ new) → [] ≡ levels over before cut → levels over new cut ≡ levels over (before ++ new) cut
@@ -91,13 +73,7 @@ held_after_pieces over strict cut pieces different = cut_into over strict cut []
 
 -- an entry is kept just where no number of levels below its own holds k of its group
 pub kept_before_k : (same : Row → Row → Bool) (k : ℕ) (all : List Ranked) (r : Ranked) → Among r (at_least same k all) → (m : ℕ) → m < r.level → count_upto same all r.row m < k
-kept_before_k same k all r kept m below =
-    let few = ltb-true (count_before same all r) k (from_filter (λ s. ltb (count_before same all s) k) all r kept).1 in
-    let fewer = count_within (λ (s : Ranked). same s.row r.row && leb s.level m) (λ (s : Ranked). same s.row r.row && ltb s.level r.level) all (λ s h. grind (arith, nat_tests, h, below)) in
-    omega (arith, few, fewer)
+kept_before_k same k all r kept m below = grind (arith, ltb-true (count_before same all r) k, from_filter, kept, count_within, below)
 
 pub kept_if_before_k : (same : Row → Row → Bool) (k : ℕ) (all : List Ranked) (r : Ranked) → Among r all → 0 < r.level → ((m : ℕ) → m < r.level → count_upto same all r.row m < k) → Among r (at_least same k all)
-kept_if_before_k same k all r m some before =
-    let few = before (r.level - 1) (omega arith) in
-    let fewer = count_within (λ (s : Ranked). same s.row r.row && ltb s.level r.level) (λ (s : Ranked). same s.row r.row && leb s.level (r.level - 1)) all (λ s h. grind (arith, nat_tests, h)) in
-    in_filter (λ s. ltb (count_before same all s) k) all r m (lt-ltb (count_before same all r) k (omega (arith, few, fewer)))
+kept_if_before_k same k all r m some before = grind (arith, r.level, count_within, in_filter, lt-ltb (count_before same all r) k)

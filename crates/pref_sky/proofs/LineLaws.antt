@@ -1,5 +1,5 @@
 -- Classes: alike entries are of one level, and one of each class has the levels. In a line an entry is of the level behind as many classes as dominate it.
-use Rattle.pref_sky.proofs.Common.{◌≡◌, ℕ, zero, suc, ◌≤◌, ◌+◌, Bool, true, false, cond, not, ◌&&◌, inl, inr, List, [], ◌∷◌, ◌++◌, length, refl, sym, ◌∙◌, ap, subst, arith, count_by, cases_lt}
+use Rattle.pref_sky.proofs.Common.{◌≡◌, ℕ, zero, suc, ◌≤◌, ◌+◌, Bool, true, false, cond, ◌&&◌, inl, inr, List, [], ◌∷◌, ◌++◌, length, refl, sym, ◌∙◌, arith, count_by, cases_lt}
 use Rattle.pref_sky.proofs.Common.{both_ways, and_parts, and_from, false_from_ne_true, StandAlike, best, rest, LevelsHoldAlike, LineHasLevels, AreClassesOf, AreStairs, IsInOrder, IsLine, are_level}
 use Rattle.pref_sky.proofs.Common.{comes_first, in_turn, Among}
 use Rattle.pref_sky.proofs.ListLaws.{count_both, any_from, any_gives, in_filter, from_filter, in_right, one_passes, same_answer, count_cons}
@@ -8,14 +8,10 @@ use Rattle.pref_sky.proofs.StairLaws.{level_above, level_below}
 
 -- the entries of one level
 pub on_level : {E : Type 0} (over : E → E → Bool) (all : List E) (n : ℕ) (x : E) → Among x (best over (rest over all n)) → (comes_after over all n x ≡ true) × (comes_after over all (suc n) x ≡ false)
-on_level over all n x m =
-    let w = from_filter (λ e. comes_after over all n e && not (comes_after over all (suc n) e)) all x (subst (Among x) (best_of_rest_is over all n) m) in
-    let passes = w.1 in
-    (grind (arith, passes), grind (arith, passes))
+on_level over all n x m = grind (arith, from_filter, comes_after over all n, comes_after over all (suc n), best_of_rest_is over all n)
 
 pub to_level : {E : Type 0} (over : E → E → Bool) (all : List E) (n : ℕ) (x : E) → Among x all → comes_after over all n x ≡ true → comes_after over all (suc n) x ≡ false → Among x (best over (rest over all n))
-to_level over all n x m there behind =
-    subst (Among x) (sym (best_of_rest_is over all n)) (in_filter (λ e. comes_after over all n e && not (comes_after over all (suc n) e)) all x m (grind (arith, there, behind)))
+to_level over all n x m there behind = grind (arith, best_of_rest_is over all n, in_filter, comes_after over all n, comes_after over all (suc n), behind)
 
 -- alike entries have the same chains over them, and so are of one level
 alike_come_after : {E : Type 0} (over : E → E → Bool) (all : List E) (a b : E) → StandAlike over a b → (n : ℕ) → comes_after over all n a ≡ true → comes_after over all n b ≡ true
@@ -41,30 +37,15 @@ from_all over classes all are (suc n) x h =
     any_from (λ z. comes_after over classes n z && over z x) classes r.0 r.1 (and_from (comes_after over classes n r.0) (over r.0 x) there (r.2.below x ∙ both.1))
 
 chains_of_classes : {E : Type 0} (over : E → E → Bool) (classes all : List E) → AreClassesOf over classes all → (n : ℕ) (x : E) → comes_after over classes n x ≡ comes_after over all n x
-chains_of_classes over classes all are n x =
-    same_answer (comes_after over classes n x) (comes_after over all n x) (comes_after_among_more over classes all are.within n x) (from_all over classes all are n x)
+chains_of_classes over classes all are n x = grind (arith, same_answer, comes_after, comes_after_among_more, from_all)
 
 -- which are alike
 stairs_alike : {E : Type 0} (over f s t : E → E → Bool) → AreStairs over f s t → (a b : E) → are_level (comes_first f s t) a b ≡ true → StandAlike over a b
-stairs_alike over f s t stairs a b level =
-    let first : are_level f a b ≡ true = grind (arith, level) in
-    let second : are_level s a b ≡ true = grind (arith, level) in
-    let tie : are_level t a b ≡ true = grind (arith, level) in
-    let one = stairs.first_is_chain in
-    let two = stairs.second_is_chain in
-    record {
-      above = λ c. grind (arith, first, second, tie, stairs.is c a, stairs.is c b, level_above f one a b c, level_below f one a b c, level_above s two a b c, level_below s two a b c, level_above t stairs.tie_is_chain a b c);
-      below = λ c. grind (arith, first, second, tie, stairs.is a c, stairs.is b c, level_above f one a b c, level_below f one a b c, level_above s two a b c, level_below s two a b c, level_below t stairs.tie_is_chain a b c);
-    }
+stairs_alike over f s t stairs a b level = grind (arith, level_above f, level_below f, level_above s, level_below s, level_above t stairs.tie_is_chain a b, level_below t stairs.tie_is_chain a b)
 
 module _ {E : Type 0} (over earlier better : E → E → Bool) (line : IsLine over earlier better) where
   line_alike : (a b : E) → are_level (in_turn earlier better) a b ≡ true → StandAlike over a b
-  line_alike a b level =
-      let above : (c : E) → over c a ≡ over c b =
-      λ c. grind (arith, level, line.is c a, line.is c b, level_above earlier line.groups a b c, level_below earlier line.groups a b c, level_above better line.chain a b c) in
-      let below : (c : E) → over a c ≡ over b c =
-      λ c. grind (arith, level, line.is a c, line.is b c, level_above earlier line.groups a b c, level_below earlier line.groups a b c, level_below better line.chain a b c) in
-      record { above = above; below = below }
+  line_alike a b level = grind (arith, line.is, level_above earlier line.groups a b, level_below earlier line.groups a b, level_above better line.chain a b, line.is a, line.is b, level_below better line.chain a b)
 
   -- of classes in order, the last that dominates x has before it all others that do
   last_over : (classes : List E) (x : E) → IsInOrder (in_turn earlier better) classes → 1 ≤ count_by (λ r. over r x) classes
@@ -98,8 +79,7 @@ module _ {E : Type 0} (over earlier better : E → E → Bool) (line : IsLine ov
     classes_above (suc n) x h =
         let w = any_gives (λ z. comes_after over classes n z && over z x) classes h in
         let both = and_parts (comes_after over classes n w.0) (over w.0 x) w.2 in
-        let each : (s : E) → cond {A = ℕ} (over s w.0) 1 0 + cond {A = ℕ} (are_level (in_turn earlier better) s w.0) 1 0 ≤ cond {A = ℕ} (over s x) 1 0 =
-        λ s. grind (arith, both.1, strict_line s w.0 x, level_over s w.0 x, line.is s w.0) in
+        let each : (s : E) → cond {A = ℕ} (over s w.0) 1 0 + cond {A = ℕ} (are_level (in_turn earlier better) s w.0) 1 0 ≤ cond {A = ℕ} (over s x) 1 0 = grind (arith, both.1, strict_line, level_over, line.is) in
         let itself : are_level (in_turn earlier better) w.0 w.0 ≡ true = grind (arith, line.groups.strict.irreflexive w.0, line.chain.strict.irreflexive w.0) in
         omega (
           arith,
@@ -110,39 +90,19 @@ module _ {E : Type 0} (over earlier better : E → E → Bool) (line : IsLine ov
 
     chain_above : (n : ℕ) (x : E) → n ≤ count_by (λ r. over r x) classes → comes_after over classes n x ≡ true
     chain_above zero x h = refl
-    chain_above (suc n) x h =
-        let w = last_over classes x rises (omega (arith, h)) in
-        any_from (λ z. comes_after over classes n z && over z x) classes w.0 w.1 (and_from (comes_after over classes n w.0) (over w.0 x) (chain_above n w.0 (omega (arith, h, w.3))) w.2)
+    chain_above (suc n) x h = grind (arith, last_over classes x rises, any_from, comes_after over classes n, chain_above n)
 
     -- the levels: those behind as many classes
     classes_of_level : (n : ℕ) (x : E) → Among x (best over (rest over all n)) → count_by (λ r. over r x) classes ≡ n
-    classes_of_level n x m =
-        let w = on_level over all n x m in
-        elim (cases_lt n (count_by (λ r. over r x) classes)) [
-          | inl more ↦ absurd (both_ways (comes_after over classes (suc n) x) (chains_of_classes over classes all are (suc n) x ∙ w.1) (chain_above (suc n) x (omega (arith, more))))
-          | inr most ↦ omega (arith, most, classes_above n x (chains_of_classes over classes all are n x ∙ w.0))
-        ]
+    classes_of_level n x m = grind (arith, on_level over all n x m, comes_after over classes (suc n) x, chains_of_classes over classes all are (suc n) x, chain_above (suc n) x, classes_above n x, chains_of_classes over classes all are n x)
 
     level_of_classes : (n : ℕ) (x : E) → Among x all → count_by (λ r. over r x) classes ≡ n → Among x (best over (rest over all n))
-    level_of_classes n x m count =
-        to_level over all n x m (sym (chains_of_classes over classes all are n x) ∙ chain_above n x (omega (arith, count)))
-        (sym (chains_of_classes over classes all are (suc n) x) ∙ false_from_ne_true (comes_after over classes (suc n) x) (λ h. let many = classes_above (suc n) x h in omega (arith, many, count)))
+    level_of_classes n x m count = grind (arith, to_level over all n x m, chains_of_classes over classes all are n x, chain_above n x, chains_of_classes over classes all are (suc n) x, comes_after over classes (suc n) x, classes_above (suc n) x)
 
   -- what is alike to a class of which all before it are of its group is behind as many as there are
   behind_front : (front : List E) (r : E) (back : List E) (x : E) → IsInOrder (in_turn earlier better) (front ++ r ∷ back) → ((z : E) → Among z front → are_level earlier z r ≡ true)
       → StandAlike over r x → count_by (λ s. over s x) (front ++ r ∷ back) ≡ length front
-  behind_front [] r back x rises group alike =
-      elim (cases_lt 0 (count_by (λ s. over s x) (r ∷ back))) [
-        | inl some ↦
-            let w = last_over (r ∷ back) x rises (omega (arith, some)) in
-            let dominates : over w.0 r ≡ true = alike.above w.0 ∙ w.2 in
-            let irreflexive = line.chain.strict.irreflexive r in
-            elim w.1 [
-              | inl same ↦ let itself = ap (λ s. over s r) (sym same) ∙ dominates in absurd (grind (arith, itself, irreflexive, line.is r r))
-              | inr m ↦ let before = rises.0 w.0 m in absurd (grind (arith, before, dominates, line.is w.0 r, line.chain.strict.transitive r w.0 r, irreflexive))
-            ]
-        | inr none ↦ omega (arith, none)
-      ]
+  behind_front [] r back x rises group alike = grind (arith, last_over (r ∷ back) x rises, alike.above, line.chain.strict.irreflexive r, line.is r r, rises.0, line.is, line.chain.strict.transitive r)
   behind_front (e ∷ front) r back x rises group alike =
       let dominates : over e r ≡ true = grind (arith, (rises.0 r (in_right front (r ∷ back) r (inl refl))), group e (inl refl), line.is e r) in
       grind (arith, behind_front front r back x rises.1 (λ z m. group z (inr m)) alike, dominates, alike.above e, count_cons (λ s. over s x) e (front ++ r ∷ back))

@@ -1,7 +1,7 @@
 -- What is among a list, what tests keep and count of it, where it is cut, and lists in an order.
 use Rattle.pref_sky.proofs.Common.{◌≡◌, ℕ, suc, zero, ◌<◌, Bool, true, false, cond, ◌⊎◌, inl, inr, List, [], ◌∷◌, ◌++◌, refl, sym, ◌∙◌, ap, subst, arith, filter, get_or, length, map, list_any, All}
-use Rattle.pref_sky.proofs.Common.{or_cases, cond_both, false≢true, both_ways, cases_Bool, ◌≤◌, ◌+◌, ◌&&◌, count_by, and_parts, filter_agree, length-filter, sum_by-cons, sum_by-le-sum_by, eqb, eq-eqb}
-use Rattle.pref_sky.proofs.Common.{sum_by, and_from, eqb-true, Item, Among, nil_from_length, take, take_more, drop, take-append_seam, drop-append_seam, append-nil, get_or-drop, filter_more, ◌||◌}
+use Rattle.pref_sky.proofs.Common.{false≢true, ◌≤◌, ◌+◌, ◌&&◌, count_by, and_parts, filter_agree, length-filter, sum_by-cons, sum_by-le-sum_by, eqb, eq-eqb}
+use Rattle.pref_sky.proofs.Common.{sum_by, and_from, Item, Among, nil_from_length, take, take_more, drop, take-append_seam, drop-append_seam, append-nil, get_or-drop, filter_more}
 use Rattle.pref_sky.proofs.Common.{IsPermutation-sym, Contains-permutation, IsPermutation, IsPartitionPoint, length-take, length-drop, get_or-take, take-append-drop, filter-append, get_or_default}
 use Rattle.pref_sky.proofs.Common.{IsNonDecreasingBy, sum_by-append, not, append_assoc, IsPartitionedBy, cases_lt, IsPermutation-cons, IsPermutation-middle, IsPermutation-to_front}
 use Rattle.pref_sky.proofs.Common.{IsPermutation-trans, IsChain, IsInOrder, Bor, Called, IsSortedBy, IsSortedByKeyClosure, Mut, always_returns_same, is_lt, nat_cmp, ordering_then}
@@ -28,11 +28,7 @@ any_from p xs x m t = let w = place_of xs x x m in list_any_at p xs w.0 x w.1 (a
 
 pub any_gives : {E : Type 0} (p : E → Bool) (xs : List E) → list_any p xs ≡ true → (x : E) × Among x xs × (p x ≡ true)
 any_gives p [] h = absurd (false≢true h)
-any_gives p (y ∷ ys) h =
-    elim (or_cases (p y) (list_any p ys) h) [
-      | inl e ↦ (y, inl refl, e)
-      | inr r ↦ let w = any_gives p ys r in (w.0, inr w.1, w.2)
-    ]
+any_gives p (y ∷ ys) h = grind (arith, any_gives p ys)
 
 pub any_none : {E : Type 0} (p : E → Bool) (xs : List E) → ((x : E) → Among x xs → p x ≡ false) → list_any p xs ≡ false
 any_none p xs none = list_any_none p xs (λ k d inside. none (get_or xs k d) (among_place xs k d inside))
@@ -40,18 +36,11 @@ any_none p xs none = list_any_none p xs (λ k d inside. none (get_or xs k d) (am
 -- what passes a filter
 pub in_filter : {E : Type 0} (p : E → Bool) (xs : List E) (x : E) → Among x xs → p x ≡ true → Among x (filter p xs)
 in_filter p [] x m t = m
-in_filter p (y ∷ ys) x m t =
-    elim m [
-      | inl e ↦ cond_both (p y) (y ∷ filter p ys) (filter p ys) (Among x) (λ h. inl e) (λ h. absurd (both_ways (p y) h (ap p (sym e) ∙ t)))
-      | inr r ↦ let deeper = in_filter p ys x r t in cond_both (p y) (y ∷ filter p ys) (filter p ys) (Among x) (λ h. inr deeper) (λ h. deeper)
-    ]
+in_filter p (y ∷ ys) x m t = grind (arith, in_filter p ys x)
 
 pub from_filter : {E : Type 0} (p : E → Bool) (xs : List E) (x : E) → Among x (filter p xs) → Among x xs × (p x ≡ true)
 from_filter p [] x m = absurd m
-from_filter p (y ∷ ys) x m =
-    cond_both (p y) (y ∷ filter p ys) (filter p ys) (λ l. Among x l → Among x (y ∷ ys) × (p x ≡ true))
-    (λ passes here. elim here [ inl e ↦ (inl e, ap p e ∙ passes) | inr r ↦ let w = from_filter p ys x r in (inr w.0, w.1) ])
-    (λ fails later. let w = from_filter p ys x later in (inr w.0, w.1)) m
+from_filter p (y ∷ ys) x m = grind (arith, from_filter p ys x)
 
 -- two tests that agree among a list keep the same of it
 pub filter_agree_among : {E : Type 0} (p q : E → Bool) (xs : List E) → ((x : E) → Among x xs → p x ≡ q x) → filter p xs ≡ filter q xs
@@ -77,11 +66,7 @@ in_right (y ∷ xs) ys x m = inr (in_right xs ys x m)
 
 pub in_either : {E : Type 0} (xs ys : List E) (x : E) → Among x (xs ++ ys) → Among x xs ⊎ Among x ys
 in_either [] ys x m = inr m
-in_either (y ∷ xs) ys x m =
-    elim m [
-      | inl e ↦ inl (inl e)
-      | inr r ↦ elim (in_either xs ys x r) [ inl a ↦ inl (inr a) | inr b ↦ inr b ]
-    ]
+in_either (y ∷ xs) ys x m = grind (arith, in_either xs ys x)
 
 -- what is among the results of a function
 pub from_map : {E F : Type 0} (f : E → F) (xs : List E) (y : F) → Among y (map f xs) → (x : E) × Among x xs × (y ≡ f x)
@@ -124,11 +109,7 @@ count_cons p x xs = sum_by-cons (λ y. cond (p y) 1 0) x xs
 
 pub one_passes : {E : Type 0} (p : E → Bool) (xs : List E) (x : E) → Among x xs → p x ≡ true → 1 ≤ count_by p xs
 one_passes p [] x m t = absurd m
-one_passes p (y ∷ ys) x m t =
-    elim m [
-      | inl e ↦ let passes = ap (λ b. cond {A = ℕ} b 1 0) (ap p (sym e) ∙ t) in omega (arith, passes, count_cons p y ys)
-      | inr r ↦ omega (arith, one_passes p ys x r t, count_cons p y ys)
-    ]
+one_passes p (y ∷ ys) x m t = grind (arith, count_cons p y ys, one_passes p ys x)
 
 -- one list in another order
 pub same_if_permuted : {E : Type 0} (xs ys : List E) → IsPermutation xs ys → SameMembers xs ys
@@ -140,11 +121,7 @@ same_if_permuted xs ys moved =
 
 -- tests keep the same of two lists where what passes the one is in the other list and passes there
 pub same_kept : {E : Type 0} (p q : E → Bool) (xs ys : List E) → ((x : E) → Among x xs → p x ≡ true → Among x ys × (q x ≡ true)) → ((x : E) → Among x ys → q x ≡ true → Among x xs × (p x ≡ true)) → SameMembers (filter p xs) (filter q ys)
-same_kept p q xs ys there back =
-    record {
-      there = λ x m. let w = from_filter p xs x m in let v = there x w.0 w.1 in in_filter q ys x v.0 v.1;
-      back = λ x m. let w = from_filter q ys x m in let v = back x w.0 w.1 in in_filter p xs x v.0 v.1;
-    }
+same_kept p q xs ys there back = grind (arith, from_filter p xs, in_filter q ys, from_filter q ys, in_filter p xs)
 
 -- lists with the same members
 pub same_list : {E : Type 0} {xs ys : List E} → xs ≡ ys → SameMembers xs ys
@@ -157,18 +134,10 @@ pub same_then : {E : Type 0} {xs ys zs : List E} → SameMembers xs ys → SameM
 same_then a b = record { there = λ x m. b.there x (a.there x m); back = λ x m. a.back x (b.back x m) }
 
 pub same_beside : {E : Type 0} (xs ys zs : List E) → SameMembers xs ys → SameMembers (xs ++ zs) (ys ++ zs)
-same_beside xs ys zs same =
-    record {
-      there = λ x m. elim (in_either xs zs x m) [ inl a ↦ in_left ys zs x (same.there x a) | inr b ↦ in_right ys zs x b ];
-      back = λ x m. elim (in_either ys zs x m) [ inl a ↦ in_left xs zs x (same.back x a) | inr b ↦ in_right xs zs x b ];
-    }
+same_beside xs ys zs same = grind (arith, in_either xs zs, in_left ys zs, same.there, in_right ys zs, in_either ys zs, in_left xs zs, same.back, in_right xs zs)
 
 pub same_behind : {E : Type 0} (xs ys zs : List E) → SameMembers ys zs → SameMembers (xs ++ ys) (xs ++ zs)
-same_behind xs ys zs same =
-    record {
-      there = λ x m. elim (in_either xs ys x m) [ inl a ↦ in_left xs zs x a | inr b ↦ in_right xs zs x (same.there x b) ];
-      back = λ x m. elim (in_either xs zs x m) [ inl a ↦ in_left xs ys x a | inr b ↦ in_right xs ys x (same.back x b) ];
-    }
+same_behind xs ys zs same = grind (arith, in_either xs ys, in_left xs zs, in_right xs zs, same.there, in_either xs zs, in_left xs ys, in_right xs ys, same.back)
 
 -- where each that passes p passes q, no more pass p
 pub count_within : {E : Type 0} (p q : E → Bool) (xs : List E) → ((x : E) → p x ≡ true → q x ≡ true) → count_by p xs ≤ count_by q xs
@@ -178,8 +147,7 @@ pub count_and : {E : Type 0} (p q : E → Bool) (xs : List E) → count_by (λ x
 count_and p q xs = count_within (λ x. p x && q x) p xs (λ x h. (and_parts (p x) (q x) h).0)
 
 pub count_filtered : {E : Type 0} (p q : E → Bool) (xs : List E) → count_by p (filter q xs) ≡ count_by (λ x. p x && q x) xs
-count_filtered p q xs =
-    sym (length-filter p (filter q xs)) ∙ (ap length (filter_filter q p xs ∙ filter_agree (λ x. q x && p x) (λ x. p x && q x) (λ x. grind arith) xs) ∙ length-filter (λ x. p x && q x) xs)
+count_filtered p q xs = grind (arith, length-filter p (filter q xs), filter_filter q p xs, filter_agree, length-filter)
 
 pub count_filter : {E : Type 0} (p q : E → Bool) (xs : List E) → count_by p (filter q xs) ≤ count_by p xs
 count_filter p q xs = omega (arith, count_filtered p q xs, count_and p q xs)
@@ -187,14 +155,12 @@ count_filter p q xs = omega (arith, count_filtered p q xs, count_and p q xs)
 -- two tests of which an entry passes one at most, and then a third
 pub count_both : {E : Type 0} (p q r : E → Bool) (xs : List E) → ((x : E) → cond (p x) 1 0 + cond (q x) 1 0 ≤ cond (r x) 1 0) → count_by p xs + count_by q xs ≤ count_by r xs
 count_both p q r [] each = omega arith
-count_both p q r (x ∷ xs) each =
-    omega (arith, each x, count_both p q r xs each, count_cons p x xs, count_cons q x xs, count_cons r x xs)
+count_both p q r (x ∷ xs) each = grind (arith, each x, count_both p q r xs each, count_cons p x xs, count_cons q x xs, count_cons r x xs)
 
 -- and just where it passes the third
 pub count_split : {E : Type 0} (p q r : E → Bool) (xs : List E) → ((x : E) → cond {A = ℕ} (p x) 1 0 + cond (q x) 1 0 ≡ cond (r x) 1 0) → count_by p xs + count_by q xs ≡ count_by r xs
 count_split p q r [] each = omega arith
-count_split p q r (x ∷ xs) each =
-    omega (arith, each x, count_split p q r xs each, count_cons p x xs, count_cons q x xs, count_cons r x xs)
+count_split p q r (x ∷ xs) each = grind (arith, each x, count_split p q r xs each, count_cons p x xs, count_cons q x xs, count_cons r x xs)
 
 abbrev same_item : Item → Item → Bool
 same_item x y = eqb x.signature y.signature && eqb x.place y.place
@@ -228,16 +194,11 @@ pub front_more : {E : Type 0} (xs : List E) (i : ℕ) (x : E) → i < length xs 
 front_more xs i x within is = take_more xs i x within ∙ ap (λ y. take i xs ++ y ∷ []) (sym is)
 
 pub cut_at : {E : Type 0} (zs front back : List E) (n : ℕ) → zs ≡ front ++ back → n ≡ length front → (take n zs ≡ front) × (drop n zs ≡ back)
-cut_at zs front back n whole long = (
-  ap (λ m. take m zs) long ∙ (ap (take (length front)) whole ∙ take-append_seam front back),
-  ap (λ m. drop m zs) long ∙ (ap (drop (length front)) whole ∙ drop-append_seam front back),
-)
+cut_at zs front back n whole long = grind (arith, long, take-append_seam front back, drop-append_seam front back)
 
 -- lists that are the same from a place on have the same element there
 pub same_there : {E : Type 0} (xs ys : List E) (i : ℕ) (d : E) → drop i ys ≡ drop i xs → get_or ys i d ≡ get_or xs i d
-same_there xs ys i d same =
-    let here : i + 0 ≡ i = omega arith in
-    ap (λ k. get_or ys k d) (sym here) ∙ (sym (get_or-drop i ys 0 d) ∙ (ap (λ l. get_or l 0 d) same ∙ (get_or-drop i xs 0 d ∙ ap (λ k. get_or xs k d) here)))
+same_there xs ys i d same = grind (arith, get_or-drop i ys 0 d, get_or-drop i xs 0 d)
 
 module _ {E : Type 0} (p : E → Bool) (xs : List E) (i : ℕ) (d : E) (inside : i < length xs) where
   pub leaves : p (get_or xs i d) ≡ false → filter p (take (i + 1) xs) ≡ filter p (take i xs)
@@ -248,16 +209,10 @@ module _ {E : Type 0} (p : E → Bool) (xs : List E) (i : ℕ) (d : E) (inside :
 
 -- what stands before a place where a test changes, and behind it
 pub passes_before : {E : Type 0} (p : E → Bool) (xs : List E) (n : ℕ) → IsPartitionPoint (λ x. p x ≡ true) (λ x. p x ≡ false) xs n → (x : E) → Among x (take n xs) → p x ≡ true
-passes_before p xs n point x m =
-    let at = place_of (take n xs) x x m in
-    let below : at.0 < n = omega (arith, at.1, length-take n xs) in
-    ap p (sym at.2 ∙ get_or-take n xs at.0 x below) ∙ point.0 at.0 x (omega arith) below
+passes_before p xs n point x m = grind (arith, place_of (take n xs) x x m, length-take n xs, get_or-take n xs, point.0)
 
 pub fails_behind : {E : Type 0} (p : E → Bool) (xs : List E) (n : ℕ) → IsPartitionPoint (λ x. p x ≡ true) (λ x. p x ≡ false) xs n → (x : E) → Among x (drop n xs) → p x ≡ false
-fails_behind p xs n point x m =
-    let at = place_of (drop n xs) x x m in
-    let inside : n + at.0 < length xs = omega (arith, at.1, length-drop n xs) in
-    ap p (sym at.2 ∙ get_or-drop n xs at.0 x) ∙ point.1 (n + at.0) x (omega arith) inside
+fails_behind p xs n point x m = grind (arith, place_of (drop n xs) x x m, length-drop n xs, get_or-drop n xs, point.1)
 
 -- where what passes a test stands in front of a place, and what fails it behind, that is what passes
 pub filter_parted : {E : Type 0} (p : E → Bool) (xs : List E) (n : ℕ) → ((x : E) → Among x (take n xs) → p x ≡ true) → ((x : E) → Among x (drop n xs) → p x ≡ false) → filter p xs ≡ take n xs
@@ -270,19 +225,13 @@ filter_parted p xs n passes fails =
 -- where a list is in order of a number, and one has another than the least, all from there on are above that
 pub later_behind : {E : Type 0} (number : E → ℕ) (xs : List E) (n least : ℕ) (none : E) → n < length xs → (number (get_or xs n none) ≡ least → ⊥) → IsNonDecreasingBy number xs → All (λ x. least ≤ number x) xs
     → All (λ x. least < number x) (drop n xs)
-later_behind number xs n least none within other in_order from k d inside =
-    let start = ap number (get_or_default xs n d none within) in
-    let there = ap number (get_or-drop n xs k d) in
-    omega (arith, start, there, other, from n d within, in_order n (n + k) d (omega arith) (omega (arith, inside, length-drop n xs)))
+later_behind number xs n least none within other in_order from k d inside = grind (arith, get_or_default xs n d none within, within, get_or-drop n xs k d, from n d within, in_order n (n + k) d, length-drop n xs)
 
 -- ---- lists in an order, one behind the other
 
 pub in_order_joined : {E : Type 0} (le : E → E → Bool) (xs ys : List E) → IsInOrder le xs → IsInOrder le ys → ((a b : E) → Among a xs → Among b ys → le a b ≡ true) → IsInOrder le (xs ++ ys)
 in_order_joined le [] ys first second across = second
-in_order_joined le (x ∷ xs) ys first second across = (
-  λ z m. elim (in_either xs ys z m) [ inl near ↦ first.0 z near | inr far ↦ across x z (inl refl) far ],
-  in_order_joined le xs ys first.1 second (λ a b ma mb. across a b (inr ma) mb),
-)
+in_order_joined le (x ∷ xs) ys first second across = grind (arith, in_either xs ys, first.0, in_order_joined le xs ys first.1 second)
 
 -- one entry more in its place
 pub in_order_with : {E : Type 0} (le : E → E → Bool) (xs ys : List E) (e : E) → IsInOrder le (xs ++ ys) → ((a : E) → Among a xs → le a e ≡ true) → ((b : E) → Among b ys → le e b ≡ true) → IsInOrder le (xs ++ e ∷ ys)
@@ -336,12 +285,7 @@ module _ {E : Type 0} (before : E → E → Bool) (chain : IsChain before) where
 
     -- and the others come no earlier
     pub below_later : (a b : E) → Among a ((all ++ front) ++ e ∷ []) → Among b later → before b a ≡ false
-    below_later a b m k =
-        let far = coming.0 b k in
-        elim (in_either (all ++ front) (e ∷ []) a m) [
-          | inl there ↦ elim (in_either all front a there) [ inl old ↦ below a b old (inr k) | inr new ↦ grind (arith, passed a new, far, chain.strict.transitive b a e) ]
-          | inr last ↦ elim last [ inl same ↦ grind (arith, far, ap (before b) same) | inr none ↦ absurd none ]
-        ]
+    below_later a b m k = grind (arith, coming.0 b k, in_either (all ++ front) (e ∷ []) a m, in_either all front a, chain.strict.transitive b a e)
 
 -- and no entry is lost
 pub moved_more : {E : Type 0} (before all front back : List E) (e : E) → IsPermutation before (all ++ (front ++ back)) → IsPermutation (before ++ e ∷ []) ((all ++ front) ++ e ∷ back)

@@ -1,6 +1,6 @@
 -- What an addition makes of levels: from the first one to which something comes, each new level is the best of the held one and of what comes to it. Levels of items that are made so stand for these.
 use Rattle.pref_sky.proofs.Common.{◌≡◌, ℕ, zero, suc, ◌≤◌, ◌<◌, ◌+◌, ◌-◌, Bool, true, ◌⊎◌, inl, inr, List, [], ◌∷◌, ◌++◌, length, map, take, drop, get_or, refl, sym, ◌∙◌, ap, subst, arith, filter}
-use Rattle.pref_sky.proofs.Common.{append_assoc, length-append, length-take-le, count_by, sum_by, cases_lt, both_ways, get_or_append_left, get_or-append_right, get_or-drop, get_or-take, sum_by-append}
+use Rattle.pref_sky.proofs.Common.{append_assoc, length-append, length-take-le, count_by, sum_by, cases_lt, get_or_append_left, get_or-append_right, get_or-drop, get_or-take, sum_by-append}
 use Rattle.pref_sky.proofs.Common.{sum_by_push, sum_by-take-drop, IsStrictOrder, Entry, IsAntichain, best, is_beaten, rest, without_best, HaveDifferentIds, entry_of, levels, IsBehind, IsMade, held_at}
 use Rattle.pref_sky.proofs.Common.{ranked_from, ranked_upto, Parted, Among, append-nil, filter-append, filter_agree, Vec, length-drop, drop_all, drop-append-le, Global, All, get_or_default}
 use Rattle.pref_sky.proofs.Common.{length-map, map-append, nil_from_length, take-append-drop, All-append, All-drop, All-push, All-take, IsNonDecreasingBy-drop, RowOrder, Suit, Arrival, Item}
@@ -82,14 +82,7 @@ module _ (over : Entry → Entry → Bool) (strict : IsStrictOrder over) (before
   late e m = let s = starts e m in comes_after_upto over before first s.0 e s.1 (behind_chain over strict before cut old holds s.0 e s.2).1
 
   first_holds : HoldsLevels over before (before ++ coming) first
-  first_holds =
-      record {
-        within = in_left before coming;
-        kept = λ x m early. elim (in_either before coming x m) [
-          | inl is ↦ is
-          | inr new ↦ absurd (both_ways (comes_after over (before ++ coming) first x) early (comes_after_among_more over before (before ++ coming) (in_left before coming) first x (late x new)))
-        ];
-      }
+  first_holds = grind (arith, in_left before coming, in_either before coming, comes_after over (before ++ coming) first, comes_after_among_more over before (before ++ coming) (in_left before coming) first, late)
 
   -- so they stay as they are
   front_stays : (k : ℕ) → k < first → k < cut → SameMembers (held_at k old) (best over (rest over (before ++ coming) k))
@@ -171,10 +164,7 @@ rest_stays over all before n (suc k) past same =
 module _ (over : Entry → Entry → Bool) (strict : IsStrictOrder over) (before coming : List Entry) (cut n : ℕ) (old made : List (List Entry)) (down later : List Entry) (holds : Holds over before cut old) (long : length made ≡ n)
     (ended : (cut ≤ n) ⊎ ((down ≡ []) × (later ≡ []))) (m : Merging over before coming cut n made down later) where
   new_behind : (k : ℕ) → n ≤ k → held_at k (made ++ drop n old) ≡ held_at k old
-  new_behind k past =
-      let place : n + (k - n) ≡ k = omega (arith, past) in
-      held_behind k made (drop n old) (omega (arith, past, long))
-      ∙ (ap (λ j. held_at (k - j) (drop n old)) long ∙ (held_is (k - n) (drop n old) ∙ (get_or-drop n old (k - n) [] ∙ (ap (λ j. get_or old j []) place ∙ sym (held_is k old)))))
+  new_behind k past = grind (arith, held_behind k made (drop n old), held_is (k - n) (drop n old), get_or-drop n old (k - n), held_is k old)
 
   behind_stays : (k : ℕ) → n ≤ k → k < cut → SameMembers (held_at k old) (best over (rest over (before ++ coming) k))
   behind_stays k past below =
@@ -264,9 +254,7 @@ arrivals_behind over rule pool old n arrivals starts behind e m =
     (w.0.start, all_among (λ (a : Arrival). n ≤ a.start) arrivals behind w.0 w.1, subst (IsBehind over old w.0.start) (sym w.2) s.behind)
 
 arrival_items : (over : Entry → Entry → Bool) (rule : Entry → ℕ) (pool : List Entry) (old : List (List Entry)) (arrivals : List Arrival) → All (StartsAt over rule pool old) arrivals → AreItems rule pool (map (λ (a : Arrival). a.item) arrivals)
-arrival_items over rule pool old arrivals starts =
-    among_all (IsItem rule pool) (map (λ (a : Arrival). a.item) arrivals)
-    (λ x m. let w = from_map (λ (a : Arrival). a.item) arrivals x m in subst (IsItem rule pool) (sym w.2) (all_among (StartsAt over rule pool old) arrivals starts w.0 w.1).item)
+arrival_items over rule pool old arrivals starts = grind (arith, among_all (IsItem rule pool), from_map, all_among (StartsAt over rule pool old) arrivals starts)
 
 -- levels of items were made, where `down` came down to the next one, and `rest` starts there or behind it
 pub record MakingItems (order : RowOrder) (scales : List Scale) (pool : List Entry) (cut first : ℕ) (levels : List (Vec Item Global)) (arrivals : List Arrival) (made : List (Vec Item Global)) (down : List Item) (rest : List Arrival) : Type 0 where
@@ -319,13 +307,11 @@ module _ {order : RowOrder} {scales : List Scale} {pool : List Entry} {cut first
       let held = items_at n levels in
       let here = take count rest in
       let behind = drop count rest in
-      let now_items : AreItems rule pool now =
-      subst (AreItems rule pool) (sym pushed) (All-append (IsItem rule pool) down (map (λ (a : Arrival). a.item) here) so_far.down_items (arrival_items over rule pool old here (All-take (StartsAt over rule pool old) count rest so_far.starts))) in
+      let now_items : AreItems rule pool now = grind (arith, All-append (IsItem rule pool) down, arrival_items over rule pool old here (All-take (StartsAt over rule pool old) count rest so_far.starts), All-take (StartsAt over rule pool old) count rest so_far.starts) in
       let both = All-append (IsItem rule pool) held now (all_held (IsItem rule pool) levels are n) now_items in
       let each = parted_items order rule pool held now top.items others parted both in
       let entry : Item → Entry = λ item. entry_at pool item.place in
-      let now_is : entries_at pool now ≡ entries_at pool down ++ map (arrived pool) here =
-      ap (entries_at pool) pushed ∙ (map-append entry down (map (λ (a : Arrival). a.item) here) ∙ ap (λ l. entries_at pool down ++ l) (arrived_items pool here)) in
+      let now_is : entries_at pool now ≡ entries_at pool down ++ map (arrived pool) here = grind (arith, map-append entry down, arrived_items pool here) in
       let rest_is : map (arrived pool) rest ≡ map (arrived pool) here ++ map (arrived pool) behind = ap (map (arrived pool)) (sym (take-append-drop count rest)) ∙ map-append (arrived pool) here behind in
       let behind_starts = All-drop (StartsAt over rule pool old) count rest so_far.starts in
       let upto = take first old ++ levels_at pool (drop first made) in
@@ -367,7 +353,4 @@ module _ {order : RowOrder} {scales : List Scale} {pool : List Entry} {cut first
 
 -- a list with those of another from a place on in the place of its own
 pub taken_long : {E : Type 0} (first : ℕ) (new old : List E) → first ≤ length old → first ≤ length new → length (replaced first (drop first new) old) ≡ max (length new) (length old)
-taken_long first new old inside from =
-    let anew = drop first new in
-    let back = first + length anew in
-    omega (arith, length-append (take first old ++ anew) (drop back old), length-append (take first old) anew, length-take-le first old inside, length-drop back old, length-drop first new, from)
+taken_long first new old inside from = grind (arith, length-append, length-append (take first old), length-take-le first old inside, length-drop, length-drop first new, from)

@@ -1,5 +1,5 @@
 -- Entries in partitions: where an order compares within partitions alone, each partition holds the levels of its own entries.
-use Rattle.pref_sky.proofs.Common.{◌≡◌, ℕ, zero, suc, ◌≤◌, ◌<◌, ◌+◌, ◌^◌, ◌/◌, Bool, true, false, cond, not, ◌&&◌, ltb, inl, inr, List, ℤ, [], ◌∷◌, ◌++◌, length, map, refl, sym, ◌∙◌, ap, subst, arith}
+use Rattle.pref_sky.proofs.Common.{◌≡◌, ℕ, zero, suc, ◌≤◌, ◌<◌, ◌+◌, ◌^◌, Bool, true, false, cond, not, ◌&&◌, ltb, inl, inr, List, ℤ, [], ◌∷◌, ◌++◌, length, map, refl, sym, ◌∙◌, ap, subst, arith}
 use Rattle.pref_sky.proofs.Common.{filter, eqb, eq-eqb, max, count_by, cases_Bool, eqb-true, not_from_false, and_parts, Decides-int_eq, nat_tests, filter_agree, length-filter, cell, in_same_group}
 use Rattle.pref_sky.proofs.Common.{RowOrder, StaysWithin, hash_with, Entry, best, is_beaten, rest, without_best, HaveDifferentIds, at_level, entry_of, entry_order, levels, held_at, ranked_from}
 use Rattle.pref_sky.proofs.Common.{ArePartitionedBy, all_at, depth, is_in, mixed_onto, partition_of, partitions_by, ranked_partitions, ranked_upto, Among, take_all}
@@ -24,9 +24,7 @@ same_mixed word (col ∷ columns) a b same =
 
 -- rows of one group are in one partition
 pub is_within : (order : RowOrder) (columns : List ℕ) → StaysWithin order columns → IsWithin (entry_order order) (partition_of columns)
-is_within order columns within a b above =
-    let same : in_same_group columns a.row b.row ≡ true = grind (arith, above, within.over a.row b.row, within.twin a.row b.row) in
-    ap (λ word. word / 2 ^ 54) (same_mixed 0 columns a.row b.row same)
+is_within order columns within a b above = grind (arith, within.over a.row b.row, within.twin a.row b.row, same_mixed 0 columns a.row b.row)
 
 swapped : {E : Type 0} (p q : E → Bool) (xs : List E) → filter p (filter q xs) ≡ filter q (filter p xs)
 swapped p q xs = filter_filter q p xs ∙ (filter_agree (λ x. q x && p x) (λ x. p x && q x) (λ x. and_comm (q x) (p x)) xs ∙ sym (filter_filter p q xs))
@@ -34,13 +32,7 @@ swapped p q xs = filter_filter q p xs ∙ (filter_agree (λ x. q x && p x) (λ x
 -- the best of a partition's entries, and what is left without them
 module _ (over : Entry → Entry → Bool) (number : Entry → ℕ) (within : IsWithin over number) (partition : ℕ) where
   beaten_in_partition : (xs : List Entry) (e : Entry) → is_in number partition e ≡ true → is_beaten over (filter (is_in number partition) xs) e ≡ is_beaten over xs e
-  beaten_in_partition xs e here =
-      same_answer (is_beaten over (filter (is_in number partition) xs) e) (is_beaten over xs e)
-      (beaten_by_more over (filter (is_in number partition) xs) xs e (λ x m. (from_filter (is_in number partition) xs x m).0))
-      (λ h.
-      let w = any_gives (λ x. over x e) xs h in
-      let same : number w.0 ≡ partition = within w.0 e w.2 ∙ eqb-true (number e) partition here in
-      any_from (λ x. over x e) (filter (is_in number partition) xs) w.0 (in_filter (is_in number partition) xs w.0 w.1 (eq-eqb (number w.0) partition same)) w.2)
+  beaten_in_partition xs e here = grind (arith, same_answer, beaten_by_more, from_filter, any_gives, eqb-true, any_from, in_filter, eq-eqb)
 
   without_in_partition : (xs : List Entry) → without_best over (filter (is_in number partition) xs) ≡ filter (is_in number partition) (without_best over xs)
   without_in_partition xs =
@@ -48,9 +40,7 @@ module _ (over : Entry → Entry → Bool) (number : Entry → ℕ) (within : Is
       ∙ swapped (is_beaten over xs) (is_in number partition) xs
 
   best_in_partition : (xs : List Entry) → best over (filter (is_in number partition) xs) ≡ filter (is_in number partition) (best over xs)
-  best_in_partition xs =
-      filter_agree_among (λ e. not (is_beaten over (filter (is_in number partition) xs) e)) (λ e. not (is_beaten over xs e)) (filter (is_in number partition) xs) (λ x m. ap not (beaten_in_partition xs x (from_filter (is_in number partition) xs x m).1))
-      ∙ swapped (λ e. not (is_beaten over xs e)) (is_in number partition) xs
+  best_in_partition xs = grind (arith, filter_agree_among, beaten_in_partition xs, from_filter (is_in number partition) xs, swapped)
 
   rest_in_partition : (all : List Entry) (n : ℕ) → rest over (filter (is_in number partition) all) n ≡ filter (is_in number partition) (rest over all n)
   rest_in_partition all zero = refl
@@ -86,10 +76,7 @@ total p (partition ∷ others) = count_by p (map entry_of (ranked_from 1 partiti
 count_beside : (p : Entry → Bool) (f g : ℕ → List Entry) (n : ℕ)
     → count_by p (map entry_of (ranked_upto (λ k. f k ++ g k) n)) ≡ count_by p (map entry_of (ranked_upto f n)) + count_by p (map entry_of (ranked_upto g n))
 count_beside p f g zero = refl
-count_beside p f g (suc n) =
-    let level : (h : ℕ → List Entry) → count_by p (map entry_of (ranked_upto h (suc n))) ≡ count_by p (map entry_of (ranked_upto h n)) + count_by p (h n) =
-    λ h. omega (arith, count_joined p (ranked_upto h n) (one_level (suc n) (h n)), count_level p (suc n) (h n)) in
-    omega (arith, count_beside p f g n, level (λ k. f k ++ g k), level f, level g, count_append p (f n) (g n))
+count_beside p f g (suc n) = grind (arith, count_joined p, one_level (suc n), count_level p (suc n), count_beside p f g n, count_append p (f n) (g n))
 
 count_levels : (p : Entry → Bool) (partitions : List (List (List Entry))) (n : ℕ) → depth partitions ≤ n → count_by p (map entry_of (ranked_upto (all_at partitions) n)) ≡ total p partitions
 count_levels p [] zero le = refl
@@ -110,8 +97,7 @@ count_partition p (first ∷ others) (suc partition) = omega (arith, count_parti
 
 count_level_of_all : (p : Entry → Bool) (partitions : List (List (List Entry))) (k : ℕ) → count_by p (all_at partitions k) ≤ total p partitions
 count_level_of_all p [] k = omega arith
-count_level_of_all p (partition ∷ others) k =
-    omega (arith, count_level_of_all p others k, count_append p (held_at k partition) (all_at others k), count_at p k partition)
+count_level_of_all p (partition ∷ others) k = grind (arith, count_level_of_all p others k, others, count_append p (held_at k partition) (all_at others k), count_at p k partition)
 
 pub partition_differs : (partitions : List (List (List Entry))) → HaveDifferentIds (map entry_of (ranked_partitions partitions)) → (partition : ℕ) → HaveDifferentIds (map entry_of (ranked_from 1 (held_at partition partitions)))
 partition_differs partitions different partition = record { once = λ id. omega (arith, different.once id, count_all (λ e. eqb e.id id) partitions, count_partition (λ e. eqb e.id id) partitions partition) }
@@ -156,8 +142,7 @@ module _ (over : Entry → Entry → Bool) (number : Entry → ℕ) (within : Is
       let held : ℕ → ℕ → List Entry = λ partition k. held_at k (held_at partition partitions) in
       let some : ℕ → ℕ → List Entry = λ partition k. best over (rest over (filter (is_in number partition) all) k) in
       let long : ℕ → ℕ = λ partition. length (held_at partition partitions) in
-      let same : (partition : ℕ) → ranked_upto (held partition) (long partition) ≡ ranked_upto (some partition) cut =
-      λ partition. sym (held_upto (held_at partition partitions)) ∙ (each partition ∙ levels_upto_is over (filter (is_in number partition) all) cut) in
+      let same : (partition : ℕ) → ranked_upto (held partition) (long partition) ≡ ranked_upto (some partition) cut = grind (arith, held_upto, each, levels_upto_is over) in
       same_upto (all_at partitions) whole (depth partitions) cut (all_differ partitions apart) (λ k. different_best over all k different)
       (λ k e below m.
       let u = from_all partitions k e m in
@@ -198,9 +183,7 @@ below_or_at true m n = grind (arith, nat_tests)
 
 sum_of_partitions : (p : Entry → Bool) (number : Entry → ℕ) (coming : List Entry) (n : ℕ) → sum_upto (λ k. count_by p (filter (is_in number k) coming)) n ≤ count_by (λ e. p e && ltb (number e) n) coming
 sum_of_partitions p number coming zero = omega arith
-sum_of_partitions p number coming (suc n) =
-    let both = count_both (λ e. p e && ltb (number e) n) (λ e. p e && is_in number n e) (λ e. p e && ltb (number e) (suc n)) coming (λ e. below_or_at (p e) (number e) n) in
-    omega (arith, sum_of_partitions p number coming n, count_filtered p (is_in number n) coming, both)
+sum_of_partitions p number coming (suc n) = grind (arith, count_both, below_or_at, sum_of_partitions p number coming n, count_filtered p (is_in number n) coming)
 
 -- what the partitions hold after an addition has different ids
 pub differ_after : (number : Entry → ℕ) (old new : List (List (List Entry))) (coming : List Entry) → HaveDifferentIds (map entry_of (ranked_partitions old) ++ coming) → NoMore (λ partition. filter (is_in number partition) coming) old new

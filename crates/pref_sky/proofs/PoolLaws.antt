@@ -51,12 +51,7 @@ module _ (a b : Pool) (grown : HasGrown a b) where
   entry_grown place inside = ap (λ l. entry_at l place) grown.entries ∙ get_or_append_left a.entries.items grown.more (record { id = 0; row = [] }) place inside
 
   pub item_grown : (x : Item) → IsItem (signature_by a.scales) a.entries.items x → IsItem (signature_by b.scales) b.entries.items x
-  item_grown x is =
-      record {
-        within = omega (arith, is.within, ap length grown.entries, length-append a.entries.items grown.more);
-        word = is.word;
-        signed = is.signed ∙ (ap (signature_by a.scales) (sym (entry_grown x.place is.within)) ∙ ap (λ scales. signature_by scales (entry_at b.entries.items x.place)) (sym grown.scales));
-      }
+  item_grown x is = grind (arith, is.within, length-append a.entries.items grown.more, is.word, is.signed, entry_grown x.place is.within)
 
   -- items of a pool, their levels and their partitions are items of a longer pool
   pub items_grown : (items : List Item) → AreItems (signature_by a.scales) a.entries.items items → AreItems (signature_by b.scales) b.entries.items items
@@ -70,9 +65,7 @@ module _ (a b : Pool) (grown : HasGrown a b) where
 
   -- and their entries are the same there
   pub entries_grown : (items : List Item) → AreItems (signature_by a.scales) a.entries.items items → entries_at b.entries.items items ≡ entries_at a.entries.items items
-  entries_grown items are =
-      map_agree_among (λ (item : Item). entry_at b.entries.items item.place) (λ (item : Item). entry_at a.entries.items item.place) items
-      (λ x m. entry_grown x.place (all_among (IsItem (signature_by a.scales) a.entries.items) items are x m).within)
+  entries_grown items are = grind (arith, map_agree_among, entry_grown, all_among (IsItem (signature_by a.scales) a.entries.items) items are)
 
   pub levels_grown : (levels : List (Vec Item Global)) → AreAllItems (signature_by a.scales) a.entries.items levels → levels_at b.entries.items levels ≡ levels_at a.entries.items levels
   levels_grown levels are =
@@ -85,12 +78,7 @@ module _ (a b : Pool) (grown : HasGrown a b) where
       (λ v m. levels_grown v.items (all_among (λ (partition : Vec (Vec Item Global) Global). AreAllItems (signature_by a.scales) a.entries.items partition.items) partitions are v m))
 
   pub grown_then : (c : Pool) → HasGrown b c → HasGrown a c
-  grown_then c more =
-      record {
-        scales = more.scales ∙ grown.scales;
-        more = grown.more ++ more.more;
-        entries = more.entries ∙ (ap (λ l. l ++ more.more) grown.entries ∙ append_assoc a.entries.items grown.more more.more);
-      }
+  grown_then c more = grind (arith, more.scales, grown.scales, grown.more, append_assoc a.entries.items grown.more more.more)
 
 -- the first n of a list are taken into a pool that has grown from the first one
 pub record AreTaken {A B : Type 0} (AreOf : Pool → A → Type 0) (read : List Entry → A → B) (source : List Entry) (all : List A) (first pool : Pool) (taken : List A) (n : ℕ) : Type 0 where
@@ -140,9 +128,7 @@ partition_here pool partitions k partition inside is = levels_of_at pool k parti
 -- what one of a level dominates is below it
 pub behind_level : (over : Entry → Entry → Bool) (pool : List Entry) (levels : List (Vec Item Global)) (k n : ℕ) (level : Vec Item Global) (e : Entry) → k < length levels → n ≡ suc k → level ≡ get_or levels k level
     → is_beaten over (entries_at pool level.items) e ≡ true → IsBehind over (levels_at pool levels) n e
-behind_level over pool levels k n level e inside next is beaten =
-    λ j above. let same : j ≡ k = omega (arith, above, next) in
-    subst (λ m. is_beaten over (held_at m (levels_at pool levels)) e ≡ true) (sym same) (ap (λ l. is_beaten over l e) (level_here pool levels k level inside is) ∙ beaten)
+behind_level over pool levels k n level e inside next is beaten = grind (arith, level_here pool levels k level inside is, inside)
 
 -- partitions that hold nothing
 pub none_held : (pool : List Entry) (partitions : List (Vec (Vec Item Global) Global)) → All (λ (partition : Vec (Vec Item Global) Global). partition.items ≡ []) partitions → (n : ℕ) → held_at n (partitions_at pool partitions) ≡ []
@@ -164,10 +150,4 @@ pub record AreSigned {A B : Type 0} (f : A → B) (Ready Signed : A → Type 0) 
 
 pub signed_more : {A B : Type 0} {f : A → B} {Ready Signed : A → Type 0} {first now : List A} {i : ℕ} → AreSigned f Ready Signed first now i → i < length now → (old new : A) → old ≡ get_or now i old → f new ≡ f old → Ready new → Signed new
     → AreSigned f Ready Signed first (set now i new) (i + 1)
-signed_more {f = f} {Ready = Ready} {Signed = Signed} {now = now} {i = i} so_far inside old new is same ready signed =
-    record {
-      long = length-set now i new ∙ so_far.long;
-      entries = map-set_same f now i new old (same ∙ ap f is) ∙ so_far.entries;
-      ready = All-set Ready now i new ready so_far.ready;
-      signed = AllWithin-more_set now i new inside Signed so_far.signed signed;
-    }
+signed_more {f = f} {Ready = Ready} {Signed = Signed} {now = now} {i = i} so_far inside old new is same ready signed = grind (arith, length-set now i new, so_far.long, map-set_same f now i new old (same ∙ ap f is), All-set Ready now i new ready so_far.ready, ready, AllWithin-more_set now i new inside Signed so_far.signed signed, inside, signed)

@@ -22,8 +22,7 @@ count_level p n entries = ap (count_by p) (entries_at_level n (in_order_of_id en
 -- how many of a kind levels hold
 pub count_held : (p : Entry → Bool) (k : ℕ) (held : List (List Entry)) → count_by p (map entry_of (ranked_from k held)) ≡ sum_by (count_by p) held
 count_held p k [] = refl
-count_held p k (level ∷ behind) =
-    omega (arith, count_joined p (one_level k level) (ranked_from (suc k) behind), count_level p k level, count_held p (suc k) behind, sum_by-cons (count_by p) level behind)
+count_held p k (level ∷ behind) = grind (arith, count_joined p (one_level k level) (ranked_from (suc k) behind), one_level k level, behind, count_level p k level, count_held p (suc k) behind, sum_by-cons (count_by p) level behind)
 
 pub count_behind : (p : Entry → Bool) (n : ℕ) (held : List (List Entry)) → sum_by (count_by p) (drop n held) ≡ count_by p (held_at n held) + sum_by (count_by p) (drop (suc n) held)
 count_behind p zero [] = refl
@@ -128,13 +127,9 @@ levels_upto_is over all (suc n) = ap (λ l. l ++ one_level (suc n) (best over (r
 -- held levels
 pub take_level : (k n m : ℕ) (held : List (List Entry)) → m ≡ k + n → ranked_from k (take (suc n) held) ≡ ranked_from k (take n held) ++ one_level m (held_at n held)
 take_level k zero m [] at = refl
-take_level k zero m (level ∷ behind) at =
-    let same : k ≡ m = omega (arith, at) in
-    append-nil (one_level k level) ∙ ap (λ j. one_level j level) same
+take_level k zero m (level ∷ behind) at = grind (arith, append-nil (one_level k level), one_level k level, one_level)
 take_level k (suc n) m [] at = refl
-take_level k (suc n) m (level ∷ behind) at =
-    let one = one_level k level in
-    ap (λ l. one ++ l) (take_level (suc k) n m behind (omega (arith, at))) ∙ sym (append_assoc one (ranked_from (suc k) (take n behind)) (one_level m (held_at n behind)))
+take_level k (suc n) m (level ∷ behind) at = grind (arith, one_level k level, take_level (suc k) n m behind, behind, append_assoc, one_level m (held_at n behind))
 
 pub take_upto : (held : List (List Entry)) (n : ℕ) → ranked_from 1 (take n held) ≡ ranked_upto (λ k. held_at k held) n
 take_upto held zero = refl
@@ -169,8 +164,7 @@ pub level_sorted : (n : ℕ) (entries : List Entry) (ranked : List Ranked) → H
 level_sorted n entries ranked different moved sorted =
     let among = same_if_permuted (map (at_level n) entries) ranked moved in
     let of_level : (r : Ranked) → Among r ranked → r.level ≡ n = λ r m. let w = from_map (at_level n) entries r (among.back r m) in ap (λ (s : Ranked). s.level) w.2 in
-    let entries_moved : IsPermutation entries (map entry_of ranked) =
-    subst (λ l. IsPermutation l (map entry_of ranked)) (entries_at_level n entries) (IsPermutation-map entry_of (map (at_level n) entries) ranked moved) in
+    let entries_moved : IsPermutation entries (map entry_of ranked) = grind (arith, entries_at_level n entries, IsPermutation-map entry_of (map (at_level n) entries) ranked moved) in
     sym (at_level_again n ranked of_level) ∙ ap (map (at_level n)) (sorted_is entries (map entry_of ranked) entries_moved (entries_sorted ranked sorted) different)
 
 -- and of those behind a place

@@ -20,12 +20,10 @@ same_beaten over xs ys same e = same_answer (is_beaten over xs e) (is_beaten ove
 
 -- the best of lists with the same members
 pub best_of_same : (over : Entry → Entry → Bool) (xs ys : List Entry) → SameMembers xs ys → SameMembers (best over xs) (best over ys)
-best_of_same over xs ys same =
-    same_kept (λ e. not (is_beaten over xs e)) (λ e. not (is_beaten over ys e)) xs ys (λ x m free. (same.there x m, ap not (sym (same_beaten over xs ys same x)) ∙ free)) (λ x m free. (same.back x m, ap not (same_beaten over xs ys same x) ∙ free))
+best_of_same over xs ys same = grind (arith, same_kept, same.there, same_beaten over xs ys same, same.back)
 
 pub without_of_same : (over : Entry → Entry → Bool) (xs ys : List Entry) → SameMembers xs ys → SameMembers (without_best over xs) (without_best over ys)
-without_of_same over xs ys same =
-    same_kept (is_beaten over xs) (is_beaten over ys) xs ys (λ x m below. (same.there x m, sym (same_beaten over xs ys same x) ∙ below)) (λ x m below. (same.back x m, same_beaten over xs ys same x ∙ below))
+without_of_same over xs ys same = grind (arith, same_kept (is_beaten over xs) (is_beaten over ys) xs ys, same.there, same_beaten over xs ys same, same.back)
 
 pub different_by_count : (xs ys zs : List Entry) → HaveDifferentIds (xs ++ ys) → ((p : Entry → Bool) → count_by p zs ≤ count_by p xs + count_by p ys) → HaveDifferentIds zs
 different_by_count xs ys zs different fewer = record { once = λ id. omega (arith, different.once id, fewer (λ (e : Entry). eqb e.id id), count_append (λ (e : Entry). eqb e.id id) xs ys) }
@@ -44,35 +42,22 @@ module _ (over : Entry → Entry → Bool) (strict : IsStrictOrder over) (others
       (beaten_by_more over others (others ++ low) e (in_left others low))
 
   pub best_without : best over (others ++ low) ≡ best over others
-  best_without =
-      let test : Entry → Bool = λ e. not (is_beaten over (others ++ low) e) in
-      filter-append test others low
-      ∙ (ap (λ l. l ++ filter test low) (filter_agree test (λ e. not (is_beaten over others e)) (λ e. ap not (beaten_without e)) others)
-      ∙ (ap (λ l. best over others ++ l) (none_pass test low (λ e m. ap not (beaten_without e ∙ lower e m))) ∙ append-nil (best over others)))
+  best_without = grind (arith, filter-append, filter_agree, beaten_without, none_pass, append-nil (best over others))
 
   pub left_without : without_best over (others ++ low) ≡ without_best over others ++ low
-  left_without =
-      let test = is_beaten over (others ++ low) in
-      filter-append test others low
-      ∙ (ap (λ l. l ++ filter test low) (filter_agree test (is_beaten over others) beaten_without others) ∙ ap (λ l. without_best over others ++ l) (all_pass test low (λ e m. beaten_without e ∙ lower e m)))
+  left_without = grind (arith, filter-append, filter_agree, beaten_without, all_pass)
 
 -- entries come to a list, of which the best are at the top
 module _ (over : Entry → Entry → Bool) (strict : IsStrictOrder over) (left coming top : List Entry) (is : SameMembers top (best over left)) where
   of_both : (x : Entry) → Among x (top ++ coming) → Among x (left ++ coming)
-  of_both x m =
-      elim (in_either top coming x m) [
-        | inl old ↦ in_left left coming x (from_filter (λ y. not (is_beaten over left y)) left x (is.there x old)).0
-        | inr new ↦ in_right left coming x new
-      ]
+  of_both x m = grind (arith, in_either top coming x m, in_left left coming x, from_filter, is.there x, in_right left coming x)
 
   in_top : (x : Entry) → Among x left → is_beaten over left x ≡ false → Among x top
   in_top x m free = is.back x (in_filter (λ y. not (is_beaten over left y)) left x m (not_from_false (is_beaten over left x) free))
 
   -- where something of the list is over an entry, one of its best is
   beaten_with_top : (e : Entry) → is_beaten over (left ++ coming) e ≡ is_beaten over (top ++ coming) e
-  beaten_with_top e =
-      list_any-append (λ x. over x e) left coming
-      ∙ (ap (λ b. b || is_beaten over coming e) (sym (same_beaten over top (best over left) is e ∙ beaten_by_best over strict left e)) ∙ sym (list_any-append (λ x. over x e) top coming))
+  beaten_with_top e = grind (arith, list_any-append, same_beaten over top (best over left) is e, beaten_by_best over strict left e)
 
   -- the best of both are the best of the top and of what comes
   pub best_with_top : SameMembers (best over (top ++ coming)) (best over (left ++ coming))
@@ -90,8 +75,7 @@ module _ (over : Entry → Entry → Bool) (strict : IsStrictOrder over) (left c
   without_with_top =
       let down = without_best over (top ++ coming) in
       let lower = without_best over left in
-      let goes_down : (x : Entry) → Among x (top ++ coming) → is_beaten over (left ++ coming) x ≡ true → Among x (lower ++ down) =
-      λ x m beaten. in_right lower down x (in_filter (is_beaten over (top ++ coming)) (top ++ coming) x m (sym (beaten_with_top x) ∙ beaten)) in
+      let goes_down : (x : Entry) → Among x (top ++ coming) → is_beaten over (left ++ coming) x ≡ true → Among x (lower ++ down) = grind (arith, in_right, in_filter, beaten_with_top) in
       record {
         there = λ x m.
             let w = from_filter (is_beaten over (left ++ coming)) (left ++ coming) x m in
@@ -155,15 +139,10 @@ module _ (over : Entry → Entry → Bool) (strict : IsStrictOrder over) (some a
 -- new entries come to those that are held, of which those of the levels count alone
 module _ (over : Entry → Entry → Bool) (strict : IsStrictOrder over) (cut : ℕ) (held entries : List Entry) (different : HaveDifferentIds (map entry_of (levels over held cut) ++ entries)) where
   later_still : (x : Entry) → comes_after over (held ++ entries) cut x ≡ false → comes_after over held cut x ≡ false
-  later_still x early =
-      false_from_ne_true (comes_after over held cut x) (λ late. both_ways (comes_after over (held ++ entries) cut x) early (comes_after_among_more over held (held ++ entries) (in_left held entries) cut x late))
+  later_still x early = grind (arith, comes_after over held cut x, comes_after over (held ++ entries) cut x, comes_after_among_more over held (held ++ entries) (in_left held entries) cut x, in_left held entries)
 
   all_differ : HaveDifferentIds (map entry_of (levels over (held ++ entries) cut))
-  all_differ =
-      let early : Entry → Bool = λ e. not (comes_after over (held ++ entries) cut e) in
-      different_by_count (map entry_of (levels over held cut)) entries (map entry_of (levels over (held ++ entries) cut)) different (λ p.
-      let old = count_within (λ e. p e && early e) (λ e. p e && not (comes_after over held cut e)) held (λ e h. grind (arith, h, later_still e)) in
-      omega (arith, count_levels over p (held ++ entries) cut, count_append (λ e. p e && early e) held entries, old, count_levels over p held cut, count_and p early entries))
+  all_differ = grind (arith, comes_after, different_by_count, count_within, later_still, count_levels, count_append, count_and)
 
   -- the merge law: those of the levels stand for all that are held
   pub merge : levels over (map entry_of (levels over held cut) ++ entries) cut ≡ levels over (held ++ entries) cut
@@ -180,14 +159,7 @@ module _ (over : Entry → Entry → Bool) (strict : IsStrictOrder over) (cut : 
   -- those of them that are kept
   module _ (kept : List Entry) (within : (x : Entry) → Among x kept → Among x entries) (covers : (x : Entry) → Among x entries → Among x kept ⊎ (comes_after over held cut x ≡ true)) (fewer : (p : Entry → Bool) → count_by p kept ≤ count_by p entries) where
     kept_holds : HoldsLevels over (held ++ kept) (held ++ entries) cut
-    kept_holds =
-        record {
-          within = λ x m. elim (in_either held kept x m) [ inl old ↦ in_left held entries x old | inr new ↦ in_right held entries x (within x new) ];
-          kept = λ x m early. elim (in_either held entries x m) [
-            | inl old ↦ in_left held kept x old
-            | inr new ↦ elim (covers x new) [ inl stays ↦ in_right held kept x stays | inr late ↦ absurd (both_ways (comes_after over held cut x) (later_still x early) late) ]
-          ];
-        }
+    kept_holds = grind (arith, in_either held kept, in_left held entries, in_right held entries, in_either held entries, in_left held kept, in_right held kept, comes_after over held cut, later_still)
 
     no_more : (p : Entry → Bool) → count_by p (held ++ kept) ≤ count_by p (held ++ entries)
     no_more p = omega (arith, fewer p, count_append p held kept, count_append p held entries)
@@ -204,9 +176,7 @@ module _ (order : ChainOrder) (sorted recent entries : List Entry) (different : 
   covers x m = elim (upper.covers x m) [ inl stays ↦ inl stays | inr below ↦ inr (comes_after_among_more (own_order order) sorted (sorted ++ recent) (in_left sorted recent) order.cut x below) ]
 
   pub upper_differ : HaveDifferentIds (map entry_of (own_levels order (sorted ++ (recent ++ kept))))
-  upper_differ =
-      subst (λ l. HaveDifferentIds (map entry_of (own_levels order l))) (append_assoc sorted recent kept)
-      (kept_differ (own_order order) (own_is_strict order) order.cut (sorted ++ recent) entries different kept upper.within covers upper.counts)
+  upper_differ = grind (arith, append_assoc sorted recent kept, kept_differ (own_order order) (own_is_strict order) order.cut (sorted ++ recent) entries different kept upper.within covers upper.counts, own_is_strict order)
 
   pub upper_levels : (before : List Entry) → own_levels order (sorted ++ recent) ≡ own_levels order before → own_levels order (sorted ++ (recent ++ kept)) ≡ own_levels order (before ++ entries)
   upper_levels before is =

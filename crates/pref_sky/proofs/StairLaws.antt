@@ -1,5 +1,5 @@
 -- Chains, and stairs: in the order of the first chain one entry stands for all before it.
-use Rattle.pref_sky.proofs.Common.{◌≡◌, Bool, true, false, not, ◌||◌, inl, inr, List, [], ◌∷◌, ◌++◌, refl, sym, ◌∙◌, ap, subst, filter, arith, both_ways, false_from_ne_true, cond_both, IsStrictOrder}
+use Rattle.pref_sky.proofs.Common.{◌≡◌, Bool, true, false, not, ◌||◌, inl, inr, List, [], ◌∷◌, ◌++◌, refl, sym, ◌∙◌, ap, subst, filter, arith, IsStrictOrder}
 use Rattle.pref_sky.proofs.Common.{IsAntichain, best, is_beaten, IsChain, AreStairs, IsLine, IsInOrder, are_level, comes_first, in_turn, HasOneCandidate, IsSwept, ServesGroups, Among}
 use Rattle.std.proofs.lemmas.List.Folds.{list_any-append}
 use Rattle.pref_sky.proofs.ListLaws.{any_from, any_gives, any_none, from_filter, in_left, in_right, in_either, in_order_across, in_order_back, in_order_front}
@@ -23,29 +23,21 @@ level_below f chain a b c level = grind (arith, level, chain.between a b c, chai
 -- what passes a filter stays in order
 pub filter_in_order : {E : Type 0} (before : E → E → Bool) (p : E → Bool) (xs : List E) → IsInOrder before xs → IsInOrder before (filter p xs)
 filter_in_order before p [] h = h
-filter_in_order before p (e ∷ others) h =
-    let deeper = filter_in_order before p others h.1 in
-    cond_both (p e) (e ∷ filter p others) (filter p others) (IsInOrder before) (λ k. ((λ x m. h.0 x (from_filter p others x m).0), deeper)) (λ k. deeper)
+filter_in_order before p (e ∷ others) h = grind (arith, filter_in_order before p others h.1, others, h.0, from_filter p others)
 
 in_weaker_order : {E : Type 0} (before weaker : E → E → Bool) → ((a b : E) → before a b ≡ true → weaker a b ≡ true) → (xs : List E) → IsInOrder before xs → IsInOrder weaker xs
 in_weaker_order before weaker then [] h = h
 in_weaker_order before weaker then (e ∷ others) h = ((λ x m. then e x (h.0 x m)), in_weaker_order before weaker then others h.1)
 
 pub best_are_apart : {E : Type 0} (over : E → E → Bool) (all : List E) → IsAntichain over (best over all)
-best_are_apart over all x y mx my =
-    let other = from_filter (λ e. not (is_beaten over all e)) all x mx in
-    let free = (from_filter (λ e. not (is_beaten over all e)) all y my).1 in
-    false_from_ne_true (over x y) (λ h. let beaten = any_from (λ z. over z y) all x other.0 h in both_ways (is_beaten over all y) (grind (arith, free)) beaten)
+best_are_apart over all x y mx my = grind (arith, from_filter, any_from)
 
 abbrev comes_no_earlier : {E : Type 0} → (E → E → Bool) → (E → E → Bool) → (E → E → Bool) → E → E → Bool
 comes_no_earlier f s t a b = not (comes_first f s t b a)
 
 -- the best of a list in order are a level, of which one entry can be asked
 best_are_a_level : {E : Type 0} (over f s t : E → E → Bool) (all : List E) → IsInOrder (comes_no_earlier f s t) all → IsInOrder (λ a b. not (f b a)) (best over all) × IsAntichain over (best over all)
-best_are_a_level over f s t all ordered = (
-  in_weaker_order (comes_no_earlier f s t) (λ a b. not (f b a)) (λ a b h. grind (arith, h)) (best over all) (filter_in_order (comes_no_earlier f s t) (λ e. not (is_beaten over all e)) all ordered),
-  best_are_apart over all,
-)
+best_are_a_level over f s t all ordered = grind (arith, in_weaker_order (comes_no_earlier f s t), filter_in_order (comes_no_earlier f s t), best_are_apart over all)
 
 module _ {E : Type 0} (over f s t : E → E → Bool) (stairs : AreStairs over f s t) where
   pub strict_stairs : IsStrictOrder over
@@ -61,19 +53,11 @@ module _ {E : Type 0} (over f s t : E → E → Bool) (stairs : AreStairs over f
 
   -- a stands for b, which is before it, where neither of the two dominates the other
   pub stands_for : (a b c : E) → f a b ≡ false → f c a ≡ false → over a b ≡ false → over b a ≡ false → over b c ≡ true → over a c ≡ true
-  stands_for a b c ab ca n m bc =
-      let is = stairs.is in
-      let one = stairs.first_is_chain.between in
-      let two = stairs.second_is_chain.between in
-      grind (arith, is a b, is b a, is b c, is a c, one b a c, one c b a, two b a c, two c b a, two a c b, stairs.second_is_chain.strict.transitive b c a, stairs.tie_is_chain.between b a c)
+  stands_for a b c ab ca n m bc = grind (arith, stairs.is, stairs.first_is_chain.between, stairs.second_is_chain.between, stairs.second_is_chain.strict.transitive b c a, stairs.tie_is_chain.between b a c)
 
   -- and is alike to what b is alike to
   alike_for : (a b c : E) → f a b ≡ false → f c a ≡ false → over a b ≡ false → over b a ≡ false → are_level (comes_first f s t) b c ≡ true → are_level (comes_first f s t) a c ≡ true
-  alike_for a b c ab ca n m bc =
-      let one = stairs.first_is_chain.between in
-      let two = stairs.second_is_chain.between in
-      let tie = stairs.tie_is_chain.between in
-      grind (arith, stairs.is a b, stairs.is b a, one b a c, one c a b, one a b c, one c b a, two a b c, two c a b, two c b a, tie a b c, tie c a b)
+  alike_for a b c ab ca n m bc = grind (arith, stairs.first_is_chain.between, stairs.second_is_chain.between, stairs.tie_is_chain.between, stairs.is a b, stairs.is b a)
 
   -- what does not come first does not dominate
   pub later : (a b : E) → comes_first f s t b a ≡ false → over b a ≡ false
@@ -133,10 +117,7 @@ swept over f s t =
     record {
       begins = λ stairs x others. beaten_by_those_before over f s t stairs [] x others;
       next = last_best_stands_for_all over f s t;
-      parts = λ all ordered. (
-        filter_in_order (comes_no_earlier f s t) (λ e. not (is_beaten over all e)) all ordered,
-        filter_in_order (comes_no_earlier f s t) (is_beaten over all) all ordered,
-      );
+      parts = grind (arith, filter_in_order (comes_no_earlier f s t));
       level = best_are_a_level over f s t;
     }
 
