@@ -43,19 +43,7 @@ module _ {over : Entry → Entry → Bool} {cut : ℕ} {rule : Entry → ℕ} {p
   pub partition_after : (partition : ℕ) → IsMade over cut (held_at partition (partitions_at pool partitions)) (held_at partition (partitions_at pool new)) (map (arrived pool) (coming_to partition arrivals))
   partition_after partition =
       let was = held_at partition (partitions_at pool partitions) in
-      elim (made_or_not partition all) [
-        | inl w ↦
-            let made = w.0 in
-            let held = items_at made.partition partitions in
-            let now : held_at made.partition (partitions_at pool new) ≡ replaced made.first (levels_at pool (new_levels made)) (levels_at pool held) = grind (arith, levels_of_at pool made.partition new, is_put made w.1, replaced_map) in
-            subst (λ p. IsMade over cut (held_at p (partitions_at pool partitions)) (held_at p (partitions_at pool new)) (map (arrived pool) (coming_to p arrivals))) w.2
-            (subst (λ l. IsMade over cut l (held_at made.partition (partitions_at pool new)) (map (arrived pool) (coming_to made.partition arrivals))) (sym (levels_of_at pool made.partition partitions))
-            (subst (λ l. IsMade over cut (levels_at pool held) l (map (arrived pool) (coming_to made.partition arrivals))) (sym now) (is_made made w.1).levels.made))
-        | inr alone ↦
-            let same : held_at partition (partitions_at pool new) ≡ was = levels_of_at pool partition new ∙ (ap (levels_at pool) (put.others partition alone) ∙ sym (levels_of_at pool partition partitions)) in
-            subst (λ l. IsMade over cut was l (map (arrived pool) (coming_to partition arrivals))) (sym same)
-            (subst (λ l. IsMade over cut was was (map (arrived pool) l)) (sym (are.others partition alone)) (nothing_comes over cut was))
-      ]
+      grind (arith, made_or_not partition all, levels_of_at pool, is_put, replaced_map, is_made, levels_of_at pool partition new, put.others partition, levels_of_at pool partition partitions, are.others partition, nothing_comes over cut was)
 
   pub in_pool_after : AreInPool rule pool partitions → AreInPool rule pool new
   in_pool_after in_pool =

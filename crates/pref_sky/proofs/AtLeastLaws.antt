@@ -51,8 +51,7 @@ one_level_more over strict same within all k n le =
     let w = from_map (at_level (suc n)) (in_order_of_id level) r m in
     let after = (on_level over all n w.0 (from_in_order level w.0 w.1)).0 in
     ap (few some) w.2 ∙ le-ltb (count_before same some (at_level (suc n) w.0)) k (omega (arith, le, enough_before over strict same within all n w.0 after n (omega arith))) in
-    filter_agree_among (few (some ++ more)) (few some) (some ++ more) agree
-    ∙ (filter-append (few some) some more ∙ (ap (λ l. filter (few some) some ++ l) (none_pass (few some) more below) ∙ append-nil (filter (few some) some)))
+    grind (arith, filter_agree_among (few (some ++ more)) (few some) (some ++ more) agree, filter-append (few some) some more, none_pass (few some) more below, append-nil (filter (few some) some))
 
 past_k : (over : Entry → Entry → Bool) → IsStrictOrder over → (same : Row → Row → Bool) → StaysInGroups over same → (all : List Entry) (k m : ℕ) → k ≤ m → at_least same k (levels over all m) ≡ at_least same k (levels over all k)
 past_k over strict same within all k zero le = let none : 0 ≡ k = omega arith in ap (λ n. at_least same k (levels over all n)) none

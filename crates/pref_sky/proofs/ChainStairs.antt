@@ -92,8 +92,7 @@ module _ (order : RowOrder) (columns : List ℕ) (chains : Chains) (distinct : B
     first_is_chain = keys_chain (first_chain chains);
     second_is_chain = keys_chain (second_chain chains);
     tie_is_chain = keys_chain (tie_chain chains);
-    is = λ a b. product_better (by_chain (first_chain chains) a b) (by_chain (second_chain chains) a b) (by_chain (tie_chain chains) a b) (better_in (first_chain chains) b a) (better_in (second_chain chains) b a)
-        (worse_in (first_chain chains) a b) (worse_in (second_chain chains) a b) (same_in (first_chain chains) a b) (same_in (second_chain chains) a b);
+    is = grind (arith, product_better, worse_in (first_chain chains), worse_in (second_chain chains), same_in (first_chain chains), same_in (second_chain chains));
   }
 
   -- rows

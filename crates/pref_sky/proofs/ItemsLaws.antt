@@ -14,15 +14,7 @@ count_map f p xs = fold-map (λ n y. n + cond (p y) 1 0) f 0 xs
 
 -- items by whose order what they stand for is ordered
 pub beaten_map : {E F : Type 0} (f : E → F) (below : E → E → Bool) (over : F → F → Bool) (all : List E) → ((x y : E) → Among x all → Among y all → below x y ≡ over (f x) (f y)) → (x : E) → Among x all → is_beaten over (map f all) (f x) ≡ is_beaten below all x
-beaten_map f below over all agree x m =
-    same_answer (is_beaten over (map f all) (f x)) (is_beaten below all x)
-    (λ h.
-    let w = any_gives (λ y. over y (f x)) (map f all) h in
-    let v = from_map f all w.0 w.1 in
-    any_from (λ y. below y x) all v.0 v.1 (agree v.0 x v.1 m ∙ (ap (λ z. over z (f x)) (sym v.2) ∙ w.2)))
-    (λ h.
-    let w = any_gives (λ y. below y x) all h in
-    any_from (λ y. over y (f x)) (map f all) (f w.0) (in_map f all w.0 w.1) (sym (agree w.0 x w.1 m) ∙ w.2))
+beaten_map f below over all agree x m = grind (arith, same_answer, any_gives, from_map, any_from, in_map)
 
 pub parted_map : {E F : Type 0} (f : E → F) (below : E → E → Bool) (over : F → F → Bool) (held items top others : List E) → ((x y : E) → Among x (held ++ items) → Among y (held ++ items) → below x y ≡ over (f x) (f y))
     → Parted below held items top others → Parted over (map f held) (map f items) (map f top) (map f others)
@@ -30,8 +22,7 @@ parted_map f below over held items top others agree p =
     let all = held ++ items in
     let joined : map f held ++ map f items ≡ map f all = sym (map-append f held items) in
     let beaten = beaten_map f below over all agree in
-    let apart : IsAntichain over (map f held) → IsAntichain below held =
-    λ apart x y mx my. agree x y (in_left held items x mx) (in_left held items y my) ∙ apart (f x) (f y) (in_map f held x mx) (in_map f held y my) in
+    let apart : IsAntichain over (map f held) → IsAntichain below held = grind (arith, in_left held items, in_map f held) in
     record {
       within = λ y m. subst (Among y) (sym joined) (elim m [
         | inl a ↦ let v = from_map f top y a in subst (λ z. Among z (map f all)) (sym v.2) (in_map f all v.0 (p.within v.0 (inl v.1)))
@@ -58,9 +49,7 @@ module _ {E : Type 0} (over : E → E → Bool) (held items top others : List E)
   others_are =
       record {
         there = λ x m. in_filter (is_beaten over (held ++ items)) (held ++ items) x (p.within x (inr m)) (p.beaten apart x m);
-        back = λ x m.
-            let w = from_filter (is_beaten over (held ++ items)) (held ++ items) x m in
-            elim (p.covers x w.0) [ inl a ↦ absurd (both_ways (is_beaten over (held ++ items) x) (p.unbeaten apart x a) w.1) | inr a ↦ a ];
+        back = grind (arith, from_filter);
       }
 
 -- tests of each of two, and of both, that hold of the first and the third where they hold of the first and the second, and of the second and the third
@@ -77,8 +66,7 @@ covered_if_within x y small within i inside = grind (arith, eqb-true (bit_and x 
 within_if_covered : (x y : ℕ) → x < 2 ^ 64 → y < 2 ^ 64 → ((i : ℕ) → i < 64 → bit_at x i ≤ bit_at y i) → is_within x y ≡ true
 within_if_covered x y small_x small_y covered =
     let left : ℕ = bit_and x (bit_not w64 y) in
-    eq-eqb left 0 (same_from_bits_below 64 left 0 (omega (arith, and_le_l x (bit_not w64 y))) (omega arith)
-    (λ i inside. bit_at_and x (bit_not w64 y) i ∙ (ap (min (bit_at x i)) (bit_at_not w64 y i small_y inside) ∙ omega (arith, covered i inside, bit_at-lt y i, bit_at-zero i))))
+    grind (arith, eq-eqb left 0, same_from_bits_below 64 left 0, and_le_l x (bit_not w64 y), bit_at_and x (bit_not w64 y), bit_at_not w64 y, bit_at-lt y, bit_at-zero)
 
 within_then : (x y z : ℕ) → x < 2 ^ 64 → y < 2 ^ 64 → z < 2 ^ 64 → is_within x y ≡ true → is_within y z ≡ true → is_within x z ≡ true
 within_then x y z small_x small_y small_z first second = grind (arith, within_if_covered x z small_x small_z, covered_if_within x y small_y first, covered_if_within y z small_z second)

@@ -63,10 +63,7 @@ module _ (over f s t : Entry → Entry → Bool) (stairs : AreStairs over f s t)
   over_stands : (i : ℕ) (x : Entry) → i < length all → Among x all → over x (entry_at all i) ≡ true → (j : ℕ) × (j < i) × (entry_at all j ≡ x)
   over_stands i x inside m above =
       let w = place_of all x (record { id = 0; row = [] }) m in
-      elim (cases_lt w.0 i) [
-        | inl before ↦ (w.0, before, w.2)
-        | inr past ↦ absurd (both_ways (over (entry_at all w.0) (entry_at all i)) (later over f s t stairs (entry_at all i) (entry_at all w.0) (in_order i w.0 past w.1)) (ap (λ v. over v (entry_at all i)) w.2 ∙ above))
-      ]
+      grind (arith, w.0, w.2, later over f s t stairs (entry_at all i) (entry_at all w.0))
 
   module _ (i : ℕ) (last : List ℕ) (lasts : AreLasts over cut all i last) (inside : i < length all) where
     abbrev pub e : Entry
@@ -148,8 +145,7 @@ module _ (over : Entry → Entry → Bool) (all : List Entry) (cut i n : ℕ) (i
   listed_more early =
       let e = entry_at all i in
       let test : Entry → Bool = λ x. not (comes_after over all cut x) in
-      ap (map (with_level over all cut)) (stays test all i (record { id = 0; row = [] }) inside (ap not (early_stays over all (suc n) cut e early (chain.no_more early))))
-      ∙ (map-append (with_level over all cut) (filter test (take i all)) (e ∷ []) ∙ ap (λ k. with_levels over all cut (take i all) ++ at_level (suc k) e ∷ []) (count_is over cut all e n chain))
+      grind (arith, stays test all i, early_stays over all (suc n) cut e early (chain.no_more early), chain.no_more early, map-append (with_level over all cut) (filter test (take i all)) (e ∷ []), count_is over cut all e n chain)
 
   pub listed_as_it_was : cut ≤ n → with_levels over all cut (take (i + 1) all) ≡ with_levels over all cut (take i all)
   listed_as_it_was past = grind (arith, comes_after over all cut, chain.within, leaves, comes_after over all)
@@ -170,14 +166,7 @@ module _ (over : Entry → Entry → Bool) (strict : IsStrictOrder over) (all : 
   of_level : (r : Ranked) → Among r (levels over all cut) → OfLevel r
   of_level r m =
       let w = from_upto (λ k. best over (rest over all k)) cut r (subst (Among r) (levels_upto_is over all cut) m) in
-      let at = on_level over all w.place w.entry w.there in
-      let own : w.entry ≡ entry_of r = sym (ap entry_of w.is) in
-      record {
-        number = w.place;
-        below = w.below;
-        chain = subst (λ e. HasChain over cut all e w.place) own (record { within = omega (arith, w.below); after = at.0; no_more = λ l. at.1 });
-        is = w.is ∙ ap (at_level (suc w.place)) own;
-      }
+      grind (arith, on_level over all w.place w.entry w.there, w.below, w.is)
 
   level_of : (e : Entry) → Among e upper → (r : Ranked) × Among r (levels over all cut) × (e ≡ entry_of r)
   level_of e m = grind (arith, from_filter, comes_after over all cut, from_map entry_of (levels over all cut) e, held_all over all cut e, not-true (comes_after over all cut e), comes_after over all cut e)
@@ -188,10 +177,7 @@ module _ (over : Entry → Entry → Bool) (strict : IsStrictOrder over) (all : 
   same_members : SameMembers (with_levels over all cut all) (levels over all cut)
   same_members =
       record {
-        there = λ r m.
-            let w = from_map (with_level over all cut) upper r m in
-            let s = level_of w.0 w.1 in
-            subst (λ q. Among q (levels over all cut)) (sym (w.2 ∙ (ap (with_level over all cut) s.2 ∙ with_level_is s.0 s.1))) s.1;
+        there = grind (arith, from_map, level_of, with_level_is);
         back = λ r m.
             let w = of_level r m in
             let early : not (comes_after over all cut (entry_of r)) ≡ true = ap not (early_stays over all (suc w.number) cut (entry_of r) w.below (w.chain.no_more w.below)) in

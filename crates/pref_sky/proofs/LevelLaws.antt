@@ -59,12 +59,7 @@ cut_into : (over : Entry → Entry → Bool) → IsStrictOrder over → (cut : �
 cut_into over strict cut before held [] is different = is ∙ ap (λ l. levels over l cut) (sym (append-nil before))
 cut_into over strict cut before held (piece ∷ pieces) is different =
     let others = flat_map (λ (p : List Entry). p) pieces in
-    let whole : before ++ (piece ++ others) ≡ (before ++ piece) ++ others = sym (append_assoc before piece others) in
-    let first = first_differ (before ++ piece) others (subst HaveDifferentIds whole different) in
-    cut_into over strict cut (before ++ piece) (levels over (map entry_of held ++ piece) cut) pieces
-    (ap (λ l. levels over (map entry_of l ++ piece) cut) is ∙ merge over strict cut before piece (held_differ over before piece cut first))
-    (subst HaveDifferentIds whole different)
-    ∙ ap (λ l. levels over l cut) (sym whole)
+    grind (arith, append_assoc before piece others, first_differ (before ++ piece) others, cut_into over strict cut (before ++ piece) (levels over (map entry_of held ++ piece) cut) pieces, merge over strict cut before piece, held_differ over before piece cut)
 
 -- however a list is cut into pieces
 pub held_after_pieces : (over : Entry → Entry → Bool) → IsStrictOrder over → (cut : ℕ) (pieces : List (List Entry)) → HaveDifferentIds (flat_map (λ piece. piece) pieces)

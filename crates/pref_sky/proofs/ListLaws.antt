@@ -218,9 +218,7 @@ fails_behind p xs n point x m = grind (arith, place_of (drop n xs) x x m, length
 pub filter_parted : {E : Type 0} (p : E → Bool) (xs : List E) (n : ℕ) → ((x : E) → Among x (take n xs) → p x ≡ true) → ((x : E) → Among x (drop n xs) → p x ≡ false) → filter p xs ≡ take n xs
 filter_parted p xs n passes fails =
     let back = drop n xs in
-    ap (filter p) (sym (take-append-drop n xs))
-    ∙ (filter-append p (take n xs) back
-    ∙ (ap (λ l. l ++ filter p back) (all_pass p (take n xs) passes) ∙ (ap (λ l. take n xs ++ l) (none_pass p back fails) ∙ append-nil (take n xs))))
+    grind (arith, take-append-drop n xs, filter-append p (take n xs) back, all_pass p (take n xs) passes, none_pass p back fails, append-nil (take n xs))
 
 -- where a list is in order of a number, and one has another than the least, all from there on are above that
 pub later_behind : {E : Type 0} (number : E → ℕ) (xs : List E) (n least : ℕ) (none : E) → n < length xs → (number (get_or xs n none) ≡ least → ⊥) → IsNonDecreasingBy number xs → All (λ x. least ≤ number x) xs

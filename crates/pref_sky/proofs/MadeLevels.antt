@@ -218,8 +218,7 @@ making_more over strict cut n old made coming down here later top others below s
     let long = making.long in
     record {
       long = omega (arith, long, length-append made (top ∷ []));
-      counts = λ p.
-          omega (arith, making.counts p, parted.bag p, count_append p (held_at n old) (down ++ here), count_append p down here, count_behind p n old, count_append p here later, sum_by_push (count_by p) made top);
+      counts = grind (arith, making.counts, parted.bag, count_append, count_behind, sum_by_push);
       merging = λ before holds. merging_more over strict before coming cut n old made down here later top others below long holds starts parted (making.merging before holds);
     }
 
@@ -227,8 +226,7 @@ making_ends : (over : Entry → Entry → Bool) → IsStrictOrder over → (cut 
     → IsMade over cut old (made ++ drop n old) coming
 making_ends over strict cut n old made coming down later ended making =
     let new = made ++ drop n old in
-    let counts : (p : Entry → Bool) → count_by p (map entry_of (ranked_from 1 new)) ≤ count_by p (map entry_of (ranked_from 1 old)) + count_by p coming =
-    λ p. omega (arith, making.counts p, count_held p 1 new, count_held p 1 old, sum_by-append (count_by p) made (drop n old)) in
+    let counts : (p : Entry → Bool) → count_by p (map entry_of (ranked_from 1 new)) ≤ count_by p (map entry_of (ranked_from 1 old)) + count_by p coming = grind (arith, making.counts, count_held, sum_by-append) in
     record {
       counts = counts;
       merged = λ before different is.
@@ -315,10 +313,7 @@ module _ {order : RowOrder} {scales : List Scale} {pool : List Entry} {cut first
       let rest_is : map (arrived pool) rest ≡ map (arrived pool) here ++ map (arrived pool) behind = ap (map (arrived pool)) (sym (take-append-drop count rest)) ∙ map-append (arrived pool) here behind in
       let behind_starts = All-drop (StartsAt over rule pool old) count rest so_far.starts in
       let upto = take first old ++ levels_at pool (drop first made) in
-      let made_is : take first old ++ levels_at pool (drop first (made ++ top ∷ [])) ≡ upto ++ entries_at pool top.items ∷ [] =
-      ap (λ l. take first old ++ levels_at pool l) (drop-append-le first made (top ∷ []) so_far.from)
-      ∙ (ap (λ l. take first old ++ l) (map-append (λ (level : Vec Item Global). entries_at pool level.items) (drop first made) (top ∷ []))
-      ∙ sym (append_assoc (take first old) (levels_at pool (drop first made)) (entries_at pool top.items ∷ []))) in
+      let made_is : take first old ++ levels_at pool (drop first (made ++ top ∷ [])) ≡ upto ++ entries_at pool top.items ∷ [] = grind (arith, drop-append-le first made (top ∷ []) so_far.from, map-append, append_assoc (take first old) (levels_at pool (drop first made)) (entries_at pool top.items ∷ [])) in
       let next : suc n ≡ length (made ++ top ∷ []) = omega (arith, length-append made (top ∷ [])) in
       let level : Making over cut (suc n) old (upto ++ entries_at pool top.items ∷ []) (map (arrived pool) arrivals) (entries_at pool others) (map (arrived pool) behind) =
       making_more over strict cut n old upto (map (arrived pool) arrivals) (entries_at pool down) (map (arrived pool) here) (map (arrived pool) behind) (entries_at pool top.items) (entries_at pool others) below
@@ -330,8 +325,7 @@ module _ {order : RowOrder} {scales : List Scale} {pool : List Entry} {cut first
       let more : MakingItems order scales pool cut first levels arrivals (made ++ top ∷ []) others behind = record {
         inside = so_far.inside;
         from = omega (arith, next, so_far.from);
-        making = subst (λ j. Making over cut j old (take first old ++ levels_at pool (drop first (made ++ top ∷ []))) (map (arrived pool) arrivals) (entries_at pool others) (map (arrived pool) behind)) next
-            (subst (λ l. Making over cut (suc n) old l (map (arrived pool) arrivals) (entries_at pool others) (map (arrived pool) behind)) (sym made_is) level);
+        making = grind (arith);
         made_items = All-push (λ (level : Vec Item Global). AreItems rule pool level.items) made top so_far.made_items each.0;
         down_items = each.1;
         starts = behind_starts;
@@ -347,9 +341,7 @@ module _ {order : RowOrder} {scales : List Scale} {pool : List Entry} {cut first
       let old = levels_at pool levels in
       let anew = levels_at pool (drop first made) in
       let reach : length made ≡ first + length anew = omega (arith, so_far.from, length-map (drop first made) (λ (level : Vec Item Global). entries_at pool level.items), length-drop first made) in
-      subst (λ l. IsMade (entry_order order) cut old l (map (arrived pool) arrivals)) (ap (λ n. (take first old ++ anew) ++ drop n old) reach)
-      (making_ends (entry_order order) strict cut (length made) old (take first old ++ anew) (map (arrived pool) arrivals) (entries_at pool down) (map (arrived pool) rest)
-      (elim ended [ inl done ↦ inl done | inr none ↦ inr (ap (entries_at pool) (nil_from_length down none.0), ap (map (arrived pool)) (nil_from_length rest none.1)) ]) so_far.making)
+      grind (arith, making_ends (entry_order order) strict cut (length made) old (take first old ++ anew) (map (arrived pool) arrivals) (entries_at pool down) (map (arrived pool) rest), nil_from_length down, nil_from_length rest)
 
 -- a list with those of another from a place on in the place of its own
 pub taken_long : {E : Type 0} (first : ℕ) (new old : List E) → first ≤ length old → first ≤ length new → length (replaced first (drop first new) old) ≡ max (length new) (length old)

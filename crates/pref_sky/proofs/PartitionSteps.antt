@@ -20,16 +20,10 @@ dealt_by_partition arrivals dealt =
 
 -- the first is of the first partition
 pub first_partition : (arrivals : List Arrival) (d : Arrival) → AreDealt arrivals → All (λ a. (get_or arrivals 0 d).partition ≤ a.partition) arrivals
-first_partition arrivals d dealt k e inside =
-    let begins : 0 < length arrivals = omega (arith, inside) in
-    omega (arith, dealt_by_partition arrivals dealt 0 k e (omega arith) inside, ap (λ (a : Arrival). a.partition) (get_or_default arrivals 0 d e begins))
+first_partition arrivals d dealt k e inside = grind (arith, inside, dealt_by_partition arrivals dealt 0 k e, get_or_default arrivals 0 d e)
 
 pub dealt_behind : (arrivals : List Arrival) (n : ℕ) → AreDealt arrivals → AreDealt (drop n arrivals)
-dealt_behind arrivals n dealt k d from inside =
-    let there : (n + k) + 1 < length arrivals = omega (arith, inside, length-drop n arrivals) in
-    let next : n + (k + 1) ≡ (n + k) + 1 = omega arith in
-    ap (λ a. deals_before a (get_or (drop n arrivals) k d)) (get_or-drop n arrivals (k + 1) d ∙ ap (λ j. get_or arrivals j d) next)
-    ∙ (ap (deals_before (get_or arrivals ((n + k) + 1) d)) (get_or-drop n arrivals k d) ∙ dealt (n + k) d (omega arith) there)
+dealt_behind arrivals n dealt k d from inside = grind (arith, inside, length-drop n arrivals, get_or-drop n arrivals (k + 1) d, get_or-drop n arrivals k d)
 
 -- those of the first partition are in front
 pub coming_in_front : (partition : ℕ) (arrivals : List Arrival) (n : ℕ) → All (λ a. a.partition ≡ partition) (take n arrivals) → All (λ a. partition < a.partition) (drop n arrivals) → take n arrivals ≡ coming_to partition arrivals
@@ -57,8 +51,7 @@ by_start partition arrivals n dealt coming =
     let this = get_or arrivals k d in
     let next_is : get_or (take n arrivals) (k + 1) d ≡ next = get_or-take n arrivals (k + 1) d short in
     let this_is : get_or (take n arrivals) k d ≡ this = get_or-take n arrivals k d (omega (arith, short)) in
-    let same : next.partition ≡ this.partition =
-    omega (arith, ap (λ (a : Arrival). a.partition) next_is, ap (λ (a : Arrival). a.partition) this_is, here (k + 1) d inside, here k d (omega (arith, inside))) in
+    let same : next.partition ≡ this.partition = grind (arith, inside) in
     let stays : this.start ≤ next.start = starts_stay this next (dealt k d (omega arith) there) same in
     omega (arith, ap (λ (a : Arrival). a.start) next_is, ap (λ (a : Arrival). a.start) this_is, stays))
 
@@ -110,11 +103,7 @@ module _ {over : Entry → Entry → Bool} {cut : ℕ} {rule : Entry → ℕ} {p
     making_more left grew =
         let more : MakingPartitions over cut rule pool partitions arrivals (drop n rest) (all ++ made ∷ []) = record {
           each = All-push (IsPartitionMade over cut rule pool partitions arrivals) all made making.each partition_made;
-          once = in_order_joined (λ (a b : Made). ltb a.partition b.partition) all (made ∷ []) making.once ((λ x none. absurd none), tt)
-              (λ a b of_all last. elim last [
-                | inl same ↦ lt-ltb a.partition b.partition (omega (arith, earlier a of_all, is, ap (λ (m : Made). m.partition) same))
-                | inr none ↦ absurd none
-              ]);
+          once = grind (arith, in_order_joined, lt-ltb, earlier);
           later = λ m a of_all of_rest.
               elim (in_either all (made ∷ []) m of_all) [
                 | inl old ↦ making.later m a old (subst (Among a) (take-append-drop n rest) (in_right (take n rest) (drop n rest) a of_rest))

@@ -19,8 +19,7 @@ same_mixed : (word : ℕ) (columns : List ℕ) (a b : List ℤ) → in_same_grou
 same_mixed word [] a b same = refl
 same_mixed word (col ∷ columns) a b same =
     let both = and_parts _ _ same in
-    let cells : cell a col ≡ cell b col = (Decides-int_eq (cell a col) (cell b col)).0 both.0 in
-    ap (λ value. mixed_onto (hash_with word value) columns a) cells ∙ same_mixed (hash_with word (cell b col)) columns a b both.1
+    grind (arith, Decides-int_eq (cell a col) (cell b col), same_mixed (hash_with word (cell b col)) columns a b both.1)
 
 -- rows of one group are in one partition
 pub is_within : (order : RowOrder) (columns : List ℕ) → StaysWithin order columns → IsWithin (entry_order order) (partition_of columns)

@@ -76,25 +76,7 @@ module _ {over : Item → Item → Bool} {held : List Item} {window : ℕ} {inpu
       let early_less : length early_now + length s.gone ≡ length early = long_by early_now s.gone early s.bag in
       let late_less : length late_now + length t.gone ≡ length late = long_by late_now t.gone late t.bag in
       let longer : length most ≡ (length rest + length s.gone) + length t.gone = grind (arith, length-append more t.gone, length-append rest s.gone) in
-      record {
-        bag = λ f. omega (arith, p.bag f, s.bag f, t.bag f, first f, second f);
-        fresh = λ h. omega (arith, p.fresh h, late_less);
-        more = omega (arith, p.more, longer);
-        fits = omega (arith, p.fits, early_less, late_less);
-        falls = λ h. omega (arith, p.falls h, early_less, longer);
-        decided = λ apart.
-            let decided = p.decided apart in
-            let there : Among e input = among_if e input (omega (arith, p.bag (is_item e), some_of e (e ∷ left) (inl refl))) in
-            let of_early : (x : Item) → Among x early_now → Among x early = λ x m. among_if x early (omega (arith, s.bag (is_item x), some_of x early_now m)) in
-            let of_late : (x : Item) → Among x late_now → Among x late = λ x m. among_if x late (omega (arith, t.bag (is_item x), some_of x late_now m)) in
-            let old : (x : Item) → Among x best ⊎ (Among x early_now ⊎ Among x late_now) → Among x best ⊎ (Among x early ⊎ Among x late) = grind (arith) in
-            record {
-              beaten = grind (arith, in_either more t.gone, in_either rest s.gone, decided.beaten, any_from, s.below, t.below);
-              apart = λ x y mx my. decided.apart x y (old x mx) (old y my);
-              settled = λ x m. decided.settled x (elim m [ inl done ↦ inl done | inr a ↦ inr (of_early x a) ]);
-              met = decided.met;
-            };
-      }
+      grind (arith, among_if e input, is_item e, some_of e (e ∷ left) (inl refl), among_if, is_item, some_of, in_either more t.gone, in_either rest s.gone, any_from)
 
   -- the next item is dominated by one of the window
   pub pass_dropped : (IsAntichain over held → (is_beaten over early e ≡ true) ⊎ (is_beaten over late e ≡ true)) → Passing over held window input best left before early late overflow (rest ++ e ∷ [])
@@ -129,31 +111,15 @@ module _ {over : Item → Item → Bool} {held : List Item} {window : ℕ} {inpu
 
 -- all passes begin with a window that holds some
 pub passes_begin : (over : Item → Item → Bool) (held : List Item) (window : ℕ) (items : List Item) → length held < window → Passing over held window (held ++ items) [] items (length held) held [] [] []
-passes_begin over held window items room =
-    let early_alone : (x : Item) → ⊥ ⊎ (Among x held ⊎ ⊥) → Among x held = λ x m. elim m [ inl none ↦ absurd none | inr there ↦ elim there [ inl a ↦ a | inr none ↦ absurd none ] ] in
-    record {
-      bag = λ f. omega (arith, sum_by-append f held items);
-      fresh = λ h. refl;
-      more = omega (arith, room);
-      fits = omega (arith, room);
-      falls = λ h. omega (arith, h);
-      decided = λ apart. record {
-        beaten = λ x m. absurd m;
-        apart = λ x y mx my. apart x y (early_alone x mx) (early_alone y my);
-        settled = λ x m z none. absurd none;
-        met = λ x none. absurd none;
-      };
-    }
+passes_begin over held window items room = grind (arith, sum_by-append)
 
 -- all passes end: the best are told, and the others are the rest
 pub passes_end : {over : Item → Item → Bool} {held : List Item} {window : ℕ} {items best left : List Item} {before : ℕ} {early late overflow rest : List Item} → IsStrictOrder over → length left ≡ 0 → length early ≡ 0 → length late ≡ 0 → length overflow ≡ 0
     → Passing over held window (held ++ items) best left before early late overflow rest → Parted over held items best rest
 passes_end {over = over} {held = held} {items = items} {best = best} {left = left} {early = early} {late = late} {overflow = overflow} {rest = rest} strict left_none early_none late_none overflow_none p =
-    let bag : (f : Item → ℕ) → sum_by f best + sum_by f rest ≡ sum_by f (held ++ items) =
-    λ f. omega (arith, p.bag f, none_by f left left_none, none_by f early early_none, none_by f late late_none, none_by f overflow overflow_none) in
+    let bag : (f : Item → ℕ) → sum_by f best + sum_by f rest ≡ sum_by f (held ++ items) = grind (arith, p.bag, none_by) in
     let all = held ++ items in
-    let covers : (x : Item) → Among x all → Among x best ⊎ Among x rest =
-    λ x m. elim (among_or x best) [ inl a ↦ inl a | inr none ↦ inr (among_if x rest (omega (arith, bag (is_item x), some_of x all m, none))) ] in
+    let covers : (x : Item) → Among x all → Among x best ⊎ Among x rest = grind (arith, among_or, among_if, is_item, some_of) in
     record {
       within = λ x m. among_if x all (elim m [ inl a ↦ omega (arith, bag (is_item x), some_of x best a) | inr b ↦ omega (arith, bag (is_item x), some_of x rest b) ]);
       covers = covers;
@@ -169,12 +135,4 @@ passes_end {over = over} {held = held} {items = items} {best = best} {left = lef
 
 -- where no items come, those that were held are the best
 pub parted_held : (over : Item → Item → Bool) (held items : List Item) → length items ≡ 0 → Parted over held items held []
-parted_held over held items none =
-    let within : (x : Item) → Among x (held ++ items) → Among x held = λ x m. elim (in_either held items x m) [ inl a ↦ a | inr b ↦ absurd (subst (Among x) (nil_from_length items none) b) ] in
-    record {
-      within = λ x m. elim m [ inl a ↦ in_left held items x a | inr b ↦ absurd b ];
-      covers = λ x m. inl (within x m);
-      bag = λ q. omega (arith, count_append q held items, none_by (λ y. cond (q y) 1 0) items none);
-      unbeaten = λ apart x m. any_none (λ y. over y x) (held ++ items) (λ y my. apart y x (within y my) m);
-      beaten = λ apart x m. absurd m;
-    }
+parted_held over held items none = grind (arith, in_either held items, nil_from_length items none, in_left held items, count_append, none_by, any_none)

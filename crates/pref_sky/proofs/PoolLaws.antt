@@ -93,15 +93,7 @@ module _ {A B : Type 0} {AreOf : Pool → A → Type 0} {read : List Entry → A
       → {taken_now : List A} → taken_now ≡ taken ++ next ∷ [] → AreTaken AreOf read source all first now taken_now (n + 1)
   taken_more still next old inside is of_pool same pushed =
       let kept = map_agree_among (read now.entries.items) (read was.entries.items) taken (λ x m. (still x (all_among (AreOf was) taken so_far.items x m)).1) in
-      let more : AreTaken AreOf read source all first now (taken ++ next ∷ []) (n + 1) = record {
-        long = omega (arith, length-append taken (next ∷ []), so_far.long);
-        grown = grown_then first was so_far.grown now grown;
-        items = All-push (AreOf now) taken next (λ k d there. (still (get_or taken k d) (so_far.items k d there)).0) of_pool;
-        entries = map-append (read now.entries.items) taken (next ∷ [])
-            ∙ (ap (λ l. l ++ read now.entries.items next ∷ []) (kept ∙ so_far.entries)
-            ∙ (ap (λ y. map (read source) (take n all) ++ y ∷ []) (same ∙ ap (read source) is) ∙ sym (map_more (read source) all n old inside)));
-      } in
-      rw pushed more
+      grind (arith, length-append taken (next ∷ []), so_far.long, grown_then first was so_far.grown now grown, All-push (AreOf now) taken next, so_far.items, map-append (read now.entries.items) taken (next ∷ []), map_more (read source) all n old inside, inside)
 
 -- one more entry behind those of a pool
 pub entry_behind : (pool : List Entry) (e : Entry) (item : Item) → item.place ≡ length pool → entry_at (pool ++ e ∷ []) item.place ≡ e

@@ -106,8 +106,7 @@ AreWithin level n other m = (k : ℕ) (e : Entry) → k < n → Among e (level k
 members_within : (level other : ℕ → List Entry) (n m : ℕ) → AreWithin level n other m → (r : Ranked) → Among r (ranked_upto level n) → Among r (ranked_upto other m)
 members_within level other n m within r among =
     let w = from_upto level n r among in
-    let v = within w.place w.entry w.below w.there in
-    subst (λ s. Among s (ranked_upto other m)) (sym w.is) (to_upto other m w.place w.entry v.0 v.1)
+    grind (arith, within w.place w.entry w.below w.there, to_upto other m w.place w.entry)
 
 pub same_upto : (level other : ℕ → List Entry) (n m : ℕ) → ((k : ℕ) → HaveDifferentIds (level k)) → ((k : ℕ) → HaveDifferentIds (other k)) → AreWithin level n other m → AreWithin other m level n
     → ranked_upto level n ≡ ranked_upto other m
@@ -153,29 +152,18 @@ at_level_again n (r ∷ others) of_level =
 entries_sorted : (ranked : List Ranked) → IsNonDecreasingBy (λ (r : Ranked). r.id) ranked → IsNonDecreasingBy (λ (e : Entry). e.id) (map entry_of ranked)
 entries_sorted ranked sorted i j d le inside =
     let r : Ranked = at_level 0 d in
-    let j_inside : j < length ranked = omega (arith, inside, length-map ranked entry_of) in
-    let i_inside : i < length ranked = omega (arith, le, j_inside) in
-    let at_i = ap (λ (e : Entry). e.id) (get_or-map entry_of ranked i r d i_inside) in
-    let at_j = ap (λ (e : Entry). e.id) (get_or-map entry_of ranked j r d j_inside) in
-    omega (arith, at_i, at_j, sorted i j r le j_inside)
+    grind (arith, inside, length-map ranked entry_of, get_or-map entry_of ranked i r d, get_or-map entry_of ranked j r d)
 
 -- what a sort by id leaves of the entries of one level
 pub level_sorted : (n : ℕ) (entries : List Entry) (ranked : List Ranked) → HaveDifferentIds entries → IsPermutation (map (at_level n) entries) ranked → IsNonDecreasingBy (λ (r : Ranked). r.id) ranked → ranked ≡ one_level n entries
 level_sorted n entries ranked different moved sorted =
     let among = same_if_permuted (map (at_level n) entries) ranked moved in
     let of_level : (r : Ranked) → Among r ranked → r.level ≡ n = λ r m. let w = from_map (at_level n) entries r (among.back r m) in ap (λ (s : Ranked). s.level) w.2 in
-    let entries_moved : IsPermutation entries (map entry_of ranked) = grind (arith, entries_at_level n entries, IsPermutation-map entry_of (map (at_level n) entries) ranked moved) in
-    sym (at_level_again n ranked of_level) ∙ ap (map (at_level n)) (sorted_is entries (map entry_of ranked) entries_moved (entries_sorted ranked sorted) different)
+    grind (arith, entries_at_level n entries, IsPermutation-map entry_of (map (at_level n) entries) ranked moved, at_level_again n ranked of_level, sorted_is entries (map entry_of ranked), entries_sorted ranked sorted)
 
 -- and of those behind a place
 pub sorted_behind : (n start : ℕ) (front : List Ranked) (entries : List Entry) (ranked after : List Ranked) → HaveDifferentIds entries → length front ≡ start → ranked ≡ front ++ map (at_level n) entries
     → IsPermutation (mid_of start (length ranked - start) ranked) after → IsNonDecreasingBy (λ (r : Ranked). r.id) after → put_mid start (length ranked - start) ranked after ≡ front ++ one_level n entries
 sorted_behind n start front entries ranked after different long is moved sorted =
     let level = map (at_level n) entries in
-    let count = length ranked - start in
-    let cut = cut_at ranked front level start is (sym long) in
-    let counted : count ≡ length level = omega (arith, ap length is, length-append front level, long) in
-    let mid : mid_of start count ranked ≡ level = ap (take count) cut.1 ∙ (ap (λ k. take k level) counted ∙ take-length level) in
-    let post : post_of start count ranked ≡ [] = ap (drop count) cut.1 ∙ drop_of_length-le level (omega (arith, counted)) in
-    ap (λ l. take start ranked ++ (after ++ l)) post
-    ∙ (ap (λ l. take start ranked ++ l) (append-nil after) ∙ (ap (λ l. l ++ after) cut.0 ∙ ap (λ l. front ++ l) (level_sorted n entries after different (subst (λ l. IsPermutation l after) mid moved) sorted)))
+    grind (arith, cut_at ranked front level start is (sym long), long, length-append front level, take-length level, drop_of_length-le level, append-nil after, level_sorted n entries after different)

@@ -43,12 +43,7 @@ module _ {E : Type 0} (over f s t : E → E → Bool) (stairs : AreStairs over f
   pub strict_stairs : IsStrictOrder over
   strict_stairs = record {
     irreflexive = λ a. grind (arith, stairs.is a a, stairs.first_is_chain.strict.irreflexive a, stairs.second_is_chain.strict.irreflexive a, stairs.tie_is_chain.strict.irreflexive a);
-    transitive = λ a b c ab bc.
-        let first : f c a ≡ false = grind (arith, stairs.is a b, stairs.is b c, stairs.first_is_chain.between c b a) in
-        let second : s c a ≡ false = grind (arith, stairs.is a b, stairs.is b c, stairs.second_is_chain.between c b a) in
-        let not_first : f a c ≡ false → (f a b || f b c) ≡ false = λ n. grind (arith, stairs.is a b, stairs.is b c, stairs.first_is_chain.between a c b, stairs.first_is_chain.between b a c) in
-        let not_second : s a c ≡ false → (s a b || s b c) ≡ false = λ n. grind (arith, stairs.is a b, stairs.is b c, stairs.second_is_chain.between a c b, stairs.second_is_chain.between b a c) in
-        grind (arith, stairs.is a b, stairs.is b c, stairs.is a c, first, second, not_first, not_second, stairs.tie_is_chain.strict.transitive a b c);
+    transitive = grind (arith);
   }
 
   -- a stands for b, which is before it, where neither of the two dominates the other
@@ -94,10 +89,7 @@ module _ {E : Type 0} (over f s t : E → E → Bool) (stairs : AreStairs over f
 
   -- of entries in order only those before one dominate it
   beaten_by_those_before : (front : List E) (x : E) (back : List E) → IsInOrder (comes_no_earlier f s t) (front ++ x ∷ back) → is_beaten over (front ++ x ∷ back) x ≡ is_beaten over front x
-  beaten_by_those_before front x back ordered =
-      let those = in_order_back (comes_no_earlier f s t) front (x ∷ back) ordered in
-      let none : is_beaten over back x ≡ false = any_none (λ z. over z x) back (λ z m. later x z (grind (arith, those.0 z m))) in
-      grind (arith, list_any-append (λ z. over z x) front (x ∷ back), none, strict_stairs.irreflexive x)
+  beaten_by_those_before front x back ordered = grind (arith, in_order_back (comes_no_earlier f s t) front (x ∷ back) ordered, any_none, later x, list_any-append, strict_stairs.irreflexive x)
 
   -- so the last best one of those before x dominates it, or none of all does
   last_best_stands_for_all : (front : List E) (x : E) (back : List E) → IsInOrder (comes_no_earlier f s t) (front ++ x ∷ back)
@@ -105,12 +97,7 @@ module _ {E : Type 0} (over f s t : E → E → Bool) (stairs : AreStairs over f
   last_best_stands_for_all front x back ordered stayed y is =
       let comes = comes_no_earlier f s t in
       let level = best_are_a_level over f s t front (in_order_front comes front (x ∷ back) ordered) in
-      let there : Among y (best over front) = subst (Among y) (sym is) (in_right stayed (y ∷ []) y (inl refl)) in
-      let before = in_order_across comes front (x ∷ back) ordered y x (from_filter (λ e. not (is_beaten over front e)) front y there).0 (inl refl) in
-      beaten_by_those_before front x back ordered ∙
-      (sym (beaten_by_best over strict_stairs front x) ∙
-      (ap (λ l. is_beaten over l x) is ∙
-      one_candidate.candidate stayed y [] x (subst (IsInOrder (λ a b. not (f b a))) is level.0) (subst (IsAntichain over) is level.1) (grind (arith, before)) (λ z m. absurd m)))
+      grind (arith, in_right stayed (y ∷ []) y (inl refl), in_order_across comes front (x ∷ back) ordered y x, from_filter, beaten_by_those_before front x back ordered, beaten_by_best over strict_stairs front x, strict_stairs, one_candidate.candidate stayed y)
 
 pub swept : {E : Type 0} (over f s t : E → E → Bool) → IsSwept over f s t
 swept over f s t =

@@ -1,4 +1,4 @@
-use Rattle.pref_sky.proofs.Common.{◌≡◌, ℕ, eqb-true, nil_from_length, List, [], length, sym, ◌∙◌, ap, subst, IfOk-weaker, IsNonDecreasingBy, order_of, order_of_is_row_order, in_same_group, AtLeast}
+use Rattle.pref_sky.proofs.Common.{◌≡◌, ℕ, eqb-true, nil_from_length, List, [], length, sym, ◌∙◌, ap, subst, IfOk-weaker, IsNonDecreasingBy, order_of, order_of_is_row_order, in_same_group, AtLeast, arith}
 use Rattle.pref_sky.proofs.Common.{Question, cut_of, Entry, Ranked, at_least, answer_of, selected, entry_order, levels}
 use Rattle.pref_sky.proofs.AtLeastLaws.{enough, levels_sorted}
 use Rattle.pref_sky.proofs.Merges.{entry_order_is_strict, entry_order_stays_in_groups}
@@ -10,8 +10,7 @@ selected_from : (ask : Question) (k : ℕ) (found : List Ranked) (entries : List
 selected_from ask k found entries mode held =
     let over = entry_order (order_of ask) in
     let same = in_same_group ask.group in
-    ap (at_least same k) (held ∙ sym (ap (λ m. levels over entries (cut_of m)) mode))
-    ∙ (sym (enough over (entry_order_is_strict (order_of ask) (order_of_is_row_order ask)) same (entry_order_stays_in_groups ask) entries k) ∙ ap (λ m. selected over same m entries) mode)
+    grind (arith, enough over (entry_order_is_strict (order_of ask) (order_of_is_row_order ask)) same (entry_order_stays_in_groups ask) entries k, entry_order_is_strict (order_of ask) (order_of_is_row_order ask), entry_order_stays_in_groups ask)
 
 in_order : (ask : Question) (found : List Ranked) (entries : List Entry) → found ≡ levels (entry_order (order_of ask)) entries (cut_of ask.mode) → IsNonDecreasingBy (λ (r : Ranked). r.level) found
 in_order ask found entries held = subst (IsNonDecreasingBy (λ (r : Ranked). r.level)) (sym held) (levels_sorted (entry_order (order_of ask)) entries (cut_of ask.mode))

@@ -13,9 +13,7 @@ loop-place-preserved c =
     let inv = c.loop-place.invariant in
     let few : c.min-place-end.result ≤ c.len.result = grind arith in
     let inside : place < length ys = omega (arith, c.loop-place-test.true, few, c.len.ensures, c.args.ranked.now.ok.0, inv.long) in
-    let decided : (test : Ranked → Bool) (x : Ranked) → flags ≡ map test xs → x ≡ get_or ys place x → test x ≡ get_or flags place false =
-    λ test x by at.
-    ap test (at ∙ same_there xs ys place x (inv.moved test by).rest) ∙ sym (ap (λ l. get_or l place false) by ∙ get_or-map test xs place x false (omega (arith, inside, inv.long))) in
+    let decided : (test : Ranked → Bool) (x : Ranked) → flags ≡ map test xs → x ≡ get_or ys place x → test x ≡ get_or flags place false = grind (arith, same_there xs ys place, inv.moved, get_or-map, inv.long) in
     elim c.if-chosen-place.branch [
       | then-chosen-place w ↦
           let x : Ranked = w.index.result.now in

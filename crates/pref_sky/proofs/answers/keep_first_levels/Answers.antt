@@ -4,13 +4,10 @@ use Rattle.pref_sky.proofs.AtLeastLaws.{all_ranked, first_ranked, none_ranked}
 use Rattle.pref_sky.proofs.answers.keep_first_levels.Goals as goal
 
 pub returns-then-least-eq0 : goal.returns-then-least-eq0
-returns-then-least-eq0 c sorted =
-    let xs = c.args.ranked.now.items in
-    c.clear.ensures.items ∙ (none_ranked xs ∙ ap (λ k. at_least (in_same_group []) k xs) (sym c.if-least-eq0.true))
+returns-then-least-eq0 c sorted = grind (arith, none_ranked)
 
 pub returns-else-least-len : goal.returns-else-least-len
-returns-else-least-len c sorted =
-    all_ranked c.args.least c.args.ranked.now.items (omega (arith, c.if-least-len.false, c.len.ensures, c.args.ranked.now.ok.0))
+returns-else-least-len c sorted = grind (arith, all_ranked c.args.least c.args.ranked.now.items, c.if-least-len.false, c.len.ensures, c.args.ranked.now.ok.0)
 
 pub returns-then-least-len : goal.returns-then-least-len
 returns-then-least-len c sorted =
@@ -22,8 +19,4 @@ returns-then-least-len c sorted =
     let entry = c.index.result.now in
     let slice_sorted : IsNonDecreasingBy (λ (r : Ranked). r.level) slice = subst (IsNonDecreasingBy (λ (r : Ranked). r.level)) (sym whole) sorted in
     let found = IsPartitionPoint-from_clause (λ (r : Ranked). leb r.level entry.level) slice count c.partition_point-count.ensures.partitioned (IsPartitionedBy-leb (λ (r : Ranked). r.level) slice entry.level slice_sorted) (λ a r q k. search rules) in
-    let there = subst (λ (l : List Ranked). IsPartitionPoint (λ (r : Ranked). leb r.level entry.level ≡ true) (λ (r : Ranked). leb r.level entry.level ≡ false) l count) whole found in
-    let point = subst (λ n. IsPartitionPoint (λ (r : Ranked). leb r.level n ≡ true) (λ (r : Ranked). leb r.level n ≡ false) xs count) (ap (λ (r : Ranked). r.level) c.index.ensures) there in
-    let within : place < length xs = omega (arith, c.if-least-eq0.false, c.if-least-len.true, c.len.ensures, c.args.ranked.now.ok.0) in
-    let least : suc place ≡ c.args.least = omega (arith, c.if-least-eq0.false) in
-    c.truncate.ensures.items ∙ (first_ranked xs sorted place count entry within point ∙ ap (λ k. at_least (in_same_group []) k xs) least)
+    grind (arith, c.if-least-eq0.false, c.if-least-len.true, c.len.ensures, c.args.ranked.now.ok.0, first_ranked xs sorted place count entry)

@@ -24,8 +24,7 @@ loop-entry-preserved g c =
     let start = c.start_of-start.result in
     let numbered : n ≡ number e = c.partition_of-partition.ensures.number in
     let inside : n < length c.args.partitions.now = omega (arith, c.partition_of-partition.ensures.within, c.requires.long) in
-    let here : levels_at pool c.deref.result.now ≡ held_at n partitions =
-    ap (levels_at pool) c.deref.ensures.value ∙ partition_stays c.args.pool.now was inv.grown c.args.partitions.now n c.index-partitions-partition.result c.requires.items inside c.index-partitions-partition.is in
+    let here : levels_at pool c.deref.result.now ≡ held_at n partitions = grind (arith, partition_stays c.args.pool.now was inv.grown c.args.partitions.now n c.index-partitions-partition.result c.requires.items inside c.index-partitions-partition.is) in
     let within : start ≤ length (levels_at pool c.deref.result.now) = subst (λ k. start ≤ k) (sym (length-map c.deref.result.now (λ (v : Vec Item Global). entries_at pool v.items))) c.start_of-start.ensures.within in
     let behind : IsBehind over (levels_at pool c.deref.result.now) start e = c.start_of-start.ensures.behind in
     let longer : take (i + 1) entries ≡ take i entries ++ e ∷ [] = front_more entries i e c.loop-entry-test.true c.entry-item.is in
@@ -41,13 +40,11 @@ loop-entry-preserved g c =
           let same : arrived now.entries.items a ≡ e = ap (λ l. arrived l a) entries_now ∙ entry_behind pool e a.item put.item.2 in
           let item : IsItem (signature_by now.scales) now.entries.items a.item = subst (λ (p : Pool). IsItem (signature_by p.scales) p.entries.items a.item) (sym w.pool-is) put.item.1 in
           let one = arrival_here over number partitions (signature_by now.scales) now.entries.items e (levels_at pool c.deref.result.now) a here (sym numbered) item same within behind in
-          let all : map (arrived now.entries.items) arrivals_now ≡ kept ++ e ∷ [] =
-          ap (map (arrived now.entries.items)) more ∙ (arrived_push over number partitions was now grown arrivals inv.arrivals a ∙ ap (λ y. kept ++ y ∷ []) same) in
+          let all : map (arrived now.entries.items) arrivals_now ≡ kept ++ e ∷ [] = grind (arith, arrived_push over number partitions was now grown arrivals inv.arrivals a) in
           record {
             grown = grown_then c.args.pool.now was inv.grown now grown;
             arrivals = subst (All (IsArrival over (signature_by now.scales) number now.entries.items partitions)) (sym more) (arrivals_push over number partitions was now grown arrivals inv.arrivals a one);
-            upper = subst (λ l. KeepsUpper over c.args.cut number partitions l (map (arrived now.entries.items) arrivals_now)) (sym longer)
-                (subst (KeepsUpper over c.args.cut number partitions (take i entries ++ e ∷ [])) (sym all) (keeps_one (take i entries) kept inv.upper e));
+            upper = grind (arith, keeps_one);
           }
       | else-start-cut w ↦
           let stay : arrivals_now ≡ arrivals = ap (λ (v : Vec Arrival Global). v.items) w.arrivals-is in
@@ -55,8 +52,7 @@ loop-entry-preserved g c =
           let all : map (arrived now.entries.items) arrivals_now ≡ kept = ap (λ (p : Pool). map (arrived p.entries.items) arrivals_now) w.pool-is ∙ ap (map (arrived pool)) stay in
           record {
             grown = subst (HasGrown c.args.pool.now) (sym w.pool-is) inv.grown;
-            arrivals = subst (λ (p : Pool). All (IsArrival over (signature_by p.scales) number p.entries.items partitions) arrivals_now) (sym w.pool-is)
-                (subst (All (IsArrival over (signature_by was.scales) number pool partitions)) (sym stay) inv.arrivals);
+            arrivals = grind (arith);
             upper = subst (λ l. KeepsUpper over c.args.cut number partitions l (map (arrived now.entries.items) arrivals_now)) (sym longer)
                 (subst (KeepsUpper over c.args.cut number partitions (take i entries ++ e ∷ [])) (sym all)
                 (drops_one (take i entries) kept inv.upper e (start, w.if-start-cut.false, subst (λ l. start ≤ length l) at within, subst (λ l. IsBehind over l start e) at behind)));
@@ -76,8 +72,7 @@ returns-clause-arrivals g c =
     let same = sym (partitions_grown c.args.pool.now now inv.grown c.args.partitions.now c.requires.items) in
     let whole = take_all c.loop-entry.entry-index c.args.entries.now c.loop-entry-test.false in
     record {
-      are = subst (λ partitions. All (IsArrival over (signature_by now.scales) number now.entries.items partitions) moved) same
-          (All-permutation (IsArrival over (signature_by now.scales) number now.entries.items (partitions_at c.args.pool.now.entries.items c.args.partitions.now)) kept moved permuted inv.arrivals);
+      are = grind (arith, All-permutation (IsArrival over (signature_by now.scales) number now.entries.items (partitions_at c.args.pool.now.entries.items c.args.partitions.now)) kept moved permuted inv.arrivals);
       upper = subst (λ partitions. KeepsUpper over c.args.cut number partitions c.args.entries.now (map one moved)) same
           (subst (λ l. KeepsUpper over c.args.cut number (partitions_at c.args.pool.now.entries.items c.args.partitions.now) l (map one moved)) whole
           (keeps_moved (take c.loop-entry.entry-index c.args.entries.now) (map one kept) inv.upper (map one moved) (IsPermutation-map one kept moved permuted)));

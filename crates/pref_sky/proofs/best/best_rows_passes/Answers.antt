@@ -12,10 +12,7 @@ best_are_items : (g : Over) (c : After-deref-item-items g) → AreItems (signatu
 best_are_items g c =
     let entries = c.args.entries.now in
     let rule = signature_by c.in_ok-scales.scales in
-    let found = c.in_ok-found.found in
-    let made : AreItems rule entries c.deref.result.now = subst (AreItems rule entries) (sym c.deref.ensures.value) (c.in_ok-items.ensures {u = tt}).items in
-    subst (AreItems rule entries) (sym c.deref-item-items.ensures.value)
-    (parted_items (g.D.Dominance.order c.args.dominance.now) rule entries [] c.deref.result.now found.best.items found.rest.items (c.in_ok-found.ensures {u = tt}).parted made).0
+    grind (arith, c.in_ok-items.ensures {u = tt}, parted_items (g.D.Dominance.order c.args.dominance.now) rule entries, g.D.Dominance.order c.args.dominance.now, c.in_ok-found.ensures {u = tt})
 
 pub bounds-entries-item : goal.bounds-entries-item
 bounds-entries-item g c = (best_are_items g (goal.at.bounds-entries-item g c).After-deref-item-items c.loop-item.item-index (record { signature = 0; place = 0 }) c.loop-item-test.true).within
@@ -31,13 +28,8 @@ loop-item-preserved g c =
     let top = c.deref-item-items.result.now in
     let i = c.loop-item.item-index in
     let d : Item = record { signature = 0; place = 0 } in
-    let x = c.index-entries-item.result in
     let inside = (best_are_items g (goal.at.loop-item-preserved g c).After-deref-item-items i d c.loop-item-test.true).within in
-    let item = get_or top i d in
-    let is : x ≡ entry_at entries item.place = c.index-entries-item.is ∙ get_or_default entries item.place x (record { id = 0; row = [] }) inside in
-    (c.in_ok-push.ensures {u = tt}).items
-    ∙ (ap (λ l. l ++ x ∷ []) c.loop-item.invariant
-    ∙ (ap (λ y. entries_at entries (take i top) ++ y ∷ []) is ∙ sym (ap (entries_at entries) (take_more top i d c.loop-item-test.true) ∙ map-append (λ (it : Item). entry_at entries it.place) (take i top) (item ∷ []))))
+    grind (arith, c.index-entries-item.is, get_or_default entries, c.in_ok-push.ensures {u = tt}, take_more top i d c.loop-item-test.true, map-append)
 
 pub returns-clause-best : goal.returns-clause-best
 returns-clause-best g c =
@@ -56,8 +48,7 @@ returns-clause-best g c =
     subst (λ l. Parted over [] l (entries_at all top) (entries_at all others)) whole
     (entries_parted order rule all [] items top others (suit_tells order scales (c.in_ok-scales.ensures {u = tt})) are (c.in_ok-found.ensures {u = tt}).parted) in
     let found = c.loop-item.best.items in
-    let copied : found ≡ entries_at all top =
-    c.loop-item.invariant ∙ ap (entries_at all) (take_all c.loop-item.item-index c.deref-item-items.result.now c.loop-item-test.false ∙ c.deref-item-items.ensures.value) in
+    let copied : found ≡ entries_at all top = grind (arith, c.loop-item.invariant, take_all c.loop-item.item-index c.deref-item-items.result.now c.loop-item-test.false, c.deref-item-items.ensures.value) in
     let decided : Parted over [] all found (entries_at all others) = subst (λ l. Parted over [] all l (entries_at all others)) (sym copied) parted in
     let differ : HaveDifferentIds found = record { once = λ id. omega (arith, decided.bag (λ (e : Entry). e.id == id), c.requires.ids.once id) } in
     let sorted = IsNonDecreasingBy-from_sort_by_key (λ (e : Entry). e.id) _ c.sort_unstable_by_key.ensures.sorted (λ a r q k. search rules) in

@@ -19,10 +19,7 @@ each_level-init g c =
     let long : length made.items ≡ (get_or arrivals 0 none).start = c.in_ok-made.ensures.long in
     let begun = making_items_begin order (entry_order_is_strict order (g.met.D.Dominance.laws c.args.dominance.now)) scales pool c.args.cut levels arrivals none c.requires.start c.requires.in_order c.requires.some
     made.items long (c.in_ok-made.ensures.items (signature_by scales) pool) in
-    record {
-      so_far = subst (λ l. MakingItems order scales pool c.args.cut (get_or arrivals 0 none).start levels arrivals made.items l arrivals) (sym c.new-down.ensures.items) begun;
-      no_deeper = omega (arith, long, made.ok.0, begun.inside);
-    }
+    grind (arith, made.ok.0, begun.inside)
 
 pub each_level-preserved : goal.each_level-preserved
 each_level-preserved g c =
@@ -38,10 +35,7 @@ each_level-preserved g c =
     let now = c.push_items.new.items.items in
     let top = c.in_ok-found.found.best in
     let down = c.in_ok-found.found.rest.items in
-    let parted : Parted (item_order order pool) (items_at (length made) levels) now top.items down =
-    subst (λ l. Parted (item_order order pool) l now top.items down) held_is
-    (subst (λ l. Parted (item_order order pool) c.level_at-held.result.now l top.items down) c.deref-in-each_level.ensures.value
-    (subst (λ l. Parted (item_order order l) c.level_at-held.result.now c.deref-in-each_level.result.now top.items down) c.deref.ensures.value c.in_ok-found.ensures.parted)) in
+    let parted : Parted (item_order order pool) (items_at (length made) levels) now top.items down = grind (arith) in
     record {
       so_far = making_items_more (entry_order_is_strict order (g.met.D.Dominance.laws c.args.dominance.now)) so_far c.requires.suit c.requires.items c.count_starting.result top below
           (λ k d inside. omega (arith, here, others k d inside))
@@ -57,20 +51,5 @@ returns-clause-made g c =
     let down = c.each_level.down in
     let rest = c.each_level.rest.now in
     let inv = c.each_level.invariant in
-    let ended : (c.args.cut ≤ length made.items) ⊎ ((length down.items ≡ 0) × (length rest ≡ 0)) =
-    elim c.each_level-test.branch [
-      | then-each_level-test+else-not-is_empty w ↦ elim w.if-is_empty.branch [
-        | then-is_empty v ↦
-            let no_down : vec_len down ≡ 0 = eqb-true (vec_len down) 0 (sym (v.if-is_empty.ensures {u = tt})) in
-            let no_rest : length rest ≡ 0 = eqb-true (length rest) 0 (sym v.is_empty-then-is_empty.ensures ∙ (sym v.value-is ∙ w.if-not-is_empty.false)) in
-            inr (omega (arith, no_down, down.ok.0), no_rest)
-        | else-is_empty v ↦ absurd (both_ways w.is_empty.result v.if-is_empty.false (sym v.value-is ∙ w.if-not-is_empty.false))
-      ]
-      | else-each_level-test w ↦ inl (omega (arith, w.each_level-test.false, c.len.ensures, made.ok.0))
-    ] in
-    record {
-      fits = record { first = inv.so_far.from; inside = inv.so_far.inside };
-      no_deeper = omega (arith, made.ok.0, inv.no_deeper);
-      items = inv.so_far.made_items;
-      made = making_items_end (entry_order_is_strict order (g.met.D.Dominance.laws c.args.dominance.now)) inv.so_far ended;
-    }
+    let ended : (c.args.cut ≤ length made.items) ⊎ ((length down.items ≡ 0) × (length rest ≡ 0)) = grind (arith, eqb-true (vec_len down) 0, eqb-true (length rest) 0, down.ok.0, c.len.ensures, made.ok.0) in
+    grind (arith, making_items_end (entry_order_is_strict order (g.met.D.Dominance.laws c.args.dominance.now)) inv.so_far ended, entry_order_is_strict order (g.met.D.Dominance.laws c.args.dominance.now))

@@ -8,10 +8,7 @@ use Rattle.pref_sky.proofs.passes.best_and_rest.Goals as goal
 pub returns-then-is_empty-clause-parted : goal.returns-then-is_empty-clause-parted
 returns-then-is_empty-clause-parted g c =
     let over = item_order (g.D.Dominance.order c.args.dominance.now) c.args.pool.now in
-    let held = c.args.held.now in
-    let items = c.args.items.now in
-    subst (λ l. Parted over held items l c.new-3.result.items) (sym c.in_ok-with_room.ensures)
-    (subst (Parted over held items held) (sym c.new-3.ensures.items) (parted_held over held items (eqb-true (length items) 0 (sym c.is_empty.ensures ∙ c.if-is_empty.true))))
+    grind (arith, parted_held over, eqb-true, c.if-is_empty.true)
 
 pub each_pass-init : goal.each_pass-init
 each_pass-init g c =
@@ -19,22 +16,7 @@ each_pass-init g c =
     let items = c.args.items.now in
     let over = item_order (g.D.Dominance.order c.args.dominance.now) c.args.pool.now in
     let room = c.saturating_add-room.result in
-    let early = c.in_ok-with_room.field-0 in
-    let fits : length held < room = omega (arith, c.saturating_add-room.ensures, c.requires, ap length c.in_ok-with_room.ensures, early.ok.0, early.small) in
-    let some : 0 < length items = omega (arith, eqb-false (length items) 0 (sym c.is_empty.ensures ∙ c.if-is_empty.false)) in
-    let input = ap length c.in_ok-input.ensures.items in
-    let best = ap length c.new-best.ensures.items in
-    record {
-      before = length held;
-      passed = passing_same (passes_begin over held room items fits) c.new-best.ensures.items c.in_ok-input.ensures.items c.in_ok-with_room.ensures c.new.ensures.items c.new-2.ensures.items c.new-3.ensures.items;
-      late = ap length c.new.ensures.items;
-      overflow = ap length c.new-2.ensures.items;
-      empty = λ h. absurd (omega (arith, h, input, some));
-      settled = omega (arith, ap length c.new-3.ensures.items);
-      count = omega (arith, best);
-      begins = λ _. input;
-      unsettled = omega (arith, best, input, length-append held items);
-    }
+    grind (arith, c.in_ok-with_room.field-0, c.saturating_add-room.ensures, c.requires, eqb-false (length items) 0 (sym c.is_empty.ensures ∙ c.if-is_empty.false), c.if-is_empty.false, passing_same, passes_begin over held room items, length-append held items)
 
 pub each_pass-preserved : goal.each_pass-preserved
 each_pass-preserved g c =
@@ -51,18 +33,7 @@ each_pass-preserved g c =
     let more = more_settled passed (omega (arith, inv.unsettled, some)) in
     let s = c.in_ok-input-2.ensures in
     let next = passing_same (pass_ends passed (omega (arith, c.saturating_add-room.ensures, c.requires))) s.best s.next s.early s.late s.overflow s.rest in
-    let rest = ap length s.rest in
-    record {
-      before = length end.rest.items;
-      passed = next;
-      late = ap length s.late;
-      overflow = ap length s.overflow;
-      empty = λ h. ap length s.early ∙ passed.fresh (ap length (sym s.next) ∙ h);
-      settled = omega (arith, rest);
-      count = omega (arith, more, ap length s.best, length-append best end.early.items, inv.count);
-      begins = λ h. absurd (omega (arith, h));
-      unsettled = omega (arith, pass_long next, rest);
-    }
+    grind (arith, passed.fresh, length-append best end.early.items, inv.count, pass_long next)
 
 pub each_pass-smaller : goal.each_pass-smaller
 each_pass-smaller g c =
@@ -74,8 +45,7 @@ each_pass-smaller g c =
     let end = c.offer_all.new.pass in
     let passed : Passes over held c.saturating_add-room.result all best [] inv.before end = c.in_ok-offer_all.ensures {u = tt} held all best inv.before (subst (λ l. Passes over held c.saturating_add-room.result all best l inv.before c.each_pass.pass) (sym c.deref.ensures.value) inv.passed) in
     let some : 0 < length c.each_pass.input.items = omega (arith, eqb-false (vec_len c.each_pass.input) 0 (sym c.is_empty-in-each_pass.ensures ∙ c.each_pass-test.true), c.each_pass.input.ok.0) in
-    let s = c.in_ok-input-2.ensures in
-    omega (arith, more_settled passed (omega (arith, inv.unsettled, some)), inv.settled, ap length s.best, length-append best end.early.items, ap length s.rest, pass_long passed)
+    grind (arith, c.in_ok-input-2.ensures, more_settled passed, inv.unsettled, inv.settled, length-append best end.early.items, pass_long passed)
 
 pub returns-clause-parted : goal.returns-clause-parted
 returns-clause-parted g c =

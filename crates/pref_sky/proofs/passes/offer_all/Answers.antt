@@ -3,15 +3,11 @@ use Rattle.pref_sky.proofs.passes.offer_all.Goals as goal
 
 pub loop-item-preserved : goal.loop-item-preserved
 loop-item-preserved g c held input best before p =
-    let over = item_order (g.D.Dominance.order c.args.dominance.now) c.args.pool.now in
     let i = c.loop-item.item-index in
     let items = c.args.items.now in
     let item = get_or items i (record { signature = 0; place = 0 }) in
     let next : drop i items ≡ item ∷ drop (i + 1) items = drop-cons items i (record { signature = 0; place = 0 }) c.loop-item-test.true ∙ ap (λ n. item ∷ drop n items) (sym (add-one i)) in
-    c.in_ok-offer.ensures {u = tt} held input best (drop (i + 1) items) before (subst (λ l. Passes over held c.args.window input best l before c.loop-item.pass) next (c.loop-item.invariant held input best before p))
+    grind (arith, c.in_ok-offer.ensures {u = tt} held input best (drop (i + 1) items) before, c.loop-item.invariant held input best before p)
 
 pub returns : goal.returns
-returns g c held input best before p =
-    let over = item_order (g.D.Dominance.order c.args.dominance.now) c.args.pool.now in
-    let none : drop c.loop-item.item-index c.args.items.now ≡ [] = drop_of_length-le c.args.items.now (omega (arith, c.loop-item-test.false)) in
-    subst (λ l. Passes over held c.args.window input best l before c.loop-item.pass) none (c.loop-item.invariant held input best before p)
+returns g c held input best before p = grind (arith, g.D.Dominance.order c.args.dominance.now, drop_of_length-le c.args.items.now, c.loop-item-test.false, c.loop-item.invariant held input best before p)

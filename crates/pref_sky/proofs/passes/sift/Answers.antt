@@ -8,17 +8,9 @@ use Rattle.pref_sky.proofs.passes.sift.Goals as goal
 
 -- one of the list is alike
 pub returns-in-Same : goal.returns-in-Same
-returns-in-Same g c = (
-  c.each.invariant.sifted,
-  λ apart.
-      let over = item_order (g.D.Dominance.order c.args.dominance.now) c.args.pool.now in
-      let held = c.each.held.items in
-      let y = c.index.result.now in
-      let inside : c.each.place < length held = omega (arith, c.each-test.true, c.len.ensures, c.each.held.ok.0) in
-      let back : (x : Item) → Among x held → Among x c.args.held.now.items = λ x m. among_if x c.args.held.now.items (omega (arith, c.each.invariant.sifted.bag (is_item x), some_of x held m)) in
-      clear_if_alike over held y c.args.item.now (subst (λ z. Among z held) (sym c.index.ensures) (among_place held c.each.place y inside)) (c.compare_items.ensures.stand_alike (ap is_same c.in-Same.is))
-      (λ a b ma mb. apart a b (back a ma) (back b mb)),
-)
+returns-in-Same g c =
+    let over = item_order (g.D.Dominance.order c.args.dominance.now) c.args.pool.now in
+    grind (arith, c.each.invariant.sifted, c.each-test.true, c.len.ensures, c.each.held.ok.0, among_if, c.each.invariant.sifted.bag, is_item, some_of, clear_if_alike over, among_place, c.compare_items.ensures.stand_alike (ap is_same c.in-Same.is))
 
 -- one of the list dominates the item: it goes to a place further up
 pub returns-in-Better : goal.returns-in-Better
@@ -62,12 +54,7 @@ each-preserved g c =
           rw (w.held-is, w.rest-is, w.place-is) (c.each.invariant.sifted, AllWithin-more IsApart held 0 i c.each.invariant.clear (at_read held IsApart i c.index.result.now inside c.index.ensures apart))
     ] in
     let next = c.next_open-place-in-each.result in
-    let decided : AreDecided met.held.items item met.place next = subst (λ l. AreDecided l item met.place next) c.deref-in-each.ensures.value c.next_open-place-in-each.ensures.decided in
-    record {
-      inside = omega (arith, c.next_open-place-in-each.ensures.within.1, ap length c.deref-in-each.ensures.value);
-      sifted = step.0;
-      clear = clear_upto order pool met.held.items item met.place next step.1 decided;
-    }
+    grind (arith, c.next_open-place-in-each.ensures.within.1, step.0, clear_upto order pool met.held.items item met.place next step.1)
 
 pub returns : goal.returns
 returns g c =

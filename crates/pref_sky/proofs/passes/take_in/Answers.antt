@@ -5,9 +5,7 @@ use Rattle.pref_sky.proofs.passes.take_in.Goals as goal
 -- the window is full
 pub returns-in_ok-push : goal.returns-in_ok-push
 returns-in_ok-push c over strict held input best left before clear p =
-    let a = c.args.pass.now in
-    subst (λ l. Passing over held c.args.window input best left before a.early.items a.late.items l a.rest.items) (sym c.in_ok-push.ensures.items)
-    (pass_overflows p (λ apart. (clear apart).0) (λ h. omega (arith, h, c.if-len-saturating_sub.true, c.len.ensures, c.len-2.ensures, c.saturating_sub.ensures, a.early.ok.0, a.late.ok.0)))
+    grind (arith, left, pass_overflows p)
 
 -- there is room, and nothing overflowed so far
 pub returns-in_ok-push-2 : goal.returns-in_ok-push-2

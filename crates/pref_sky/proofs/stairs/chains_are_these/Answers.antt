@@ -1,3 +1,4 @@
+use Rattle.pref_sky.proofs.Common.{arith}
 use Rattle.pref_sky.proofs.ChainStairs.{columns_order_groups, keys_are_chain}
 use Rattle.pref_sky.proofs.stairs.chains_are_these.Goals as goal
 

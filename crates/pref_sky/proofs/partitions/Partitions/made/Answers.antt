@@ -12,13 +12,9 @@ count_coming-requires-clause-first g c = first_partition c.each_partition.rest.n
 
 pub made_of-requires-clause-start : goal.made_of-requires-clause-start
 made_of-requires-clause-start g c =
-    let partitions = c.args.self.now.partitions.items in
     let rest = c.each_partition.rest.now in
     let inv = c.each_partition.invariant in
-    let partition = (get_or rest 0 none).partition in
-    let some : 0 < length rest = omega (arith, eqb-false (length rest) 0 (sym c.is_empty.ensures ∙ c.each_partition-test.true)) in
-    let there : items_at partition partitions ≡ c.deref.result.now = in_here partition partitions c.index-levels.result.now (inv.coming.partition 0 none some) c.index-levels.ensures ∙ sym c.deref.ensures.value in
-    front_starts inv partition c.count_coming.result there c.count_coming.ensures.coming c.split_at.ensures.front
+    grind (arith, eqb-false (length rest) 0 (sym c.is_empty.ensures ∙ c.each_partition-test.true), c.each_partition-test.true, in_here, inv.coming.partition 0 none, front_starts inv)
 
 pub made_of-requires-clause-in_order : goal.made_of-requires-clause-in_order
 made_of-requires-clause-in_order g c =

@@ -1,11 +1,10 @@
-use Rattle.pref_sky.proofs.Common.{◌≡◌, ◌∙◌, List, [], drop, get_or, take, sym, ap, subst, take-append-drop, is_better, Entry, Item, IsItem, entries_at, entry_at, entry_order, signature_by, Among}
+use Rattle.pref_sky.proofs.Common.{◌≡◌, ◌∙◌, List, [], drop, get_or, take, sym, ap, subst, take-append-drop, is_better, Entry, Item, IsItem, entries_at, entry_at, entry_order, signature_by, Among, arith}
 use Rattle.pref_sky.proofs.Common.{get_or_default}
 use Rattle.pref_sky.proofs.ListLaws.{all_among, among_place, any_from, in_left, in_map}
 use Rattle.pref_sky.proofs.pool.Pool.dominates.Goals as goal
 
 pub returns-in-Better : goal.returns-in-Better
 returns-in-Better g c decided =
-    let over = entry_order (g.D.Dominance.order c.args.dominance.now) in
     let pool = c.args.self.now.entries.items in
     let items = c.args.items.now in
     let near : List Item = take c.min.result items in
@@ -14,5 +13,4 @@ returns-in-Better g c decided =
     let there : Among x items = subst (Among x) (take-append-drop c.min.result items) (in_left near (drop c.min.result items) x (among_place near c.loop-item.item-index none c.loop-item-test.true)) in
     let is : c.index.result.now ≡ entry_at pool x.place =
     c.index.ensures ∙ get_or_default pool x.place c.index.result.now (record { id = 0; row = [] }) (all_among (IsItem (signature_by c.args.self.now.scales) pool) items c.requires x there).within in
-    let here : Among c.index.result.now (entries_at pool items) = subst (λ (e : Entry). Among e (entries_at pool items)) (sym is) (in_map (λ (item : Item). entry_at pool item.place) items x there) in
-    any_from (λ e. over e c.args.entry.now) (entries_at pool items) c.index.result.now here (sym c.compare.ensures.better ∙ ap is_better c.in-Better.is)
+    grind (arith, in_map, any_from)

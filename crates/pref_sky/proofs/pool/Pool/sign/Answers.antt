@@ -6,7 +6,6 @@ pub loop-place-preserved : goal.loop-place-preserved
 loop-place-preserved c =
     let inv = c.loop-place.invariant in
     let pool = c.args.self.now.entries.items in
-    let rule = signature_by c.args.self.now.scales in
     let items = c.loop-place.items.items in
     let i = c.loop-place.place in
     let old : Item = c.index_mut.result.now in
@@ -15,6 +14,4 @@ loop-place-preserved c =
     let was : old ≡ get_or items i old = c.index_mut.ensures.value in
     let within : old.place < length pool = subst (λ (x : Item). x.place < length pool) (sym was) (inv.ready i old inside) in
     let read : c.index-item.result.now ≡ old = c.index-item.ensures ∙ (get_or_default items i c.index-item.result.now old inside ∙ sym was) in
-    let here : c.index.result.now ≡ entry_at pool old.place =
-    c.index.ensures ∙ (ap (λ (x : Item). get_or pool x.place c.index.result.now) read ∙ get_or_default pool old.place c.index.result.now (record { id = 0; row = [] }) within) in
-    signed_more inv inside old new was refl within (record { within = within; word = c.signature_of.type_inv; signed = c.signature_of.ensures ∙ ap rule here })
+    grind (arith, c.index.ensures, get_or_default pool old.place c.index.result.now, signed_more inv inside old new was refl within, c.signature_of.type_inv, c.signature_of.ensures)

@@ -3,9 +3,7 @@ use Rattle.pref_sky.proofs.PoolLaws.{signed_more}
 use Rattle.pref_sky.proofs.pool.Pool.sign_levels.Goals as goal
 
 pub sign-requires : goal.sign-requires
-sign-requires c =
-    let inside : c.loop-place.place < length c.loop-place.levels.items = omega (arith, c.loop-place-test.true, c.len-place-end.ensures, c.args.levels.now.ok.0, c.loop-place.invariant.long) in
-    subst (λ (v : Vec Item Global). (rule : Entry → ℕ) × AreItems rule c.args.self.now.entries.items v.items) (sym c.index_mut.ensures.value) (c.loop-place.invariant.ready c.loop-place.place c.index_mut.result.now inside)
+sign-requires c = grind (arith, c.loop-place-test.true, c.len-place-end.ensures, c.args.levels.now.ok.0, c.loop-place.invariant.long, c.loop-place.invariant.ready c.loop-place.place c.index_mut.result.now)
 
 pub loop-place-preserved : goal.loop-place-preserved
 loop-place-preserved c =

@@ -18,28 +18,13 @@ invariant_of-self c = record { ids = still_differ ((goal.at.invariant_of-self c)
 
 pub invariant_of-self-in-Err : goal.invariant_of-self-in-Err
 invariant_of-self-in-Err c =
-    let new = c.prune.new.self in
-    let recent = c.prune.new.recent.items in
-    let long : c.len-held.result ≡ length recent = omega (arith, c.len-held.ensures, c.prune.new.recent.ok.0) in
-    let whole : c.truncate.new.self.items ≡ recent = c.truncate.ensures.items ∙ (ap (λ k. take k c.keep_others.new.recent.items) long ∙ (ap (take (length recent)) c.keep_others.ensures.1 ∙ take-append_seam recent c.keep_others.ensures.0)) in
-    record { ids = subst (λ l. HaveDifferentIds (map entry_of (own_levels new.order (new.entries.items ++ l)))) (sym whole) (still_differ ((goal.at.invariant_of-self-in-Err c).After-prune)) }
+    grind (arith, c.len-held.ensures, c.prune.new.recent.ok.0, take-append_seam, goal.at.invariant_of-self-in-Err c)
 
 pub invariant_of-self-in_default : goal.invariant_of-self-in_default
 invariant_of-self-in_default c =
     let new = c.prune.new.self in
-    let kept = c.in_default.ensures {u = tt} in
-    record {
-      ids = subst (λ l. HaveDifferentIds (map entry_of (own_levels new.order (new.entries.items ++ l)))) (sym kept.1)
-          (upper_differ new.order new.entries.items c.prune.new.recent.items c.args.entries.now (coming_differ ((goal.at.invariant_of-self-in_default c).After-prune)) kept.0 kept.2);
-    }
+    grind (arith, c.in_default.ensures {u = tt}, upper_differ new.order new.entries.items c.prune.new.recent.items c.args.entries.now (coming_differ ((goal.at.invariant_of-self-in_default c).After-prune)), goal.at.invariant_of-self-in_default c)
 
 pub returns-clause-ok : goal.returns-clause-ok
-returns-clause-ok c = λ before apart is.
-    let at = (goal.at.returns-clause-ok c).After-prune in
-    let new = c.prune.new.self in
-    let sorted = new.entries.items in
-    let recent = c.prune.new.recent.items in
-    let kept = c.in_default.ensures {u = tt} in
-    let was : own_levels new.order (sorted ++ recent) ≡ own_levels new.order before = levels_still at ∙ (is ∙ ap (λ (o : ChainOrder). own_levels o before) (sym c.prune.ensures.order)) in
-    subst (λ (o : ChainOrder). own_levels o (sorted ++ c.keep_others.new.recent.items) ≡ own_levels o (before ++ c.args.entries.now)) c.prune.ensures.order
-    (ap (λ l. own_levels new.order (sorted ++ l)) kept.1 ∙ upper_levels new.order sorted recent c.args.entries.now (coming_differ at) kept.0 kept.2 before was)
+returns-clause-ok c =
+    grind (arith, c.prune.new.self, c.in_default.ensures {u = tt}, upper_levels)

@@ -26,13 +26,11 @@ held_of size early late o = record { size = size; early = early; late = late; ov
 
 joined_late : (over : Entry → Entry → Bool) (e : Entry) (size : ℕ) (early late early_now late_now : List Entry) (o : Bool) → o ≡ true → early_now ≡ not_below over e early → late_now ≡ not_below over e late ++ e ∷ []
     → held_of size early_now late_now o ≡ joined over (held_of size early late o) e
-joined_late over e size early late early_now late_now o since first second =
-    rw (since, first, second) (ap (λ l. held_of size l (not_below over e late ++ e ∷ []) true) (sym (append-nil (not_below over e early))))
+joined_late over e size early late early_now late_now o since first second = grind (arith, append-nil (not_below over e early))
 
 joined_early : (over : Entry → Entry → Bool) (e : Entry) (size : ℕ) (early late early_now late_now : List Entry) (o : Bool) → o ≡ false → early_now ≡ not_below over e early ++ e ∷ [] → late_now ≡ not_below over e late
     → held_of size early_now late_now o ≡ joined over (held_of size early late o) e
-joined_early over e size early late early_now late_now o since first second =
-    rw (since, first, second) (ap (λ l. held_of size (not_below over e early ++ e ∷ []) l false) (sym (append-nil (not_below over e late))))
+joined_early over e size early late early_now late_now o since first second = grind (arith, append-nil (not_below over e late))
 
 -- nothing held dominates the entry, and what it does not dominate is left
 early_left : (g : Over) (c : After-retain-2 g) → c.retain.new.self.items ≡ not_below (entry_order (g.D.Dominance.order c.args.dominance.now)) c.args.entry c.self.inside.early.items
@@ -42,12 +40,7 @@ late_left : (g : Over) (c : After-retain-2 g) → c.retain-2.new.self.items ≡ 
 late_left g c = filter_same _ (λ w. not (entry_order (g.D.Dominance.order c.args.dominance.now) c.args.entry w)) _ (λ x b q r. (search rules, search rules)) c.self.inside.late.items _ c.retain-2.ensures.filtered
 
 unbeaten : (g : Over) (c : After-retain-2 g) → is_beaten (entry_order (g.D.Dominance.order c.args.dominance.now)) (c.self.inside.early.items ++ c.self.inside.late.items) c.args.entry ≡ false
-unbeaten g c =
-    let over = entry_order (g.D.Dominance.order c.args.dominance.now) in
-    let e = c.args.entry in
-    list_any-append (λ x. over x e) c.self.inside.early.items c.self.inside.late.items
-    ∙ or_from (is_beaten over c.self.inside.early.items e) (is_beaten over c.self.inside.late.items e) (ap (λ l. is_beaten over l e) (sym c.deref.ensures.value) ∙ (sym c.is_beaten_by.ensures ∙ c.if-is_beaten_by.false))
-    (ap (λ l. is_beaten over l e) (sym c.deref-else-is_beaten_by.ensures.value) ∙ (sym c.is_beaten_by-else-is_beaten_by.ensures ∙ c.if-is_beaten_by-2.false))
+unbeaten g c = grind (arith, g.D.Dominance.order c.args.dominance.now, c.args.entry, list_any-append, c.if-is_beaten_by.false, c.if-is_beaten_by-2.false)
 
 -- nothing went out of a full window
 pub returns-then-len-self-clause-outcome : goal.returns-then-len-self-clause-outcome
@@ -59,11 +52,9 @@ returns-then-len-self-clause-outcome g c =
     let p : Entry → Bool = λ w. not (over e w) in
     let early = early_left g at in
     let late = late_left g at in
-    let full : length (filter p a.early.items) + length (filter p a.late.items) ≡ a.size =
-    omega (arith, ap length early, ap length late, c.if-len-self.true, c.len.ensures, c.len-2.ensures, c.retain.new.self.ok.0, c.retain-2.new.self.ok.0) in
+    let full : length (filter p a.early.items) + length (filter p a.late.items) ≡ a.size = grind (arith, c.if-len-self.true, c.len.ensures, c.len-2.ensures, c.retain.new.self.ok.0, c.retain-2.new.self.ok.0) in
     let whole = filtered_whole p a.early.items a.late.items a.size full (omega (arith, c.self.invariant.within, a.early.ok.0, a.late.ok.0)) in
-    let same : held_of a.size c.retain.new.self.items c.retain-2.new.self.items true ≡ held_of a.size a.early.items a.late.items true =
-    ap (λ l. held_of a.size l c.retain-2.new.self.items true) (early ∙ whole.0) ∙ ap (λ l. held_of a.size a.early.items l true) (late ∙ whole.1) in
+    let same : held_of a.size c.retain.new.self.items c.retain-2.new.self.items true ≡ held_of a.size a.early.items a.late.items true = grind (arith, whole.0, whole.1) in
     let stays : filter p (a.early.items ++ a.late.items) ≡ a.early.items ++ a.late.items = filter-append p a.early.items a.late.items ∙ (ap (λ l. l ++ filter p a.late.items) whole.0 ∙ ap (λ l. a.early.items ++ l) whole.1) in
     let long : length (a.early.items ++ a.late.items) ≡ a.size = omega (arith, length-append a.early.items a.late.items, full, ap length whole.0, ap length whole.1) in (
       subst (λ (w : WindowState). is_beaten over (window_entries w) e ≡ false) c.self.view_is (unbeaten g at),
