@@ -1,6 +1,6 @@
 -- An op that is legal at slots that stand for a state leaves slots that stand for the next one.
-use Rattle.pref_core.proofs.Common.{◌≡◌, ℕ, zero, suc, Bool, true, false, not, List, [], ◌∷◌, length, Option, Some, None, is_some, slice_set, refl, sym, ap, ◌∙◌, arith, AllZip, and_parts, eqb-true}
-use Rattle.pref_core.proofs.Common.{Version, Caller, Call, Insert, Update, Delete, Commit, Begin, Finish, Abandon, Outcome, Added, Done, NoSuchRow, Full, Op, State, Client, Snapshot, with_seat}
+use Rattle.pref_core.proofs.Common.{◌≡◌, ℕ, zero, suc, Bool, true, false, not, List, [], ◌∷◌, length, Option, Some, None, is_some, slice_set, refl, sym, ap, ◌∙◌, arith, AllZip, and_parts}
+use Rattle.pref_core.proofs.Common.{Version, Caller, Call, Outcome, Op, State, Client, Snapshot, with_seat}
 use Rattle.pref_core.proofs.Common.{is_change, missing, ended, begun, begins_row, needed_after, success_outcome, outcome, succeeds, committed, begun_after, counted, after, is_formed, outcome_of}
 use Rattle.pref_core.proofs.Common.{Contents, StandsFor, StandsForClient, ShowsBegin, stamps, caller_calls, grown, filled, begin_after, callers_after, is_next, same_number, same_outcome, outcome_at}
 use Rattle.pref_core.proofs.Common.{refusal_at, slots_after, stepped}
@@ -9,22 +9,7 @@ use Rattle.pref_core.proofs.SlotReuse.{filled_stands}
 use Rattle.pref_core.proofs.OutcomeLaws.{SameSeat, nobody, somebody, same_seat, same_outcome_at}
 
 same_outcome-true : (a b : Outcome) → same_outcome a b ≡ true → a ≡ b
-same_outcome-true (Added a) (Added b) h = ap Added (eqb-true a b h)
-same_outcome-true Done Done h = refl
-same_outcome-true (NoSuchRow a) (NoSuchRow b) h = ap NoSuchRow (eqb-true a b h)
-same_outcome-true (Full a) (Full b) h = ap Full (eqb-true a b h)
-same_outcome-true (Added a) Done h = absurd (cc)
-same_outcome-true (Added a) (NoSuchRow b) h = absurd (cc)
-same_outcome-true (Added a) (Full b) h = absurd (cc)
-same_outcome-true Done (Added b) h = absurd (cc)
-same_outcome-true Done (NoSuchRow b) h = absurd (cc)
-same_outcome-true Done (Full b) h = absurd (cc)
-same_outcome-true (NoSuchRow a) (Added b) h = absurd (cc)
-same_outcome-true (NoSuchRow a) Done h = absurd (cc)
-same_outcome-true (NoSuchRow a) (Full b) h = absurd (cc)
-same_outcome-true (Full a) (Added b) h = absurd (cc)
-same_outcome-true (Full a) Done h = absurd (cc)
-same_outcome-true (Full a) (NoSuchRow b) h = absurd (cc)
+same_outcome-true a b h = grind (arith)
 
 AllZip-set : {A B : Type 0} (R : A → B → Type 0) (xs : List A) (ys : List B) (k : ℕ) (a : A) (b : B) → R a b → AllZip R xs ys → AllZip R (slice_set xs k a) (slice_set ys k b)
 AllZip-set R [] [] k a b r h = tt
@@ -40,13 +25,7 @@ AllZip-with_seat R xs ys (suc k) a b r h = AllZip-set R xs ys k a b r h
 -- what a call makes of the client's open query
 begun_counts : (contents : Contents) (state : State) (call : Call) (b : Option ℕ) (f : Option Snapshot) → StandsFor contents state → ShowsBegin contents.slots contents.stamp b f
     → ShowsBegin contents.slots contents.stamp (begin_after contents.stamp call b) (begun_after state call f)
-begun_counts contents state (Insert row) b f h s = s
-begun_counts contents state (Update id row) b f h s = s
-begun_counts contents state (Delete id) b f h s = s
-begun_counts contents state (Commit changes) b f h s = s
-begun_counts contents state Begin b f h s = (h.stamp, omega arith, h.table)
-begun_counts contents state Finish b f h s = tt
-begun_counts contents state Abandon b f h s = tt
+begun_counts contents state call b f h s = grind (arith)
 
 counted_stands : (contents : Contents) (state : State) (client : ℕ) (call : Call) → StandsFor contents state → StandsFor
     (record { slots = contents.slots; stamp = contents.stamp; next_id = contents.next_id; callers = callers_after contents.stamp contents.callers client call })
@@ -74,22 +53,10 @@ succeeds-missing capacity begins (Some id) size success_outcome h = absurd (cc)
 
 -- a change counts a call and leaves the open query
 callers_after-change : (now later : ℕ) (callers : List Caller) (client : ℕ) (call : Call) → is_change call ≡ true → callers_after later callers client call ≡ callers_after now callers client call
-callers_after-change now later callers client (Insert row) c = refl
-callers_after-change now later callers client (Update id row) c = refl
-callers_after-change now later callers client (Delete id) c = refl
-callers_after-change now later callers client (Commit changes) c = refl
-callers_after-change now later callers client Begin c = absurd (cc)
-callers_after-change now later callers client Finish c = absurd (cc)
-callers_after-change now later callers client Abandon c = absurd (cc)
+callers_after-change now later callers client call c = grind (arith)
 
 counted-change : (state : State) (client : ℕ) (call : Call) → is_change call ≡ true → counted (committed call state) client call ≡ counted state client call
-counted-change state client (Insert row) c = refl
-counted-change state client (Update id row) c = refl
-counted-change state client (Delete id) c = refl
-counted-change state client (Commit changes) c = refl
-counted-change state client Begin c = absurd (cc)
-counted-change state client Finish c = absurd (cc)
-counted-change state client Abandon c = absurd (cc)
+counted-change state client call c = grind (arith)
 
 -- what is legal of an op, by parts
 pub record IsAllowed (contents : Contents) (op : Op) : Type 0 where

@@ -138,17 +138,13 @@ pub ended_so_far : (changes : List Change) (at : ℕ) (change : Change) → slic
 ended_so_far changes at change e = ap ended_by (take_at changes at change e) ∙ ended_by-append (take at changes) (change ∷ [])
 
 pub begun_from : (next : ℕ) (change : Change) (rest : List Change) → begun_by next (change ∷ rest) ≡ begun_by next (change ∷ []) ++ begun_by (next + added_by (change ∷ [])) rest
-begun_from next (Add row) rest = ap (λ n. record { id = next; row = row } ∷ begun_by n rest) (let e : suc next ≡ next + 1 = omega arith in e)
-begun_from next (Set id row) rest = ap (λ n. record { id = id; row = row } ∷ begun_by n rest) (let e : next ≡ next + 0 = omega arith in e)
-begun_from next (Remove id) rest = ap (λ n. begun_by n rest) (let e : next ≡ next + 0 = omega arith in e)
+begun_from next change rest = grind (arith)
 
 pub begun_at : (next : ℕ) (changes : List Change) (at : ℕ) (change : Change) → slice_get changes at ≡ Some change → begun_by next (drop at changes) ≡ begun_by next (change ∷ []) ++ begun_by (next + added_by (change ∷ [])) (drop (at + 1) changes)
 begun_at next changes at change e = ap (begun_by next) (drop_at changes at change e) ∙ begun_from next change (drop (at + 1) changes)
 
 pub added_one : (change : Change) → added_by (change ∷ []) ≤ 1
-added_one (Add row) = omega arith
-added_one (Set id row) = omega arith
-added_one (Remove id) = omega arith
+added_one change = grind (arith)
 
 pub begun_few : (next : ℕ) (changes : List Change) → length (begun_by next changes) ≤ length changes
 begun_few next [] = omega arith

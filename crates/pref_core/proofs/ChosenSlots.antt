@@ -1,8 +1,8 @@
 -- The slots of the rows that a call begins, chosen one after the other.
-use Rattle.pref_core.proofs.Common.{◌≡◌, ℕ, suc, ◌+◌, ◌<◌, ◌≤◌, Bool, true, false, ◌&&◌, cond, List, [], ◌∷◌, ◌++◌, map, length, Option, Some, None, Result, Ok, Err, is_some, slice_set, refl, sym, ap}
+use Rattle.pref_core.proofs.Common.{◌≡◌, ℕ, suc, ◌+◌, ◌<◌, ◌≤◌, true, false, ◌&&◌, cond, List, [], ◌∷◌, ◌++◌, map, length, Option, Some, None, Result, Ok, Err, is_some, slice_set, refl, sym, ap}
 use Rattle.pref_core.proofs.Common.{◌∙◌, subst, arith, count_by, length-map, length-append, append-nil, append_assoc, Version, Call, Op, Entry, Change, Add, Set, Remove, begun_by}
 use Rattle.pref_core.proofs.Common.{begins_any, among, changes_of, ended, begun, begins_row, is_change, missing, success_outcome, succeeds, Contents, begins, new_version, visible, close, filled}
-use Rattle.pref_core.proofs.Common.{placed, used, grown, is_free, outcome_at, outcome_of, is_free_use, IsFreed, FindsFreed, is_open, uses_of}
+use Rattle.pref_core.proofs.Common.{placed, used, grown, outcome_at, outcome_of, is_free_use, IsFreed, FindsFreed, is_open, uses_of}
 use Rattle.pref_core.proofs.ChangesLaws.{begun_few}
 use Rattle.pref_core.proofs.PlanLaws.{succeeds-fits}
 use Rattle.pref_core.proofs.SlotsForAll.{count_grown, filled_snoc, free_still, some_left}
@@ -56,11 +56,7 @@ pub filled_long : (ns : List ℕ) (made : ℕ) (places : List ℕ) (begun : List
 filled_long ns made [] [] slots after e = refl
 filled_long ns made [] (fresh ∷ rest) slots after e = absurd (cc)
 filled_long ns made (place ∷ places) [] slots after e = absurd (cc)
-filled_long ns made (place ∷ places) (fresh ∷ rest) slots after e = go (is_free ns slots place) e (filled_long ns made places rest (slice_set slots place (new_version made fresh)) after)
-  where
-    go : (b : Bool) → cond b (filled ns made places rest (slice_set slots place (new_version made fresh))) None ≡ Some after → (filled ns made places rest (slice_set slots place (new_version made fresh)) ≡ Some after → length places ≡ length rest) → length (place ∷ places) ≡ length (fresh ∷ rest)
-    go true e more = ap suc (more e)
-    go false e more = absurd (cc)
+filled_long ns made (place ∷ places) (fresh ∷ rest) slots after e = grind (arith, filled_long ns made places rest (slice_set slots place (new_version made fresh)) after)
 
 -- there is room for the number of one more
 pub chosen_few : (contents : Contents) (call : Call) (fresh : Entry) (rest : List Entry) (chosen : List ℕ) → length (changes_of call) ≤ 8 → ChosenUpTo contents call (fresh ∷ rest) chosen → length chosen < 8

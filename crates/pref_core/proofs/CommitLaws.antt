@@ -55,8 +55,7 @@ fresh_put limit shown table (fresh ∷ rest) a h =
 
 rows_ordered : (limit made : ℕ) (begun : List Entry) (table : List Line) → AreFresh limit table begun → IsOrdered table → IsOrdered (with_rows made begun table)
 rows_ordered limit made [] table f h = h
-rows_ordered limit made (fresh ∷ rest) table f h =
-    rows_ordered limit made rest (put (record { id = fresh.id; made = made; row = fresh.row }) table) (fresh_put limit _ table rest f.2 f.3) (IsOrdered-put _ table h f.1)
+rows_ordered limit made (fresh ∷ rest) table f h = grind (arith, rows_ordered limit made rest (put (record { id = fresh.id; made = made; row = fresh.row }) table) (fresh_put limit _ table rest f.2 f.3) (IsOrdered-put _ table h f.1))
 
 clients_rows : (now : ℕ) (begun : List Entry) (slots : List (Option Version)) (callers : List Caller) (clients : List Client) → AllZip (StandsForClient slots now) callers clients → AllZip (StandsForClient (map (new_version (suc now)) begun ++ slots) now) callers clients
 clients_rows now [] slots callers clients h = h

@@ -44,11 +44,7 @@ pub fills_not : (ns : List ℕ) (made : ℕ) (places : List ℕ) (begun : List E
 fills_not ns made [] [] slots n = absurd (n refl)
 fills_not ns made [] (fresh ∷ rest) slots n = refl
 fills_not ns made (place ∷ places) [] slots n = refl
-fills_not ns made (place ∷ places) (fresh ∷ rest) slots n = go (is_free ns slots place) (fills_not ns made places rest (set slots place (new_version made fresh)) (λ e. n (ap suc e)))
-  where
-    go : (b : Bool) → is_some (filled ns made places rest (set slots place (new_version made fresh))) ≡ false → is_some (cond b (filled ns made places rest (set slots place (new_version made fresh))) None) ≡ false
-    go true more = more
-    go false more = refl
+fills_not ns made (place ∷ places) (fresh ∷ rest) slots n = grind (arith, fills_not ns made places rest (set slots place (new_version made fresh)) (λ e. n (ap suc e)))
 
 -- A free slot's slot_use is free, and it shows no row.
 pub free_there : (contents : Contents) (uses : List SlotUse) (links : List ℕ) (place : ℕ) → IsTracked contents uses links → is_free (stamps contents) contents.slots place ≡ true → slice_get uses place ≡ Some Free

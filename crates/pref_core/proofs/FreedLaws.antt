@@ -1,5 +1,5 @@
 -- The slots that ended rows leave free.
-use Rattle.pref_core.proofs.Common.{append-nil, and_right, ne_eqb, length-filter, count_by-le-length, ◌≡◌, ℕ, zero, suc, ◌+◌, ◌<◌, ◌≤◌, Bool, true, false, ◌&&◌, ◌||◌, cond, eqb, List, [], ◌∷◌, ◌++◌}
+use Rattle.pref_core.proofs.Common.{append-nil, ne_eqb, length-filter, count_by-le-length, ◌≡◌, ℕ, zero, suc, ◌+◌, ◌<◌, ◌≤◌, Bool, true, false, ◌&&◌, ◌||◌, cond, eqb, List, [], ◌∷◌, ◌++◌}
 use Rattle.pref_core.proofs.Common.{map, length, set, Option, Some, None, slice_get, refl, sym, ap, ◌∙◌, subst, arith, ⊎_elim, count_by, option_map, length-map, length-set, filter-append}
 use Rattle.pref_core.proofs.Common.{slice_get-map, slice_get_within, le-leb, eqb-true, eq-eqb, cases_eq, or_cases, or_right, and_parts, true≢false, Version, SlotUse, Free, among, State, missing}
 use Rattle.pref_core.proofs.Common.{Contents, StandsFor, IsWithin, is_visible, visible, begins, close, is_free, is_free_use, is_spare, free_at, use_of, IsBounded, is_row, row_at, IsPlaceOf}
@@ -70,13 +70,7 @@ all_there stamp slots (first ∷ done) (old ∷ olds) stand = rw (has_row_at sta
 
 among_filter : (p : ℕ → Bool) (xs : List ℕ) (place : ℕ) → among (filter p xs) place ≡ (among xs place && p place)
 among_filter p [] place = refl
-among_filter p (x ∷ xs) place = go (p x) refl (eqb x place) refl (among_filter p xs place)
-  where
-    go : (b : Bool) → p x ≡ b → (e : Bool) → eqb x place ≡ e → among (filter p xs) place ≡ (among xs place && p place) → among (cond b (x ∷ filter p xs) (filter p xs)) place ≡ ((e || among xs place) && p place)
-    go true px true is more = ap (λ b. b || among (filter p xs) place) is ∙ sym (let same : x ≡ place = eqb-true x place is in sym (ap p same) ∙ px)
-    go true px false is more = ap (λ b. b || among (filter p xs) place) is ∙ more
-    go false px true is more = let off : p place ≡ false = sym (ap p (eqb-true x place is)) ∙ px in more ∙ and_right (among xs place) (p place) off ∙ sym off
-    go false px false is more = more
+among_filter p (x ∷ xs) place = grind (arith, among_filter p xs place)
 
 -- how many are free where these places are marked
 same_count : (before after : List SlotUse) → length before ≡ length after → ((p : ℕ) → free_at after p ≡ free_at before p) → count_by is_free_use after ≡ count_by is_free_use before

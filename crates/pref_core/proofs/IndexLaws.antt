@@ -1,7 +1,7 @@
 -- An index follows the store through each op that is done.
 use Rattle.pref_core.proofs.Common.{drop, slice_get, ◌≡◌, ℕ, suc, ◌+◌, ◌<◌, Bool, true, false, ◌&&◌, ◌||◌, cond, eqb, nat_lt, List, [], ◌∷◌, map, length, set, Option, Some, None, is_some, refl, sym}
-use Rattle.pref_core.proofs.Common.{ap, ◌∙◌, subst, arith, AllByRecursion, eqb-true, ne_eqb, true≢false, Version, Change, Add, Set, Remove, Call, Insert, Update, Delete, Commit, Begin}
-use Rattle.pref_core.proofs.Common.{Finish, Abandon, Outcome, Added, Done, Op, Entry, Row, ended_by, begun_by, added_by, among, has, missing, success_outcome, is_change, succeeds}
+use Rattle.pref_core.proofs.Common.{ap, ◌∙◌, subst, arith, AllByRecursion, eqb-true, ne_eqb, true≢false, Version, Change, Add, Set, Remove, Call}
+use Rattle.pref_core.proofs.Common.{Outcome, Added, Done, Op, Entry, Row, ended_by, begun_by, added_by, among, has, missing, success_outcome, is_change, succeeds}
 use Rattle.pref_core.proofs.Common.{added, begins_row, changes_of, ended, begun, outcome_of, Contents, IsWithin, visible, begins, new_version, close, is_free, filled, used, grown, slots_after}
 use Rattle.pref_core.proofs.Common.{is_next, applied, slot_of, Points, PointsAll, given, placed_rows, adds, IsPlaceOf, IsIndexOf}
 use Rattle.pref_core.proofs.AppliedLaws.{IsAllowed-from}
@@ -102,13 +102,7 @@ granted_is capacity begins None size success_outcome s = grind (arith)
 
 -- a call that is no commit changes nothing
 no_changes : (call : Call) → is_change call ≡ false → changes_of call ≡ []
-no_changes (Insert row) still = absurd (cc)
-no_changes (Update id row) still = absurd (cc)
-no_changes (Delete id) still = absurd (cc)
-no_changes (Commit changes) still = absurd (cc)
-no_changes Begin still = refl
-no_changes Finish still = refl
-no_changes Abandon still = refl
+no_changes call still = grind (arith)
 
 -- The rows of these ids are there, each named once and below the next one, and an index gives their places.
 pub record AreThere (contents : Contents) (next : ℕ) (ids : List ℕ) (index : Pairs) : Type 0 where

@@ -1,6 +1,6 @@
 -- Fewer keys are needed where each is needed before.
-use Rattle.pref_core.proofs.Common.{◌≡◌, ℕ, ◌≤◌, Bool, true, false, not, ◌||◌, cond, List, [], ◌∷◌, ◌++◌, length, suc, subst, refl, sym, ap, ◌∙◌, arith, or_right, Line, Key, same_key, holds_key, keys}
-use Rattle.pref_core.proofs.Common.{different, with_rows, without, among, found_tables, ended, changes_of, Change, Add, Set, Remove, begun_by, begins_any, AreDifferent, DeletesNeedNoMore}
+use Rattle.pref_core.proofs.Common.{◌≡◌, ℕ, ◌≤◌, Bool, true, false, ◌||◌, List, [], ◌∷◌, ◌++◌, length, suc, subst, refl, sym, ap, ◌∙◌, arith, or_right, Line, Key, same_key, holds_key, keys}
+use Rattle.pref_core.proofs.Common.{different, with_rows, without, found_tables, ended, changes_of, Change, Add, Set, Remove, begun_by, begins_any, AreDifferent, DeletesNeedNoMore}
 use Rattle.pref_core.proofs.Common.{EndsNeedNoMore}
 use Rattle.pref_core.proofs.NeededCounts.{others, holds_key-others-at, AreDifferent-others, length-others, same_key_refl, same_key-true, holds_key-different, AreDifferent-different}
 use Rattle.pref_core.proofs.NeededCounts.{holds_key-keys-append}
@@ -21,16 +21,7 @@ fewer (x ∷ xs) ys p q in_ =
 
 held_without : (ids : List ℕ) (table : List Line) (key : Key) → holds_key (keys (without ids table)) key ≡ true → holds_key (keys table) key ≡ true
 held_without ids [] key h = h
-held_without ids (line ∷ rest) key h = go (among ids line.id) (held_without ids rest key) h
-  where
-    go : (b : Bool) → (holds_key (keys (without ids rest)) key ≡ true → holds_key (keys rest) key ≡ true)
-        → holds_key (keys (cond (not b) (line ∷ without ids rest) (without ids rest))) key ≡ true → (same_key key (record { id = line.id; made = line.made }) || holds_key (keys rest) key) ≡ true
-    go true more h = or_right (same_key key (record { id = line.id; made = line.made })) _ (more h)
-    go false more h = here (same_key key (record { id = line.id; made = line.made })) h
-      where
-        here : (b : Bool) → (b || holds_key (keys (without ids rest)) key) ≡ true → (b || holds_key (keys rest) key) ≡ true
-        here true h = refl
-        here false h = more h
+held_without ids (line ∷ rest) key h = grind (arith, held_without ids rest key)
 
 -- where rows end and none begins
 without_needs_no_more : (ids : List ℕ) (table found : List Line) → length (different (keys (without ids table ++ found))) ≤ length (different (keys (table ++ found)))

@@ -1,9 +1,9 @@
 -- The opening slots stand for the opening state.
-use Rattle.pref_core.proofs.Common.{◌≡◌, ℕ, zero, suc, ◌+◌, ◌-◌, ◌^◌, ◌<◌, ◌≤◌, false, ◌&&◌, eqb, List, [], ◌∷◌, ◌++◌, length, replicate, Option, None, refl, sym, ap, ap₂, ◌∙◌, subst, arith}
-use Rattle.pref_core.proofs.Common.{AllByRecursion, AllZip, IsPermutation, IsPermutation-refl, append-nil, length-append, length-replicate, filter_map-append, le-leb, ne_eqb, Version, Caller, Row}
+use Rattle.pref_core.proofs.Common.{◌≡◌, ℕ, zero, suc, ◌+◌, ◌-◌, ◌^◌, ◌<◌, ◌≤◌, false, List, [], ◌∷◌, ◌++◌, length, replicate, Option, None, refl, sym, ap, ap₂, ◌∙◌, subst, arith}
+use Rattle.pref_core.proofs.Common.{AllByRecursion, AllZip, IsPermutation, IsPermutation-refl, append-nil, length-append, length-replicate, filter_map-append, le-leb, Version, Caller, Row}
 use Rattle.pref_core.proofs.Common.{holds_key, IsOrdered, opening, opening_table, idle_clients, Contents, StandsFor, StandsForClient, seen, visible, slot_key, AreDifferent, IsWithin, opening_slots}
 use Rattle.pref_core.proofs.Common.{IsKept}
-use Rattle.pref_core.proofs.SlotKeys.{slot_keys, holds_key-cons}
+use Rattle.pref_core.proofs.SlotKeys.{slot_keys}
 
 visible_opening : (now before : ℕ) (rows : List Row) → before + length rows ≤ now → visible now (opening_slots before rows) ≡ opening_table before rows
 visible_opening now before [] h = refl
@@ -31,9 +31,7 @@ slot_keys-empty (suc n) = slot_keys-empty n
 
 keys_above : (id made before : ℕ) (rows : List Row) → id ≤ before → holds_key (slot_keys (opening_slots before rows)) (record { id = id; made = made }) ≡ false
 keys_above id made before [] h = refl
-keys_above id made before (row ∷ rows) h =
-    let other : eqb id (suc before) ≡ false = ne_eqb _ _ (λ (e : id ≡ suc before). omega arith) in
-    holds_key-cons _ (slot_keys (opening_slots (suc before) rows)) (record { id = id; made = made }) (ap (λ b. b && eqb made (suc before)) other) (keys_above id made (suc before) rows (omega arith))
+keys_above id made before (row ∷ rows) h = grind (arith, keys_above id made (suc before) rows (omega arith))
 
 opening_separate : (before : ℕ) (rows : List Row) → AreDifferent (slot_keys (opening_slots before rows))
 opening_separate before [] = tt

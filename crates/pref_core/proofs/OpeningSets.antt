@@ -48,10 +48,7 @@ opened_less capacity free zero h l = h
 opened_less capacity free (suc i) h l = let e = get_or-replicate 9 i capacity 0 (omega arith) in omega arith
 
 opened_ascend : (capacity free i j : ℕ) → free ≤ capacity → i ≤ j → j < 10 → get_or (opened capacity free) i 0 ≤ get_or (opened capacity free) j 0
-opened_ascend capacity free zero zero h le l = omega arith
-opened_ascend capacity free zero (suc j) h le l = let e = get_or-replicate 9 j capacity 0 (omega arith) in omega arith
-opened_ascend capacity free (suc i) zero h le l = absurd (omega arith)
-opened_ascend capacity free (suc i) (suc j) h le l = let e = get_or-replicate 9 i capacity 0 (omega arith) in let f = get_or-replicate 9 j capacity 0 (omega arith) in omega arith
+opened_ascend capacity free i j h le l = grind (arith)
 
 use_live : (capacity free x : ℕ) → free ≤ x → x < capacity → use_at (opened capacity free) x ≡ Live
 use_live capacity free x past below = rw (le-ltb x free past, lt-ltb x capacity below) refl

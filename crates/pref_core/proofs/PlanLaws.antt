@@ -1,6 +1,6 @@
 -- Whether a call is full, and the slots of its rows.
-use Rattle.pref_core.proofs.Common.{◌≡◌, ℕ, suc, ◌≤◌, true, false, List, [], ◌∷◌, map, length, Option, Some, None, refl, ap, ap₂, arith, eq-eqb, length-map, Version}
-use Rattle.pref_core.proofs.Common.{Call, Outcome, Added, Done, NoSuchRow, Full, ended, begun, success_outcome, succeeds, outcome_of, Contents, begins, close, filled, grown, used, close_at}
+use Rattle.pref_core.proofs.Common.{◌≡◌, ℕ, suc, ◌≤◌, true, List, [], ◌∷◌, map, length, Option, Some, None, refl, ap, arith, length-map, Version}
+use Rattle.pref_core.proofs.Common.{Call, Outcome, ended, begun, success_outcome, succeeds, outcome_of, Contents, begins, close, filled, grown, used}
 use Rattle.pref_core.proofs.Common.{same_outcome}
 use Rattle.pref_core.proofs.SlotsForAll.{filled_fits, count_grown}
 
@@ -22,14 +22,7 @@ plan_is_not_full contents call places after e =
 pub close_none : (stamp : ℕ) (slots : List (Option Version)) → map (close [] stamp) slots ≡ slots
 close_none stamp [] = refl
 close_none stamp (None ∷ slots) = ap (λ l. None ∷ l) (close_none stamp slots)
-close_none stamp (Some version ∷ slots) = ap₂ ◌∷◌ (same version.death) (close_none stamp slots)
-  where
-    same : (death : Option ℕ) → ◌≡◌ {A = Option Version} (Some (record version { death = close_at stamp false death })) (Some (record version { death = death }))
-    same None = refl
-    same (Some n) = refl
+close_none stamp (Some version ∷ slots) = grind (arith, close_none stamp slots)
 
 pub same_outcome_refl : (a : Outcome) → same_outcome a a ≡ true
-same_outcome_refl (Added n) = eq-eqb n n refl
-same_outcome_refl Done = refl
-same_outcome_refl (NoSuchRow n) = eq-eqb n n refl
-same_outcome_refl (Full n) = eq-eqb n n refl
+same_outcome_refl a = grind (arith)

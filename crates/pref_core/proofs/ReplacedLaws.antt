@@ -4,7 +4,7 @@ use Rattle.pref_core.proofs.Common.{◌∙◌, subst, arith, ⊎_elim, map-set, 
 use Rattle.pref_core.proofs.Common.{begun_by, is_row, row_at, IsTracked, KeepSlots, replaced, with_slots, change_of, close, close_at, filled, is_free, slots_after, Row, Contents, new_version}
 use Rattle.pref_core.proofs.Common.{is_visible, stamps, added, changes_of, ended, is_change, succeeds, among}
 use Rattle.pref_core.specs.declared.changes.LentChange.{LentChange}
-use Rattle.pref_core.specs.declared.changes.LentChange.TheVariants.{Add as LentAdd, Set as LentSet, Remove as LentRemove}
+use Rattle.pref_core.specs.declared.changes.LentChange.TheVariants.{Set as LentSet}
 use Rattle.pref_core.proofs.ChangesLaws.{AreApart, drop_at}
 use Rattle.pref_core.proofs.ChangeCounts.{drop_inside, drop_item}
 use Rattle.pref_core.proofs.FilledLaws.{begun_commit, close_more, commit_filled, end_slots, replace_tracked}
@@ -140,6 +140,4 @@ replaced_one start now new changes places at id row all is h returned =
 
 -- each of the changes sets a row
 pub sets_row : (stamp : ℕ) (slots : List (Option Version)) (change : LentChange) (rest : List Change) (places : List ℕ) → KeepSlots stamp slots (change_of change ∷ rest) places → ((id : ℕ) (row : Bor Row) → change ≡ LentSet id row → ⊥) → ⊥
-sets_row stamp slots (LentSet id row) rest places keep other = other id row refl
-sets_row stamp slots (LentAdd row) rest places keep other = keep
-sets_row stamp slots (LentRemove id) rest places keep other = keep
+sets_row stamp slots change rest places keep other = grind (arith)

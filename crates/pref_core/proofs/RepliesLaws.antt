@@ -12,9 +12,7 @@ use Rattle.pref_core.specs.declared.event.StepFault.{StepFault}
 returned_replies : (before after : Running) (system : System) (event : Event) (returned : Result Reply CoreFault) → Returns before (step before.limits system event) event.act returned after
     → MatchResult (reply_of returned) (λ reply. (reply ≡ (step before.limits system event).reply) × StandsForSystem after (step before.limits system event).next)
     (λ _. (may_want_memory event.act ≡ true) × (is_refusal (step before.limits system event).reply ≡ false) × (after ≡ before))
-returned_replies before after system event (Ok reply) says = (says.0, says.2)
-returned_replies before after system event (Err OutOfMemory) says = grind (arith)
-returned_replies before after system event (Err fault) says = grind (arith)
+returned_replies before after system event returned says = grind (arith)
 
 pub does_replies : (before after : Running) (event : Event) (returned : Result Reply CoreFault) (result : Result Reply AllocError) → Does before event.client event.act returned after → result ≡ reply_of returned → Replies before event result after
 does_replies before after event returned result does is = subst (λ r. Replies before event r after) (sym is) (record { limits = does.limits; returns = λ system h. returned_replies before after system event returned (does.returns system h) })

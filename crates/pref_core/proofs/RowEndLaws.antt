@@ -1,6 +1,6 @@
 -- The row of an id ends: one slot is written, and what is kept beside the slots goes along.
 use Rattle.pref_core.proofs.Common.{◌≡◌, ℕ, zero, suc, ◌^◌, Bool, true, false, ◌&&◌, ◌||◌, eqb, List, [], ◌∷◌, map, set, Option, Some, None, slice_get, refl, sym, ap, ap₂, ◌∙◌, subst, arith, ⊎_elim}
-use Rattle.pref_core.proofs.Common.{AllByRecursion, option_map, map-set, slice_get-map, le-leb, and_parts, eqb-true, eq-eqb, cases_eq, true≢false, Version, Caller, SlotUse, Live, Entry, among}
+use Rattle.pref_core.proofs.Common.{AllByRecursion, option_map, map-set, slice_get-map, le-leb, and_parts, eqb-true, eq-eqb, cases_eq, true≢false, Version, Caller, SlotUse, Live, Entry}
 use Rattle.pref_core.proofs.Common.{is_visible, new_version, IsWithin, EndsBy, close, close_at, use_of, is_row, row_at, IsPlaceOf, shown, ids_of, id_at, AreIds, AreLinks, false_from_ne_true}
 use Rattle.pref_core.proofs.StabilityLaws.{slice_get-set_same, slice_get-set_other}
 use Rattle.pref_core.proofs.SlotUseLaws.{holds_there, has_row_at}
@@ -57,12 +57,7 @@ row_alive next made id callers version w r = grind (arith)
 pub within_closed : (ids : List ℕ) (next made : ℕ) (slots : List (Option Version)) → AllByRecursion (IsWithin next made) slots → AllByRecursion (IsWithin next made) (map (close ids made) slots)
 within_closed ids next made [] h = tt
 within_closed ids next made (None ∷ slots) h = (tt, within_closed ids next made slots h.1)
-within_closed ids next made (Some version ∷ slots) h = ((h.0.0, h.0.1, go (among ids version.id) version.death h.0.2), within_closed ids next made slots h.1)
-  where
-    go : (b : Bool) (death : Option ℕ) → EndsBy made death → EndsBy made (close_at made b death)
-    go b (Some death) ends = ends
-    go true None ends = omega arith
-    go false None ends = tt
+within_closed ids next made (Some version ∷ slots) h = grind (arith, within_closed ids next made slots h.1)
 
 -- what the slots show once rows ended they showed before
 row_back : (ids : List ℕ) (made x : ℕ) (slots : List (Option Version)) (p : ℕ) → row_at made x (map (close ids made) slots) p ≡ true → row_at made x slots p ≡ true

@@ -172,9 +172,7 @@ number_kept (first ∷ bounds) zero bound x e = ap (λ b. cond b 0 (suc (number_
 number_kept (first ∷ bounds) (suc k) bound x e = ap (λ n. cond (nat_lt x first) 0 (suc n)) (number_kept bounds k bound x e)
 
 pub number_numbered : (n : ℕ) → number_of (numbered n) ≡ n
-number_numbered zero = refl
-number_numbered (suc zero) = refl
-number_numbered (suc (suc n)) = refl
+number_numbered n = grind (arith)
 
 pub use_number : (bounds : List ℕ) (x k : ℕ) → use_at bounds x ≡ numbered k → number_at bounds x ≡ k
 use_number bounds x k e = sym (number_numbered (number_at bounds x)) ∙ ap number_of e ∙ number_numbered k

@@ -1,7 +1,7 @@
 -- The uses of slots, and how many are free.
 use Rattle.pref_core.proofs.Common.{◌≡◌, ℕ, zero, suc, ◌+◌, ◌<◌, Bool, true, false, not, ◌&&◌, ◌||◌, cond, eqb, List, [], ◌∷◌, map, length, Option, Some, None, slice_get, refl, sym, ap, ◌∙◌}
-use Rattle.pref_core.proofs.Common.{subst, arith, count_by, cons_option, AllByRecursion, option_to_list, sum_by-cons, le-leb, or_right, Version, Caller, Ended, Line, among, has, is_visible}
-use Rattle.pref_core.proofs.Common.{seen, visible, line, is_needed, begins, IsWithin, EndsBy, close, is_free, is_free_use, free_at, kept_from, use_of, is_spare, row_at}
+use Rattle.pref_core.proofs.Common.{subst, arith, count_by, cons_option, AllByRecursion, option_to_list, sum_by-cons, le-leb, Version, Caller, among, has, is_visible}
+use Rattle.pref_core.proofs.Common.{visible, line, is_needed, begins, IsWithin, EndsBy, close, is_free, is_free_use, free_at, kept_from, use_of, is_spare, row_at}
 use Rattle.pref_core.proofs.NeededCounts.{is_needed-empty}
 
 pub count_by-cons : {X : Type 0} (p : X → Bool) (x : X) (xs : List X) → count_by p (x ∷ xs) ≡ cond (p x) 1 0 + count_by p xs
@@ -18,11 +18,7 @@ needed_cons caller callers slot = grind (arith)
 
 kept_spare : (keeper : ℕ) (callers : List Caller) (slot : Option Version) → is_free_use (kept_from keeper callers slot) ≡ not (is_needed (begins callers) slot)
 kept_spare keeper [] slot = refl
-kept_spare keeper (caller ∷ callers) slot = go (is_needed (option_to_list caller.at_begin) slot) (kept_spare (suc keeper) callers slot) ∙ sym (ap not (needed_cons caller callers slot))
-  where
-    go : (b : Bool) → is_free_use (kept_from (suc keeper) callers slot) ≡ not (is_needed (begins callers) slot) → is_free_use (cond b (Ended keeper) (kept_from (suc keeper) callers slot)) ≡ not (b || is_needed (begins callers) slot)
-    go true e = refl
-    go false e = e
+kept_spare keeper (caller ∷ callers) slot = grind (arith, kept_spare (suc keeper) callers slot)
 
 -- A slot is free by the callers where it is by their begins.
 pub spare_use : (callers : List Caller) (slot : Option Version) → is_free_use (use_of callers slot) ≡ is_spare (begins callers) slot
@@ -97,11 +93,7 @@ pub has_row_at : (stamp id : ℕ) (slots : List (Option Version)) (place : ℕ) 
 has_row_at stamp id [] place h = absurd (cc)
 has_row_at stamp id (None ∷ slots) zero h = absurd (cc)
 has_row_at stamp id (Some version ∷ slots) zero h = grind (arith)
-has_row_at stamp id (slot ∷ slots) (suc place) h = more (seen stamp slot) (has_row_at stamp id slots place h)
-  where
-    more : (s : Option Line) → has (visible stamp slots) id ≡ true → has (cons_option s (visible stamp slots)) id ≡ true
-    more None e = e
-    more (Some shown) e = or_right (eqb shown.id id) (has (visible stamp slots) id) e
+has_row_at stamp id (slot ∷ slots) (suc place) h = grind (arith, has_row_at stamp id slots place h)
 
 -- A slot that shows a row holds a version.
 pub row_version : (stamp id : ℕ) (slots : List (Option Version)) (place : ℕ) → row_at stamp id slots place ≡ true → (version : Version) × (slice_get slots place ≡ Some (Some version))

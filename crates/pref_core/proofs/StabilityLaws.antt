@@ -1,7 +1,7 @@
 -- What an open query was shown at its begin stays, though slots are used again.
 use Rattle.pref_core.proofs.Common.{map-set_same, get_or_from_slice_get, ◌≡◌, ℕ, zero, suc, ◌*◌, ◌<◌, ◌≤◌, Bool, true, false, ◌&&◌, cond, List, [], ◌∷◌, map, take, drop, Option}
 use Rattle.pref_core.proofs.Common.{Some, None, is_some, slice_get, slice_set, refl, sym, ap, ap₂, ◌∙◌, subst, arith, ⊎_elim, AllByRecursion, filter_map, cons_option, take-map, drop-map, cases_eq}
-use Rattle.pref_core.proofs.Common.{eq-eqb, Version, Caller, Call, Insert, Update, Delete, Commit, Begin, Finish, Abandon, Op, Line, Entry, seat, with_seat, is_change, ended, begun}
+use Rattle.pref_core.proofs.Common.{eq-eqb, Version, Caller, Call, Op, Line, Entry, seat, with_seat, is_change, ended, begun}
 use Rattle.pref_core.proofs.Common.{succeeds, refusal_of, Contents, seen, visible, begins, stamps, caller_begun, caller_calls, block_of, new_version, close, is_free, filled, refusal_at}
 use Rattle.pref_core.proofs.Common.{begin_after, callers_after, is_next, slots_after, stepped, applied, ran, is_end, ends_query, IsStable}
 use Rattle.pref_core.proofs.VisibleLaws.{seen_close-before, seen_born-before}
@@ -122,14 +122,7 @@ begun_own callers client caller call now at = go (seat client callers) at
 
 -- a call that is let in while a query is open, and doesn't end it, leaves it
 begin_after-kept : (calls : Option ℕ) (call : Call) (now stamp : ℕ) → refusal_of calls true call ≡ None → is_end call ≡ false → begin_after now call (Some stamp) ≡ Some stamp
-begin_after-kept calls (Insert row) now stamp r e = refl
-begin_after-kept calls (Update id row) now stamp r e = refl
-begin_after-kept calls (Delete id) now stamp r e = refl
-begin_after-kept calls (Commit changes) now stamp r e = refl
-begin_after-kept None Begin now stamp r e = absurd (cc)
-begin_after-kept (Some n) Begin now stamp r e = grind (arith)
-begin_after-kept calls Finish now stamp r e = absurd (cc)
-begin_after-kept calls Abandon now stamp r e = absurd (cc)
+begin_after-kept calls call now stamp r e = grind (arith)
 
 kept_at : (contents : Contents) (client stamp : ℕ) (op : Op) → caller_begun contents client ≡ Some stamp → refusal_at contents op.client op.call ≡ None → ends_query client op ≡ false
     → begun_at (seat client (callers_after contents.stamp contents.callers op.client op.call)) ≡ Some stamp

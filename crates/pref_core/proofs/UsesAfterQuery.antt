@@ -84,20 +84,12 @@ callers_long now callers (suc k) call = go (slice_get callers k)
 -- The callers from one on keep nothing for those before, ..
 kept_past : (start keeper : ℕ) (callers : List Caller) (slot : Option Version) → keeper < start → is_kept_by keeper (kept_from start callers slot) ≡ false
 kept_past start keeper [] slot l = refl
-kept_past start keeper (caller ∷ callers) slot l = go (is_needed (option_to_list caller.at_begin) slot) (kept_past (suc start) keeper callers slot (omega arith))
-  where
-    go : (b : Bool) → is_kept_by keeper (kept_from (suc start) callers slot) ≡ false → is_kept_by keeper (cond b (Ended start) (kept_from (suc start) callers slot)) ≡ false
-    go true more = ne_eqb start keeper (λ e. absurd (omega arith))
-    go false more = more
+kept_past start keeper (caller ∷ callers) slot l = grind (arith, kept_past (suc start) keeper callers slot (omega arith))
 
 -- .. and no more callers than there are keep anything.
 kept_few : (start : ℕ) (callers : List Caller) (slot : Option Version) → number_of (kept_from start callers slot) < start + length callers + 2
 kept_few start [] slot = omega arith
-kept_few start (caller ∷ callers) slot = go (is_needed (option_to_list caller.at_begin) slot) (kept_few (suc start) callers slot)
-  where
-    go : (b : Bool) → number_of (kept_from (suc start) callers slot) < suc start + length callers + 2 → number_of (cond b (Ended start) (kept_from (suc start) callers slot)) < start + length (caller ∷ callers) + 2
-    go true more = omega arith
-    go false more = omega arith
+kept_few start (caller ∷ callers) slot = grind (arith, kept_few (suc start) callers slot)
 
 pub use_few : (callers : List Caller) (slot : Option Version) → length callers ≤ 8 → number_of (use_of callers slot) < 10
 use_few callers None few = omega arith

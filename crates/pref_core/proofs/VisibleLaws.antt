@@ -50,11 +50,7 @@ seen_close-after ids next now (Some version) h = grind (arith)
 
 pub visible_close-after : (ids : List ℕ) (next now : ℕ) (slots : List (Option Version)) → AllByRecursion (IsWithin next now) slots → visible (suc now) (map (close ids (suc now)) slots) ≡ without ids (visible now slots)
 visible_close-after ids next now [] h = refl
-visible_close-after ids next now (slot ∷ slots) h = rw (seen_close-after ids next now slot h.0, visible_close-after ids next now slots h.1) (one (seen now slot))
-  where
-    one : (shown : Option Line) → cons_option (kept ids shown) (without ids (visible now slots)) ≡ without ids (cons_option shown (visible now slots))
-    one None = refl
-    one (Some shown) = elim (among ids shown.id) as (λ b. cons_option (cond (not b) (Some shown) None) (without ids (visible now slots)) ≡ cond (not b) (shown ∷ without ids (visible now slots)) (without ids (visible now slots))) [ true ↦ refl | false ↦ refl ]
+visible_close-after ids next now (slot ∷ slots) h = grind (arith, visible_close-after ids next now slots h.1)
 
 -- a new version shows its line from its birth on
 pub seen_born : (made : ℕ) (fresh : Entry) → seen made (new_version made fresh) ≡ Some (record { id = fresh.id; made = made; row = fresh.row })
