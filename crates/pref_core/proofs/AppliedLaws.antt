@@ -19,8 +19,7 @@ AllZip-set R (x ∷ xs) (y ∷ ys) zero a b r h = (r, h.1)
 AllZip-set R (x ∷ xs) (y ∷ ys) (suc k) a b r h = (h.0, AllZip-set R xs ys k a b r h.1)
 
 AllZip-with_seat : {A B : Type 0} (R : A → B → Type 0) (xs : List A) (ys : List B) (client : ℕ) (a : A) (b : B) → R a b → AllZip R xs ys → AllZip R (with_seat client a xs) (with_seat client b ys)
-AllZip-with_seat R xs ys zero a b r h = h
-AllZip-with_seat R xs ys (suc k) a b r h = AllZip-set R xs ys k a b r h
+AllZip-with_seat R xs ys client a b r h = grind (arith, AllZip-set)
 
 -- what a call makes of the client's open query
 begun_counts : (contents : Contents) (state : State) (call : Call) (b : Option ℕ) (f : Option Snapshot) → StandsFor contents state → ShowsBegin contents.slots contents.stamp b f
@@ -48,8 +47,7 @@ counted_stands contents state client call h = record {
 
 -- a change that succeeds misses no row
 pub succeeds-missing : (capacity : ℕ) (begins : Bool) (m : Option ℕ) (size : ℕ) (success_outcome : Outcome) → succeeds (outcome_of capacity begins m size success_outcome) ≡ true → m ≡ None
-succeeds-missing capacity begins None size success_outcome h = refl
-succeeds-missing capacity begins (Some id) size success_outcome h = absurd (cc)
+succeeds-missing capacity begins m size success_outcome h = grind (arith)
 
 -- a change counts a call and leaves the open query
 callers_after-change : (now later : ℕ) (callers : List Caller) (client : ℕ) (call : Call) → is_change call ≡ true → callers_after later callers client call ≡ callers_after now callers client call

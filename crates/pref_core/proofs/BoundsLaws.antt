@@ -1,9 +1,9 @@
 -- No number of a store comes near its type's end.
-use Rattle.pref_core.proofs.Common.{sum_by-set, slice_get_within, get_or_from_slice_get, ◌≡◌, ℕ, zero, suc, ◌+◌, ◌^◌, ◌<◌, ◌≤◌, Bool, true, false, cond, ◌&&◌, List, [], ◌∷◌, map, length}
-use Rattle.pref_core.proofs.Common.{Option, Some, None, is_some, slice_get, slice_set, refl, sym, ap, ◌∙◌, arith, AllByRecursion, sum_by, length-map, length-set, All-from_recursion}
-use Rattle.pref_core.proofs.Common.{sum_by-le, Entry, Version, Caller, Call, Insert, Update, Delete, Commit, Begin, Finish, Abandon, Op, seat, with_seat, is_change, succeeds, ended, begun}
-use Rattle.pref_core.proofs.Common.{added, refusal_of, is_formed, Contents, stamps, new_version, is_free, filled, close, slots_after, begin_after, callers_after, is_next, stepped}
-use Rattle.pref_core.proofs.Common.{grown, IsBounded}
+use Rattle.pref_core.proofs.Common.{sum_by-set, slice_get_within, get_or_from_slice_get, ◌≡◌, ℕ, zero, suc, ◌+◌, ◌^◌, ◌<◌, ◌≤◌, Bool, true, false, cond, ◌&&◌, List, [], ◌∷◌, length}
+use Rattle.pref_core.proofs.Common.{Option, Some, None, is_some, slice_get, slice_set, refl, ap, arith, AllByRecursion, sum_by, length-map, length-set, All-from_recursion}
+use Rattle.pref_core.proofs.Common.{sum_by-le, Entry, Version, Caller, Call, Op, seat, with_seat, is_change, succeeds, begun}
+use Rattle.pref_core.proofs.Common.{added, refusal_of, is_formed, Contents, filled, slots_after, begin_after, callers_after, is_next, stepped}
+use Rattle.pref_core.proofs.Common.{IsBounded}
 use Rattle.pref_core.proofs.AppliedLaws.{IsAllowed, IsAllowed-from}
 use Rattle.pref_core.proofs.ChangesLaws.{commit_length}
 use Rattle.pref_core.proofs.ChangeCounts.{added_by-length}
@@ -29,22 +29,11 @@ AllByRecursion-set P (z ∷ xs) (suc k) y p h = (h.0, AllByRecursion-set P xs k 
 
 -- the slots stay as many
 pub length-filled : (ns : List ℕ) (made : ℕ) (places : List ℕ) (begun : List Entry) (slots after : List (Option Version)) → filled ns made places begun slots ≡ Some after → length after ≡ length slots
-length-filled ns made [] [] slots after e = let same : slots ≡ after = cc in ap length (sym same)
-length-filled ns made (place ∷ places) (entry ∷ rest) slots after e = go (is_free ns slots place) e (length-filled ns made places rest (slice_set slots place (new_version made entry)) after)
-  where
-    go : (b : Bool) → cond b (filled ns made places rest (slice_set slots place (new_version made entry))) None ≡ Some after
-        → (filled ns made places rest (slice_set slots place (new_version made entry)) ≡ Some after → length after ≡ length (slice_set slots place (new_version made entry))) → length after ≡ length slots
-    go false e more = absurd (cc)
-    go true e more = more e ∙ length-set slots place (new_version made entry)
-length-filled ns made [] (entry ∷ rest) slots after e = absurd (cc)
-length-filled ns made (place ∷ places) [] slots after e = absurd (cc)
+length-filled ns made [] begun slots after e = grind (arith, length-set)
+length-filled ns made (place ∷ places) begun slots after e = grind (arith, length-filled ns made places, length-set)
 
 pub length-slots_after : (contents : Contents) (op : Op) (slots : List (Option Version)) → slots_after contents op ≡ Some slots → length slots ≡ length contents.slots
-length-slots_after contents op slots fits = go (is_change op.call && succeeds op.outcome) refl
-  where
-    go : (b : Bool) → (is_change op.call && succeeds op.outcome) ≡ b → length slots ≡ length contents.slots
-    go true e = length-filled (stamps (grown op.call contents)) (suc contents.stamp) op.slots (begun contents.next_id op.call) (map (close (ended op.call) (suc contents.stamp)) contents.slots) slots (rw e at fits) ∙ length-map contents.slots (close (ended op.call) (suc contents.stamp))
-    go false e = length-filled (stamps contents) contents.stamp op.slots [] contents.slots slots (rw e at fits)
+length-slots_after contents op slots fits = grind (arith, length-filled, length-map)
 
 -- what a call that is let in leaves of the callers
 record CountsOne (before after : List Caller) : Type 0 where
@@ -53,12 +42,7 @@ record CountsOne (before after : List Caller) : Type 0 where
   total : sum_by (λ caller. caller.calls) after ≡ suc (sum_by (λ caller. caller.calls) before)
 
 callers_count : (callers : List Caller) (client : ℕ) (new found : Caller) → seat client callers ≡ Some found → found.calls < 2 ^ 56 → new.calls ≡ suc found.calls → CountsOne callers (with_seat client new callers)
-callers_count callers zero new found at few same = absurd (cc)
-callers_count callers (suc k) new found at few same = record {
-  long = length-set callers k new;
-  calls = λ h. AllByRecursion-set (λ caller. caller.calls ≤ 2 ^ 56) callers k new (omega arith) h;
-  total = sum_by-set_suc (λ caller. caller.calls) callers k found new at same;
-}
+callers_count callers client new found at few same = grind (arith, length-set, AllByRecursion-set, sum_by-set_suc)
 
 -- a caller that is let in has made fewer calls than may be made
 pub few_calls : (calls : ℕ) (b : Bool) (call : Call) → refusal_of (Some calls) b call ≡ None → calls < 2 ^ 56
@@ -75,13 +59,7 @@ callers_after-counts contents op allowed = go (seat op.client contents.callers) 
 
 -- a call adds no more rows than a commit may have changes
 pub added-small : (call : Call) → is_formed call ≡ true → added call ≤ 8
-added-small (Insert row) f = omega arith
-added-small (Update id row) f = omega arith
-added-small (Delete id) f = omega arith
-added-small (Commit changes) f = let long = added_by-length changes in let few = commit_length changes f in omega arith
-added-small Begin f = omega arith
-added-small Finish f = omega arith
-added-small Abandon f = omega arith
+added-small call f = grind (arith, added_by-length, commit_length)
 
 pub IsBounded-stepped : (contents : Contents) (op : Op) (slots : List (Option Version)) → IsBounded contents → is_next contents op ≡ true → slots_after contents op ≡ Some slots → IsBounded (stepped contents op slots)
 IsBounded-stepped contents op slots h next fits =

@@ -1,7 +1,7 @@
 -- The needed versions are within the capacity after each legal history.
-use Rattle.pref_core.proofs.Common.{◌≡◌, ℕ, zero, suc, ◌≤◌, Bool, true, false, ◌||◌, cond, List, [], ◌∷◌, ◌++◌, length, Option, Some, None, slice_get, slice_set, ⊎_elim, refl, sym, ap, ◌∙◌, arith}
-use Rattle.pref_core.proofs.Common.{or_cases, or_left, or_right, count_by-le-length, Call, Insert, Update, Delete, Commit, Begin, Finish, Abandon, Line, Key, holds_key, keys, State, Client, Snapshot}
-use Rattle.pref_core.proofs.Common.{found_tables, needed, is_change, missing, ended, success_outcome, outcome, succeeds, begins_row, committed, begun_after, counted, after, outcome_of, is_needed}
+use Rattle.pref_core.proofs.Common.{◌≡◌, ℕ, zero, suc, ◌≤◌, Bool, true, false, ◌||◌, cond, List, [], ◌∷◌, ◌++◌, length, Option, Some, None, slice_get, slice_set, ⊎_elim, refl, sym, ◌∙◌, arith}
+use Rattle.pref_core.proofs.Common.{or_cases, or_left, or_right, count_by-le-length, Call, Line, Key, holds_key, keys, State, Client, Snapshot}
+use Rattle.pref_core.proofs.Common.{found_tables, needed, is_change, outcome, succeeds, committed, counted, after, is_needed}
 use Rattle.pref_core.proofs.Common.{stamps, NeededFits, NeededFitsSlots}
 use Rattle.pref_core.proofs.NeededCounts.{length-needed, holds_key-different, AreDifferent-different, holds_key-keys-append}
 use Rattle.pref_core.proofs.NeededKeys.{fewer, ends_need_no_more}
@@ -16,20 +16,13 @@ found_of (Some found) = found.table
 
 cons_found : (key : Key) (client : Client) (clients : List Client) → holds key (found_tables (client ∷ clients)) ≡ (holds key (found_of client.at_begin) || holds key (found_tables clients))
 unfolding holds found_of
-cons_found key client clients = go client.at_begin
-  where
-    go : (b : Option Snapshot) → holds_key (keys (elim b as (λ x. List Line) [ None ↦ found_tables clients | Some found ↦ found.table ++ found_tables clients ])) key ≡ (holds_key (keys (found_of b)) key || holds_key (keys (found_tables clients)) key)
-    go None = refl
-    go (Some found) = holds_key-keys-append key found.table (found_tables clients)
+cons_found key client clients = grind (arith, found_of, holds_key-keys-append)
 
 -- what open queries found, once a client is another
 found_set : (key : Key) (clients : List Client) (k : ℕ) (new : Client) → holds key (found_tables (slice_set clients k new)) ≡ true → (holds key (found_of new.at_begin) || holds key (found_tables clients)) ≡ true
 unfolding holds
 found_set key [] k new h = absurd (cc)
-found_set key (client ∷ clients) zero new h =
-    ⊎_elim (or_left _ _)
-    (λ (rest : holds key (found_tables clients) ≡ true). or_right (holds key (found_of new.at_begin)) _ (cons_found key client clients ∙ or_right (holds key (found_of client.at_begin)) _ rest))
-    (or_cases _ _ (sym (cons_found key new clients) ∙ h))
+found_set key (client ∷ clients) zero new h = grind (arith, holds, found_of, cons_found)
 found_set key (client ∷ clients) (suc k) new h =
     ⊎_elim (λ (here : holds key (found_of client.at_begin) ≡ true). or_right (holds key (found_of new.at_begin)) _ (cons_found key client clients ∙ or_left _ (holds key (found_tables clients)) here))
     (λ (there : holds key (found_tables (slice_set clients k new)) ≡ true).
@@ -40,37 +33,13 @@ found_set key (client ∷ clients) (suc k) new h =
 
 found_has : (key : Key) (clients : List Client) (k : ℕ) (who : Client) → slice_get clients k ≡ Some who → holds key (found_of who.at_begin) ≡ true → holds key (found_tables clients) ≡ true
 found_has key [] k who at h = absurd (cc)
-found_has key (client ∷ clients) zero who at h =
-    let same : client ≡ who = cc in
-    cons_found key client clients ∙ or_left _ (holds key (found_tables clients)) (ap (λ (c : Client). holds key (found_of c.at_begin)) same ∙ h)
+found_has key (client ∷ clients) zero who at h = grind (arith, cons_found, holds, found_of)
 found_has key (client ∷ clients) (suc k) who at h = cons_found key client clients ∙ or_right (holds key (found_of client.at_begin)) _ (found_has key clients k who at h)
 
 -- what open queries found after a call: no more than before, and the table where the call is a begin
 found_counted : (key : Key) (table : List Line) (state : State) (client : ℕ) (call : Call) → (is_change call ≡ false → table ≡ state.table) → holds key (found_tables (counted state client call)) ≡ true → (holds key table || holds key (found_tables state.clients)) ≡ true
 unfolding holds found_of
-found_counted key table state client call quiet = go client
-  where
-    kept : (who : Client) (call : Call) → (is_change call ≡ false → table ≡ state.table) → (holds key (found_of who.at_begin) ≡ true → holds key (found_tables state.clients) ≡ true)
-        → holds key (found_of (begun_after state call who.at_begin)) ≡ true → (holds key table || holds key (found_tables state.clients)) ≡ true
-    kept who (Insert row) q was h = or_right (holds key table) _ (was h)
-    kept who (Update id row) q was h = or_right (holds key table) _ (was h)
-    kept who (Delete id) q was h = or_right (holds key table) _ (was h)
-    kept who (Commit changes) q was h = or_right (holds key table) _ (was h)
-    kept who Begin q was h = or_left _ (holds key (found_tables state.clients)) (ap (holds key) (q refl) ∙ h)
-    kept who Finish q was h = absurd (cc)
-    kept who Abandon q was h = absurd (cc)
-
-    at : (k : ℕ) (o : Option Client) → slice_get state.clients k ≡ o
-        → holds key (found_tables (elim o as (λ x. List Client) [ None ↦ state.clients | Some found ↦ slice_set state.clients k (record { calls = suc found.calls; at_begin = begun_after state call found.at_begin }) ])) ≡ true
-        → (holds key table || holds key (found_tables state.clients)) ≡ true
-    at k None e h = or_right (holds key table) _ h
-    at k (Some who) e h =
-        ⊎_elim (kept who call quiet (found_has key state.clients k who e)) (or_right (holds key table) _)
-        (or_cases _ _ (found_set key state.clients k (record { calls = suc who.calls; at_begin = begun_after state call who.at_begin }) h))
-
-    go : (client : ℕ) → holds key (found_tables (counted state client call)) ≡ true → (holds key table || holds key (found_tables state.clients)) ≡ true
-    go zero h = or_right (holds key table) _ h
-    go (suc k) h = at k (slice_get state.clients k) refl h
+found_counted key table state client call quiet = grind (arith, holds, found_of, found_has, found_set)
 
 -- with these clients no more is needed
 needed_counted : (table : List Line) (state : State) (client : ℕ) (call : Call) (next_id commits : ℕ) → (is_change call ≡ false → table ≡ state.table)
@@ -90,12 +59,7 @@ noted_fits capacity state client call fits = let fewer_now = needed_counted stat
 
 -- a change that succeeds leaves what is within the capacity: where it begins no row no more is needed
 change_fits : (capacity : ℕ) (state : State) (call : Call) → is_change call ≡ true → succeeds (outcome capacity state call) ≡ true → length (needed state) ≤ capacity → length (needed (committed call state)) ≤ capacity
-change_fits capacity state call c s fits = go (begins_row call) refl (rw c at s)
-  where
-    go : (b : Bool) → begins_row call ≡ b → succeeds (outcome_of capacity b (missing (ended call) state.table) (length (needed (committed call state))) (success_outcome state.next_id call)) ≡ true
-        → length (needed (committed call state)) ≤ capacity
-    go true b s = succeeds-fits capacity (missing (ended call) state.table) _ (success_outcome state.next_id call) s
-    go false b s = let fewer_now = ends_need_no_more state call b in omega arith
+change_fits capacity state call c s fits = grind (arith, succeeds-fits, ends_need_no_more)
 
 after_fits : (capacity : ℕ) (state : State) (client : ℕ) (call : Call) → length (needed state) ≤ capacity → length (needed (after capacity state client call)) ≤ capacity
 after_fits capacity state client call fits = go (is_change call) refl (succeeds (outcome capacity state call)) refl

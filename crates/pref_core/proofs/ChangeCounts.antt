@@ -1,5 +1,5 @@
 -- How many changes a call makes, and how many rows they begin and add, one change after the other.
-use Rattle.pref_core.proofs.Common.{◌≡◌, ℕ, zero, suc, ◌+◌, ◌<◌, ◌≤◌, Bool, true, false, cond, List, [], ◌∷◌, ◌++◌, length, take, drop, get_or, slice_get, add-one, Some, refl, sym, ap, ◌∙◌, arith}
+use Rattle.pref_core.proofs.Common.{◌≡◌, ℕ, zero, suc, ◌+◌, ◌<◌, ◌≤◌, Bool, true, cond, List, [], ◌∷◌, ◌++◌, length, take, drop, get_or, slice_get, add-one, Some, refl, sym, ap, ◌∙◌, arith}
 use Rattle.pref_core.proofs.Common.{nat_lt, drop-cons, lt-ltb, take-append-drop, Change, Add, Set, Remove, ended_by, begun_by, added_by, begins_any, among}
 use Rattle.pref_core.proofs.ChangesLaws.{among_inside, ended_by-append, drop_at}
 
@@ -15,12 +15,8 @@ drop_inside (y ∷ xs) (suc at) x rest e = let more = drop_inside xs at x rest e
 
 -- The ids that the first changes end, and the next one.
 pub ended_first : (at : ℕ) (changes : List Change) → length (ended_by (take at changes)) ≤ at
-ended_first zero [] = omega arith
-ended_first zero (change ∷ rest) = omega arith
-ended_first (suc at) [] = omega arith
-ended_first (suc at) (Add row ∷ rest) = let more = ended_first at rest in omega arith
-ended_first (suc at) (Set id row ∷ rest) = let more = ended_first at rest in omega arith
-ended_first (suc at) (Remove id ∷ rest) = let more = ended_first at rest in omega arith
+ended_first zero changes = grind (arith)
+ended_first (suc at) changes = grind (arith, ended_first at)
 
 pub ended_next : (changes : List Change) (at : ℕ) (change : Change) (id : ℕ) → slice_get changes at ≡ Some change → ended_by (change ∷ []) ≡ id ∷ [] → ended_by changes ≡ ended_by (take at changes) ++ id ∷ ended_by (drop (at + 1) changes)
 ended_next changes at change id e named =
@@ -39,12 +35,7 @@ begun_alike m n (Set id row ∷ rest) = ap suc (begun_alike m n rest)
 begun_alike m n (Remove id ∷ rest) = begun_alike m n rest
 
 pub one_begins : (next : ℕ) (change : Change) (rest : List Change) (begins : Bool) → begins_any (change ∷ []) ≡ begins → length (begun_by next (change ∷ rest)) ≡ cond begins (suc (length (begun_by next rest))) (length (begun_by next rest))
-one_begins next (Add row) rest true e = ap suc (begun_alike (suc next) next rest)
-one_begins next (Add row) rest false e = absurd (cc)
-one_begins next (Set id row) rest true e = refl
-one_begins next (Set id row) rest false e = absurd (cc)
-one_begins next (Remove id) rest true e = absurd (cc)
-one_begins next (Remove id) rest false e = refl
+one_begins next change rest begins e = grind (arith, begun_alike)
 
 -- changes begin a row where the rows that they begin are more than none
 pub begins_some : (next : ℕ) (changes : List Change) → nat_lt 0 (length (begun_by next changes)) ≡ begins_any changes

@@ -1,13 +1,12 @@
 -- The changes of a commit: which ids they name, and that the rows that they begin have ids of their own.
 use Rattle.pref_core.proofs.Common.{◌≡◌, ℕ, zero, suc, ◌+◌, ◌<◌, ◌≤◌, Bool, true, false, not, ◌||◌, cond, eqb, List, [], ◌∷◌, ◌++◌, map, length, take, drop, add-one, slice_get, Option, Some, None}
-use Rattle.pref_core.proofs.Common.{is_some, refl, sym, ap, ◌∙◌, subst, arith, ⊎_elim, ◌⊎◌, inl, inr, append-nil, take_more, slice_get_within, get_or_from_slice_get, and_parts}
-use Rattle.pref_core.proofs.Common.{or_parts, or_cases, or_right, eqb-true, eq-eqb, Change, Add, Set, Remove, Call, Insert, Update, Delete, Commit, Begin, Finish, Abandon, ended_by}
-use Rattle.pref_core.proofs.Common.{begun_by, added_by, twice_from, twice, is_change_count, is_commit, Line, among, has, missing, ended, is_formed, AreFresh, Entry, false_from_ne_true}
+use Rattle.pref_core.proofs.Common.{is_some, refl, sym, ap, ◌∙◌, subst, arith, ⊎_elim, ◌⊎◌, inl, inr, append-nil, take_more, slice_get_within, get_or_from_slice_get}
+use Rattle.pref_core.proofs.Common.{or_cases, or_right, eqb-true, eq-eqb, Change, Add, Set, Remove, Call, ended_by}
+use Rattle.pref_core.proofs.Common.{begun_by, added_by, twice_from, is_commit, Line, among, has, missing, ended, is_formed, AreFresh, Entry}
 use Rattle.pref_core.proofs.Common.{list_any-append}
 
 none_is : {X : Type 0} (o : Option X) → not (is_some o) ≡ true → o ≡ None
-none_is None e = refl
-none_is (Some x) e = absurd (cc)
+none_is o e = grind (arith)
 
 pub commit_length : (commit : List Change) → is_commit commit ≡ true → length commit ≤ 8
 commit_length commit h = grind (arith)
@@ -39,13 +38,7 @@ record Names (earlier : List ℕ) (ids : List ℕ) : Type 0 where
   others : (id : ℕ) → among ids id ≡ true → among earlier id ≡ false
 
 names_more : (earlier : List ℕ) (id : ℕ) (ids : List ℕ) → among earlier id ≡ false → Names (earlier ++ id ∷ []) ids → Names earlier (id ∷ ids)
-names_more earlier id ids new h = record {
-  apart = (false_from_ne_true (among ids id) (λ there. let both : true ≡ false = sym (among_append earlier (id ∷ []) id ∙ or_right (among earlier id) (among (id ∷ []) id) (among_first id [])) ∙ h.others id there in cc), h.apart);
-  others = λ other there. ⊎_elim
-      (λ (e : eqb id other ≡ true). let same : id ≡ other = eqb-true id other e in subst (λ n. among earlier n ≡ false) same new)
-      (λ (e : among ids other ≡ true). (or_parts (among earlier other) (among (id ∷ []) other) (sym (among_append earlier (id ∷ []) other) ∙ h.others other e)).0)
-      (or_cases (eqb id other) (among ids other) there);
-}
+names_more earlier id ids new h = grind (arith, among_append, among_first)
 
 once_named : (earlier : List Change) (change : Change) (id : ℕ) (rest : List Change) → ended_by (change ∷ []) ≡ id ∷ [] → cond (among (ended_by earlier) id) (Some (suc (length earlier))) (twice_from (earlier ++ change ∷ []) rest) ≡ None
     → (twice_from (earlier ++ change ∷ []) rest ≡ None → Names (ended_by (earlier ++ change ∷ [])) (ended_by rest)) → Names (ended_by earlier) (id ∷ ended_by rest)
@@ -62,25 +55,12 @@ once earlier (Set id row ∷ rest) h = once_named earlier (Set id row) id rest r
 once earlier (Remove id ∷ rest) h = once_named earlier (Remove id) id rest refl h (once (earlier ++ Remove id ∷ []) rest)
 
 pub formed_apart : (call : Call) → is_formed call ≡ true → AreApart (ended call)
-formed_apart (Insert row) h = tt
-formed_apart (Update id row) h = (refl, tt)
-formed_apart (Delete id) h = (refl, tt)
-formed_apart (Commit changes) h = (once [] changes (none_is (twice changes) (and_parts (is_change_count changes) (not (is_some (twice changes))) h).1)).apart
-formed_apart Begin h = tt
-formed_apart Finish h = tt
-formed_apart Abandon h = tt
+formed_apart call h = grind (arith, once, none_is)
 
 -- where none is missing each is there
 pub found_all : (ids : List ℕ) (table : List Line) → missing ids table ≡ None → (id : ℕ) → among ids id ≡ true → has table id ≡ true
-found_all [] table m id a = absurd (cc)
-found_all (first ∷ ids) table m id a = go (has table first) refl m (λ n. found_all ids table n id)
-  where
-    go : (b : Bool) → has table first ≡ b → cond (not b) (Some first) (missing ids table) ≡ None → (missing ids table ≡ None → among ids id ≡ true → has table id ≡ true) → has table id ≡ true
-    go false h m more = absurd (cc)
-    go true h m more = ⊎_elim
-        (λ (e : eqb first id ≡ true). let same : first ≡ id = eqb-true first id e in subst (λ n. has table n ≡ true) same h)
-        (more m)
-        (or_cases (eqb first id) (among ids id) a)
+found_all [] table m id a = grind (arith)
+found_all (first ∷ ids) table m id a = grind (arith, found_all ids table)
 
 abbrev pub ids_of : List Entry → List ℕ
 ids_of entries = map (λ entry. entry.id) entries
@@ -103,27 +83,9 @@ pub begun_fresh : (start next limit : ℕ) (table : List Line) (changes : List C
     → ((id : ℕ) → among (ended_by changes) id ≡ true → (id < start) × (has table id ≡ false)) → ((id : ℕ) → start ≤ id → has table id ≡ false)
     → AreApart (ended_by changes) → AreFresh limit table (begun_by next changes)
 begun_fresh start next limit table [] l few low high apart = tt
-begun_fresh start next limit table (Add row ∷ rest) l few low high apart = (
-  omega arith,
-  high next l,
-  false_from_ne_true (among (ids_of (begun_by (suc next) rest)) next) (λ there. ⊎_elim
-      (λ (e : among (ended_by rest) next ≡ true). let below : next < start = (low next e).0 in absurd (omega arith))
-      (λ (e : suc next ≤ next). absurd (omega arith))
-      (begun_ids (suc next) rest next there)),
-  begun_fresh start (suc next) limit table rest (omega arith) (omega arith) low high apart,
-)
-begun_fresh start next limit table (Set id row ∷ rest) l few low high apart =
-    let here = low id (among_first id (ended_by rest)) in (
-      (let below : id < start = here.0 in omega arith),
-      here.1,
-      false_from_ne_true (among (ids_of (begun_by next rest)) id) (λ there. ⊎_elim
-          (λ (e : among (ended_by rest) id ≡ true). let both : true ≡ false = sym e ∙ apart.0 in absurd (cc))
-          (λ (e : next ≤ id). let below : id < start = here.0 in absurd (omega arith))
-          (begun_ids next rest id there)),
-      begun_fresh start next limit table rest l few (λ other there. low other (or_right (eqb id other) (among (ended_by rest) other) there)) high apart.1,
-    )
-begun_fresh start next limit table (Remove id ∷ rest) l few low high apart =
-    begun_fresh start next limit table rest l few (λ other there. low other (or_right (eqb id other) (among (ended_by rest) other) there)) high apart.1
+begun_fresh start next limit table (Add row ∷ rest) l few low high apart = grind (arith, begun_fresh start (suc next) limit table rest (omega arith) (omega arith) low high apart, begun_ids)
+begun_fresh start next limit table (Set id row ∷ rest) l few low high apart = grind (arith, begun_fresh start next limit table rest l few (λ other there. low other (or_right (eqb id other) (among (ended_by rest) other) there)) high apart.1, among_first, begun_ids)
+begun_fresh start next limit table (Remove id ∷ rest) l few low high apart = grind (arith, begun_fresh start next limit table rest l few (λ other there. low other (or_right (eqb id other) (among (ended_by rest) other) there)) high apart.1)
 
 -- The changes up to a place, and those from it on.
 pub drop_at : {X : Type 0} (xs : List X) (at : ℕ) (x : X) → slice_get xs at ≡ Some x → drop at xs ≡ x ∷ drop (at + 1) xs

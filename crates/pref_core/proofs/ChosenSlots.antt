@@ -1,7 +1,7 @@
 -- The slots of the rows that a call begins, chosen one after the other.
-use Rattle.pref_core.proofs.Common.{◌≡◌, ℕ, suc, ◌+◌, ◌<◌, ◌≤◌, true, false, ◌&&◌, cond, List, [], ◌∷◌, ◌++◌, map, length, Option, Some, None, Result, Ok, Err, is_some, slice_set, refl, sym, ap}
+use Rattle.pref_core.proofs.Common.{◌≡◌, ℕ, suc, ◌+◌, ◌<◌, ◌≤◌, true, false, ◌&&◌, List, [], ◌∷◌, ◌++◌, map, length, Option, Some, None, Result, Ok, is_some, refl, sym, ap}
 use Rattle.pref_core.proofs.Common.{◌∙◌, subst, arith, count_by, length-map, length-append, append-nil, append_assoc, Version, Call, Op, Entry, Change, Add, Set, Remove, begun_by}
-use Rattle.pref_core.proofs.Common.{begins_any, among, changes_of, ended, begun, begins_row, is_change, missing, success_outcome, succeeds, Contents, begins, new_version, visible, close, filled}
+use Rattle.pref_core.proofs.Common.{begins_any, among, changes_of, ended, begun, begins_row, is_change, missing, success_outcome, succeeds, Contents, begins, visible, close, filled}
 use Rattle.pref_core.proofs.Common.{placed, used, grown, outcome_at, outcome_of, is_free_use, IsFreed, FindsFreed, is_open, uses_of}
 use Rattle.pref_core.proofs.ChangesLaws.{begun_few}
 use Rattle.pref_core.proofs.PlanLaws.{succeeds-fits}
@@ -26,8 +26,7 @@ freed_less contents ids freed h = let all = h.counted in omega arith
 
 -- A call that misses a row does nothing.
 pub missing_quiet : (contents : Contents) (op : Op) (freed : Result (List ℕ) ℕ) → FindsFreed contents (ended op.call) freed → ((places : List ℕ) → freed ≡ Ok places → ⊥) → op.outcome ≡ outcome_at contents op.call → (is_change op.call && succeeds op.outcome) ≡ false
-missing_quiet contents op (Ok places) finds not returned = absurd (not places refl)
-missing_quiet contents op (Err id) finds not returned = grind (arith)
+missing_quiet contents op freed finds not returned = grind (arith)
 
 pub outcome_fits : (contents : Contents) (call : Call) (size : ℕ) → is_change call ≡ true → missing (ended call) (visible contents.stamp contents.slots) ≡ None → begins_row call ≡ true → size ≡ used (grown call contents) → size ≤ length contents.slots → success_outcome contents.next_id call ≡ outcome_at contents call
 outcome_fits contents call size c none row is small = grind (arith)
@@ -53,10 +52,8 @@ pub none_chosen : (contents : Contents) (call : Call) → ChosenUpTo contents ca
 none_chosen contents call = record { done = []; all = refl; now = closed_slots contents (ended call); fills = refl }
 
 pub filled_long : (ns : List ℕ) (made : ℕ) (places : List ℕ) (begun : List Entry) (slots after : List (Option Version)) → filled ns made places begun slots ≡ Some after → length places ≡ length begun
-filled_long ns made [] [] slots after e = refl
-filled_long ns made [] (fresh ∷ rest) slots after e = absurd (cc)
-filled_long ns made (place ∷ places) [] slots after e = absurd (cc)
-filled_long ns made (place ∷ places) (fresh ∷ rest) slots after e = grind (arith, filled_long ns made places rest (slice_set slots place (new_version made fresh)) after)
+filled_long ns made [] begun slots after e = grind (arith)
+filled_long ns made (place ∷ places) begun slots after e = grind (arith, filled_long ns made places)
 
 -- there is room for the number of one more
 pub chosen_few : (contents : Contents) (call : Call) (fresh : Entry) (rest : List Entry) (chosen : List ℕ) → length (changes_of call) ≤ 8 → ChosenUpTo contents call (fresh ∷ rest) chosen → length chosen < 8
@@ -95,6 +92,4 @@ one_left contents call fresh rest chosen freed finds c ok taken h =
 
 -- all of them
 pub all_chosen : (contents : Contents) (call : Call) (chosen : List ℕ) → is_change call ≡ true → succeeds (outcome_at contents call) ≡ true → ChosenUpTo contents call [] chosen → is_some (placed contents call chosen (outcome_at contents call)) ≡ true
-all_chosen contents call chosen c ok h =
-    ap (λ b. is_some (cond b (filled (stamps_next contents) (suc contents.stamp) chosen (begun contents.next_id call) (closed_slots contents (ended call))) (filled (contents.stamp ∷ begins contents.callers) contents.stamp chosen [] contents.slots))) (ap (λ b. b && succeeds (outcome_at contents call)) c ∙ ok)
-    ∙ ap (λ rows. is_some (filled (stamps_next contents) (suc contents.stamp) chosen rows (closed_slots contents (ended call)))) (h.all ∙ append-nil h.done) ∙ ap is_some h.fills
+all_chosen contents call chosen c ok h = grind (arith, append-nil)

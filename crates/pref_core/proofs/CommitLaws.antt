@@ -1,6 +1,6 @@
 -- After a commit the slots stand for the state after it: first as if there were always an empty slot, then in slots that are used again.
-use Rattle.pref_core.proofs.Common.{◌≡◌, ℕ, suc, ◌+◌, ◌<◌, ◌≤◌, true, false, not, ◌||◌, ◌&&◌, cond, eqb, List, [], ◌∷◌, ◌++◌, map, Option, None, refl, sym, ap, ◌∙◌, subst, arith, AllByRecursion}
-use Rattle.pref_core.proofs.Common.{AllZip, IsPermutation, list_any-IsPermutation, IsPermutation-trans, IsPermutation-sym, IsPermutation-cons, IsPermutation-middle, or_parts, or_from, Version, Call}
+use Rattle.pref_core.proofs.Common.{◌≡◌, ℕ, suc, ◌+◌, ◌<◌, ◌≤◌, true, false, ◌||◌, eqb, List, [], ◌∷◌, ◌++◌, map, Option, None, refl, sym, ap, ◌∙◌, subst, arith, AllByRecursion}
+use Rattle.pref_core.proofs.Common.{AllZip, IsPermutation, list_any-IsPermutation, IsPermutation-trans, IsPermutation-sym, IsPermutation-cons, IsPermutation-middle, Version, Call}
 use Rattle.pref_core.proofs.Common.{Caller, Line, among, put, without, with_rows, has, holds_key, IsOrdered, Entry, State, Client, committed, is_change, is_formed, changes_of, ended, begun, added}
 use Rattle.pref_core.proofs.Common.{missing, Contents, StandsFor, StandsForClient, Shows, AreDifferent, IsWithin, visible, new_version, close, grown, AreFresh}
 use Rattle.pref_core.proofs.TableLaws.{has-without, has_below, has_visible-new, IsOrdered-put}
@@ -48,10 +48,8 @@ has_put shown table id = sym (list_any-IsPermutation (λ line. eqb line.id id) (
 
 -- what stays fresh once another row is there
 fresh_put : (limit : ℕ) (shown : Line) (table : List Line) (begun : List Entry) → among (ids_of begun) shown.id ≡ false → AreFresh limit table begun → AreFresh limit (put shown table) begun
-fresh_put limit shown table [] a h = tt
-fresh_put limit shown table (fresh ∷ rest) a h =
-    let parts = or_parts (eqb fresh.id shown.id) (among (ids_of rest) shown.id) a in
-    (h.0, has_put shown table fresh.id ∙ or_from (eqb shown.id fresh.id) (has table fresh.id) (eqb_comm shown.id fresh.id ∙ parts.0) h.1, h.2, fresh_put limit shown table rest parts.1 h.3)
+fresh_put limit shown table [] a h = grind (arith, ids_of, has_put, eqb_comm)
+fresh_put limit shown table (fresh ∷ rest) a h = grind (arith, fresh_put limit shown table rest, ids_of, has_put, eqb_comm)
 
 rows_ordered : (limit made : ℕ) (begun : List Entry) (table : List Line) → AreFresh limit table begun → IsOrdered table → IsOrdered (with_rows made begun table)
 rows_ordered limit made [] table f h = h
@@ -63,10 +61,8 @@ clients_rows now (fresh ∷ rest) slots callers clients h = clients-new_version 
 
 -- the keys of the new versions are new, and different
 key_born : (made id : ℕ) (begun : List Entry) (slots : List (Option Version)) → among (ids_of begun) id ≡ false → holds_key (slot_keys slots) (record { id = id; made = made }) ≡ false → holds_key (slot_keys (map (new_version made) begun ++ slots)) (record { id = id; made = made }) ≡ false
-key_born made id [] slots a h = h
-key_born made id (fresh ∷ rest) slots a h =
-    let parts = or_parts (eqb fresh.id id) (among (ids_of rest) id) a in
-    or_from _ _ (ap (λ b. b && eqb made made) (eqb_comm id fresh.id ∙ parts.0)) (key_born made id rest slots parts.1 h)
+key_born made id [] slots a h = grind (arith)
+key_born made id (fresh ∷ rest) slots a h = grind (arith, key_born made id rest slots)
 
 separate_rows : (limit next now : ℕ) (begun : List Entry) (table : List Line) (slots : List (Option Version)) → AreFresh limit table begun → ((id : ℕ) → holds_key (slot_keys slots) (record { id = id; made = suc now }) ≡ false) → AreDifferent (slot_keys slots) → AreDifferent (slot_keys (map (new_version (suc now)) begun ++ slots))
 separate_rows limit next now [] table slots f new h = h
@@ -106,11 +102,8 @@ pub id_below : (contents : Contents) (state : State) (id : ℕ) → StandsFor co
 id_below contents state id h is = has_below contents.next_id contents.stamp contents.stamp contents.slots id h.within (has_visible contents.slots contents.stamp state.table h.table id ∙ is)
 
 has-fewer : (ids : List ℕ) (table : List Line) (id : ℕ) → has table id ≡ false → has (without ids table) id ≡ false
-has-fewer ids [] id h = refl
-has-fewer ids (next ∷ rest) id h =
-    let parts = or_parts (eqb next.id id) (has rest id) h in
-    let more = has-fewer ids rest id parts.1 in
-    elim (among ids next.id) as (λ b. has (cond (not b) (next ∷ without ids rest) (without ids rest)) id ≡ false) [ true ↦ more | false ↦ or_from _ _ parts.0 more ]
+has-fewer ids [] id h = grind (arith)
+has-fewer ids (next ∷ rest) id h = grind (arith, has-fewer ids rest id)
 
 -- as if there were always empty slots
 pub grown_stands : (contents : Contents) (state : State) (call : Call) → is_change call ≡ true → is_formed call ≡ true → missing (ended call) state.table ≡ None → StandsFor contents state → StandsFor (grown call contents) (committed call state)

@@ -14,8 +14,7 @@ use Rattle.pref_core.proofs.ScanReplies.{IsAsking-from, IsIdle-from, nobody_ther
 -- A call that ends a query is refused where there is none.
 ends_refused : (system : System) (member : Member) (fault : CoreFault) (right : Open → Step) (call : Call) → refusal_by_query true call ≡ None → refusal_by_query false call ≡ Some NoQuery → (q : Option Open) → refusal_of (Some member.calls) (is_some (option_map snapshot q)) call ≡ Some fault
     → numbered member system (elim q as (λ x. Step) [ None ↦ refused NoQuery system | Some query ↦ right query ]) ≡ refused fault system
-ends_refused system member fault right call t f None e = grind (arith)
-ends_refused system member fault right call t f (Some query) e = grind (arith)
+ends_refused system member fault right call t f q e = grind (arith)
 
 pub abandon_not : (old : Running) (client : ℕ) (fault : CoreFault) → PlansAlways old.contents client Abandon (Err fault) → Does old client ActAbandon (Err fault) old
 abandon_not old client fault plans = refused_does old client ActAbandon Abandon fault refuses plans

@@ -1,5 +1,5 @@
 -- The rows that a call begins, in their slots, one after the other.
-use Rattle.pref_core.proofs.Common.{◌≡◌, ℕ, suc, ◌+◌, ◌^◌, ◌<◌, Bool, true, false, not, ◌&&◌, ◌||◌, cond, eqb, nat_eq, List, [], ◌∷◌, ◌++◌, map, length, drop, set, Option, Some, None, is_some}
+use Rattle.pref_core.proofs.Common.{◌≡◌, ℕ, suc, ◌+◌, ◌^◌, ◌<◌, Bool, true, false, not, ◌&&◌, cond, eqb, nat_eq, List, [], ◌∷◌, ◌++◌, map, length, drop, set, Option, Some, None, is_some}
 use Rattle.pref_core.proofs.Common.{slice_get, get_or, unwrap_or, refl, sym, ap, ap₂, ◌∙◌, subst, arith, ⊎_elim, AllByRecursion, length-map, map-set, set-set, map-set_same, option_map}
 use Rattle.pref_core.proofs.Common.{slice_get_within, slice_get-get_or, slice_get-map, le-leb, eqb-true, ne_eqb, cases_eq, or_parts, and_parts, true≢false, Version, SlotUse, Free, Ended, Live, Entry}
 use Rattle.pref_core.proofs.Common.{among, has, Op, Call, Update, Outcome, State, ended, begun, begins_row, added, missing, success_outcome, is_change, succeeds, Contents, StandsFor, IsWithin}
@@ -41,10 +41,8 @@ pub fills_free : (made : ℕ) (ns : List ℕ) (slots : List (Option Version)) (p
 fills_free made ns slots places begun long = sym (fills_where made ns [] [] slots slots places begun refl long)
 
 pub fills_not : (ns : List ℕ) (made : ℕ) (places : List ℕ) (begun : List Entry) (slots : List (Option Version)) → (length places ≡ length begun → ⊥) → is_some (filled ns made places begun slots) ≡ false
-fills_not ns made [] [] slots n = absurd (n refl)
-fills_not ns made [] (fresh ∷ rest) slots n = refl
-fills_not ns made (place ∷ places) [] slots n = refl
-fills_not ns made (place ∷ places) (fresh ∷ rest) slots n = grind (arith, fills_not ns made places rest (set slots place (new_version made fresh)) (λ e. n (ap suc e)))
+fills_not ns made [] begun slots n = grind (arith)
+fills_not ns made (place ∷ places) begun slots n = grind (arith, fills_not ns made places)
 
 -- A free slot's slot_use is free, and it shows no row.
 pub free_there : (contents : Contents) (uses : List SlotUse) (links : List ℕ) (place : ℕ) → IsTracked contents uses links → is_free (stamps contents) contents.slots place ≡ true → slice_get uses place ≡ Some Free
@@ -57,10 +55,7 @@ free_there contents uses links place h f = go (slice_get uses place) refl (ap (�
     go (Some Live) e is = absurd (cc)
 
 pub free_inside : (contents : Contents) (uses : List SlotUse) (links : List ℕ) (place : ℕ) → IsTracked contents uses links → is_free (stamps contents) contents.slots place ≡ true → place < length contents.slots
-free_inside contents uses links place h f =
-    let inside = slice_get_within uses place Free (free_there contents uses links place h f) in
-    let long = ap length h.listed ∙ length-map contents.slots (use_of contents.callers) in
-    omega arith
+free_inside contents uses links place h f = grind (arith, slice_get_within, free_there, length-map)
 
 -- The ids that the slots show, with one more.
 pub ids_born : (made place : ℕ) (fresh : Entry) (slots : List (Option Version)) → fresh.id < 2 ^ 64 → place < length slots → IsPlaceOf made fresh.id slots None → AreIds (2 ^ 64) (id_at (ids_of made slots))
@@ -142,14 +137,7 @@ EndedUpTo start now ids = now ≡ with_slots (map (close ids start.stamp) start.
 pub close_more : (xs ys : List ℕ) (made : ℕ) (slots : List (Option Version)) → map (close ys made) (map (close xs made) slots) ≡ map (close (xs ++ ys) made) slots
 close_more xs ys made [] = refl
 close_more xs ys made (None ∷ slots) = ap (λ l. None ∷ l) (close_more xs ys made slots)
-close_more xs ys made (Some version ∷ slots) = ap₂ ◌∷◌ (ap (λ d. Some (record version { death = d })) (go (among xs version.id) (among ys version.id) version.death ∙ ap (λ b. close_at made b version.death) (sym (among_append xs ys version.id)))) (close_more xs ys made slots)
-  where
-    go : (a b : Bool) (death : Option ℕ) → close_at made b (close_at made a death) ≡ close_at made (a || b) death
-    go a b (Some death) = refl
-    go true true None = refl
-    go true false None = refl
-    go false true None = refl
-    go false false None = refl
+close_more xs ys made (Some version ∷ slots) = grind (arith, close_more xs ys made slots, among_append)
 
 pub ended_none : (start : Contents) → EndedUpTo start start []
 ended_none start = ap (λ l. with_slots l start) (sym (close_none start.stamp start.slots))
@@ -295,17 +283,10 @@ begin_tracked contents uses links entry place row uses_new links_new h free abse
 -- Whether an op's slots fit.
 pub fits_begun : (contents : Contents) (op : Op) → is_change op.call ≡ true → succeeds op.outcome ≡ true → length op.slots ≡ length (begun contents.next_id op.call)
     → are_free (suc contents.stamp ∷ begins contents.callers) (map (close (ended op.call) (suc contents.stamp)) contents.slots) [] op.slots ≡ is_some (slots_after contents op)
-fits_begun contents op c s long =
-    fills_free (suc contents.stamp) (begins contents.callers) (map (close (ended op.call) (suc contents.stamp)) contents.slots) op.slots (begun contents.next_id op.call) long
-    ∙ sym (by_change contents op c s)
-  where
-    by_change : (contents : Contents) (op : Op) → is_change op.call ≡ true → succeeds op.outcome ≡ true → is_some (slots_after contents op) ≡ is_some (filled (suc contents.stamp ∷ begins contents.callers) (suc contents.stamp) op.slots (begun contents.next_id op.call) (map (close (ended op.call) (suc contents.stamp)) contents.slots))
-    by_change contents op c s = ap (λ b. is_some (cond b (filled (suc contents.stamp ∷ begins contents.callers) (suc contents.stamp) op.slots (begun contents.next_id op.call) (map (close (ended op.call) (suc contents.stamp)) contents.slots)) (filled (stamps contents) contents.stamp op.slots [] contents.slots))) (ap (λ b. b && succeeds op.outcome) c ∙ s)
+fits_begun contents op c s long = grind (arith, fills_free)
 
 pub fits_other : (contents : Contents) (op : Op) → is_change op.call ≡ true → succeeds op.outcome ≡ true → (length op.slots ≡ length (begun contents.next_id op.call) → ⊥) → is_some (slots_after contents op) ≡ false
-fits_other contents op c s n =
-    ap (λ b. is_some (cond b (filled (suc contents.stamp ∷ begins contents.callers) (suc contents.stamp) op.slots (begun contents.next_id op.call) (map (close (ended op.call) (suc contents.stamp)) contents.slots)) (filled (stamps contents) contents.stamp op.slots [] contents.slots))) (ap (λ b. b && succeeds op.outcome) c ∙ s)
-    ∙ fills_not (suc contents.stamp ∷ begins contents.callers) (suc contents.stamp) op.slots (begun contents.next_id op.call) (map (close (ended op.call) (suc contents.stamp)) contents.slots) n
+fits_other contents op c s n = grind (arith, fills_not)
 
 pub fits_quiet : (contents : Contents) (op : Op) (empty : Bool) → (is_change op.call && succeeds op.outcome) ≡ false → empty ≡ nat_eq (length op.slots) 0 → empty ≡ is_some (slots_after contents op)
 fits_quiet contents op empty quiet is = is ∙ by op.slots ∙ sym (ap (λ b. is_some (cond b (filled (suc contents.stamp ∷ begins contents.callers) (suc contents.stamp) op.slots (begun contents.next_id op.call) (map (close (ended op.call) (suc contents.stamp)) contents.slots)) (filled (stamps contents) contents.stamp op.slots [] contents.slots))) quiet)

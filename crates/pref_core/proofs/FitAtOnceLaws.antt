@@ -1,8 +1,8 @@
 -- The slots of a change that are known by a look at them alone.
-use Rattle.pref_core.proofs.Common.{◌≡◌, ℕ, suc, ◌+◌, ◌≤◌, Bool, true, false, not, ◌&&◌, ◌||◌, cond, eqb, List, [], ◌∷◌, ◌++◌, length, take, drop, Option, Some, None, is_some, slice_get, ◌⊎◌}
-use Rattle.pref_core.proofs.Common.{inl, inr, ⊎_elim, refl, sym, ap, ap₂, ◌∙◌, subst, arith, eqb-true, or_cases, or_from, or_left, true≢false, append-nil, Call, Op, Change, Add}
-use Rattle.pref_core.proofs.Common.{Set, Remove, Version, Row, ended_by, begun_by, begins_any, row_at, IsPlaceOf, IsKept, FitAtOnce, are_free, frees_at, uses_of, filled, is_free, is_next, outcome_at}
-use Rattle.pref_core.proofs.Common.{slots_after, used, grown, free_at, Contents, begins, visible, begins_row, begun, changes_of, ended, success_outcome, is_change, is_formed, missing}
+use Rattle.pref_core.proofs.Common.{◌≡◌, ℕ, suc, ◌+◌, ◌≤◌, Bool, true, false, not, ◌&&◌, cond, eqb, List, [], ◌∷◌, ◌++◌, length, take, drop, Option, Some, None, is_some, slice_get, ◌⊎◌}
+use Rattle.pref_core.proofs.Common.{inl, inr, ⊎_elim, refl, sym, ap, ap₂, ◌∙◌, subst, arith, eqb-true, or_from, or_left, true≢false, append-nil, Call, Op, Change, Add}
+use Rattle.pref_core.proofs.Common.{Set, Remove, Version, Row, ended_by, begun_by, begins_any, row_at, IsPlaceOf, IsKept, FitAtOnce, are_free, frees_at, uses_of, filled, is_free, is_next}
+use Rattle.pref_core.proofs.Common.{slots_after, used, free_at, Contents, begins, visible, begun, changes_of, ended, success_outcome, is_change, is_formed, missing}
 use Rattle.pref_core.proofs.Common.{succeeds, Line, among, false_from_ne_true, drop_all}
 use Rattle.pref_core.proofs.ChangesLaws.{AreApart, among_append, among_inside, drop_at, ended_so_far, formed_apart, take_at}
 use Rattle.pref_core.proofs.ChosenSlots.{ChosenUpTo, all_chosen, closed_slots, outcome_fits, outcome_other, stamps_next}
@@ -17,18 +17,7 @@ granted_succeeds next_id call = grind (arith)
 
 -- Slots for all rows that a change begins, which misses none: it succeeds.
 chosen_at_once : (contents : Contents) (call : Call) (slots : List ℕ) → is_change call ≡ true → is_formed call ≡ true → missing (ended call) (visible contents.stamp contents.slots) ≡ None → ChosenUpTo contents call [] slots → FitAtOnce contents call slots
-chosen_at_once contents call slots c formed none h = record {
-  outcome = returned (begins_row call) refl;
-  placed = all_chosen contents call slots c (ap succeeds (sym (returned (begins_row call) refl)) ∙ granted_succeeds contents.next_id call) h;
-  formed = formed;
-}
-  where
-    fills : filled (stamps_next contents) (suc contents.stamp) slots (begun contents.next_id call) (closed_slots contents (ended call)) ≡ Some h.now
-    fills = ap (λ rows. filled (stamps_next contents) (suc contents.stamp) slots rows (closed_slots contents (ended call))) (h.all ∙ append-nil h.done) ∙ h.fills
-
-    returned : (row : Bool) → begins_row call ≡ row → success_outcome contents.next_id call ≡ outcome_at contents call
-    returned true row = outcome_fits contents call (used (grown call contents)) c none row refl (plan_is_not_full contents call slots h.now fills)
-    returned false row = outcome_other contents call c none row
+chosen_at_once contents call slots c formed none h = grind (arith, all_chosen, granted_succeeds, stamps_next, closed_slots, append-nil, outcome_fits, plan_is_not_full, outcome_other)
 
 -- A place that was taken for one of the first changes: it was free, or a row stood there that one of them ends.
 pub record StoodThere (contents : Contents) (ids : List ℕ) (place : ℕ) : Type 0 where
@@ -47,8 +36,7 @@ pub record FitsUpTo (contents : Contents) (call : Call) (slots : List ℕ) (at u
   pub long : (next_id : ℕ) → used + length (begun_by next_id (drop at (changes_of call))) ≡ length (begun next_id call)
 
 among_last : (xs : List ℕ) (last id : ℕ) → among (xs ++ last ∷ []) id ≡ true → (among xs id ≡ true) ⊎ (last ≡ id)
-among_last xs last id a = ⊎_elim inl (λ (e : (eqb last id || false) ≡ true). ⊎_elim (λ (same : eqb last id ≡ true). inr (eqb-true last id same)) (λ (none : false ≡ true). absurd (cc)) (or_cases (eqb last id) false e))
-    (or_cases (among xs id) (eqb last id || false) (sym (among_append xs (last ∷ []) id) ∙ a))
+among_last xs last id a = grind (arith, among_append)
 
 -- an id comes before no other place of ids that differ
 apart_before : (xs ys : List ℕ) (id : ℕ) → AreApart (xs ++ id ∷ ys) → among xs id ≡ false
@@ -67,9 +55,7 @@ module _ (contents : Contents) (call : Call) (slots : List ℕ) (kept : IsKept c
 
   -- its row is there
   there_one : (id place : ℕ) → ended_by (change ∷ drop (at + 1) changes) ≡ id ∷ ended_by (drop (at + 1) changes) → row_at contents.stamp id contents.slots place ≡ true → missing (ended_by (drop (at + 1) changes)) table ≡ missing (ended call) table
-  there_one id place named row =
-      sym (ap (λ b. cond (not b) (Some id) (missing (ended_by (drop (at + 1) changes)) table)) (has_row_at contents.stamp id contents.slots place row))
-      ∙ sym (ap (λ l. missing l table) (ap ended_by (drop_at changes at change here) ∙ named)) ∙ h.there
+  there_one id place named row = grind (arith, has_row_at, drop_at)
 
   weaker : (place : ℕ) → Was contents (ended_by (take at changes)) place → Was contents (ended_by (take (at + 1) changes)) place
   weaker place was = ⊎_elim

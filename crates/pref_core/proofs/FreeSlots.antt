@@ -1,7 +1,7 @@
 -- Which places are free, by the order of places.
 use Rattle.pref_core.proofs.Common.{◌≡◌, ℕ, zero, suc, ◌+◌, ◌<◌, ◌≤◌, nat_lt, Bool, true, false, ◌||◌, eqb, List, [], ◌∷◌, map, length, take, get_or, Option, Some, None, slice_get, refl, sym, ap, ◌∙◌}
-use Rattle.pref_core.proofs.Common.{subst, arith, ⊎_elim, option_map, slice_get_within, slice_get-map, slice_get-get_or, get_or_from_slice_get, eqb-true, eq-eqb, or_cases, or_right, SlotUse, Free}
-use Rattle.pref_core.proofs.Common.{Ended, Live, numbered, number_at, use_at, is_free_use, free_at, IsArranged, among}
+use Rattle.pref_core.proofs.Common.{subst, arith, ⊎_elim, option_map, slice_get_within, slice_get-map, slice_get-get_or, get_or_from_slice_get, eqb-true, eq-eqb, or_cases, or_right, SlotUse}
+use Rattle.pref_core.proofs.Common.{Ended, number_at, use_at, is_free_use, free_at, IsArranged, among}
 use Rattle.pref_core.proofs.SlotSetsLaws.{number_past, number_below, number_is, number_here, free_number, use_free, free_from}
 
 -- The free places are the first ones of the order.
@@ -35,48 +35,16 @@ free_listed order positions bounds p a h =
     (slice_get-map (use_at bounds) positions p ∙ ap (option_map (use_at bounds)) (slice_get-get_or positions p 0 room) ∙ ap (λ x. Some (use_at bounds x)) position ∙ ap Some (use_free bounds there.at (let n = a.bounded in omega arith) there.less))
 
 pub listed_free : (order positions bounds : List ℕ) (p : ℕ) → IsArranged order positions bounds → free_at (map (use_at bounds) positions) p ≡ true → among (take (get_or bounds 0 0) order) p ≡ true
-listed_free order positions bounds p a h = go (slice_get positions p) refl (ap (λ (o : Option SlotUse). elim o as (λ x. Bool) [ None ↦ false | Some slot_use ↦ is_free_use slot_use ]) (sym (slice_get-map (use_at bounds) positions p)) ∙ h)
-  where
-    is_free : (slot_use : SlotUse) → is_free_use slot_use ≡ true → slot_use ≡ Free
-    is_free Free e = refl
-    is_free (Ended keeper) e = absurd (cc)
-    is_free Live e = absurd (cc)
-
-    go : (o : Option ℕ) → slice_get positions p ≡ o → elim (option_map (use_at bounds) o) as (λ x. Bool) [ None ↦ false | Some slot_use ↦ is_free_use slot_use ] ≡ true → among (take (get_or bounds 0 0) order) p ≡ true
-    go None e f = absurd (cc)
-    go (Some at) e f =
-        let less = free_from bounds at (let n = a.bounded in omega arith) (is_free (use_at bounds at) f) in
-        let room = slice_get_within positions p at e in
-        let long = a.inverse.long in
-        let few = a.inside 0 (omega arith) in
-        let here : get_or positions p 0 ≡ at = get_or_from_slice_get positions p at 0 e in
-        let back : get_or order at 0 ≡ p = ap (λ q. get_or order q 0) (sym here) ∙ a.inverse.back p (omega arith) in
-        subst (λ q. among (take (get_or bounds 0 0) order) q ≡ true) back (among_taken (get_or bounds 0 0) order at less (omega arith))
+listed_free order positions bounds p a h = grind (arith, slice_get-map, free_from, slice_get_within, get_or_from_slice_get, among_taken)
 
 -- Whether a place is free, by its position.
 pub free_there : (positions bounds : List ℕ) (p : ℕ) → 0 < length bounds → free_at (map (use_at bounds) positions) p ≡ elim (slice_get positions p) as (λ x. Bool) [ None ↦ false | Some at ↦ nat_lt at (get_or bounds 0 0) ]
-free_there positions bounds p some = ap (λ (o : Option SlotUse). elim o as (λ x. Bool) [ None ↦ false | Some slot_use ↦ is_free_use slot_use ]) (slice_get-map (use_at bounds) positions p) ∙ go (slice_get positions p)
-  where
-    go : (o : Option ℕ) → elim (option_map (use_at bounds) o) as (λ x. Bool) [ None ↦ false | Some slot_use ↦ is_free_use slot_use ] ≡ elim o as (λ x. Bool) [ None ↦ false | Some at ↦ nat_lt at (get_or bounds 0 0) ]
-    go None = refl
-    go (Some at) = free_number bounds at some
+free_there positions bounds p some = grind (arith, slice_get-map, free_number)
 
 -- The places that a caller keeps are between two bounds: the first one is there, ..
 pub kept_first : (order positions bounds : List ℕ) (keeper place : ℕ) → IsArranged order positions bounds → keeper < 8 → get_or bounds (keeper + 1) 0 < get_or bounds (keeper + 2) 0 → place ≡ get_or order (get_or bounds (keeper + 1) 0) place
     → slice_get (map (use_at bounds) positions) place ≡ Some (Ended keeper)
-kept_first order positions bounds keeper place a few some is =
-    let start = get_or bounds (keeper + 1) 0 in
-    let most = a.inside (keeper + 2) (omega arith) in
-    let inside : start < length order = omega arith in
-    let same : place ≡ get_or order start 0 = is ∙ get_or_from_slice_get order start (get_or order start 0) place (slice_get-get_or order start 0 inside) in
-    let within = a.inverse.places start inside in
-    let long = a.inverse.long in
-    let room : place < length positions = omega (arith, within, long, same) in
-    let size = a.bounded in
-    let next : keeper + 2 ≡ suc (suc keeper) = omega arith in
-    let number : number_at bounds start ≡ keeper + 2 = number_is bounds start (keeper + 2) (omega arith) (λ j l. a.ascending j (keeper + 1) (omega arith) (omega arith)) some in
-    slice_get-map (use_at bounds) positions place ∙ ap (option_map (use_at bounds)) (slice_get-get_or positions place 0 room)
-    ∙ ap (λ x. Some (use_at bounds x)) (ap (λ p. get_or positions p 0) same ∙ a.inverse.there start inside) ∙ ap (λ n. Some (numbered n)) (number ∙ next)
+kept_first order positions bounds keeper place a few some is = grind (arith, get_or_from_slice_get, slice_get-get_or, number_is, slice_get-map)
 
 -- .. or there is none.
 pub kept_none : (order positions bounds : List ℕ) (keeper : ℕ) → IsArranged order positions bounds → keeper < 8 → get_or bounds (keeper + 2) 0 ≤ get_or bounds (keeper + 1) 0

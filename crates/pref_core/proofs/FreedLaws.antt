@@ -1,9 +1,9 @@
 -- The slots that ended rows leave free.
 use Rattle.pref_core.proofs.Common.{append-nil, ne_eqb, length-filter, count_by-le-length, ◌≡◌, ℕ, zero, suc, ◌+◌, ◌<◌, ◌≤◌, Bool, true, false, ◌&&◌, ◌||◌, cond, eqb, List, [], ◌∷◌, ◌++◌}
-use Rattle.pref_core.proofs.Common.{map, length, set, Option, Some, None, slice_get, refl, sym, ap, ◌∙◌, subst, arith, ⊎_elim, count_by, option_map, length-map, length-set, filter-append}
-use Rattle.pref_core.proofs.Common.{slice_get-map, slice_get_within, le-leb, eqb-true, eq-eqb, cases_eq, or_cases, or_right, and_parts, true≢false, Version, SlotUse, Free, among, State, missing}
-use Rattle.pref_core.proofs.Common.{Contents, StandsFor, IsWithin, is_visible, visible, begins, close, is_free, is_free_use, is_spare, free_at, use_of, IsBounded, is_row, row_at, IsPlaceOf}
-use Rattle.pref_core.proofs.Common.{AreOldPlaces, frees_at, is_open, IsFreed, and_left, false_from_ne_true}
+use Rattle.pref_core.proofs.Common.{map, length, set, Option, Some, None, slice_get, refl, sym, ap, ◌∙◌, subst, arith, ⊎_elim, count_by, length-map, length-set, filter-append}
+use Rattle.pref_core.proofs.Common.{slice_get-map, slice_get_within, eqb-true, eq-eqb, cases_eq, or_cases, or_right, and_parts, true≢false, Version, SlotUse, Free, among, State, missing}
+use Rattle.pref_core.proofs.Common.{Contents, StandsFor, IsWithin, is_visible, visible, begins, close, is_free, is_free_use, free_at, use_of, IsBounded, is_row, row_at, IsPlaceOf}
+use Rattle.pref_core.proofs.Common.{AreOldPlaces, frees_at, is_open, IsFreed, false_from_ne_true}
 use Rattle.std.specs.List.{filter}
 use Rattle.pref_core.proofs.ChangesLaws.{AreApart}
 use Rattle.pref_core.proofs.RowEndLaws.{row_alive}
@@ -11,7 +11,7 @@ use Rattle.pref_core.proofs.SlotKeys.{within-close}
 use Rattle.pref_core.proofs.IdsAfterCommit.{known_ids}
 use Rattle.pref_core.proofs.IdChainsLaws.{row_shown}
 use Rattle.pref_core.proofs.StabilityLaws.{slice_get-set_other}
-use Rattle.pref_core.proofs.SlotUseLaws.{count_by-cons, holds_there, live, live_by, close_idle, has_row_at, row_version, free_use, needed_uses, spare_use, one_no}
+use Rattle.pref_core.proofs.SlotUseLaws.{count_by-cons, holds_there, has_row_at, row_version, free_use, needed_uses, spare_use, one_no}
 
 -- What was found of the first of these rows.
 pub record FreesUpTo (contents : Contents) (ids done freed : List ℕ) : Type 0 where
@@ -46,13 +46,7 @@ length-olds stamp (id ∷ done) slots [] h = absurd h
 length-olds stamp (id ∷ done) slots (old ∷ olds) h = ap suc (length-olds stamp done slots olds h.1)
 
 pub frees_few : (contents : Contents) (ids done freed : List ℕ) → FreesUpTo contents ids done freed → length freed ≤ length done
-frees_few contents ids done freed h =
-    let a = ap length h.freed_is in
-    let frees = frees_at (begins contents.callers) ids (suc contents.stamp) contents.slots in
-    let b = length-filter frees h.olds in
-    let few = count_by-le-length frees h.olds in
-    let c = length-olds contents.stamp done contents.slots h.olds h.stand in
-    omega arith
+frees_few contents ids done freed h = grind (arith, length-filter, count_by-le-length, length-olds)
 
 -- The first row that isn't there.
 pub frees_missing : (contents : Contents) (ids done rest freed : List ℕ) (id : ℕ) → ids ≡ done ++ id ∷ rest → FreesUpTo contents ids done freed → IsPlaceOf contents.stamp id contents.slots None → missing ids (visible contents.stamp contents.slots) ≡ Some id
@@ -110,14 +104,7 @@ count_one (z ∷ zs) (suc mark) l f =
 marked_count : (before after : List SlotUse) (marks : List ℕ) → length before ≡ length after → AreApart marks
     → ((p : ℕ) → among marks p ≡ true → (p < length before) × (free_at before p ≡ false)) → ((p : ℕ) → free_at after p ≡ (free_at before p || among marks p))
     → count_by is_free_use after ≡ count_by is_free_use before + length marks
-marked_count before after [] long apart here same = same_count before after long (λ p. same p ∙ no (free_at before p)) ∙ zero_more (count_by is_free_use before)
-  where
-    no : (b : Bool) → (b || false) ≡ b
-    no true = refl
-    no false = refl
-
-    zero_more : (n : ℕ) → n ≡ n + 0
-    zero_more n = omega arith
+marked_count before after [] long apart here same = grind (arith, same_count)
 marked_count before after (mark ∷ marks) long apart here same =
     let first = here mark (ap (λ b. b || among marks mark) (eq-eqb mark mark refl)) in
     let one = count_one before mark first.0 first.1 in
@@ -195,57 +182,24 @@ module _ (contents : Contents) (state : State) (bounded : IsBounded contents) (s
   )
 
   filter_apart : (p : ℕ → Bool) (xs : List ℕ) → AreApart xs → AreApart (filter p xs)
-  filter_apart p [] apart = tt
-  filter_apart p (x ∷ xs) apart = go (p x) (filter_apart p xs apart.1)
-    where
-      go : (b : Bool) → AreApart (filter p xs) → AreApart (cond b (x ∷ filter p xs) (filter p xs))
-      go true more = (among_filter p xs x ∙ and_left (among xs x) (p x) apart.0, more)
-      go false more = more
+  filter_apart p [] apart = grind (arith, among_filter)
+  filter_apart p (x ∷ xs) apart = grind (arith, filter_apart p xs, among_filter)
 
   -- a slot that is free stays free, and one that isn't and becomes it held a row that ended
   slot_freed : (ids : List ℕ) (slot : Option Version) → is_free_use (use_of contents.callers slot) ≡ true → is_free_use (use_of contents.callers (close ids made slot)) ≡ true
-  slot_freed ids None f = refl
-  slot_freed ids (Some version) f = ap (λ s. is_free_use (use_of contents.callers s)) (close_idle ids made (Some version) (ended version.death f)) ∙ f
-    where
-      ended : (death : Option ℕ) → is_free_use (use_of contents.callers (Some (record version { death = death }))) ≡ true → live_by ids version.id death ≡ false
-      ended None f = absurd (cc)
-      ended (Some death) f = refl
+  slot_freed ids slot f = grind (arith)
 
   row_freed : (ids : List ℕ) (slot : Option Version) → IsWithin contents.next_id contents.stamp slot → is_free_use (use_of contents.callers slot) ≡ false → is_free_use (use_of contents.callers (close ids made slot)) ≡ true → (id : ℕ) × (among ids id ≡ true) × (is_row contents.stamp id slot ≡ true)
-  row_freed ids None w n f = absurd (cc)
-  row_freed ids (Some version) w n f = go (live ids (Some version)) refl
-    where
-      alive : (death : Option ℕ) → live_by ids version.id death ≡ true → (among ids version.id ≡ true) × (is_visible contents.stamp (record version { death = death }) ≡ true)
-      alive None e = (e, rw (le-leb version.birth contents.stamp w.1) refl)
-      alive (Some death) e = absurd (cc)
-
-      go : (b : Bool) → live ids (Some version) ≡ b → (id : ℕ) × (among ids id ≡ true) × (is_row contents.stamp id (Some version) ≡ true)
-      go true e = let facts = alive version.death e in (version.id, facts.0, rw (eq-eqb version.id version.id refl) facts.1)
-      go false e = absurd (true≢false (sym f ∙ ap (λ s. is_free_use (use_of contents.callers s)) (close_idle ids made (Some version) e) ∙ n))
+  row_freed ids slot w n f = grind (arith)
 
   frees_use : (ids : List ℕ) (place : ℕ) → free_at (map (use_of contents.callers) (map (close ids made) contents.slots)) place ≡ frees_at ns ids made contents.slots place
-  frees_use ids place =
-      ap (λ (o : Option SlotUse). elim o as (λ x. Bool) [ None ↦ false | Some slot_use ↦ is_free_use slot_use ]) (slice_get-map (use_of contents.callers) (map (close ids made) contents.slots) place ∙ ap (option_map (use_of contents.callers)) (slice_get-map (close ids made) contents.slots place))
-      ∙ go (slice_get contents.slots place)
-    where
-      go : (o : Option (Option Version)) → elim (option_map (use_of contents.callers) (option_map (close ids made) o)) as (λ x. Bool) [ None ↦ false | Some slot_use ↦ is_free_use slot_use ]
-          ≡ elim o as (λ x. Bool) [ None ↦ false | Some slot ↦ is_spare ns (close ids made slot) ]
-      go None = refl
-      go (Some slot) = spare_use contents.callers (close ids made slot)
+  frees_use ids place = grind (arith, slice_get-map, spare_use)
 
   use_there : (place : ℕ) (o : Option (Option Version)) → slice_get contents.slots place ≡ o → free_at uses place ≡ elim o as (λ x. Bool) [ None ↦ false | Some slot ↦ is_free_use (use_of contents.callers slot) ]
-  use_there place o e = ap (λ (o : Option SlotUse). elim o as (λ x. Bool) [ None ↦ false | Some slot_use ↦ is_free_use slot_use ]) (slice_get-map (use_of contents.callers) contents.slots place ∙ ap (option_map (use_of contents.callers)) e) ∙ go o
-    where
-      go : (o : Option (Option Version)) → elim (option_map (use_of contents.callers) o) as (λ x. Bool) [ None ↦ false | Some slot_use ↦ is_free_use slot_use ] ≡ elim o as (λ x. Bool) [ None ↦ false | Some slot ↦ is_free_use (use_of contents.callers slot) ]
-      go None = refl
-      go (Some slot) = refl
+  use_there place o e = grind (arith, slice_get-map)
 
   frees_there : (ids : List ℕ) (place : ℕ) (o : Option (Option Version)) → slice_get contents.slots place ≡ o → frees_at ns ids made contents.slots place ≡ elim o as (λ x. Bool) [ None ↦ false | Some slot ↦ is_free_use (use_of contents.callers (close ids made slot)) ]
-  frees_there ids place o e = ap (λ o. elim o as (λ x. Bool) [ None ↦ false | Some slot ↦ is_spare ns (close ids made slot) ]) e ∙ go o
-    where
-      go : (o : Option (Option Version)) → elim o as (λ x. Bool) [ None ↦ false | Some slot ↦ is_spare ns (close ids made slot) ] ≡ elim o as (λ x. Bool) [ None ↦ false | Some slot ↦ is_free_use (use_of contents.callers (close ids made slot)) ]
-      go None = refl
-      go (Some slot) = sym (spare_use contents.callers (close ids made slot))
+  frees_there ids place o e = grind (arith, spare_use)
 
   -- a place is free once rows ended where they leave it free, ..
   pub frees_closed : (ids : List ℕ) (place : ℕ) → frees_at ns ids made contents.slots place ≡ true → is_free (made ∷ ns) (map (close ids made) contents.slots) place ≡ true
@@ -261,11 +215,7 @@ module _ (contents : Contents) (state : State) (bounded : IsBounded contents) (s
 
   -- where a row stands it isn't
   pub row_taken : (id place : ℕ) → row_at contents.stamp id contents.slots place ≡ true → free_at uses place ≡ false
-  row_taken id place row =
-      let found = row_version contents.stamp id contents.slots place row in
-      let shows : is_row contents.stamp id (Some found.0) ≡ true = ap (λ o. elim o as (λ x. Bool) [ None ↦ false | Some s ↦ is_row contents.stamp id s ]) (sym found.1) ∙ row in
-      use_there place (Some (Some found.0)) found.1
-      ∙ ap is_free_use (row_alive contents.next_id contents.stamp id contents.callers found.0 (holds_there (IsWithin contents.next_id contents.stamp) contents.slots place (Some found.0) found.1 stands.within) shows)
+  row_taken id place row = grind (arith, row_version, use_there, row_alive, holds_there)
 
   -- the slot of a place is free once rows ended where it was free, or one of them stood there and nobody needs it
   frees_open : (ids olds : List ℕ) (place : ℕ) → AreOldPlaces contents.stamp ids contents.slots olds → frees_at ns ids made contents.slots place ≡ (free_at uses place || (among olds place && frees_at ns ids made contents.slots place))

@@ -1,6 +1,6 @@
 -- How the ids that a store's slots show go along with a commit.
-use Rattle.pref_core.proofs.Common.{◌≡◌, ℕ, suc, ◌+◌, ◌^◌, true, eqb, List, [], ◌∷◌, map, set, Option, Some, None, refl, sym, ap, ap₂, ◌∙◌, subst, arith, AllByRecursion, map-set}
-use Rattle.pref_core.proofs.Common.{length_permutation, le-leb, true≢false, Version, SlotUse, Call, Entry, State, changes_of, ended, begun, added, missing, is_formed, Contents, StandsFor, IsWithin}
+use Rattle.pref_core.proofs.Common.{◌≡◌, ℕ, suc, ◌+◌, ◌^◌, true, eqb, List, [], ◌∷◌, map, set, Option, Some, None, refl, sym, ap₂, subst, arith, AllByRecursion, map-set}
+use Rattle.pref_core.proofs.Common.{length_permutation, Version, SlotUse, Call, Entry, State, changes_of, ended, begun, added, missing, is_formed, Contents, StandsFor, IsWithin}
 use Rattle.pref_core.proofs.Common.{visible, new_version, close, IsBounded, row_at, IsPlaceOf, shown, ids_of, id_at, AreIds, AreLinks, IsTracked, AreFresh}
 use Rattle.pref_core.proofs.BoundsLaws.{next_id-small}
 use Rattle.pref_core.proofs.ChangesLaws.{begun_fresh, found_all, formed_apart}
@@ -25,13 +25,11 @@ known_ids contents state bounded stands = record {
 
 -- Where an id's row stands at a place, that is what an index of the slots has for it.
 pub place_known : (stamp id place : ℕ) (slots : List (Option Version)) (found : Option ℕ) → AreIds (2 ^ 64) (id_at (ids_of stamp slots)) → row_at stamp id slots place ≡ true → IsPlaceOf stamp id slots found → found ≡ Some place
-place_known stamp id place slots None known at is = absurd (true≢false (sym (has_row_at stamp id slots place at) ∙ is))
-place_known stamp id place slots (Some found) known at is = ap Some (known.once found place id (row_shown stamp id slots found is) (row_shown stamp id slots place at))
+place_known stamp id place slots found known at is = grind (arith, has_row_at, row_shown)
 
 -- At the next stamp the slots show the same, before a slot is written.
 shown_next : (next now : ℕ) (slot : Option Version) → IsWithin next now slot → shown (suc now) slot ≡ shown now slot
-shown_next next now None h = refl
-shown_next next now (Some version) h = grind (arith)
+shown_next next now slot h = grind (arith)
 
 ids_next : (next now : ℕ) (slots : List (Option Version)) → AllByRecursion (IsWithin next now) slots → ids_of (suc now) slots ≡ ids_of now slots
 ids_next next now [] h = refl
@@ -60,7 +58,4 @@ fresh_begun contents state call formed stands none =
 
 -- A row that begins adds its id.
 pub links_born : (made place : ℕ) (fresh : Entry) (new : Option Version) (slots : List (Option Version)) (links : List ℕ) → new ≡ new_version made fresh → AreLinks (set (ids_of made slots) place (Some fresh.id)) links → AreLinks (ids_of made (set slots place new)) links
-links_born made place fresh new slots links is h = subst (λ l. AreLinks l links) (sym (map-set (shown made) slots place new ∙ ap (set (ids_of made slots) place) (ap (shown made) is ∙ shows))) h
-  where
-    shows : shown made (new_version made fresh) ≡ Some fresh.id
-    shows = rw (le-leb made made (omega arith)) refl
+links_born made place fresh new slots links is h = grind (arith, map-set)

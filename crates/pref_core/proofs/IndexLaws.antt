@@ -1,8 +1,8 @@
 -- An index follows the store through each op that is done.
-use Rattle.pref_core.proofs.Common.{drop, slice_get, ◌≡◌, ℕ, suc, ◌+◌, ◌<◌, Bool, true, false, ◌&&◌, ◌||◌, cond, eqb, nat_lt, List, [], ◌∷◌, map, length, set, Option, Some, None, is_some, refl, sym}
+use Rattle.pref_core.proofs.Common.{drop, slice_get, ◌≡◌, ℕ, suc, ◌+◌, ◌<◌, Bool, true, false, ◌&&◌, ◌||◌, cond, eqb, nat_lt, List, [], ◌∷◌, map, set, Option, Some, None, is_some, refl, sym}
 use Rattle.pref_core.proofs.Common.{ap, ◌∙◌, subst, arith, AllByRecursion, eqb-true, ne_eqb, true≢false, Version, Change, Add, Set, Remove, Call}
-use Rattle.pref_core.proofs.Common.{Outcome, Added, Done, Op, Entry, Row, ended_by, begun_by, added_by, among, has, missing, success_outcome, is_change, succeeds}
-use Rattle.pref_core.proofs.Common.{added, begins_row, changes_of, ended, begun, outcome_of, Contents, IsWithin, visible, begins, new_version, close, is_free, filled, used, grown, slots_after}
+use Rattle.pref_core.proofs.Common.{Outcome, Done, Op, Entry, Row, ended_by, begun_by, among, has, success_outcome, is_change, succeeds}
+use Rattle.pref_core.proofs.Common.{added, changes_of, ended, begun, outcome_of, Contents, IsWithin, visible, begins, new_version, close, is_free, filled, slots_after}
 use Rattle.pref_core.proofs.Common.{is_next, applied, slot_of, Points, PointsAll, given, placed_rows, adds, IsPlaceOf, IsIndexOf}
 use Rattle.pref_core.proofs.AppliedLaws.{IsAllowed-from}
 use Rattle.pref_core.proofs.ChangesLaws.{AreApart, drop_at, formed_apart, found_all}
@@ -18,11 +18,7 @@ module _ (ns : List ℕ) (made id : ℕ) where
   -- .. one row, ..
   begun_place : (place : ℕ) (fresh : Entry) (slots : List (Option Version)) (found : Option ℕ) → is_free (made ∷ ns) slots place ≡ true → IsPlaceOf made id slots found
       → IsPlaceOf made id (set slots place (new_version made fresh)) (cond (eqb fresh.id id) (Some place) found)
-  begun_place place fresh slots found free is = go (eqb fresh.id id) refl
-    where
-      go : (b : Bool) → eqb fresh.id id ≡ b → IsPlaceOf made id (set slots place (new_version made fresh)) (cond b (Some place) found)
-      go true e = subst (λ n. IsPlaceOf made n (set slots place (new_version made fresh)) (Some place)) (eqb-true fresh.id id e) (row_at-new_version made fresh ns slots place free)
-      go false e = other_place made id fresh ns slots place found free e is
+  begun_place place fresh slots found free is = grind (arith, row_at-new_version, other_place)
 
   -- .. and all rows of a commit, where the ids that it names are gone before.
   abbrev ArePlaced : List Change → ℕ → List ℕ → List (Option Version) → List (Option Version) → Option ℕ → Type 0
@@ -80,25 +76,11 @@ module _ (ns : List ℕ) (made id : ℕ) where
           → ((o : Option ℕ) → ArePlaced rest next places later after o) → IsPlaceOf made id after (given (placed_rows next rest places) id (cond (eqb other id) (Some place) found))
       go false free h more = absurd (cc)
       go true free h more = by (eqb other id) refl free h more
-  filled_place (Remove other ∷ rest) next places slots after found e apart low is = by (eqb other id) refl (filled_place rest next places slots after)
-    where
-      nothing : (b : Bool) → ◌≡◌ {A = Option ℕ} (cond b None None) None
-      nothing true = refl
-      nothing false = refl
-
-      by : (b : Bool) → eqb other id ≡ b → ((o : Option ℕ) → ArePlaced rest next places slots after o) → IsPlaceOf made id after (given (placed_rows next rest places) id (cond b None found))
-      by true same more =
-          let below : id < next = low (ap (λ b. b || among (ended_by rest) id) same) in
-          more None e apart.1 (λ there. below)
-          (subst (IsPlaceOf made id slots) (sym (nothing (among (ended_by rest) id))) (subst (λ b. IsPlaceOf made id slots (cond (b || among (ended_by rest) id) None found)) same is))
-      by false differ more =
-          more found e apart.1 (λ there. low (ap (λ b. b || among (ended_by rest) id) differ ∙ there))
-          (subst (λ b. IsPlaceOf made id slots (cond (b || among (ended_by rest) id) None found)) differ is)
+  filled_place (Remove other ∷ rest) next places slots after found e apart low is = grind (arith, filled_place rest next places slots after)
 
 -- A call that succeeds has the outcome that is granted.
 granted_is : (capacity : ℕ) (begins : Bool) (m : Option ℕ) (size : ℕ) (success_outcome : Outcome) → succeeds (outcome_of capacity begins m size success_outcome) ≡ true → outcome_of capacity begins m size success_outcome ≡ success_outcome
-granted_is capacity begins (Some id) size success_outcome s = absurd (cc)
-granted_is capacity begins None size success_outcome s = grind (arith)
+granted_is capacity begins m size success_outcome s = grind (arith)
 
 -- a call that is no commit changes nothing
 no_changes : (call : Call) → is_change call ≡ false → changes_of call ≡ []
@@ -117,30 +99,14 @@ IsIndexAt stamp slots index = (id : ℕ) → IsPlaceOf stamp id slots (slot_of i
 
 module _ (contents : Contents) (op : Op) (next : is_next contents op ≡ true) where
   outcome_done : is_change op.call ≡ true → succeeds op.outcome ≡ true → op.outcome ≡ success_outcome contents.next_id op.call
-  outcome_done change done =
-      let is = (IsAllowed-from contents op next).outcome ∙ ap (λ b. cond b returned Done) change in
-      is ∙ granted_is (length contents.slots) (begins_row op.call) (missing (ended op.call) (visible contents.stamp contents.slots)) (used (grown op.call contents)) (success_outcome contents.next_id op.call) (sym (ap succeeds is) ∙ done)
-    where
-      returned : Outcome
-      returned = outcome_of (length contents.slots) (begins_row op.call) (missing (ended op.call) (visible contents.stamp contents.slots)) (used (grown op.call contents)) (success_outcome contents.next_id op.call)
+  outcome_done change done = grind (arith)
 
   outcome_still : is_change op.call ≡ false → op.outcome ≡ Done
-  outcome_still still = (IsAllowed-from contents op next).outcome ∙ ap (λ b. cond b returned Done) still
-    where
-      returned : Outcome
-      returned = outcome_of (length contents.slots) (begins_row op.call) (missing (ended op.call) (visible contents.stamp contents.slots)) (used (grown op.call contents)) (success_outcome contents.next_id op.call)
+  outcome_still still = grind (arith)
 
   -- The outcome adds a row just where the call does.
   pub adds_iff_added : succeeds op.outcome ≡ true → adds op.outcome ≡ nat_lt 0 (added op.call)
-  adds_iff_added done = go (is_change op.call) refl
-    where
-      by : (b : Bool) → adds (cond b (Added contents.next_id) Done) ≡ b
-      by true = refl
-      by false = refl
-
-      go : (b : Bool) → is_change op.call ≡ b → adds op.outcome ≡ nat_lt 0 (added op.call)
-      go true e = ap adds (outcome_done e done) ∙ by (nat_lt 0 (added op.call))
-      go false e = ap adds (outcome_still e) ∙ ap (λ l. nat_lt 0 (added_by l)) (sym (no_changes op.call e))
+  adds_iff_added done = grind (arith)
 
   -- the index of what the op leaves, by the stamp and the slots that it leaves
   index_after : (after : List (Option Version)) (b : Bool) (later : Pairs) → slots_after contents op ≡ Some after → (is_change op.call && succeeds op.outcome) ≡ b → IsIndexAt (cond b (suc contents.stamp) contents.stamp) after later → IsIndexOf (applied contents op) later

@@ -1,6 +1,6 @@
 -- The index of a store, after an op.
 use Rattle.pref_core.proofs.Common.{and_right, ◌≡◌, ℕ, zero, suc, ◌+◌, ◌<◌, ◌≤◌, Bool, true, false, eqb, List, [], ◌∷◌, map, length, set, Option, Some, None, slice_get, refl, sym, ap}
-use Rattle.pref_core.proofs.Common.{◌∙◌, arith, ⊎_elim, AllByRecursion, le-leb, eq-eqb, cases_eq, true≢false, Version, among, Entry, is_visible, new_version, IsWithin}
+use Rattle.pref_core.proofs.Common.{◌∙◌, arith, AllByRecursion, le-leb, eq-eqb, true≢false, Version, among, Entry, is_visible, new_version, IsWithin}
 use Rattle.pref_core.proofs.Common.{close, is_free, slot_of, Points, is_row, row_at, IsPlaceOf, false_from_ne_true}
 use Rattle.pref_core.proofs.SlotUseLaws.{has_row_at, has_nowhere}
 
@@ -10,13 +10,11 @@ row_of stamp id o = elim o [ None ↦ false | Some slot ↦ is_row stamp id slot
 
 -- A commit that doesn't end the id's row leaves it where it is.
 is_row-close : (next now id : ℕ) (ids : List ℕ) (slot : Option Version) → IsWithin next now slot → among ids id ≡ false → is_row (suc now) id (close ids (suc now) slot) ≡ is_row now id slot
-is_row-close next now id ids None h out = refl
-is_row-close next now id ids (Some version) h out = grind (arith)
+is_row-close next now id ids slot h out = grind (arith)
 
 -- A commit that ends it leaves it nowhere.
 is_row-ended : (next now id : ℕ) (ids : List ℕ) (slot : Option Version) → IsWithin next now slot → among ids id ≡ true → is_row (suc now) id (close ids (suc now) slot) ≡ false
-is_row-ended next now id ids None h out = refl
-is_row-ended next now id ids (Some version) h out = grind (arith)
+is_row-ended next now id ids slot h out = grind (arith)
 
 pub row_at-close : (next now id : ℕ) (ids : List ℕ) (slots : List (Option Version)) (k : ℕ) → AllByRecursion (IsWithin next now) slots → among ids id ≡ false → row_at (suc now) id (map (close ids (suc now)) slots) k ≡ row_at now id slots k
 row_at-close next now id ids [] k h out = refl
@@ -81,8 +79,7 @@ place_at_end stamp id slots count None l h = has_nowhere stamp id slots (λ k le
 place_at_end stamp id slots count (Some place) l h = h
 
 pub place_past : (stamp id : ℕ) (slots : List (Option Version)) (count : ℕ) (place : Option ℕ) → row_at stamp id slots count ≡ false → IsPlaceUpTo stamp id slots count place → IsPlaceUpTo stamp id slots (count + 1) place
-place_past stamp id slots count None none h = λ k l. ⊎_elim (λ (e : k ≡ count). ap (row_at stamp id slots) e ∙ none) (λ (n : k ≡ count → ⊥). h k (omega arith)) (cases_eq k count)
-place_past stamp id slots count (Some place) none h = h
+place_past stamp id slots count place none h = grind (arith)
 
 -- a slot that shows no row at the stamp
 pub row_at-hidden : (stamp id : ℕ) (slots : List (Option Version)) (place : ℕ) (version : Version) → slice_get slots place ≡ Some (Some version) → is_visible stamp version ≡ false → row_at stamp id slots place ≡ false

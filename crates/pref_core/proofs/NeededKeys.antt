@@ -1,6 +1,6 @@
 -- Fewer keys are needed where each is needed before.
-use Rattle.pref_core.proofs.Common.{◌≡◌, ℕ, ◌≤◌, Bool, true, false, ◌||◌, List, [], ◌∷◌, ◌++◌, length, suc, subst, refl, sym, ap, ◌∙◌, arith, or_right, Line, Key, same_key, holds_key, keys}
-use Rattle.pref_core.proofs.Common.{different, with_rows, without, found_tables, ended, changes_of, Change, Add, Set, Remove, begun_by, begins_any, AreDifferent, DeletesNeedNoMore}
+use Rattle.pref_core.proofs.Common.{◌≡◌, ℕ, ◌≤◌, Bool, true, false, ◌||◌, List, [], ◌∷◌, ◌++◌, length, refl, sym, ap, ◌∙◌, arith, or_right, Line, Key, same_key, holds_key, keys}
+use Rattle.pref_core.proofs.Common.{different, without, found_tables, Change, Add, Set, Remove, begun_by, begins_any, AreDifferent, DeletesNeedNoMore}
 use Rattle.pref_core.proofs.Common.{EndsNeedNoMore}
 use Rattle.pref_core.proofs.NeededCounts.{others, holds_key-others-at, AreDifferent-others, length-others, same_key_refl, same_key-true, holds_key-different, AreDifferent-different}
 use Rattle.pref_core.proofs.NeededCounts.{holds_key-keys-append}
@@ -46,6 +46,4 @@ none_begun next_id (Set id row ∷ rest) h = absurd (cc)
 none_begun next_id (Remove id ∷ rest) h = none_begun next_id rest h
 
 pub ends_need_no_more : EndsNeedNoMore
-ends_need_no_more state call h =
-    subst (λ begun. length (different (keys (with_rows (suc state.commits) begun (without (ended call) state.table) ++ found_tables state.clients))) ≤ length (different (keys (state.table ++ found_tables state.clients))))
-    (sym (none_begun state.next_id (changes_of call) h)) (without_needs_no_more (ended call) state.table (found_tables state.clients))
+ends_need_no_more state call h = grind (arith, none_begun, without_needs_no_more)

@@ -1,7 +1,7 @@
 -- The order of places as a store is opened.
-use Rattle.pref_core.proofs.Common.{◌≡◌, ℕ, zero, suc, ◌+◌, ◌-◌, ◌*◌, ◌<◌, ◌≤◌, Bool, true, false, cond, nat_lt, List, ◌∷◌, ◌++◌, map, length, get_or, replicate, refl, sym, ap, ap₂, ◌∙◌, arith}
+use Rattle.pref_core.proofs.Common.{◌≡◌, ℕ, ◌+◌, ◌-◌, ◌*◌, ◌<◌, ◌≤◌, cond, List, ◌∷◌, ◌++◌, map, length, get_or, replicate, refl, sym, ap, ap₂, ◌∙◌, arith}
 use Rattle.pref_core.proofs.Common.{count_by, range_with_len, length-map, length-append, length-replicate, same_lists, get_or-map, get_or-map-range_with_len, length-map-range_with_len, sum_by-append}
-use Rattle.pref_core.proofs.Common.{lt-ltb, le-ltb, ltb-true, ltb-false, SlotUse, Free, Live, use_at, is_free_use, IsInverse, IsArranged, rotated, sum_by-replicate, get_or-append_right}
+use Rattle.pref_core.proofs.Common.{lt-ltb, le-ltb, SlotUse, Free, Live, use_at, is_free_use, IsInverse, IsArranged, rotated, sum_by-replicate, get_or-append_right}
 use Rattle.pref_core.proofs.Common.{get_or-replicate}
 use Rattle.std.proofs.Math.ListN.{get_or-append}
 use Rattle.pref_core.proofs.SlotSetsLaws.{use_free}
@@ -26,26 +26,14 @@ long : (capacity first : ℕ) → length (all capacity first) ≡ capacity
 long capacity first = length-map-range_with_len (rotated capacity first) 0 capacity
 
 inverse : (capacity rows : ℕ) → rows ≤ capacity → IsInverse (all capacity rows) (all capacity (capacity - rows))
-inverse capacity rows r = record {
-  long = long capacity (capacity - rows) ∙ sym (long capacity rows);
-  places = λ i l. let m = below rows i l in let e = long capacity rows in let f = at capacity rows i m in let g = (back capacity rows i r m).0 in omega arith;
-  there = λ i l. let m = below rows i l in ap (λ p. get_or (all capacity (capacity - rows)) p 0) (at capacity rows i m) ∙ at capacity (capacity - rows) (rotated capacity rows i) ((back capacity rows i r m).0) ∙ (back capacity rows i r m).1;
-  within = λ p l. let m = below rows p l in let e = long capacity rows in let f = at capacity (capacity - rows) p m in let g = (back capacity (capacity - rows) p (omega arith) m).0 in omega arith;
-  back = λ p l. let m = below rows p l in let less : capacity - rows ≤ capacity = omega arith in let twice : capacity - (capacity - rows) ≡ rows = omega arith in
-      ap (λ i. get_or (all capacity rows) i 0) (at capacity (capacity - rows) p m) ∙ at capacity rows (rotated capacity (capacity - rows) p) ((back capacity (capacity - rows) p less m).0)
-      ∙ ap (λ n. rotated capacity n (rotated capacity (capacity - rows) p)) (sym twice) ∙ (back capacity (capacity - rows) p less m).1;
-}
-  where
-    below : (first i : ℕ) → i < length (all capacity rows) → i < capacity
-    below first i l = let e = long capacity rows in omega arith
+inverse capacity rows r = grind (arith, long, at, back)
 
 -- the bounds: no version has ended
 abbrev pub opened : ℕ → ℕ → List ℕ
 opened capacity free = free ∷ replicate 9 capacity
 
 opened_less : (capacity free i : ℕ) → free ≤ capacity → i < 10 → get_or (opened capacity free) i 0 ≤ capacity
-opened_less capacity free zero h l = h
-opened_less capacity free (suc i) h l = let e = get_or-replicate 9 i capacity 0 (omega arith) in omega arith
+opened_less capacity free i h l = grind (arith)
 
 opened_ascend : (capacity free i j : ℕ) → free ≤ capacity → i ≤ j → j < 10 → get_or (opened capacity free) i 0 ≤ get_or (opened capacity free) j 0
 opened_ascend capacity free i j h le l = grind (arith)
@@ -56,21 +44,7 @@ use_live capacity free x past below = rw (le-ltb x free past, lt-ltb x capacity 
 -- the uses, pointwise and as a list
 slot_use : (capacity rows p : ℕ) → rows ≤ capacity → p < capacity → (d : SlotUse)
     → use_at (opened capacity (capacity - rows)) (rotated capacity (capacity - rows) p) ≡ get_or (replicate rows Live ++ replicate (capacity - rows) Free) p d
-slot_use capacity rows p r l d = go (nat_lt p rows) refl
-  where
-    size : length (replicate rows Live) ≡ rows
-    size = length-replicate rows Live
-
-    go : (b : Bool) → nat_lt p rows ≡ b → use_at (opened capacity (capacity - rows)) (rotated capacity (capacity - rows) p) ≡ get_or (replicate rows Live ++ replicate (capacity - rows) Free) p d
-    go true e =
-        let here = ltb-true _ _ e in
-        let is = low capacity (capacity - rows) p (omega arith) in
-        use_live capacity (capacity - rows) (rotated capacity (capacity - rows) p) (omega arith) (omega arith) ∙ sym (get_or-append (replicate rows Live) (replicate (capacity - rows) Free) d p (omega (arith, size, here)) ∙ get_or-replicate rows p Live d here)
-    go false e =
-        let here = ltb-false _ _ e in
-        let is = high capacity (capacity - rows) p (omega arith) in
-        use_free (opened capacity (capacity - rows)) (rotated capacity (capacity - rows) p) (omega arith) (omega arith)
-        ∙ sym (get_or-append_right (replicate rows Live) (replicate (capacity - rows) Free) p d (omega (arith, size, here)) ∙ get_or-replicate (capacity - rows) (p - length (replicate rows Live)) Free d (omega (arith, size, here, r, l)))
+slot_use capacity rows p r l d = grind (arith, length-replicate, low, use_live, get_or-append, get_or-replicate, high, use_free, get_or-append_right)
 
 pub turned_uses : (capacity rows : ℕ) → rows ≤ capacity → map (use_at (opened capacity (capacity - rows))) (map (rotated capacity (capacity - rows)) (range_with_len 0 capacity)) ≡ replicate rows Live ++ replicate (capacity - rows) Free
 turned_uses capacity rows r = same_lists _ _

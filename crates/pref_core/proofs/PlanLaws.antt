@@ -6,8 +6,7 @@ use Rattle.pref_core.proofs.SlotsForAll.{filled_fits, count_grown}
 
 -- What is needed after a change that succeeds is no more than the capacity.
 pub succeeds-fits : (capacity : ℕ) (m : Option ℕ) (size : ℕ) (success_outcome : Outcome) → succeeds (outcome_of capacity true m size success_outcome) ≡ true → size ≤ capacity
-succeeds-fits capacity (Some id) size success_outcome h = absurd (cc)
-succeeds-fits capacity None size success_outcome h = grind (arith)
+succeeds-fits capacity m size success_outcome h = grind (arith)
 
 -- A change that has slots for its rows isn't full.
 pub plan_is_not_full : (contents : Contents) (call : Call) (places : List ℕ) (after : List (Option Version)) → filled (suc contents.stamp ∷ begins contents.callers) (suc contents.stamp) places (begun contents.next_id call) (map (close (ended call) (suc contents.stamp)) contents.slots) ≡ Some after

@@ -1,14 +1,13 @@
 -- A query that follows its table: no id comes twice, a scan keeps on, and the end is the table's answer.
-use Rattle.pref_core.proofs.Common.{◌≡◌, ℕ, zero, suc, ◌+◌, ◌-◌, ◌*◌, ◌/◌, ◌≤◌, Bool, true, false, cond, eqb, ◌==◌, List, [], ◌∷◌, ◌++◌, map, length, take, drop, Option, Some, filter, refl, sym, ap}
+use Rattle.pref_core.proofs.Common.{◌≡◌, ℕ, zero, suc, ◌+◌, ◌-◌, ◌*◌, ◌/◌, ◌≤◌, Bool, true, false, cond, eqb, ◌==◌, List, [], ◌∷◌, ◌++◌, length, take, drop, Option, Some, filter, refl, sym, ap}
 use Rattle.pref_core.proofs.Common.{◌∙◌, subst, arith, inl, inr, AllByRecursion, count_by, IsPermutation, map-append, take_all, take-append-drop, filter_map-append, sum_by-cons, sum_by-append}
-use Rattle.pref_core.proofs.Common.{IsPermutation-map, sum_by-IsPermutation, Entry, Ranked, answer_of, Question, cut_of, Version, Limits, AreAllowed, blocks, Line, IsOrdered, entries, Contents, Shows}
+use Rattle.pref_core.proofs.Common.{IsPermutation-map, sum_by-IsPermutation, Entry, Ranked, answer_of, Question, Version, Limits, AreAllowed, Line, IsOrdered, entries, Contents, Shows}
 use Rattle.pref_core.proofs.Common.{seen, visible, block_of, caller_begun, ran, Scan, begin, levels_for, next_block, NextIsNew, IsScanned, ends_query, Op, first_blocks, BlocksAreTheSlots, Open}
 use Rattle.pref_core.proofs.Common.{one_less, Follows, take-add}
 use Rattle.std.proofs.Math.Nat.{mul_comm}
-use Rattle.pref_sky.specs.Levels.{HaveDifferentIds, entry_order, entry_of}
+use Rattle.pref_sky.specs.Levels.{HaveDifferentIds}
 use Rattle.pref_sky.specs.Members.{Among, SameMembers}
 use Rattle.pref_sky.proofs.LevelLaws.{levels_of_none, held_differ, answer_of_same}
-use Rattle.pref_term.specs.AskOrder.{order_of}
 use Rattle.pref_core.specs.Queries.{IsOnItsWay}
 use Rattle.pref_core.proofs.Permutations.{along_permutation}
 use Rattle.pref_core.proofs.LineOfLaws.{one_line}
@@ -59,9 +58,7 @@ next_differs scan slots table shows = subst HaveDifferentIds (sym (with_next sca
 
 -- Where the slots show a table at its begin, the next block is new to it, ..
 pub next_is_new_on_its_way : (slots : List (Option Version)) (scan : Scan) (table : List Line) → Shows slots scan.stamp table → IsOnItsWay slots scan → NextIsNew scan slots
-next_is_new_on_its_way slots scan table shows h =
-    subst (λ l. HaveDifferentIds (map entry_of l ++ next_block scan slots)) (sym h.partial)
-    (held_differ (entry_order (order_of scan.ask)) (entries (visible scan.stamp (take (scan.done * scan.size) slots))) (next_block scan slots) (cut_of scan.ask.mode) (next_differs scan slots table shows))
+next_is_new_on_its_way slots scan table shows h = grind (arith, held_differ, next_differs)
 
 -- .. and a scan keeps it on its way
 pub scanned_on_its_way : (slots : List (Option Version)) (before after : Scan) (table : List Line) → Shows slots before.stamp table → IsOnItsWay slots before → IsScanned before slots after → IsOnItsWay slots after
@@ -112,10 +109,7 @@ same_members = along_permutation (λ xs ys. SameMembers xs ys)
     (λ xs ys zs a b. record { there = λ y m. b.there y (a.there y m); back = λ y m. a.back y (b.back y m) })
 
 pub begun_on_its_way : (limits : Limits) (slots : List (Option Version)) (ask : Question) (stamp : ℕ) → AreAllowed limits → length slots ≡ limits.capacity → IsOnItsWay slots (begin ask stamp limits)
-begun_on_its_way limits slots ask stamp allowed long = record {
-  partial = levels_of_none (entry_order (order_of ask)) (cut_of ask.mode) ∙ ap (λ n. levels_for ask (entries (visible stamp (take n slots)))) (sym (zero_blocks limits.block));
-  rest = (let all = all_blocks limits.capacity limits.block allowed.block.0 in let none : 0 + blocks limits ≡ blocks limits = omega arith in subst (λ n. length slots ≤ n * limits.block) (sym none) (subst (λ n. n ≤ blocks limits * limits.block) (sym long) all));
-}
+begun_on_its_way limits slots ask stamp allowed long = grind (arith, levels_of_none, zero_blocks, all_blocks)
 
 -- what shows the same, and as many slots
 pub way_stays : (before after : List (Option Version)) (scan : Scan) → length after ≡ length before → shown scan.stamp after ≡ shown scan.stamp before → IsOnItsWay before scan → IsOnItsWay after scan
@@ -154,6 +148,4 @@ first_blocks_taken (suc n) size slots =
     ap (λ l. l ++ block_of n size slots) (first_blocks_taken n size slots) ∙ sym (take-add (n * size) size slots) ∙ ap (λ k. take k slots) (let e : n * size + size ≡ suc n * size = omega arith in e)
 
 pub blocks_are_the_slots : BlocksAreTheSlots
-blocks_are_the_slots limits slots allowed long =
-    first_blocks_taken (blocks limits) limits.block slots
-    ∙ take_all (blocks limits * limits.block) slots (let all = all_blocks limits.capacity limits.block allowed.block.0 in subst (λ n. n ≤ blocks limits * limits.block) (sym long) all)
+blocks_are_the_slots limits slots allowed long = grind (arith, first_blocks_taken, take_all, all_blocks)

@@ -1,6 +1,6 @@
 -- A query as long as it lives, and its answer.
-use Rattle.pref_core.proofs.Common.{◌≡◌, ℕ, ◌≤◌, false, List, [], ◌∷◌, length, Option, Some, None, Ok, Err, is_some, refl, sym, ap, ◌∙◌, subst, arith, Question, answer_of, Caller, Begin, Op, Limits}
-use Rattle.pref_core.proofs.Common.{AreAllowed, Line, entries, State, seat, refusal_of, after, Contents, StandsFor, Shows, caller_begun, IsPlan, IsLegal, begin_after, applied, ends_query, Scan, begin}
+use Rattle.pref_core.proofs.Common.{◌≡◌, ℕ, ◌≤◌, false, List, [], ◌∷◌, length, Some, Ok, Err, refl, sym, ap, ◌∙◌, subst, arith, Question, answer_of, Begin, Op, Limits}
+use Rattle.pref_core.proofs.Common.{AreAllowed, Line, entries, State, after, Contents, StandsFor, Shows, caller_begun, IsPlan, IsLegal, applied, ends_query, Scan, begin}
 use Rattle.pref_core.proofs.Common.{IsScanned}
 use Rattle.pref_core.specs.Queries.{IsOnItsWay, LivesTo, at_begin, after_op, after_scan, NextBlockIsNew, AnswersTheBegin}
 use Rattle.pref_core.proofs.AppliedLaws.{IsAllowed-from}
@@ -19,16 +19,7 @@ record IsOpen (contents : Contents) (client : ℕ) (ask : Question) (table : Lis
 
 -- the stamp that is kept of a client that begins a query
 begin_kept : (contents : Contents) (state : State) (op : Op) → StandsFor contents state → IsLegal state contents op → op.call ≡ Begin → caller_begun (applied contents op) op.client ≡ Some contents.stamp
-begin_kept contents state op h legal what = go (seat op.client contents.callers) refl (IsAllowed-from contents op (is_next-from contents state op h legal.next)).accepted
-  where
-    go : (o : Option Caller) → seat op.client contents.callers ≡ o
-        → refusal_of (elim o as (λ x. Option ℕ) [ None ↦ None | Some found ↦ Some found.calls ]) (is_some (elim o as (λ x. Option ℕ) [ None ↦ None | Some found ↦ found.at_begin ])) op.call ≡ None
-        → caller_begun (applied contents op) op.client ≡ Some contents.stamp
-    go None at accepted = absurd (cc)
-    go (Some found) at accepted =
-        ap (λ l. begun_at (seat op.client l)) (legal_done contents state op h legal).callers
-        ∙ begun_own contents.callers op.client found op.call contents.stamp at
-        ∙ ap (λ c. begin_after contents.stamp c found.at_begin) what
+begin_kept contents state op h legal what = grind (arith, IsAllowed-from, is_next-from, begun_at, legal_done, begun_own)
 
 open_begun : (limits : Limits) (first : Contents) (state : State) (client : ℕ) (ask : Question) (op : Op) → AreAllowed limits → length first.slots ≡ limits.capacity → StandsFor first state → IsPlan first client Begin op
     → IsOpen (applied first op) client ask state.table (begin ask first.stamp limits)
@@ -56,13 +47,7 @@ open_changed contents client ask table scan op h goes_on =
     }
 
 open_scanned : (contents : Contents) (client : ℕ) (ask : Question) (table : List Line) (scan new : Scan) → IsOpen contents client ask table scan → IsScanned scan contents.slots new → IsOpen contents client ask table new
-open_scanned contents client ask table scan new h is = record {
-  asks = is.ask ∙ h.asks;
-  at_begin = h.at_begin ∙ ap Some (sym is.stamp);
-  within = subst (λ n. n ≤ contents.stamp) (sym is.stamp) h.within;
-  shows = subst (λ n. Shows contents.slots n table) (sym is.stamp) h.shows;
-  way = scanned_on_its_way contents.slots scan new table h.shows h.way is;
-}
+open_scanned contents client ask table scan new h is = grind (arith, scanned_on_its_way)
 
 open_while_it_lives : (limits : Limits) (first : Contents) (state : State) (client : ℕ) (ask : Question) (contents : Contents) (scan : Scan) → AreAllowed limits → length first.slots ≡ limits.capacity → StandsFor first state
     → LivesTo limits first client ask contents scan → IsOpen contents client ask state.table scan

@@ -1,8 +1,8 @@
 -- Rows that a commit sets, each replaced where it stands.
-use Rattle.pref_core.proofs.Common.{◌≡◌, Bor, ℕ, suc, ◌+◌, ◌<◌, Bool, true, false, cond, eqb, List, [], ◌∷◌, map, length, drop, set, Option, Some, None, is_some, slice_get, get_or, refl, sym, ap, ap₂}
-use Rattle.pref_core.proofs.Common.{◌∙◌, subst, arith, ⊎_elim, map-set, set-set, le-leb, eqb-true, eq-eqb, and_parts, cases_eq, true≢false, Change, Add, Set, Remove, Op, SlotUse, Version, ended_by}
-use Rattle.pref_core.proofs.Common.{begun_by, is_row, row_at, IsTracked, KeepSlots, replaced, with_slots, change_of, close, close_at, filled, is_free, slots_after, Row, Contents, new_version}
-use Rattle.pref_core.proofs.Common.{is_visible, stamps, added, changes_of, ended, is_change, succeeds, among}
+use Rattle.pref_core.proofs.Common.{◌≡◌, Bor, ℕ, suc, ◌+◌, ◌<◌, Bool, true, false, cond, List, [], ◌∷◌, map, length, drop, set, Option, Some, None, is_some, slice_get, get_or, refl, sym, ap, ap₂}
+use Rattle.pref_core.proofs.Common.{◌∙◌, subst, arith, map-set, set-set, true≢false, Change, Add, Set, Remove, Op, SlotUse, Version, ended_by}
+use Rattle.pref_core.proofs.Common.{begun_by, row_at, IsTracked, KeepSlots, replaced, with_slots, change_of, close, close_at, filled, is_free, slots_after, Row, Contents, new_version}
+use Rattle.pref_core.proofs.Common.{stamps, added, changes_of, ended, is_change, succeeds, among}
 use Rattle.pref_core.specs.declared.changes.LentChange.{LentChange}
 use Rattle.pref_core.specs.declared.changes.LentChange.TheVariants.{Set as LentSet}
 use Rattle.pref_core.proofs.ChangesLaws.{AreApart, drop_at}
@@ -15,26 +15,7 @@ use Rattle.pref_core.proofs.SlotUseLaws.{row_version}
 
 -- A row that stands in its slot still does once another one was replaced.
 stands_still : (stamp id place : ℕ) (row : Row) (slots : List (Option Version)) (other at : ℕ) → row_at stamp id slots place ≡ true → row_at stamp other slots at ≡ true → row_at stamp other (set slots place (new_version stamp (record { id = id; row = row }))) at ≡ true
-stands_still stamp id place row slots other at here there = ⊎_elim
-    (λ (e : at ≡ place). subst (λ p. row_at stamp other (set slots place (new_version stamp (record { id = id; row = row }))) p ≡ true) (sym e)
-    (shows (slice_get-set_same slots place (Some version) (new_version stamp (record { id = id; row = row })) found.1) ∙ fresh (sym named ∙ eqb-true version.id other (and_parts (eqb version.id other) (is_visible stamp version) (sym (shows found.1) ∙ subst (λ p. row_at stamp other slots p ≡ true) e there)).0)))
-    (λ (n : at ≡ place → ⊥). ap (λ o. elim o as (λ x. Bool) [ None ↦ false | Some slot ↦ is_row stamp other slot ]) (slice_get-set_other slots at place (new_version stamp (record { id = id; row = row })) n) ∙ there)
-    (cases_eq at place)
-  where
-    found : (v : Version) × (slice_get slots place ≡ Some (Some v))
-    found = row_version stamp id slots place here
-
-    version : Version
-    version = found.0
-
-    named : version.id ≡ id
-    named = eqb-true version.id id (and_parts (eqb version.id id) (is_visible stamp version) (sym (ap (λ o. elim o as (λ x. Bool) [ None ↦ false | Some slot ↦ is_row stamp id slot ]) found.1) ∙ here)).0
-
-    shows : {o : Option (Option Version)} {slot : Option Version} → o ≡ Some slot → elim o as (λ x. Bool) [ None ↦ false | Some s ↦ is_row stamp other s ] ≡ is_row stamp other slot
-    shows e = ap (λ o. elim o as (λ x. Bool) [ None ↦ false | Some s ↦ is_row stamp other s ]) e
-
-    fresh : id ≡ other → is_row stamp other (new_version stamp (record { id = id; row = row })) ≡ true
-    fresh same = rw (eq-eqb id other same, le-leb stamp stamp (omega arith)) refl
+stands_still stamp id place row slots other at here there = grind (arith, slice_get-set_same, slice_get-set_other, row_version)
 
 pub keeps_still : (stamp id place : ℕ) (row : Row) (slots : List (Option Version)) (changes : List Change) (places : List ℕ) → row_at stamp id slots place ≡ true → KeepSlots stamp slots changes places → KeepSlots stamp (set slots place (new_version stamp (record { id = id; row = row }))) changes places
 keeps_still stamp id place row slots [] places here keep = tt

@@ -1,6 +1,6 @@
 -- One event more, and its reply.
 use Rattle.pref_core.proofs.Common.{◌≡◌, suc, ◌<◌, nat_lt, MatchResult, List, [], ◌∷◌, ◌++◌, length, get_or, drop, take, true, false, Ok, Err, Result}
-use Rattle.pref_core.proofs.Common.{is_err, refl, sym, ap, ◌∙◌, subst, arith, append_assoc, ltb-false, length_push, take_all, drop-cons}
+use Rattle.pref_core.proofs.Common.{is_err, refl, sym, ap, ◌∙◌, subst, arith, append_assoc, length_push, take_all, drop-cons}
 use Rattle.pref_core.proofs.Common.{Event, Reply, Refused, CoreFault}
 use Rattle.pref_core.proofs.Common.{OutOfMemory, Limits, System}
 use Rattle.pref_core.proofs.Common.{replies_from, step, Does, Replies, Running, StandsForSystem, Steps, Returns, is_refusal}
@@ -18,19 +18,16 @@ pub does_replies : (before after : Running) (event : Event) (returned : Result R
 does_replies before after event returned result does is = subst (λ r. Replies before event r after) (sym is) (record { limits = does.limits; returns = λ system h. returned_replies before after system event returned (does.returns system h) })
 
 pub steps_replies : (before after : Running) (event : Event) (stepped : Result Reply StepFault) (returned : Result Reply CoreFault) (result : Result Reply AllocError) → Steps before event stepped after → returned ≡ without_event stepped → result ≡ reply_of returned → Replies before event result after
-steps_replies before after event stepped returned result steps alike is =
-    subst (λ r. Replies before event r after) (sym (is ∙ ap reply_of alike)) (record { limits = steps.limits; returns = λ system h. returned_replies before after system event (without_event stepped) (steps.returns system h) })
+steps_replies before after event stepped returned result steps alike is = grind (arith)
 
 -- the reply to a refusal that is not for want of memory
 pub replied_refused : (fault : CoreFault) → (fault ≡ OutOfMemory → ⊥) → Ok (Refused fault) ≡ reply_of (Err fault)
-replied_refused OutOfMemory other = absurd (other refl)
-replied_refused fault other = refl
+replied_refused fault other = grind (arith)
 
 -- what is returned as a reply is the system's
 pub replies_step : (before after : Running) (system : System) (event : Event) (returned : Result Reply AllocError) (reply : Reply) → StandsForSystem before system → Replies before event returned after → returned ≡ Ok reply
     → (reply ≡ (step before.limits system event).reply) × StandsForSystem after (step before.limits system event).next
-replies_step before after system event (Ok said) reply h replies e = grind (arith)
-replies_step before after system event (Err none) reply h replies e = absurd (cc)
+replies_step before after system event returned reply h replies e = grind (arith)
 
 pub one_reply_more : (limits : Limits) (system : System) (returned : List Reply) (events yielded : List Event) (event : Event) (reply : Reply) (whole : List Reply) → (length yielded < length events) × (event ≡ get_or events (length yielded) event) → reply ≡ (step limits system event).reply
     → returned ++ replies_from limits system (drop (length yielded) events) ≡ whole → (returned ++ reply ∷ []) ++ replies_from limits (step limits system event).next (drop (length (yielded ++ event ∷ [])) events) ≡ whole
@@ -44,8 +41,7 @@ one_reply_more limits system returned events yielded event reply whole turn is s
 
 -- where no memory was wanting, it is added
 pub reply_is_added : (before : List Reply) (returned : Result Reply AllocError) (result : Result (Unit {0}) AllocError) (after : List Reply) → AddsReply before returned result after → is_err result ≡ false → AddedReply before returned after
-reply_is_added before returned (Ok done) after adds ok = adds
-reply_is_added before returned (Err fault) after adds ok = absurd (cc)
+reply_is_added before returned result after adds ok = grind (arith)
 
 -- one reply to each event
 replies_count : (limits : Limits) (system : System) (events : List Event) → length (replies_from limits system events) ≡ length events
@@ -54,5 +50,4 @@ replies_count limits system (event ∷ events) = ap suc (replies_count limits (s
 
 -- where no event is left without a reply, these are all replies
 pub all_replied : (limits : Limits) (system : System) (events : List Event) (returned : List Reply) → returned ≡ take (length returned) (replies_from limits system events) → nat_lt (length returned) (length events) ≡ false → returned ≡ replies_from limits system events
-all_replied limits system events returned are_first none_left =
-    are_first ∙ take_all (length returned) (replies_from limits system events) (omega (arith, replies_count limits system events, ltb-false (length returned) (length events) none_left))
+all_replied limits system events returned are_first none_left = grind (arith, take_all, replies_count)

@@ -1,7 +1,7 @@
 -- The row of an id ends: one slot is written, and what is kept beside the slots goes along.
-use Rattle.pref_core.proofs.Common.{◌≡◌, ℕ, zero, suc, ◌^◌, Bool, true, false, ◌&&◌, ◌||◌, eqb, List, [], ◌∷◌, map, set, Option, Some, None, slice_get, refl, sym, ap, ap₂, ◌∙◌, subst, arith, ⊎_elim}
-use Rattle.pref_core.proofs.Common.{AllByRecursion, option_map, map-set, slice_get-map, le-leb, and_parts, eqb-true, eq-eqb, cases_eq, true≢false, Version, Caller, SlotUse, Live, Entry}
-use Rattle.pref_core.proofs.Common.{is_visible, new_version, IsWithin, EndsBy, close, close_at, use_of, is_row, row_at, IsPlaceOf, shown, ids_of, id_at, AreIds, AreLinks, false_from_ne_true}
+use Rattle.pref_core.proofs.Common.{◌≡◌, ℕ, zero, suc, ◌^◌, Bool, true, false, ◌||◌, eqb, List, [], ◌∷◌, map, set, Option, Some, None, slice_get, refl, sym, ap, ap₂, ◌∙◌, arith, ⊎_elim}
+use Rattle.pref_core.proofs.Common.{AllByRecursion, option_map, map-set, slice_get-map, and_parts, eqb-true, eq-eqb, cases_eq, true≢false, Version, Caller, SlotUse, Live, Entry}
+use Rattle.pref_core.proofs.Common.{is_visible, new_version, IsWithin, EndsBy, close, close_at, use_of, is_row, row_at, IsPlaceOf, ids_of, id_at, AreIds, AreLinks}
 use Rattle.pref_core.proofs.StabilityLaws.{slice_get-set_same, slice_get-set_other}
 use Rattle.pref_core.proofs.SlotUseLaws.{holds_there, has_row_at}
 use Rattle.pref_core.proofs.IdChainsLaws.{shows_row, row_shown}
@@ -15,17 +15,11 @@ same_at_each (x ∷ xs) (y ∷ ys) h = let first : x ≡ y = let e = h zero in c
 
 -- a slot that doesn't show the id's row stays
 idle : (next made id : ℕ) (slot : Option Version) → IsWithin next made slot → is_row made id slot ≡ false → close (id ∷ []) made slot ≡ slot
-idle next made id None w r = refl
-idle next made id (Some version) w r = grind (arith)
+idle next made id slot w r = grind (arith)
 
 module _ (next made id : ℕ) (slots : List (Option Version)) (within : AllByRecursion (IsWithin next made) slots) where
   stays : (k : ℕ) → (row_at made id slots k ≡ true → ⊥) → slice_get (map (close (id ∷ []) made) slots) k ≡ slice_get slots k
-  stays k n = slice_get-map (close (id ∷ []) made) slots k ∙ go (slice_get slots k) refl
-    where
-      go : (o : Option (Option Version)) → slice_get slots k ≡ o → option_map (close (id ∷ []) made) o ≡ o
-      go None at = refl
-      go (Some slot) at = ap Some (idle next made id slot (holds_there (IsWithin next made) slots k slot at within)
-          (false_from_ne_true (is_row made id slot) (λ e. n (ap (λ o. elim o as (λ x. Bool) [ None ↦ false | Some s ↦ is_row made id s ]) at ∙ e))))
+  stays k n = grind (arith, slice_get-map, idle, holds_there)
 
   -- Where the table has no row of the id no slot is written.
   pub none_closed : IsPlaceOf made id slots None → map (close (id ∷ []) made) slots ≡ slots
@@ -78,20 +72,11 @@ ids_closed ids made slots known = record {
 -- An ended version shows no id.
 pub links_ended : (made place : ℕ) (slots : List (Option Version)) (version : Version) (links : List ℕ) → EndsBy made version.death → AreLinks (set (ids_of made slots) place None) links
     → AreLinks (ids_of made (set slots place (Some (record version { death = close_at made true version.death })))) links
-links_ended made place slots version links ends h = subst (λ l. AreLinks l links) (sym (map-set (shown made) slots place _ ∙ ap (set (ids_of made slots) place) (gone version.death ends))) h
-  where
-    hidden : (b : Bool) → (b && false) ≡ false
-    hidden true = refl
-    hidden false = refl
-
-    gone : (death : Option ℕ) → EndsBy made death → shown made (Some (record version { death = close_at made true death })) ≡ None
-    gone None e = rw (le-leb made made (omega arith), hidden) refl
-    gone (Some death) e = rw (le-leb death made e, hidden) refl
+links_ended made place slots version links ends h = grind (arith, map-set)
 
 -- One slot_use is written.
 pub closed_uses : (callers : List Caller) (slots : List (Option Version)) (uses new : List SlotUse) (place : ℕ) (slot : Option Version) (slot_use : SlotUse) → uses ≡ map (use_of callers) slots → slot_use ≡ use_of callers slot → new ≡ set uses place slot_use → new ≡ map (use_of callers) (set slots place slot)
-closed_uses callers slots uses new place slot slot_use listed is returned =
-    returned ∙ (λ i. set (listed i) place (is i)) ∙ sym (map-set (use_of callers) slots place slot)
+closed_uses callers slots uses new place slot slot_use listed is returned = grind (arith, map-set)
 
 pub filled_uses : (callers : List Caller) (closed : List (Option Version)) (uses new : List SlotUse) (place : ℕ) (row : Option Version) (fresh : Entry) (made : ℕ) → uses ≡ map (use_of callers) closed → row ≡ new_version made fresh → new ≡ set uses place Live → new ≡ map (use_of callers) (set closed place row)
 filled_uses callers closed uses new place row fresh made listed is returned = closed_uses callers closed uses new place row Live listed (sym (ap (use_of callers) is)) returned

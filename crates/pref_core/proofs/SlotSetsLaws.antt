@@ -67,8 +67,7 @@ module _ (order positions : List ℕ) (place to : ℕ) (inv : IsInverse order po
   at_other = second positions place other to from (lq place lp) (lq other lo)
 
   at_place : get_or new_positions place 0 ≡ to
-  at_place = ⊎_elim (λ (e : place ≡ other). ap (λ k. get_or new_positions k 0) e ∙ at_other ∙ same_to e)
-      (λ (n : place ≡ other → ⊥). first positions place other to from (lq place lp) (lq other lo) n) (cases_eq place other)
+  at_place = grind (arith, at_other, same_to, first, lq, lo)
 
   at_neither : (k : ℕ) → k ≢ place → k ≢ other → get_or new_positions k 0 ≡ get_or positions k 0
   at_neither k a b = neither positions place other to from (lq place lp) (lq other lo) k a b
@@ -77,23 +76,16 @@ module _ (order positions : List ℕ) (place to : ℕ) (inv : IsInverse order po
   order_to = second order from to other place lf lt
 
   pub order_from : get_or new_order from 0 ≡ other
-  order_from = ⊎_elim (λ (e : from ≡ to). ap (λ k. get_or new_order k 0) e ∙ order_to ∙ same_place e)
-      (λ (n : from ≡ to → ⊥). first order from to other place lf lt n) (cases_eq from to)
+  order_from = grind (arith, order_to, same_place, first, lf)
 
   pub order_neither : (k : ℕ) → k ≢ from → k ≢ to → get_or new_order k 0 ≡ get_or order k 0
   order_neither k a b = neither order from to other place lf lt k a b
 
   order_goes : (Q : ℕ → ℕ → Type 0) → Q to place → Q from other → ((k : ℕ) → k < length order → k ≢ from → k ≢ to → Q k (get_or order k 0)) → (k : ℕ) → k < length order → Q k (get_or new_order k 0)
-  order_goes Q a b c k l =
-      ⊎_elim (λ (e : k ≡ to). subst (λ x. Q x (get_or new_order x 0)) (sym e) (subst (Q to) (sym order_to) a))
-      (λ (n : k ≡ to → ⊥). ⊎_elim (λ (e : k ≡ from). subst (λ x. Q x (get_or new_order x 0)) (sym e) (subst (Q from) (sym order_from) b))
-      (λ (m : k ≡ from → ⊥). subst (Q k) (sym (order_neither k m n)) (c k l m n)) (cases_eq k from)) (cases_eq k to)
+  order_goes Q a b c k l = grind (arith, order_to, order_from, order_neither)
 
   pub position_goes : (Q : ℕ → ℕ → Type 0) → Q place to → Q other from → ((k : ℕ) → k < length order → k ≢ place → k ≢ other → Q k (get_or positions k 0)) → (k : ℕ) → k < length order → Q k (get_or new_positions k 0)
-  position_goes Q a b c k l =
-      ⊎_elim (λ (e : k ≡ place). subst (λ x. Q x (get_or new_positions x 0)) (sym e) (subst (Q place) (sym at_place) a))
-      (λ (n : k ≡ place → ⊥). ⊎_elim (λ (e : k ≡ other). subst (λ x. Q x (get_or new_positions x 0)) (sym e) (subst (Q other) (sym at_other) b))
-      (λ (m : k ≡ other → ⊥). subst (Q k) (sym (at_neither k n m)) (c k l n m)) (cases_eq k other)) (cases_eq k place)
+  position_goes Q a b c k l = grind (arith, at_place, at_other, at_neither)
 
   pub inverse_moved : IsInverse new_order new_positions
   inverse_moved = record {
@@ -152,12 +144,8 @@ number_past (bound ∷ bounds) x (suc j) l = go (nat_lt x bound) l (λ m. number
 
 -- .. and below their own, ..
 pub number_below : (bounds : List ℕ) (x : ℕ) → number_at bounds x < length bounds → x < get_or bounds (number_at bounds x) 0
-number_below [] x l = absurd (omega arith)
-number_below (bound ∷ bounds) x l = go (nat_lt x bound) refl l (λ m. number_below bounds x m)
-  where
-    go : (b : Bool) → nat_lt x bound ≡ b → cond b 0 (suc (number_at bounds x)) < length (bound ∷ bounds) → (number_at bounds x < length bounds → x < get_or bounds (number_at bounds x) 0) → x < get_or (bound ∷ bounds) (cond b 0 (suc (number_at bounds x))) 0
-    go true e l more = ltb-true _ _ e
-    go false e l more = more (omega arith)
+number_below [] x l = grind (arith)
+number_below (bound ∷ bounds) x l = grind (arith, number_below bounds x)
 
 -- .. and by these.
 pub number_is : (bounds : List ℕ) (x k : ℕ) → k < length bounds → ((j : ℕ) → j < k → get_or bounds j 0 ≤ x) → x < get_or bounds k 0 → number_at bounds x ≡ k
@@ -191,25 +179,10 @@ free_from bounds x l h = ltb-true _ _ (sym (free_number bounds x l) ∙ ap is_fr
 -- Bounds stay in their order where one goes no further than those beside it.
 ascending_set : (bounds : List ℕ) (k bound : ℕ) → length bounds ≡ 10 → k < 10 → ((i : ℕ) → i < k → get_or bounds i 0 ≤ bound) → ((j : ℕ) → k < j → j < 10 → bound ≤ get_or bounds j 0)
     → ((i j : ℕ) → i ≤ j → j < 10 → get_or bounds i 0 ≤ get_or bounds j 0) → (i j : ℕ) → i ≤ j → j < 10 → get_or (set bounds k bound) i 0 ≤ get_or (set bounds k bound) j 0
-ascending_set bounds k bound long lk low high all i j le lj = ⊎_elim
-    (λ (e : i ≡ k). ⊎_elim
-    (λ (f : j ≡ k). let a = at i e in let b = at j f in omega arith)
-    (λ (n : j ≡ k → ⊥). let a = at i e in let b = get_or-set_other bounds k j bound 0 n in let h = high j (omega arith) lj in omega arith)
-    (cases_eq j k))
-    (λ (m : i ≡ k → ⊥). ⊎_elim
-    (λ (f : j ≡ k). let a = get_or-set_other bounds k i bound 0 m in let b = at j f in let h = low i (omega arith) in omega arith)
-    (λ (n : j ≡ k → ⊥). let a = get_or-set_other bounds k i bound 0 m in let b = get_or-set_other bounds k j bound 0 n in let h = all i j le lj in omega arith)
-    (cases_eq j k))
-    (cases_eq i k)
-  where
-    at : (i : ℕ) → i ≡ k → get_or (set bounds k bound) i 0 ≡ bound
-    at i e = ap (λ n. get_or (set bounds k bound) n 0) e ∙ get_or-set_same bounds k bound 0 (omega arith)
+ascending_set bounds k bound long lk low high all i j le lj = grind (arith, get_or-set_other, get_or-set_same)
 
 inside_set : (bounds : List ℕ) (k bound most : ℕ) → length bounds ≡ 10 → k < 10 → bound ≤ most → ((i : ℕ) → i < 10 → get_or bounds i 0 ≤ most) → (i : ℕ) → i < 10 → get_or (set bounds k bound) i 0 ≤ most
-inside_set bounds k bound most long lk le all i l = ⊎_elim
-    (λ (e : i ≡ k). let a = ap (λ n. get_or (set bounds k bound) n 0) e in let b = get_or-set_same bounds k bound 0 (omega arith) in omega arith)
-    (λ (n : i ≡ k → ⊥). let a = get_or-set_other bounds k i bound 0 n in let h = all i l in omega arith)
-    (cases_eq i k)
+inside_set bounds k bound most long lk le all i l = grind (arith, get_or-set_same, get_or-set_other)
 
 -- The first bound, and whether the uses beside a bound are free.
 lower_counted : (bounds : List ℕ) (k : ℕ) → 0 < length bounds → get_or (set bounds k (get_or bounds k 0 + 1)) 0 0 + cond (is_free_use (numbered (suc k))) 1 0 ≡ get_or bounds 0 0 + cond (is_free_use (numbered k)) 1 0
@@ -247,12 +220,7 @@ module _ (order positions bounds : List ℕ) (place : ℕ) (a : IsArranged order
   number_here k at = use_number bounds (get_or positions place 0) k (use_here (numbered k) at).1
 
   pub bound_some : (k : ℕ) → k < 9 → slice_get uses place ≡ Some (numbered k) → 1 ≤ get_or bounds k 0
-  bound_some k few at =
-      let from = get_or positions place 0 in
-      let number = number_here k at in
-      let long = a.bounded in
-      let below : from < get_or bounds k 0 = subst (λ n. from < get_or bounds n 0) number (number_below bounds from (omega arith)) in
-      omega arith
+  bound_some k few at = grind (arith, number_here, number_below)
 
   -- a move to the bound at a number, which shifts past it
   pub record IsStep (k to bound : ℕ) (slot_use : SlotUse) : Type 0 where
@@ -350,5 +318,4 @@ module _ (order positions bounds : List ℕ) (place : ℕ) (a : IsArranged order
           go false e = let l = ltb-false _ _ e in le-ltb x (get_or bounds k 0 - 1) (omega arith)
 
 pub arranged_same : (order order_too positions positions_too bounds bounds_too : List ℕ) → order ≡ order_too → positions ≡ positions_too → bounds ≡ bounds_too → IsArranged order_too positions_too bounds_too → IsArranged order positions bounds
-arranged_same order order_too positions positions_too bounds bounds_too p q r h =
-    subst (λ l. IsArranged l positions bounds) (sym p) (subst (λ l. IsArranged order_too l bounds) (sym q) (subst (IsArranged order_too positions_too) (sym r) h))
+arranged_same order order_too positions positions_too bounds bounds_too p q r h = grind (arith)

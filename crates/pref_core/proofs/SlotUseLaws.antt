@@ -1,7 +1,7 @@
 -- The uses of slots, and how many are free.
-use Rattle.pref_core.proofs.Common.{◌≡◌, ℕ, zero, suc, ◌+◌, ◌<◌, Bool, true, false, not, ◌&&◌, ◌||◌, cond, eqb, List, [], ◌∷◌, map, length, Option, Some, None, slice_get, refl, sym, ap, ◌∙◌}
-use Rattle.pref_core.proofs.Common.{subst, arith, count_by, cons_option, AllByRecursion, option_to_list, sum_by-cons, le-leb, Version, Caller, among, has, is_visible}
-use Rattle.pref_core.proofs.Common.{visible, line, is_needed, begins, IsWithin, EndsBy, close, is_free, is_free_use, free_at, kept_from, use_of, is_spare, row_at}
+use Rattle.pref_core.proofs.Common.{◌≡◌, ℕ, zero, suc, ◌+◌, ◌<◌, Bool, true, false, not, ◌&&◌, ◌||◌, cond, eqb, List, [], ◌∷◌, map, length, Option, Some, None, slice_get, refl, ap, ◌∙◌}
+use Rattle.pref_core.proofs.Common.{subst, arith, count_by, cons_option, AllByRecursion, option_to_list, sum_by-cons, Version, Caller, among, has, is_visible}
+use Rattle.pref_core.proofs.Common.{visible, line, is_needed, begins, IsWithin, close, is_free, is_free_use, free_at, kept_from, use_of, is_spare, row_at}
 use Rattle.pref_core.proofs.NeededCounts.{is_needed-empty}
 
 pub count_by-cons : {X : Type 0} (p : X → Bool) (x : X) (xs : List X) → count_by p (x ∷ xs) ≡ cond (p x) 1 0 + count_by p xs
@@ -22,28 +22,11 @@ kept_spare keeper (caller ∷ callers) slot = grind (arith, kept_spare (suc keep
 
 -- A slot is free by the callers where it is by their begins.
 pub spare_use : (callers : List Caller) (slot : Option Version) → is_free_use (use_of callers slot) ≡ is_spare (begins callers) slot
-spare_use callers None = refl
-spare_use callers (Some version) = at_death version.death
-  where
-    at_death : (death : Option ℕ) → is_free_use (use_of callers (Some (record version { death = death }))) ≡ is_spare (begins callers) (Some (record version { death = death }))
-    at_death None = refl
-    at_death (Some death) = kept_spare 0 callers (Some (record version { death = Some death }))
+spare_use callers slot = grind (arith, kept_spare)
 
 -- A slot that isn't ahead of the store is needed where it isn't free.
 pub needed_use : (next now : ℕ) (callers : List Caller) (slot : Option Version) → IsWithin next now slot → is_needed (now ∷ begins callers) slot ≡ not (is_free_use (use_of callers slot))
-needed_use next now callers slot h = needed slot h ∙ sym (ap not (spare_use callers slot))
-  where
-    twice : (b : Bool) → b ≡ not (not b)
-    twice true = refl
-    twice false = refl
-
-    needed : (slot : Option Version) → IsWithin next now slot → is_needed (now ∷ begins callers) slot ≡ not (is_spare (begins callers) slot)
-    needed None h = is_needed-empty (begins callers)
-    needed (Some version) h = at_death version.death h.2
-      where
-        at_death : (death : Option ℕ) → EndsBy now death → is_needed (now ∷ begins callers) (Some (record version { death = death })) ≡ not (is_spare (begins callers) (Some (record version { death = death })))
-        at_death None ends = rw (le-leb version.birth now h.1) refl
-        at_death (Some death) ends = rw (le-leb version.birth now h.1, le-leb death now ends) (twice (is_needed (begins callers) (Some (record version { death = Some death }))))
+needed_use next now callers slot h = grind (arith, spare_use, is_needed-empty)
 
 -- The slots that are needed, and those that are free, are all.
 pub needed_uses : (next now : ℕ) (callers : List Caller) (slots : List (Option Version)) → AllByRecursion (IsWithin next now) slots → count_by (is_needed (now ∷ begins callers)) slots + count_by is_free_use (map (use_of callers) slots) ≡ length slots
@@ -65,11 +48,7 @@ needed_uses next now callers (slot ∷ slots) h =
 -- A place is free by its slot where it is by its slot_use.
 pub free_use : (next now : ℕ) (callers : List Caller) (slots : List (Option Version)) (place : ℕ) → AllByRecursion (IsWithin next now) slots → is_free (now ∷ begins callers) slots place ≡ free_at (map (use_of callers) slots) place
 free_use next now callers [] place h = refl
-free_use next now callers (slot ∷ slots) zero h = ap not (needed_use next now callers slot h.0) ∙ twice (is_free_use (use_of callers slot))
-  where
-    twice : (b : Bool) → not (not b) ≡ b
-    twice true = refl
-    twice false = refl
+free_use next now callers (slot ∷ slots) zero h = grind (arith, needed_use)
 free_use next now callers (slot ∷ slots) (suc place) h = free_use next now callers slots place h.1
 
 -- Whether the slot holds a row of one of these ids that hasn't ended.
@@ -85,8 +64,7 @@ pub one_no : (b : Bool) → b ≡ false → ◌≡◌ {A = ℕ} (cond b 1 0) 0
 one_no b e = ap (λ t. cond t 1 0) e
 
 pub close_idle : (ids : List ℕ) (made : ℕ) (slot : Option Version) → live ids slot ≡ false → close ids made slot ≡ slot
-close_idle ids made None h = refl
-close_idle ids made (Some version) h = grind (arith)
+close_idle ids made slot h = grind (arith)
 
 -- A place that shows an id's row is in the table.
 pub has_row_at : (stamp id : ℕ) (slots : List (Option Version)) (place : ℕ) → row_at stamp id slots place ≡ true → has (visible stamp slots) id ≡ true

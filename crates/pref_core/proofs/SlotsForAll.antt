@@ -1,11 +1,10 @@
 -- Slots for all rows that a commit begins: there are some exactly where the needed versions fit, and they can be chosen one after the other, in any way.
 use Rattle.pref_core.proofs.Common.{◌≡◌, ℕ, zero, suc, ◌+◌, ◌<◌, ◌≤◌, Bool, true, false, not, ◌||◌, cond, eqb, List, [], ◌∷◌, ◌++◌, map, length, Option, Some, None, is_some, slice_get, slice_set}
-use Rattle.pref_core.proofs.Common.{refl, sym, ap, ◌∙◌, arith, ⊎_elim, count_by, list_any, count_by-le-length, or_parts, or_cases, eqb-true, eqb-false, Version, Entry, among, is_needed, seen}
+use Rattle.pref_core.proofs.Common.{refl, sym, ap, ◌∙◌, arith, count_by, list_any, count_by-le-length, or_parts, eqb-false, Version, Entry, among, is_needed, seen}
 use Rattle.pref_core.proofs.Common.{new_version, is_free, filled, not-false}
 use Rattle.pref_core.proofs.SlotSetsLaws.{count_set}
 use Rattle.pref_core.proofs.SlotUseLaws.{count_by-cons, one_no}
 use Rattle.pref_core.proofs.VisibleLaws.{seen_born}
-use Rattle.pref_core.proofs.SlotReuse.{IsFree-from}
 use Rattle.pref_core.proofs.StabilityLaws.{slice_get-set_same, slice_get-set_other}
 use Rattle.pref_core.proofs.BoundsLaws.{length-filled}
 
@@ -22,45 +21,19 @@ born_needed made ns entry = ap (λ s. is_some s || list_any (λ n. is_some (seen
 -- as many more are needed as rows begin
 pub filled_needs : (made : ℕ) (ns places : List ℕ) (begun : List Entry) (slots after : List (Option Version)) → filled (made ∷ ns) made places begun slots ≡ Some after
     → count_by (is_needed (made ∷ ns)) after ≡ count_by (is_needed (made ∷ ns)) slots + length begun
-filled_needs made ns [] [] slots after e = let same : slots ≡ after = cc in let is = ap (count_by (is_needed (made ∷ ns))) same in omega arith
-filled_needs made ns (place ∷ places) (fresh ∷ rest) slots after e =
-    go (is_free (made ∷ ns) slots place) refl e (filled_needs made ns places rest (slice_set slots place (new_version made fresh)) after)
-  where
-    go : (b : Bool) → is_free (made ∷ ns) slots place ≡ b → cond b (filled (made ∷ ns) made places rest (slice_set slots place (new_version made fresh))) None ≡ Some after
-        → (filled (made ∷ ns) made places rest (slice_set slots place (new_version made fresh)) ≡ Some after → count_by (is_needed (made ∷ ns)) after ≡ count_by (is_needed (made ∷ ns)) (slice_set slots place (new_version made fresh)) + length rest)
-        → count_by (is_needed (made ∷ ns)) after ≡ count_by (is_needed (made ∷ ns)) slots + suc (length rest)
-    go false f e more = absurd (cc)
-    go true f e more =
-        let free = IsFree-from (made ∷ ns) slots place f in
-        let one = count_by_set (is_needed (made ∷ ns)) slots place free.old (new_version made fresh) free.at free.unneeded (born_needed made ns fresh) in
-        let all = more e in
-        omega arith
-filled_needs made ns [] (fresh ∷ rest) slots after e = absurd (cc)
-filled_needs made ns (place ∷ places) [] slots after e = absurd (cc)
+filled_needs made ns [] begun slots after e = grind (arith, count_by_set, born_needed)
+filled_needs made ns (place ∷ places) begun slots after e = grind (arith, filled_needs made ns places, count_by_set, born_needed)
 
 -- .. so they fit where there are slots
 pub filled_fits : (made : ℕ) (ns places : List ℕ) (begun : List Entry) (slots after : List (Option Version)) → filled (made ∷ ns) made places begun slots ≡ Some after
     → count_by (is_needed (made ∷ ns)) slots + length begun ≤ length slots
-filled_fits made ns places begun slots after e =
-    let a = filled_needs made ns places begun slots after e in
-    let b = count_by-le-length (is_needed (made ∷ ns)) after in
-    let c = length-filled (made ∷ ns) made places begun slots after e in
-    omega arith
+filled_fits made ns places begun slots after e = grind (arith, filled_needs, count_by-le-length, length-filled)
 
 -- one place more
 pub filled_snoc : (ns : List ℕ) (made : ℕ) (places : List ℕ) (begun : List Entry) (slots now : List (Option Version)) (place : ℕ) (fresh : Entry) → filled ns made places begun slots ≡ Some now → is_free ns now place ≡ true
     → filled ns made (places ++ place ∷ []) (begun ++ fresh ∷ []) slots ≡ Some (slice_set now place (new_version made fresh))
-filled_snoc ns made [] [] slots now place fresh e f = search
-filled_snoc ns made (first ∷ places) (entry ∷ rest) slots now place fresh e f =
-    go (is_free ns slots first) e (λ h. filled_snoc ns made places rest (slice_set slots first (new_version made entry)) now place fresh h f)
-  where
-    go : (b : Bool) → cond b (filled ns made places rest (slice_set slots first (new_version made entry))) None ≡ Some now
-        → (filled ns made places rest (slice_set slots first (new_version made entry)) ≡ Some now → filled ns made (places ++ place ∷ []) (rest ++ fresh ∷ []) (slice_set slots first (new_version made entry)) ≡ Some (slice_set now place (new_version made fresh)))
-        → cond b (filled ns made (places ++ place ∷ []) (rest ++ fresh ∷ []) (slice_set slots first (new_version made entry))) None ≡ Some (slice_set now place (new_version made fresh))
-    go false e more = absurd (cc)
-    go true e more = more e
-filled_snoc ns made [] (entry ∷ rest) slots now place fresh e f = absurd (cc)
-filled_snoc ns made (first ∷ places) [] slots now place fresh e f = absurd (cc)
+filled_snoc ns made [] begun slots now place fresh e f = grind (arith)
+filled_snoc ns made (first ∷ places) begun slots now place fresh e f = grind (arith, filled_snoc ns made places)
 
 free_other : (ns : List ℕ) (slots : List (Option Version)) (place other : ℕ) (new : Option Version) → (place ≡ other → ⊥) → is_free ns (slice_set slots other new) place ≡ is_free ns slots place
 free_other ns slots place other new n = ap (λ (o : Option (Option Version)). elim o as (λ x. Bool) [ None ↦ false | Some slot ↦ not (is_needed ns slot) ]) (slice_get-set_other slots place other new n)
@@ -82,42 +55,13 @@ free_still ns made (first ∷ places) [] slots now place e a = absurd (cc)
 
 -- one that wasn't free isn't
 pub not_freed : (ns : List ℕ) (made : ℕ) (places : List ℕ) (begun : List Entry) (slots now : List (Option Version)) (place : ℕ) → filled ns made places begun slots ≡ Some now → is_free ns slots place ≡ false → is_free ns now place ≡ false
-not_freed ns made [] [] slots now place e n = let same : slots ≡ now = cc in ap (λ l. is_free ns l place) (sym same) ∙ n
-not_freed ns made (first ∷ places) (entry ∷ rest) slots now place e n =
-    go (is_free ns slots first) refl e (not_freed ns made places rest (slice_set slots first (new_version made entry)) now place)
-  where
-    go : (b : Bool) → is_free ns slots first ≡ b → cond b (filled ns made places rest (slice_set slots first (new_version made entry))) None ≡ Some now
-        → (filled ns made places rest (slice_set slots first (new_version made entry)) ≡ Some now → is_free ns (slice_set slots first (new_version made entry)) place ≡ false → is_free ns now place ≡ false)
-        → is_free ns now place ≡ false
-    go false f e more = absurd (cc)
-    go true f e more =
-        let apart : place ≡ first → ⊥ = λ same. let both : false ≡ true = sym n ∙ ap (is_free ns slots) same ∙ f in cc in
-        more e (free_other ns slots place first (new_version made entry) apart ∙ n)
-not_freed ns made [] (entry ∷ rest) slots now place e n = absurd (cc)
-not_freed ns made (first ∷ places) [] slots now place e n = absurd (cc)
+not_freed ns made [] begun slots now place e n = grind (arith, free_other)
+not_freed ns made (first ∷ places) begun slots now place e n = grind (arith, not_freed ns made places, free_other)
 
 -- one that a row took isn't
 pub taken : (made : ℕ) (ns places : List ℕ) (begun : List Entry) (slots now : List (Option Version)) (place : ℕ) → filled (made ∷ ns) made places begun slots ≡ Some now → among places place ≡ true → is_free (made ∷ ns) now place ≡ false
-taken made ns [] [] slots now place e a = absurd (cc)
-taken made ns (first ∷ places) (entry ∷ rest) slots now place e a =
-    go (is_free (made ∷ ns) slots first) refl e (λ h t. taken made ns places rest (slice_set slots first (new_version made entry)) now place h t)
-  where
-    here : is_free (made ∷ ns) slots first ≡ true → is_free (made ∷ ns) (slice_set slots first (new_version made entry)) first ≡ false
-    here f =
-        let free = IsFree-from (made ∷ ns) slots first f in
-        ap (λ (o : Option (Option Version)). elim o as (λ x. Bool) [ None ↦ false | Some slot ↦ not (is_needed (made ∷ ns) slot) ]) (slice_get-set_same slots first free.old (new_version made entry) free.at)
-        ∙ ap not (born_needed made ns entry)
-
-    go : (b : Bool) → is_free (made ∷ ns) slots first ≡ b → cond b (filled (made ∷ ns) made places rest (slice_set slots first (new_version made entry))) None ≡ Some now
-        → (filled (made ∷ ns) made places rest (slice_set slots first (new_version made entry)) ≡ Some now → among places place ≡ true → is_free (made ∷ ns) now place ≡ false)
-        → is_free (made ∷ ns) now place ≡ false
-    go false f e more = absurd (cc)
-    go true f e more = ⊎_elim
-        (λ (t : eqb first place ≡ true). let same : first ≡ place = eqb-true first place t in not_freed (made ∷ ns) made places rest (slice_set slots first (new_version made entry)) now place e (ap (is_free (made ∷ ns) (slice_set slots first (new_version made entry))) (sym same) ∙ here f))
-        (more e)
-        (or_cases (eqb first place) (among places place) a)
-taken made ns [] (entry ∷ rest) slots now place e a = absurd (cc)
-taken made ns (first ∷ places) [] slots now place e a = absurd (cc)
+taken made ns [] begun slots now place e a = grind (arith, slice_get-set_same, born_needed, not_freed)
+taken made ns (first ∷ places) begun slots now place e a = grind (arith, taken made ns places, slice_get-set_same, born_needed, not_freed)
 
 -- where no place is free all are needed
 pub all_needed : (ns : List ℕ) (slots : List (Option Version)) → ((place : ℕ) → is_free ns slots place ≡ false) → count_by (is_needed ns) slots ≡ length slots

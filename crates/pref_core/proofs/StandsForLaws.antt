@@ -1,6 +1,6 @@
 -- What slots show at each stamp when versions end, begin, and take a slot that isn't needed.
-use Rattle.pref_core.proofs.Common.{◌≡◌, ℕ, suc, ◌<◌, ◌≤◌, false, not, List, [], ◌∷◌, map, Option, Some, None, is_some, slice_get, slice_set, refl, subst, arith, cons_option, AllByRecursion, AllZip}
-use Rattle.pref_core.proofs.Common.{IsPermutation, IsPermutation-refl, IsPermutation-trans, IsPermutation-sym, or_parts, Version, Caller, Line, among, without, Entry, Client, Snapshot, seen, visible}
+use Rattle.pref_core.proofs.Common.{◌≡◌, ℕ, suc, ◌<◌, ◌≤◌, false, not, List, [], ◌∷◌, map, Option, Some, None, slice_get, slice_set, refl, subst, arith, cons_option, AllByRecursion, AllZip}
+use Rattle.pref_core.proofs.Common.{IsPermutation, IsPermutation-refl, IsPermutation-trans, IsPermutation-sym, Version, Caller, Line, among, without, Entry, Client, Snapshot, seen, visible}
 use Rattle.pref_core.proofs.Common.{is_needed, begins, IsWithin, Shows, ShowsBegin, StandsForClient, new_version, close}
 use Rattle.pref_core.proofs.Permutations.{IsPermutation-filter}
 use Rattle.pref_core.proofs.VisibleLaws.{visible_set-same, visible_set-new, visible_close-before, visible_close-after}
@@ -24,26 +24,15 @@ Shows-new_version-before stamp made fresh slots table h shows = grind (arith)
 
 -- a slot that shows nothing is used again
 visible_set : (stamp : ℕ) (slots : List (Option Version)) (place : ℕ) (old new : Option Version) → slice_get slots place ≡ Some old → seen stamp old ≡ None → IsPermutation (visible stamp (new ∷ slots)) (visible stamp (slice_set slots place new))
-visible_set stamp slots place old new at hidden = go (seen stamp new) refl
-  where
-    go : (s : Option Line) → seen stamp new ≡ s → IsPermutation (cons_option s (visible stamp slots)) (visible stamp (slice_set slots place new))
-    go None e = rw (visible_set-same stamp slots place old new at hidden e) (IsPermutation-refl _)
-    go (Some shown) e = visible_set-new stamp slots place old new shown at hidden e
+visible_set stamp slots place old new at hidden = grind (arith, visible_set-same, IsPermutation-refl, visible_set-new)
 
 pub Shows-set : (stamp : ℕ) (slots : List (Option Version)) (place : ℕ) (old new : Option Version) (table : List Line) → slice_get slots place ≡ Some old → seen stamp old ≡ None → Shows (new ∷ slots) stamp table → Shows (slice_set slots place new) stamp table
-Shows-set stamp slots place old new table at hidden shows = record {
-  lines = IsPermutation-trans _ _ _ (IsPermutation-sym _ _ (visible_set stamp slots place old new at hidden)) shows.lines;
-  ordered = shows.ordered;
-}
+Shows-set stamp slots place old new table at hidden shows = grind (arith, IsPermutation-trans, IsPermutation-sym, visible_set)
 
 -- what a slot that isn't needed shows: nothing at any of the stamps
 pub hidden_unneeded : (stamps : List ℕ) (slot : Option Version) → is_needed stamps slot ≡ false → AllByRecursion (λ stamp. seen stamp slot ≡ None) stamps
-hidden_unneeded [] slot h = tt
-hidden_unneeded (stamp ∷ stamps) slot h = let parts = or_parts _ _ h in (nothing (seen stamp slot) parts.0, hidden_unneeded stamps slot parts.1)
-  where
-    nothing : (s : Option Line) → is_some s ≡ false → s ≡ None
-    nothing None e = refl
-    nothing (Some shown) e = absurd (cc)
+hidden_unneeded [] slot h = grind (arith)
+hidden_unneeded (stamp ∷ stamps) slot h = grind (arith, hidden_unneeded stamps slot)
 
 -- what open queries were shown stays, where the slots show the same at their begins
 ShowsBegin-moved : (slots moved : List (Option Version)) (now later : ℕ) → now ≤ later → (begun : Option ℕ) (found : Option Snapshot) → ((stamp : ℕ) (table : List Line) → begun ≡ Some stamp → stamp ≤ now → Shows slots stamp table → Shows moved stamp table) → ShowsBegin slots now begun found → ShowsBegin moved later begun found
@@ -65,16 +54,10 @@ clients-close ids now slots = AllZip-weaker (StandsForClient slots now) (StandsF
 })
 
 pub clients-new_version : (now : ℕ) (fresh : Entry) (slots : List (Option Version)) (callers : List Caller) (clients : List Client) → AllZip (StandsForClient slots now) callers clients → AllZip (StandsForClient (new_version (suc now) fresh ∷ slots) now) callers clients
-clients-new_version now fresh slots = AllZip-weaker (StandsForClient slots now) (StandsForClient (new_version (suc now) fresh ∷ slots) now) (λ caller client h. record {
-  calls = h.calls;
-  at_begin = ShowsBegin-moved slots _ now now (omega arith) caller.at_begin client.at_begin (λ stamp table e l. Shows-new_version-before stamp (suc now) fresh slots table (omega arith)) h.at_begin;
-})
+clients-new_version now fresh slots = grind (arith, AllZip-weaker, ShowsBegin-moved, Shows-new_version-before)
 
 pub clients-later : (now : ℕ) (slots : List (Option Version)) (callers : List Caller) (clients : List Client) → AllZip (StandsForClient slots now) callers clients → AllZip (StandsForClient slots (suc now)) callers clients
-clients-later now slots = AllZip-weaker (StandsForClient slots now) (StandsForClient slots (suc now)) (λ caller client h. record {
-  calls = h.calls;
-  at_begin = ShowsBegin-moved slots slots now (suc now) (omega arith) caller.at_begin client.at_begin (λ stamp table e l s. s) h.at_begin;
-})
+clients-later now slots = grind (arith, AllZip-weaker, ShowsBegin-moved)
 
 pub clients-set : (now : ℕ) (slots : List (Option Version)) (place : ℕ) (old new : Option Version) → slice_get slots place ≡ Some old → (callers : List Caller) (clients : List Client) → AllByRecursion (λ stamp. seen stamp old ≡ None) (begins callers) → AllZip (StandsForClient (new ∷ slots) now) callers clients → AllZip (StandsForClient (slice_set slots place new) now) callers clients
 clients-set now slots place old new at [] [] hidden h = tt

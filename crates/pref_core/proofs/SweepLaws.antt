@@ -23,10 +23,7 @@ pub record IsSweeping (keeper turn : ℕ) (uses after : List SlotUse) : Type 0 w
   pub left : count_by (is_kept_by keeper) uses + turn ≤ length after
 
 pub sweep_begins : (keeper : ℕ) (uses after : List SlotUse) → AllZip (MayBecome keeper) uses after → IsSweeping keeper 0 uses after
-sweep_begins keeper uses after h = record {
-  may = h;
-  left = let few = count_by-le-length (is_kept_by keeper) uses in let long = AllZip-length (MayBecome keeper) uses after h in omega arith;
-}
+sweep_begins keeper uses after h = grind (arith, count_by-le-length, AllZip-length)
 
 kept_one : (keeper : ℕ) → ◌≡◌ {A = ℕ} (cond (is_kept_by keeper (Ended keeper)) 1 0) 1
 kept_one keeper = ap (λ b. cond b 1 0) (eq-eqb keeper keeper refl)

@@ -1,8 +1,8 @@
 -- What becomes of the uses where an open query begins or ends.
-use Rattle.pref_core.proofs.Common.{◌≡◌, ℕ, zero, suc, ◌+◌, ◌-◌, ◌<◌, ◌≤◌, ◌⊎◌, inl, inr, Bool, true, false, cond, List, [], ◌∷◌, ◌++◌, map, length, set, replicate, Option, Some, None}
-use Rattle.pref_core.proofs.Common.{is_some, slice_get, refl, sym, ap, ap₂, ◌∙◌, subst, arith, AllByRecursion, AllZip, option_to_list, length-set, slice_get_within, ne_eqb, Version, Caller}
+use Rattle.pref_core.proofs.Common.{◌≡◌, ℕ, zero, suc, ◌+◌, ◌-◌, ◌<◌, ◌≤◌, inl, true, false, cond, List, [], ◌∷◌, ◌++◌, map, length, set, replicate, Option, Some, None}
+use Rattle.pref_core.proofs.Common.{is_some, slice_get, refl, sym, ap, ap₂, ◌∙◌, subst, arith, AllByRecursion, AllZip, option_to_list, length-set, slice_get_within, Version, Caller}
 use Rattle.pref_core.proofs.Common.{SlotUse, Free, Ended, Live, Call, Insert, Update, Delete, Commit, Begin, Finish, Abandon, Op, Row, refusal_of, after, Contents, is_needed}
-use Rattle.pref_core.proofs.Common.{StandsFor, IsWithin, EndsBy, opening_slots, begin_after, callers_after, refusal_at, is_next, slots_after, stepped, applied, is_end, kept_from, use_of, number_of}
+use Rattle.pref_core.proofs.Common.{StandsFor, IsWithin, opening_slots, begin_after, callers_after, refusal_at, is_next, slots_after, stepped, applied, is_end, kept_from, use_of, number_of}
 use Rattle.pref_core.proofs.Common.{is_kept_by, MayBecome, IsBounded, IsKept, uses_of}
 use Rattle.pref_core.proofs.AppliedLaws.{stepped_stands}
 use Rattle.pref_core.proofs.BoundsLaws.{IsBounded-stepped}
@@ -18,12 +18,7 @@ abbrev SeesStill : ℕ → ℕ → Caller → Caller → Type 0
 SeesStill next now found new = (version : Version) → IsWithin next now (Some version) → is_some version.death ≡ true → is_needed (option_to_list new.at_begin) (Some version) ≡ is_needed (option_to_list found.at_begin) (Some version)
 
 use_still : (next now : ℕ) (callers : List Caller) (k : ℕ) (found new : Caller) (slot : Option Version) → slice_get callers k ≡ Some found → SeesStill next now found new → IsWithin next now slot → use_of (set callers k new) slot ≡ use_of callers slot
-use_still next now callers k found new None at still h = refl
-use_still next now callers k found new (Some version) at still h = at_death version.death h.2
-  where
-    at_death : (death : Option ℕ) → EndsBy now death → use_of (set callers k new) (Some (record version { death = death })) ≡ use_of callers (Some (record version { death = death }))
-    at_death None ends = refl
-    at_death (Some death) ends = kept_still 0 callers k found new (Some (record version { death = Some death })) at (still (record version { death = Some death }) (h.0, h.1, ends) refl)
+use_still next now callers k found new slot at still h = grind (arith, kept_still)
 
 uses_still : (next now : ℕ) (callers : List Caller) (k : ℕ) (found new : Caller) (slots : List (Option Version)) → slice_get callers k ≡ Some found → SeesStill next now found new → AllByRecursion (IsWithin next now) slots
     → map (use_of (set callers k new)) slots ≡ map (use_of callers) slots
@@ -35,8 +30,7 @@ sees_begun : (next now : ℕ) (found new : Caller) → found.at_begin ≡ None �
 sees_begun next now found new none some version h d = grind (arith)
 
 begin_closed : (calls : ℕ) (b : Option ℕ) → refusal_of (Some calls) (is_some b) Begin ≡ None → b ≡ None
-begin_closed calls None h = refl
-begin_closed calls (Some n) h = grind (arith)
+begin_closed calls b h = grind (arith)
 
 -- Every call that doesn't end a query leaves the uses.
 pub uses_kept : (contents : Contents) (client : ℕ) (call : Call) → refusal_at contents client call ≡ None → is_end call ≡ false → AllByRecursion (IsWithin contents.next_id contents.stamp) contents.slots
@@ -65,21 +59,10 @@ uses_kept contents (suc k) call accepted stays within = there (slice_get content
 
 -- A client whose call gets a number is one of the callers.
 pub seated : (contents : Contents) (client : ℕ) (call : Call) → refusal_at contents client call ≡ None → (1 ≤ client) × (client ≤ length contents.callers)
-seated contents zero call accepted = absurd (cc)
-seated contents (suc k) call accepted = there (slice_get contents.callers k) refl accepted
-  where
-    there : (o : Option Caller) → slice_get contents.callers k ≡ o → refusal_of (elim o as (λ x. Option ℕ) [ None ↦ None | Some caller ↦ Some caller.calls ]) (is_some (elim o as (λ x. Option ℕ) [ None ↦ None | Some caller ↦ caller.at_begin ])) call ≡ None
-        → (1 ≤ suc k) × (suc k ≤ length contents.callers)
-    there None at r = absurd (cc)
-    there (Some found) at r = let inside = slice_get_within contents.callers k found at in (omega arith, omega arith)
+seated contents client call accepted = grind (arith, slice_get_within)
 
 pub callers_long : (now : ℕ) (callers : List Caller) (client : ℕ) (call : Call) → length (callers_after now callers client call) ≡ length callers
-callers_long now callers zero call = refl
-callers_long now callers (suc k) call = go (slice_get callers k)
-  where
-    go : (o : Option Caller) → length (elim o as (λ x. List Caller) [ None ↦ callers | Some found ↦ set callers k (record { calls = suc found.calls; at_begin = begin_after now call found.at_begin }) ]) ≡ length callers
-    go None = refl
-    go (Some found) = length-set callers k (record { calls = suc found.calls; at_begin = begin_after now call found.at_begin })
+callers_long now callers client call = grind (arith, length-set)
 
 -- The callers from one on keep nothing for those before, ..
 kept_past : (start keeper : ℕ) (callers : List Caller) (slot : Option Version) → keeper < start → is_kept_by keeper (kept_from start callers slot) ≡ false
@@ -92,29 +75,13 @@ kept_few start [] slot = omega arith
 kept_few start (caller ∷ callers) slot = grind (arith, kept_few (suc start) callers slot)
 
 pub use_few : (callers : List Caller) (slot : Option Version) → length callers ≤ 8 → number_of (use_of callers slot) < 10
-use_few callers None few = omega arith
-use_few callers (Some version) few = at_death version.death
-  where
-    at_death : (death : Option ℕ) → number_of (use_of callers (Some (record version { death = death }))) < 10
-    at_death None = omega arith
-    at_death (Some death) = let less = kept_few 0 callers (Some (record version { death = Some death })) in omega arith
+use_few callers slot few = grind (arith, kept_few)
 
 -- Where a caller's query ends, what it kept goes elsewhere.
 use_left : (start k keeper : ℕ) (callers : List Caller) (new : Caller) (slot : Option Version) → keeper ≡ start + k → k < length callers → new.at_begin ≡ None → MayBecome keeper (kept_from start callers slot) (kept_from start (set callers k new) slot)
 use_left start k keeper [] new slot is l e = absurd (omega arith)
-use_left start zero keeper (first ∷ callers) new slot is l e =
-    subst (λ z. MayBecome keeper (kept_from start (first ∷ callers) slot) z) (sym (ap (λ b. cond (is_needed (option_to_list b) slot) (Ended start) (kept_from (suc start) callers slot)) e))
-    (kept_past (suc start) keeper callers slot (omega arith), either (is_needed (option_to_list first.at_begin) slot))
-  where
-    either : (b : Bool) → (cond b (Ended start) (kept_from (suc start) callers slot) ≡ kept_from (suc start) callers slot) ⊎ (cond b (Ended start) (kept_from (suc start) callers slot) ≡ Ended keeper)
-    either true = inr (ap (λ n. Ended n) (let same : start ≡ keeper = omega arith in same))
-    either false = inl refl
-use_left start (suc k) keeper (first ∷ callers) new slot is l e = go (is_needed (option_to_list first.at_begin) slot) (use_left (suc start) k keeper callers new slot (omega arith) (omega arith) e)
-  where
-    go : (b : Bool) → MayBecome keeper (kept_from (suc start) callers slot) (kept_from (suc start) (set callers k new) slot)
-        → MayBecome keeper (cond b (Ended start) (kept_from (suc start) callers slot)) (cond b (Ended start) (kept_from (suc start) (set callers k new) slot))
-    go true more = (ne_eqb start keeper (λ e. absurd (omega arith)), inl refl)
-    go false more = more
+use_left start zero keeper (first ∷ callers) new slot is l e = grind (arith, kept_past)
+use_left start (suc k) keeper (first ∷ callers) new slot is l e = grind (arith, use_left (suc start) k keeper callers new slot (omega arith) (omega arith) e)
 
 uses_left : (keeper : ℕ) (callers : List Caller) (new : Caller) (slots : List (Option Version)) → keeper < length callers → new.at_begin ≡ None → AllZip (MayBecome keeper) (map (use_of callers) slots) (map (use_of (set callers keeper new)) slots)
 uses_left keeper callers new [] l e = tt

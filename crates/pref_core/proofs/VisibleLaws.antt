@@ -31,8 +31,7 @@ put_permutes shown (next ∷ rest) =
 
 -- what a version that ends at a later stamp shows before: the same
 pub seen_close-before : (ids : List ℕ) (now stamp : ℕ) (slot : Option Version) → stamp ≤ now → seen stamp (close ids (suc now) slot) ≡ seen stamp slot
-seen_close-before ids now stamp None h = refl
-seen_close-before ids now stamp (Some version) h = grind (arith)
+seen_close-before ids now stamp slot h = grind (arith)
 
 pub visible_close-before : (ids : List ℕ) (now stamp : ℕ) (slots : List (Option Version)) → stamp ≤ now → visible stamp (map (close ids (suc now)) slots) ≡ visible stamp slots
 visible_close-before ids now stamp [] h = refl
@@ -45,8 +44,7 @@ kept ids (Some shown) = cond (not (among ids shown.id)) (Some shown) None
 
 -- what it shows from then on: the line, where its id isn't chosen
 pub seen_close-after : (ids : List ℕ) (next now : ℕ) (slot : Option Version) → IsWithin next now slot → seen (suc now) (close ids (suc now) slot) ≡ kept ids (seen now slot)
-seen_close-after ids next now None h = refl
-seen_close-after ids next now (Some version) h = grind (arith)
+seen_close-after ids next now slot h = grind (arith)
 
 pub visible_close-after : (ids : List ℕ) (next now : ℕ) (slots : List (Option Version)) → AllByRecursion (IsWithin next now) slots → visible (suc now) (map (close ids (suc now)) slots) ≡ without ids (visible now slots)
 visible_close-after ids next now [] h = refl
