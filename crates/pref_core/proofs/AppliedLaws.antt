@@ -1,5 +1,5 @@
 -- An op that is legal at slots that stand for a state leaves slots that stand for the next one.
-use Rattle.pref_core.proofs.Common.{◌≡◌, ℕ, zero, suc, Bool, true, false, not, List, [], ◌∷◌, length, Option, Some, None, is_some, slice_set, refl, sym, ap, ◌∙◌, arith, AllZip, and_parts}
+use Rattle.pref_core.proofs.Common.{◌≡◌, ℕ, suc, Bool, true, false, List, [], ◌∷◌, length, Option, Some, None, slice_set, refl, sym, ap, ◌∙◌, arith, AllZip, and_parts}
 use Rattle.pref_core.proofs.Common.{Version, Caller, Call, Outcome, Op, State, Client, Snapshot, with_seat}
 use Rattle.pref_core.proofs.Common.{is_change, missing, ended, begun, begins_row, needed_after, success_outcome, outcome, succeeds, committed, begun_after, counted, after, is_formed, outcome_of}
 use Rattle.pref_core.proofs.Common.{Contents, StandsFor, StandsForClient, ShowsBegin, stamps, caller_calls, grown, filled, begin_after, callers_after, is_next, same_number, same_outcome, outcome_at}
@@ -12,11 +12,8 @@ same_outcome-true : (a b : Outcome) → same_outcome a b ≡ true → a ≡ b
 same_outcome-true a b h = grind (arith)
 
 AllZip-set : {A B : Type 0} (R : A → B → Type 0) (xs : List A) (ys : List B) (k : ℕ) (a : A) (b : B) → R a b → AllZip R xs ys → AllZip R (slice_set xs k a) (slice_set ys k b)
-AllZip-set R [] [] k a b r h = tt
-AllZip-set R [] (y ∷ ys) k a b r h = absurd h
-AllZip-set R (x ∷ xs) [] k a b r h = absurd h
-AllZip-set R (x ∷ xs) (y ∷ ys) zero a b r h = (r, h.1)
 AllZip-set R (x ∷ xs) (y ∷ ys) (suc k) a b r h = (h.0, AllZip-set R xs ys k a b r h.1)
+AllZip-set R xs ys k a b r h = grind (arith)
 
 AllZip-with_seat : {A B : Type 0} (R : A → B → Type 0) (xs : List A) (ys : List B) (client : ℕ) (a : A) (b : B) → R a b → AllZip R xs ys → AllZip R (with_seat client a xs) (with_seat client b ys)
 AllZip-with_seat R xs ys client a b r h = grind (arith, AllZip-set)
@@ -42,8 +39,7 @@ counted_stands contents state client call h = record {
         (elim a as (λ x. List Caller) [ None ↦ contents.callers | Some found ↦ with_seat client (record { calls = suc found.calls; at_begin = begin_after contents.stamp call found.at_begin }) contents.callers ])
         (elim b as (λ x. List Client) [ None ↦ state.clients | Some found ↦ with_seat client (record { calls = suc found.calls; at_begin = begun_after state call found.at_begin }) state.clients ])
     go nobody = h.clients
-    go (somebody caller found s) = AllZip-with_seat (StandsForClient contents.slots contents.stamp) contents.callers state.clients client _ _
-        (record { calls = ap suc s.calls; at_begin = begun_counts contents state call caller.at_begin found.at_begin h s.at_begin }) h.clients
+    go (somebody caller found s) = grind (arith, AllZip-with_seat, begun_counts)
 
 -- a change that succeeds misses no row
 pub succeeds-missing : (capacity : ℕ) (begins : Bool) (m : Option ℕ) (size : ℕ) (success_outcome : Outcome) → succeeds (outcome_of capacity begins m size success_outcome) ≡ true → m ≡ None
@@ -64,15 +60,7 @@ pub record IsAllowed (contents : Contents) (op : Op) : Type 0 where
   pub formed : is_formed op.call ≡ true
 
 pub IsAllowed-from : (contents : Contents) (op : Op) → is_next contents op ≡ true → IsAllowed contents op
-IsAllowed-from contents op h =
-    let all = and_parts _ (is_formed op.call) h in
-    let outer = and_parts _ (same_outcome op.outcome (outcome_at contents op.call)) all.0 in
-    let inner = and_parts (not (is_some (refusal_at contents op.client op.call))) (same_number (caller_calls contents op.client) op.number) outer.0 in
-    record { accepted = none (refusal_at contents op.client op.call) inner.0; number = inner.1; outcome = same_outcome-true _ _ outer.1; formed = all.1 }
-  where
-    none : {X : Type 0} (o : Option X) → not (is_some o) ≡ true → o ≡ None
-    none None e = refl
-    none (Some x) e = absurd (cc)
+IsAllowed-from contents op h = grind (arith, same_outcome-true, and_parts)
 
 pub stepped_stands : (contents : Contents) (state : State) (op : Op) (slots : List (Option Version)) → StandsFor contents state → is_next contents op ≡ true → slots_after contents op ≡ Some slots
     → StandsFor (stepped contents op slots) (after (length contents.slots) state op.client op.call)

@@ -1,7 +1,7 @@
 -- No number of a store comes near its type's end.
-use Rattle.pref_core.proofs.Common.{sum_by-set, slice_get_within, get_or_from_slice_get, ◌≡◌, ℕ, zero, suc, ◌+◌, ◌^◌, ◌<◌, ◌≤◌, Bool, true, false, cond, ◌&&◌, List, [], ◌∷◌, length}
+use Rattle.pref_core.proofs.Common.{sum_by-set, slice_get_within, get_or_from_slice_get, ◌≡◌, ℕ, suc, ◌^◌, ◌<◌, ◌≤◌, Bool, true, List, [], ◌∷◌, length}
 use Rattle.pref_core.proofs.Common.{Option, Some, None, is_some, slice_get, slice_set, refl, ap, arith, AllByRecursion, sum_by, length-map, length-set, All-from_recursion}
-use Rattle.pref_core.proofs.Common.{sum_by-le, Entry, Version, Caller, Call, Op, seat, with_seat, is_change, succeeds, begun}
+use Rattle.pref_core.proofs.Common.{sum_by-le, Entry, Version, Caller, Call, Op, seat, with_seat, begun}
 use Rattle.pref_core.proofs.Common.{added, refusal_of, is_formed, Contents, filled, slots_after, begin_after, callers_after, is_next, stepped}
 use Rattle.pref_core.proofs.Common.{IsBounded}
 use Rattle.pref_core.proofs.AppliedLaws.{IsAllowed, IsAllowed-from}
@@ -23,9 +23,8 @@ pub sum_by-set_suc : {X : Type 0} (f : X → ℕ) (xs : List X) (k : ℕ) (x y :
 sum_by-set_suc f xs k x y at h = omega (arith, sum_by-set f xs k y x (slice_get_within xs k x at), ap f (get_or_from_slice_get xs k x x at), h)
 
 pub AllByRecursion-set : {X : Type 0} (P : X → Type 0) (xs : List X) (k : ℕ) (y : X) → P y → AllByRecursion P xs → AllByRecursion P (slice_set xs k y)
-AllByRecursion-set P [] k y p h = tt
-AllByRecursion-set P (z ∷ xs) zero y p h = (p, h.1)
 AllByRecursion-set P (z ∷ xs) (suc k) y p h = (h.0, AllByRecursion-set P xs k y p h.1)
+AllByRecursion-set P xs k y p h = grind (arith)
 
 -- the slots stay as many
 pub length-filled : (ns : List ℕ) (made : ℕ) (places : List ℕ) (begun : List Entry) (slots after : List (Option Version)) → filled ns made places begun slots ≡ Some after → length after ≡ length slots
@@ -62,19 +61,4 @@ pub added-small : (call : Call) → is_formed call ≡ true → added call ≤ 8
 added-small call f = grind (arith, added_by-length, commit_length)
 
 pub IsBounded-stepped : (contents : Contents) (op : Op) (slots : List (Option Version)) → IsBounded contents → is_next contents op ≡ true → slots_after contents op ≡ Some slots → IsBounded (stepped contents op slots)
-IsBounded-stepped contents op slots h next fits =
-    let counts = callers_after-counts contents op (IsAllowed-from contents op next) in
-    let long = length-slots_after contents op slots fits in
-    let few = added-small op.call (IsAllowed-from contents op next).formed in
-    let total = counts.total in
-    let old_slots = h.slots in
-    let old_callers = h.callers in
-    let old_stamp = h.stamp in
-    let old_id = h.next_id in
-    let many = counts.long in
-    elim (is_change op.call && succeeds op.outcome) as (λ b. IsBounded (cond b
-    (record { slots = slots; stamp = suc contents.stamp; next_id = contents.next_id + added op.call; callers = callers_after contents.stamp contents.callers op.client op.call })
-    (record { slots = slots; stamp = contents.stamp; next_id = contents.next_id; callers = callers_after contents.stamp contents.callers op.client op.call }))) [
-      | true ↦ record { slots = omega arith; callers = omega arith; calls = counts.calls h.calls; stamp = omega arith; next_id = omega arith }
-      | false ↦ record { slots = omega arith; callers = omega arith; calls = counts.calls h.calls; stamp = omega arith; next_id = omega arith }
-    ]
+IsBounded-stepped contents op slots h next fits = grind (arith, callers_after-counts contents op (IsAllowed-from contents op next), IsAllowed-from contents op next, length-slots_after contents op slots fits, added-small)

@@ -1,5 +1,5 @@
 -- The needed versions are within the capacity after each legal history.
-use Rattle.pref_core.proofs.Common.{◌≡◌, ℕ, zero, suc, ◌≤◌, Bool, true, false, ◌||◌, cond, List, [], ◌∷◌, ◌++◌, length, Option, Some, None, slice_get, slice_set, ⊎_elim, refl, sym, ◌∙◌, arith}
+use Rattle.pref_core.proofs.Common.{◌≡◌, ℕ, suc, ◌≤◌, Bool, true, false, ◌||◌, cond, List, [], ◌∷◌, ◌++◌, length, Option, Some, None, slice_get, slice_set, ⊎_elim, refl, sym, ◌∙◌, arith}
 use Rattle.pref_core.proofs.Common.{or_cases, or_left, or_right, count_by-le-length, Call, Line, Key, holds_key, keys, State, Client, Snapshot}
 use Rattle.pref_core.proofs.Common.{found_tables, needed, is_change, outcome, succeeds, committed, counted, after, is_needed}
 use Rattle.pref_core.proofs.Common.{stamps, NeededFits, NeededFitsSlots}
@@ -21,8 +21,6 @@ cons_found key client clients = grind (arith, found_of, holds_key-keys-append)
 -- what open queries found, once a client is another
 found_set : (key : Key) (clients : List Client) (k : ℕ) (new : Client) → holds key (found_tables (slice_set clients k new)) ≡ true → (holds key (found_of new.at_begin) || holds key (found_tables clients)) ≡ true
 unfolding holds
-found_set key [] k new h = absurd (cc)
-found_set key (client ∷ clients) zero new h = grind (arith, holds, found_of, cons_found)
 found_set key (client ∷ clients) (suc k) new h =
     ⊎_elim (λ (here : holds key (found_of client.at_begin) ≡ true). or_right (holds key (found_of new.at_begin)) _ (cons_found key client clients ∙ or_left _ (holds key (found_tables clients)) here))
     (λ (there : holds key (found_tables (slice_set clients k new)) ≡ true).
@@ -30,11 +28,11 @@ found_set key (client ∷ clients) (suc k) new h =
     (λ (rest : holds key (found_tables clients) ≡ true). or_right (holds key (found_of new.at_begin)) _ (cons_found key client clients ∙ or_right (holds key (found_of client.at_begin)) _ rest))
     (or_cases _ _ (found_set key clients k new there)))
     (or_cases _ _ (sym (cons_found key client (slice_set clients k new)) ∙ h))
+found_set key clients k new h = grind (arith, holds, found_of, cons_found)
 
 found_has : (key : Key) (clients : List Client) (k : ℕ) (who : Client) → slice_get clients k ≡ Some who → holds key (found_of who.at_begin) ≡ true → holds key (found_tables clients) ≡ true
-found_has key [] k who at h = absurd (cc)
-found_has key (client ∷ clients) zero who at h = grind (arith, cons_found, holds, found_of)
 found_has key (client ∷ clients) (suc k) who at h = cons_found key client clients ∙ or_right (holds key (found_of client.at_begin)) _ (found_has key clients k who at h)
+found_has key clients k who at h = grind (arith, cons_found, holds, found_of)
 
 -- what open queries found after a call: no more than before, and the table where the call is a begin
 found_counted : (key : Key) (table : List Line) (state : State) (client : ℕ) (call : Call) → (is_change call ≡ false → table ≡ state.table) → holds key (found_tables (counted state client call)) ≡ true → (holds key table || holds key (found_tables state.clients)) ≡ true
@@ -66,12 +64,11 @@ after_fits capacity state client call fits = go (is_change call) refl (succeeds 
   where
     go : (c : Bool) → is_change call ≡ c → (s : Bool) → succeeds (outcome capacity state call) ≡ s
         → length (needed (cond c (cond s (committed call (noted state client call)) (noted state client call)) (noted state client call))) ≤ capacity
-    go false c s e = noted_fits capacity state client call fits
-    go true c false e = noted_fits capacity state client call fits
     go true c true e =
         let made = change_fits capacity state call c e fits in
         let fewer_now = needed_counted (committed call state).table state client call (committed call state).next_id (committed call state).commits (λ q. absurd (let both : true ≡ false = sym c ∙ q in cc)) in
         omega arith
+    go c h2 s e = grind (arith, noted_fits, change_fits, needed_counted)
 
 pub needed_fits : NeededFits
 needed_fits capacity state [] fits legal = fits

@@ -1,6 +1,6 @@
 -- How many changes a call makes, and how many rows they begin and add, one change after the other.
 use Rattle.pref_core.proofs.Common.{◌≡◌, ℕ, zero, suc, ◌+◌, ◌<◌, ◌≤◌, Bool, true, cond, List, [], ◌∷◌, ◌++◌, length, take, drop, get_or, slice_get, add-one, Some, refl, sym, ap, ◌∙◌, arith}
-use Rattle.pref_core.proofs.Common.{nat_lt, drop-cons, lt-ltb, take-append-drop, Change, Add, Set, Remove, ended_by, begun_by, added_by, begins_any, among}
+use Rattle.pref_core.proofs.Common.{nat_lt, drop-cons, take-append-drop, Change, Add, Set, Remove, ended_by, begun_by, added_by, begins_any, among}
 use Rattle.pref_core.proofs.ChangesLaws.{among_inside, ended_by-append, drop_at}
 
 pub drop_item : {X : Type 0} (xs : List X) (at : ℕ) (x other : X) → x ≡ get_or xs at other → at < length xs → drop at xs ≡ x ∷ drop (at + 1) xs
@@ -19,10 +19,7 @@ ended_first zero changes = grind (arith)
 ended_first (suc at) changes = grind (arith, ended_first at)
 
 pub ended_next : (changes : List Change) (at : ℕ) (change : Change) (id : ℕ) → slice_get changes at ≡ Some change → ended_by (change ∷ []) ≡ id ∷ [] → ended_by changes ≡ ended_by (take at changes) ++ id ∷ ended_by (drop (at + 1) changes)
-ended_next changes at change id e named =
-    ap ended_by (sym (take-append-drop at changes)) ∙ ended_by-append (take at changes) (drop at changes)
-    ∙ ap (λ l. ended_by (take at changes) ++ ended_by l) (drop_at changes at change e)
-    ∙ ap (λ l. ended_by (take at changes) ++ l) (ended_by-append (change ∷ []) (drop (at + 1) changes) ∙ ap (λ l. l ++ ended_by (drop (at + 1) changes)) named)
+ended_next changes at change id e named = grind (arith, take-append-drop at changes, ended_by-append (take at changes) (drop at changes), ended_by-append (change ∷ []) (drop (at + 1) changes), drop_at changes at change e)
 
 pub named_at : (changes : List Change) (at : ℕ) (change : Change) (id : ℕ) → slice_get changes at ≡ Some change → ended_by (change ∷ []) ≡ id ∷ [] → among (ended_by changes) id ≡ true
 named_at changes at change id e named = ap (λ l. among l id) (ended_next changes at change id e named) ∙ among_inside (ended_by (take at changes)) (ended_by (drop (at + 1) changes)) id
@@ -39,10 +36,8 @@ one_begins next change rest begins e = grind (arith, begun_alike)
 
 -- changes begin a row where the rows that they begin are more than none
 pub begins_some : (next : ℕ) (changes : List Change) → nat_lt 0 (length (begun_by next changes)) ≡ begins_any changes
-begins_some next [] = refl
-begins_some next (Add row ∷ rest) = lt-ltb 0 (suc (length (begun_by (suc next) rest))) (omega arith)
-begins_some next (Set id row ∷ rest) = lt-ltb 0 (suc (length (begun_by next rest))) (omega arith)
 begins_some next (Remove id ∷ rest) = begins_some next rest
+begins_some next changes = grind (arith)
 
 pub added_by-length : (changes : List Change) → added_by changes ≤ length changes
 added_by-length [] = omega arith

@@ -1,5 +1,5 @@
 -- The changes of a commit: which ids they name, and that the rows that they begin have ids of their own.
-use Rattle.pref_core.proofs.Common.{◌≡◌, ℕ, zero, suc, ◌+◌, ◌<◌, ◌≤◌, Bool, true, false, not, ◌||◌, cond, eqb, List, [], ◌∷◌, ◌++◌, map, length, take, drop, add-one, slice_get, Option, Some, None}
+use Rattle.pref_core.proofs.Common.{◌≡◌, ℕ, suc, ◌+◌, ◌<◌, ◌≤◌, Bool, true, false, not, ◌||◌, cond, eqb, List, [], ◌∷◌, ◌++◌, map, length, take, drop, add-one, slice_get, Option, Some, None}
 use Rattle.pref_core.proofs.Common.{is_some, refl, sym, ap, ◌∙◌, subst, arith, ⊎_elim, ◌⊎◌, inl, inr, append-nil, take_more, slice_get_within, get_or_from_slice_get}
 use Rattle.pref_core.proofs.Common.{or_cases, or_right, eqb-true, eq-eqb, Change, Add, Set, Remove, Call, ended_by}
 use Rattle.pref_core.proofs.Common.{begun_by, added_by, twice_from, is_commit, Line, among, has, missing, ended, is_formed, AreFresh, Entry}
@@ -89,9 +89,8 @@ begun_fresh start next limit table (Remove id ∷ rest) l few low high apart = g
 
 -- The changes up to a place, and those from it on.
 pub drop_at : {X : Type 0} (xs : List X) (at : ℕ) (x : X) → slice_get xs at ≡ Some x → drop at xs ≡ x ∷ drop (at + 1) xs
-drop_at [] at x e = absurd (cc)
-drop_at (y ∷ xs) zero x e = let same : y ≡ x = cc in ap (λ z. z ∷ xs) same
 drop_at (y ∷ xs) (suc at) x e = drop_at xs at x e ∙ ap (λ n. x ∷ drop n xs) (add-one at) ∙ ap (λ n. x ∷ drop n (y ∷ xs)) (sym (add-one (suc at)))
+drop_at xs at x e = grind (arith)
 
 pub take_at : {X : Type 0} (xs : List X) (at : ℕ) (x : X) → slice_get xs at ≡ Some x → take (at + 1) xs ≡ take at xs ++ x ∷ []
 take_at xs at x e = let inside = slice_get_within xs at x e in take_more xs at x inside ∙ ap (λ y. take at xs ++ y ∷ []) (get_or_from_slice_get xs at x x e)

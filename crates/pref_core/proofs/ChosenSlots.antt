@@ -6,6 +6,7 @@ use Rattle.pref_core.proofs.Common.{placed, used, grown, outcome_at, outcome_of,
 use Rattle.pref_core.proofs.ChangesLaws.{begun_few}
 use Rattle.pref_core.proofs.PlanLaws.{succeeds-fits}
 use Rattle.pref_core.proofs.SlotsForAll.{count_grown, filled_snoc, free_still, some_left}
+use Rattle.pref_core.proofs.Common.{rules}
 
 abbrev pub closed_slots : Contents → List ℕ → List (Option Version)
 closed_slots contents ids = map (close ids (suc contents.stamp)) contents.slots
@@ -16,10 +17,7 @@ stamps_next contents = suc contents.stamp ∷ begins contents.callers
 -- The size that code computes.
 pub size_is : (contents : Contents) (call : Call) (freed : List ℕ) (size free begun_rows : ℕ) → IsFreed contents (ended call) freed
     → begun_rows ≡ length (begun contents.next_id call) → free ≡ count_by is_free_use (uses_of contents) + length freed → size + free ≡ length contents.slots + begun_rows → size ≡ used (grown call contents)
-size_is contents call freed size free begun_rows h rows is returned =
-    let more = count_grown (suc contents.stamp) (begins contents.callers) (begun contents.next_id call) (closed_slots contents (ended call)) in
-    let all = h.counted in
-    omega arith
+size_is contents call freed size free begun_rows h rows is returned = search (rules, count_grown)
 
 pub freed_less : (contents : Contents) (ids freed : List ℕ) → IsFreed contents ids freed → count_by is_free_use (uses_of contents) + length freed ≤ length contents.slots
 freed_less contents ids freed h = let all = h.counted in omega arith

@@ -1,5 +1,5 @@
 -- What a machine returns at each act is the system's reply: ends of queries, and reads.
-use Rattle.pref_core.proofs.Common.{◌≡◌, ℕ, ◌-◌, ◌<◌, ◌^◌, Bool, true, false, cond, nat_lt, length, Option, Some, None, is_some, Ok, Err, Result, ⊎_elim, inl, inr, refl, sym, ap, ◌∙◌, subst, arith}
+use Rattle.pref_core.proofs.Common.{◌≡◌, ℕ, ◌-◌, ◌<◌, ◌^◌, Bool, true, false, cond, nat_lt, length, Option, Some, None, is_some, Ok, Err, Result, ⊎_elim, inr, refl, sym, ap, ◌∙◌, subst, arith}
 use Rattle.pref_core.proofs.Common.{List, Does, option_map, Ranked, answer_of, Call, Finish, Abandon, Op, CoreFault, NoSuchClient, NoQuery, NotDone, MissingRow, OutOfMemory, ActFinish}
 use Rattle.pref_core.proofs.Common.{ActAbandon, ActGet, ActRoom, Reply, Answer, Abandoned, Found, Room, Refused, Row, Line, line_of, entries, State, Snapshot, is_change, seat, with_seat, refusal}
 use Rattle.pref_core.proofs.Common.{refusal_of, refusal_by_query, begun_after, needed, Open, Member, System, Step, snapshot, state_of, refused, counted_with, finish, step, Contents, StandsFor}
@@ -23,15 +23,13 @@ abandon_not old client fault plans = refused_does old client ActAbandon Abandon 
     right system member query = record { reply = Abandoned; next = counted_with None client member system }
 
     refuses : (system : System) (member : Member) (q : Option Open) → refusal_of (Some member.calls) (is_some (option_map snapshot q)) Abandon ≡ Some fault → step_of old.limits system client member ActAbandon q ≡ refused fault system
-    refuses system member None e = ends_refused system member fault (right system member) Abandon refl refl None e
-    refuses system member (Some query) e = ends_refused system member fault (right system member) Abandon refl refl (Some query) e
+    refuses system member q e = grind (arith)
 
 pub finish_not : (old : Running) (client : ℕ) (fault : CoreFault) → PlansAlways old.contents client Finish (Err fault) → Does old client ActFinish (Err fault) old
 finish_not old client fault plans = refused_does old client ActFinish Finish fault refuses plans
   where
     refuses : (system : System) (member : Member) (q : Option Open) → refusal_of (Some member.calls) (is_some (option_map snapshot q)) Finish ≡ Some fault → step_of old.limits system client member ActFinish q ≡ refused fault system
-    refuses system member None e = ends_refused system member fault (finish client member system) Finish refl refl None e
-    refuses system member (Some query) e = ends_refused system member fault (finish client member system) Finish refl refl (Some query) e
+    refuses system member q e = grind (arith)
 
 -- What a call that ends a query leaves.
 record Ends (running : Running) (system : System) (client : ℕ) (call : Call) (new : Contents) : Type 0 where
@@ -69,8 +67,7 @@ abandon_does old client op new scans plans is placed = record {
   where
     go : (system : System) (member : Member) (q : Option Open) → nat_lt member.calls (2 ^ 56) ≡ true → refusal_by_query (is_some (option_map snapshot q)) Abandon ≡ None
         → step_of old.limits system client member ActAbandon q ≡ record { reply = Abandoned; next = counted_with None client member system }
-    go system member None u a = absurd (cc)
-    go system member (Some query) u a = let_in_steps member system _ u
+    go system member q u a = grind (arith)
 
 -- A query finishes.
 pub finish_does : (old : Running) (client : ℕ) (op : Op) (new : Contents) (scans : List (Option Scan)) (ranked : Vec Ranked) → PlansAlways old.contents client Finish (Ok op) → new ≡ applied old.contents op → scans ≡ with_seat client None old.scans
@@ -79,8 +76,6 @@ finish_does old client op new scans ranked plans is placed says = record { limit
   where
     go : (system : System) → StandsForSystem old system → (o : Option (Option Scan)) → seat client old.scans ≡ o → AnswersAt o (Ok ranked)
         → Returns old (step old.limits system (record { client = client; act = ActFinish })) ActFinish (Ok (Answer ranked.items)) (running_of new old.limits scans)
-    go system h None at says = absurd (cc)
-    go system h (Some None) at says = absurd (cc)
     go system h (Some (Some held)) at says =
         let asks = IsAsking-from old system client held h at in
         let end = ends old system client Finish op new refl (λ f. refl) h plans is in
@@ -95,6 +90,7 @@ finish_does old client op new scans ranked plans is placed says = record { limit
         ∙ ap (λ b. cond b (refused (NotDone asks.query.left) system) (record { reply = Answer (answer_of asks.query.ask (entries asks.query.table)); next = counted_with None client end.who system })) (no_left asks.query.left none_left) in
         subst (λ r. Returns old r ActFinish (Ok (Answer ranked.items)) (running_of new old.limits scans)) (sym right)
         (ap Answer answer, refl, subst (λ l. StandsForSystem (running_of new old.limits l) (counted_with None client end.who system)) (sym placed) end.stands)
+    go system h o at says = grind (arith)
 
 pub finish_not_done : (running : Running) (system : System) (client : ℕ) (op : Op) (fault : CoreFault) → StandsForSystem running system → PlansAlways running.contents client Finish (Ok op)
     → AnswersAt (seat client running.scans) (Err fault)
@@ -153,8 +149,7 @@ get_returns running system client id row h some says =
     (subst (λ o. Returns running (record { reply = elim (line_of system.table id) as (λ x. Reply) [ None ↦ Refused (MissingRow id) | Some line ↦ Found id line.row ]; next = system }) (ActGet id) (found_or_missing id o) running) (sym (says (state_of system) h.store)) (go (line_of system.table id)))
   where
     go : (o : Option Line) → Returns running (record { reply = elim o as (λ x. Reply) [ None ↦ Refused (MissingRow id) | Some line ↦ Found id line.row ]; next = system }) (ActGet id) (found_or_missing id (option_map (λ (l : Line). l.row) o)) running
-    go None = inl (refl, h)
-    go (Some line) = (refl, refl, h)
+    go o = grind (arith)
 
 pub room_returns : (running : Running) (system : System) (client room : ℕ) → StandsForSystem running system → is_some (seat client running.scans) ≡ true
     → ((state : State) → StandsFor running.contents state → room ≡ length running.contents.slots - length (needed state))

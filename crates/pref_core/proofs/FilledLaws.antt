@@ -1,7 +1,7 @@
 -- The rows that a call begins, in their slots, one after the other.
 use Rattle.pref_core.proofs.Common.{◌≡◌, ℕ, suc, ◌+◌, ◌^◌, ◌<◌, Bool, true, false, not, ◌&&◌, cond, eqb, nat_eq, List, [], ◌∷◌, ◌++◌, map, length, drop, set, Option, Some, None, is_some}
 use Rattle.pref_core.proofs.Common.{slice_get, get_or, unwrap_or, refl, sym, ap, ap₂, ◌∙◌, subst, arith, ⊎_elim, AllByRecursion, length-map, map-set, set-set, map-set_same, option_map}
-use Rattle.pref_core.proofs.Common.{slice_get_within, slice_get-get_or, slice_get-map, le-leb, eqb-true, ne_eqb, cases_eq, or_parts, and_parts, true≢false, Version, SlotUse, Free, Ended, Live, Entry}
+use Rattle.pref_core.proofs.Common.{slice_get_within, slice_get-get_or, slice_get-map, le-leb, eqb-true, ne_eqb, cases_eq, or_parts, and_parts, true≢false, Version, SlotUse, Free, Live, Entry}
 use Rattle.pref_core.proofs.Common.{among, has, Op, Call, Update, Outcome, State, ended, begun, begins_row, added, missing, success_outcome, is_change, succeeds, Contents, StandsFor, IsWithin}
 use Rattle.pref_core.proofs.Common.{is_visible, begins, stamps, new_version, visible, close, close_at, grown, is_free, filled, outcome_at, is_next, slots_after, used, is_free_use, free_at, use_of}
 use Rattle.pref_core.proofs.Common.{is_row, row_at, IsPlaceOf, shown, ids_of, id_at, AreIds, AreLinks, IsTracked, AreFresh, with_slots, are_free, same_Some}
@@ -31,11 +31,7 @@ fills_where made ns earlier before slots now (place ∷ places) (fresh ∷ rest)
     go : (a : Bool) → among earlier place ≡ a → (f : Bool) → is_free (made ∷ ns) slots place ≡ f
         → (is_free (made ∷ ns) now place ≡ true → is_some (filled (made ∷ ns) made places rest (set now place (new_version made fresh))) ≡ are_free (made ∷ ns) slots (earlier ++ place ∷ []) places)
         → is_some (cond (is_free (made ∷ ns) now place) (filled (made ∷ ns) made places rest (set now place (new_version made fresh))) None) ≡ ((not (among earlier place) && is_free (made ∷ ns) slots place) && are_free (made ∷ ns) slots (earlier ++ place ∷ []) places)
-    go true a f g more = rw (taken made ns earlier before slots now place e a, a) refl
-    go false a false g more = rw (free_still (made ∷ ns) made earlier before slots now place e a, g, a) refl
-    go false a true g more =
-        let free = free_still (made ∷ ns) made earlier before slots now place e a ∙ g in
-        rw (free, g, a) (more free)
+    go a h2 f g more = grind (arith, taken, free_still)
 
 pub fills_free : (made : ℕ) (ns : List ℕ) (slots : List (Option Version)) (places : List ℕ) (begun : List Entry) → length places ≡ length begun → are_free (made ∷ ns) slots [] places ≡ is_some (filled (made ∷ ns) made places begun slots)
 fills_free made ns slots places begun long = sym (fills_where made ns [] [] slots slots places begun refl long)
@@ -49,10 +45,7 @@ pub free_there : (contents : Contents) (uses : List SlotUse) (links : List ℕ) 
 free_there contents uses links place h f = go (slice_get uses place) refl (ap (λ z. free_at z place) h.listed ∙ sym (free_use contents.next_id contents.stamp contents.callers contents.slots place h.within) ∙ f)
   where
     go : (o : Option SlotUse) → slice_get uses place ≡ o → elim o as (λ x. Bool) [ None ↦ false | Some slot_use ↦ is_free_use slot_use ] ≡ true → slice_get uses place ≡ Some Free
-    go None e is = absurd (cc)
-    go (Some Free) e is = e
-    go (Some (Ended keeper)) e is = absurd (cc)
-    go (Some Live) e is = absurd (cc)
+    go o e is = grind (arith)
 
 pub free_inside : (contents : Contents) (uses : List SlotUse) (links : List ℕ) (place : ℕ) → IsTracked contents uses links → is_free (stamps contents) contents.slots place ≡ true → place < length contents.slots
 free_inside contents uses links place h f = grind (arith, slice_get_within, free_there, length-map)
@@ -79,16 +72,7 @@ ids_born made place fresh slots low room absent known = subst (λ l. AreIds (2 ^
     alone p id same at = true≢false (sym (has_row_at made fresh.id slots p (shows_row made fresh.id slots p (at ∙ ap Some (sym same)))) ∙ absent)
 
     once : (p q id : ℕ) → id_at (set (ids_of made slots) place (Some fresh.id)) p ≡ Some id → id_at (set (ids_of made slots) place (Some fresh.id)) q ≡ Some id → p ≡ q
-    once p q id at also = ⊎_elim
-        (λ (e : p ≡ place). ⊎_elim
-        (λ (f : q ≡ place). e ∙ sym f)
-        (λ (n : q ≡ place → ⊥). absurd (alone q id (same_Some fresh.id id (sym (here p e) ∙ at)) (sym (id_at-there (ids_of made slots) place (Some fresh.id) q n) ∙ also)))
-        (cases_eq q place))
-        (λ (n : p ≡ place → ⊥). ⊎_elim
-        (λ (f : q ≡ place). absurd (alone p id (same_Some fresh.id id (sym (here q f) ∙ also)) (sym (id_at-there (ids_of made slots) place (Some fresh.id) p n) ∙ at)))
-        (λ (m : q ≡ place → ⊥). known.once p q id (sym (id_at-there (ids_of made slots) place (Some fresh.id) p n) ∙ at) (sym (id_at-there (ids_of made slots) place (Some fresh.id) q m) ∙ also))
-        (cases_eq q place))
-        (cases_eq p place)
+    once p q id at also = grind (arith, alone, here, id_at-there)
 
 -- Rows that are still to begin stay new.
 pub fresh_left : (limit made place : ℕ) (ns : List ℕ) (first : Entry) (slots : List (Option Version)) (rest : List Entry) → is_free (made ∷ ns) slots place ≡ true → among (map (λ (e : Entry). e.id) rest) first.id ≡ false
@@ -187,17 +171,7 @@ begins_next start now places used first rest all h = record {
 -- .. and once it has begun.
 pub begun_one : (start now new : Contents) (places : List ℕ) (used : ℕ) (first : Entry) (rest : List Entry) (all : Option (List (Option Version))) → BegunUpTo start now (drop used places) (first ∷ rest) all
     → new ≡ with_slots (set now.slots (get_or places used 0) (new_version now.stamp first)) now → BegunUpTo start new (drop (used + 1) places) rest all
-begun_one start now new places used first rest all h is = record {
-  contents = is ∙ ap (with_slots slots) h.contents ∙ ap (λ l. with_slots l start) (sym same);
-  fills = subst (λ l. FillsRest start.next_id start.stamp (begins start.callers) (drop (used + 1) places) rest l all) (sym (same ∙ ap (λ (s : Contents). set now.slots (get_or places used 0) (new_version s.stamp first)) h.contents))
-      (begins_next start now places used first rest all h).next;
-}
-  where
-    slots : List (Option Version)
-    slots = set now.slots (get_or places used 0) (new_version now.stamp first)
-
-    same : new.slots ≡ slots
-    same = ap (λ (s : Contents). s.slots) is
+begun_one start now new places used first rest all h is = grind (arith, begins_next start now places used first rest all h)
 
 -- One row ends, ..
 pub end_none : (contents : Contents) (uses : List SlotUse) (links : List ℕ) (id : ℕ) → IsTracked contents uses links → IsPlaceOf contents.stamp id contents.slots None → contents ≡ with_slots (map (close (id ∷ []) contents.stamp) contents.slots) contents
@@ -342,5 +316,4 @@ commit_replaced now uses links op entry place h call slots row c s fits =
     ∙ ap Some (replace_slots start uses links entry.id place found.0 tracked row found.1 new))
   where
     go : (free : Bool) (after : List (Option Version)) → is_some (cond free (Some after) None) ≡ true → cond free (Some after) None ≡ Some after
-    go true after e = refl
-    go false after e = absurd (true≢false (sym e))
+    go free after e = grind (arith)

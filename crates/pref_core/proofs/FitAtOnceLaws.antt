@@ -116,11 +116,7 @@ fits_set contents call slots at used id row place kept formed here is stands fre
     before = apart_before (ended_by (take at (changes_of call))) (ended_by (drop (at + 1) (changes_of call))) id (subst AreApart (ended_next (changes_of call) at (Set id row) id here refl) (formed_apart call formed))
 
     not_taken : among (take used slots) place ≡ true → ⊥
-    not_taken e = ⊎_elim
-        (λ (free : free_at (uses_of contents) place ≡ true). true≢false (sym free ∙ row_taken contents kept.state kept.bounded kept.stands id place stands))
-        (λ (stood : StoodThere contents (ended_by (take at (changes_of call))) place).
-        true≢false (sym stood.named ∙ ap (among (ended_by (take at (changes_of call)))) (sym (one_id contents kept.state kept.bounded kept.stands contents.slots id stood.id place stands stood.row)) ∙ before))
-        (h.taken place e)
+    not_taken e = grind (arith, row_taken, one_id, before)
 
 -- .. and one that is removed needs none.
 pub fits_removed : (contents : Contents) (call : Call) (slots : List ℕ) (at used id : ℕ) (place : Option ℕ) → IsKept contents → slice_get (changes_of call) at ≡ Some (Remove id) → IsPlaceOf contents.stamp id contents.slots place → is_some place ≡ true
@@ -155,8 +151,7 @@ fits_all contents call slots at used c formed done long h = chosen_at_once conte
     fits = sym (fills_free (suc contents.stamp) (begins contents.callers) closed slots (begun contents.next_id call) many) ∙ free
 
     go : (o : Option (List (Option Version))) → filled (stamps_next contents) (suc contents.stamp) slots (begun contents.next_id call) closed ≡ o → is_some o ≡ true → ChosenUpTo contents call [] slots
-    go None e some = absurd (cc)
-    go (Some now) e some = record { done = begun contents.next_id call; all = sym (append-nil (begun contents.next_id call)); now = now; fills = e }
+    go o e some = grind (arith, append-nil)
 
 -- Its slots fit an op of it that is next.
 pub next_fits : (contents : Contents) (op : Op) → FitAtOnce contents op.call op.slots → is_next contents op ≡ (is_next contents op && is_some (slots_after contents op))

@@ -1,7 +1,7 @@
 -- Which places are free, by the order of places.
-use Rattle.pref_core.proofs.Common.{◌≡◌, ℕ, zero, suc, ◌+◌, ◌<◌, ◌≤◌, nat_lt, Bool, true, false, ◌||◌, eqb, List, [], ◌∷◌, map, length, take, get_or, Option, Some, None, slice_get, refl, sym, ap, ◌∙◌}
-use Rattle.pref_core.proofs.Common.{subst, arith, ⊎_elim, option_map, slice_get_within, slice_get-map, slice_get-get_or, get_or_from_slice_get, eqb-true, eq-eqb, or_cases, or_right, SlotUse}
-use Rattle.pref_core.proofs.Common.{Ended, number_at, use_at, is_free_use, free_at, IsArranged, among}
+use Rattle.pref_core.proofs.Common.{◌≡◌, ℕ, suc, ◌+◌, ◌<◌, ◌≤◌, nat_lt, Bool, true, false, eqb, List, ◌∷◌, map, length, take, get_or, Some, None, slice_get, ◌∙◌}
+use Rattle.pref_core.proofs.Common.{subst, arith, ⊎_elim, slice_get_within, slice_get-map, slice_get-get_or, get_or_from_slice_get, eqb-true, or_cases, or_right}
+use Rattle.pref_core.proofs.Common.{Ended, number_at, use_at, free_at, IsArranged, among}
 use Rattle.pref_core.proofs.SlotSetsLaws.{number_past, number_below, number_is, number_here, free_number, use_free, free_from}
 
 -- The free places are the first ones of the order.
@@ -12,27 +12,18 @@ record TakenAt (count p : ℕ) (order : List ℕ) : Type 0 where
   is : get_or order at 0 ≡ p
 
 taken_at : (count : ℕ) (order : List ℕ) (p : ℕ) → among (take count order) p ≡ true → TakenAt count p order
-taken_at zero [] p a = absurd (cc)
-taken_at zero (x ∷ order) p a = absurd (cc)
-taken_at (suc count) [] p a = absurd (cc)
 taken_at (suc count) (x ∷ order) p a = ⊎_elim
     (λ (e : eqb x p ≡ true). record { at = 0; less = omega arith; inside = omega arith; is = eqb-true x p e })
     (λ (e : among (take count order) p ≡ true). let more = taken_at count order p e in record { at = suc more.at; less = let l = more.less in omega arith; inside = let l = more.inside in omega arith; is = more.is })
     (or_cases (eqb x p) (among (take count order) p) a)
+taken_at count order p a = grind (arith)
 
 among_taken : (count : ℕ) (order : List ℕ) (at : ℕ) → at < count → at < length order → among (take count order) (get_or order at 0) ≡ true
-among_taken zero order at l m = absurd (omega arith)
-among_taken (suc count) [] at l m = absurd (omega arith)
-among_taken (suc count) (x ∷ order) zero l m = ap (λ b. b || among (take count order) x) (eq-eqb x x refl)
 among_taken (suc count) (x ∷ order) (suc at) l m = or_right (eqb x (get_or order at 0)) (among (take count order) (get_or order at 0)) (among_taken count order at (omega arith) (omega arith))
+among_taken count order at l m = grind (arith)
 
 pub free_listed : (order positions bounds : List ℕ) (p : ℕ) → IsArranged order positions bounds → among (take (get_or bounds 0 0) order) p ≡ true → free_at (map (use_at bounds) positions) p ≡ true
-free_listed order positions bounds p a h =
-    let there = taken_at (get_or bounds 0 0) order p h in
-    let position : get_or positions p 0 ≡ there.at = ap (λ q. get_or positions q 0) (sym there.is) ∙ a.inverse.there there.at there.inside in
-    let room : p < length positions = let within = a.inverse.places there.at there.inside in let long = a.inverse.long in let same = there.is in omega arith in
-    ap (λ (o : Option SlotUse). elim o as (λ x. Bool) [ None ↦ false | Some slot_use ↦ is_free_use slot_use ])
-    (slice_get-map (use_at bounds) positions p ∙ ap (option_map (use_at bounds)) (slice_get-get_or positions p 0 room) ∙ ap (λ x. Some (use_at bounds x)) position ∙ ap Some (use_free bounds there.at (let n = a.bounded in omega arith) there.less))
+free_listed order positions bounds p a h = grind (arith, taken_at (get_or bounds 0 0) order p h, slice_get-map (use_at bounds) positions p, slice_get-get_or, use_free)
 
 pub listed_free : (order positions bounds : List ℕ) (p : ℕ) → IsArranged order positions bounds → free_at (map (use_at bounds) positions) p ≡ true → among (take (get_or bounds 0 0) order) p ≡ true
 listed_free order positions bounds p a h = grind (arith, slice_get-map, free_from, slice_get_within, get_or_from_slice_get, among_taken)

@@ -1,8 +1,8 @@
 -- The slots that ended rows leave free.
-use Rattle.pref_core.proofs.Common.{append-nil, ne_eqb, length-filter, count_by-le-length, ◌≡◌, ℕ, zero, suc, ◌+◌, ◌<◌, ◌≤◌, Bool, true, false, ◌&&◌, ◌||◌, cond, eqb, List, [], ◌∷◌, ◌++◌}
+use Rattle.pref_core.proofs.Common.{append-nil, length-filter, count_by-le-length, ◌≡◌, ℕ, zero, suc, ◌+◌, ◌<◌, ◌≤◌, Bool, true, false, ◌&&◌, ◌||◌, cond, eqb, List, [], ◌∷◌, ◌++◌}
 use Rattle.pref_core.proofs.Common.{map, length, set, Option, Some, None, slice_get, refl, sym, ap, ◌∙◌, subst, arith, ⊎_elim, count_by, length-map, length-set, filter-append}
-use Rattle.pref_core.proofs.Common.{slice_get-map, slice_get_within, eqb-true, eq-eqb, cases_eq, or_cases, or_right, and_parts, true≢false, Version, SlotUse, Free, among, State, missing}
-use Rattle.pref_core.proofs.Common.{Contents, StandsFor, IsWithin, is_visible, visible, begins, close, is_free, is_free_use, free_at, use_of, IsBounded, is_row, row_at, IsPlaceOf}
+use Rattle.pref_core.proofs.Common.{slice_get-map, slice_get_within, eqb-true, eq-eqb, or_cases, or_right, and_parts, true≢false, Version, SlotUse, Free, among, State, missing}
+use Rattle.pref_core.proofs.Common.{Contents, StandsFor, IsWithin, visible, begins, close, is_free, is_free_use, free_at, use_of, IsBounded, is_row, row_at, IsPlaceOf}
 use Rattle.pref_core.proofs.Common.{AreOldPlaces, frees_at, is_open, IsFreed, false_from_ne_true}
 use Rattle.std.specs.List.{filter}
 use Rattle.pref_core.proofs.ChangesLaws.{AreApart}
@@ -12,6 +12,7 @@ use Rattle.pref_core.proofs.IdsAfterCommit.{known_ids}
 use Rattle.pref_core.proofs.IdChainsLaws.{row_shown}
 use Rattle.pref_core.proofs.StabilityLaws.{slice_get-set_other}
 use Rattle.pref_core.proofs.SlotUseLaws.{count_by-cons, holds_there, has_row_at, row_version, free_use, needed_uses, spare_use, one_no}
+use Rattle.pref_core.proofs.Common.{rules}
 
 -- What was found of the first of these rows.
 pub record FreesUpTo (contents : Contents) (ids done freed : List ℕ) : Type 0 where
@@ -20,10 +21,8 @@ pub record FreesUpTo (contents : Contents) (ids done freed : List ℕ) : Type 0 
   pub freed_is : freed ≡ filter (frees_at (begins contents.callers) ids (suc contents.stamp) contents.slots) olds
 
 olds_snoc : (stamp : ℕ) (done : List ℕ) (slots : List (Option Version)) (olds : List ℕ) (id place : ℕ) → AreOldPlaces stamp done slots olds → row_at stamp id slots place ≡ true → AreOldPlaces stamp (done ++ id ∷ []) slots (olds ++ place ∷ [])
-olds_snoc stamp [] slots [] id place h r = (r, tt)
-olds_snoc stamp [] slots (old ∷ olds) id place h r = absurd h
-olds_snoc stamp (first ∷ done) slots [] id place h r = absurd h
 olds_snoc stamp (first ∷ done) slots (old ∷ olds) id place h r = (h.0, olds_snoc stamp done slots olds id place h.1 r)
+olds_snoc stamp done slots olds id place h r = grind (arith)
 
 -- .. and of one more
 pub frees_one : (contents : Contents) (ids done freed : List ℕ) (id place : ℕ) (b : Bool) → frees_at (begins contents.callers) ids (suc contents.stamp) contents.slots place ≡ b → row_at contents.stamp id contents.slots place ≡ true
@@ -36,14 +35,11 @@ frees_one contents ids done freed id place b e r h = record {
   where
     go : (b : Bool) → frees_at (begins contents.callers) ids (suc contents.stamp) contents.slots place ≡ b → cond b (freed ++ place ∷ []) freed
         ≡ filter (frees_at (begins contents.callers) ids (suc contents.stamp) contents.slots) h.olds ++ cond (frees_at (begins contents.callers) ids (suc contents.stamp) contents.slots place) (place ∷ []) []
-    go true e = ap (λ l. l ++ place ∷ []) h.freed_is ∙ ap (λ c. filter (frees_at (begins contents.callers) ids (suc contents.stamp) contents.slots) h.olds ++ cond c (place ∷ []) []) (sym e)
-    go false e = h.freed_is ∙ sym (append-nil _) ∙ ap (λ c. filter (frees_at (begins contents.callers) ids (suc contents.stamp) contents.slots) h.olds ++ cond c (place ∷ []) []) (sym e)
+    go b e = grind (arith, append-nil)
 
 length-olds : (stamp : ℕ) (done : List ℕ) (slots : List (Option Version)) (olds : List ℕ) → AreOldPlaces stamp done slots olds → length olds ≡ length done
-length-olds stamp [] slots [] h = refl
-length-olds stamp [] slots (old ∷ olds) h = absurd h
-length-olds stamp (id ∷ done) slots [] h = absurd h
 length-olds stamp (id ∷ done) slots (old ∷ olds) h = ap suc (length-olds stamp done slots olds h.1)
+length-olds stamp done slots olds h = grind (arith)
 
 pub frees_few : (contents : Contents) (ids done freed : List ℕ) → FreesUpTo contents ids done freed → length freed ≤ length done
 frees_few contents ids done freed h = grind (arith, length-filter, count_by-le-length, length-olds)
@@ -53,14 +49,12 @@ pub frees_missing : (contents : Contents) (ids done rest freed : List ℕ) (id :
 frees_missing contents ids done rest freed id is h absent = ap (λ l. missing l (visible contents.stamp contents.slots)) is ∙ go done h.olds h.stand
   where
     go : (done olds : List ℕ) → AreOldPlaces contents.stamp done contents.slots olds → missing (done ++ id ∷ rest) (visible contents.stamp contents.slots) ≡ Some id
-    go [] olds stand = rw absent refl
-    go (first ∷ done) [] stand = absurd stand
     go (first ∷ done) (old ∷ olds) stand = rw (has_row_at contents.stamp first contents.slots old stand.0) (go done olds stand.1)
+    go done olds stand = grind (arith)
 
 all_there : (stamp : ℕ) (slots : List (Option Version)) (done olds : List ℕ) → AreOldPlaces stamp done slots olds → missing done (visible stamp slots) ≡ None
-all_there stamp slots [] olds stand = refl
-all_there stamp slots (first ∷ done) [] stand = absurd stand
 all_there stamp slots (first ∷ done) (old ∷ olds) stand = rw (has_row_at stamp first slots old stand.0) (all_there stamp slots done olds stand.1)
+all_there stamp slots done olds stand = grind (arith)
 
 among_filter : (p : ℕ → Bool) (xs : List ℕ) (place : ℕ) → among (filter p xs) place ≡ (among xs place && p place)
 among_filter p [] place = refl
@@ -80,26 +74,16 @@ same_count (x ∷ xs) (y ∷ ys) long same =
     omega arith
 
 free_written : (uses : List SlotUse) (mark : ℕ) → mark < length uses → free_at (set uses mark Free) mark ≡ true
-free_written [] mark l = absurd (omega arith)
-free_written (z ∷ zs) zero l = refl
 free_written (z ∷ zs) (suc mark) l = free_written zs mark (omega arith)
+free_written uses mark l = grind (arith)
 
 free_other : (uses : List SlotUse) (mark p : ℕ) → (p ≡ mark → ⊥) → free_at (set uses mark Free) p ≡ free_at uses p
 free_other uses mark p n = ap (λ (o : Option SlotUse). elim o as (λ x. Bool) [ None ↦ false | Some slot_use ↦ is_free_use slot_use ]) (slice_get-set_other uses p mark Free n)
 
 count_one : (uses : List SlotUse) (mark : ℕ) → mark < length uses → free_at uses mark ≡ false → count_by is_free_use (set uses mark Free) ≡ suc (count_by is_free_use uses)
 count_one [] mark l f = absurd (omega arith)
-count_one (z ∷ zs) zero l f =
-    let a = count_by-cons is_free_use z zs in
-    let b = count_by-cons is_free_use Free zs in
-    let c = one_no (is_free_use z) f in
-    let d : ◌≡◌ {A = ℕ} (cond (is_free_use Free) 1 0) 1 = refl in
-    omega arith
-count_one (z ∷ zs) (suc mark) l f =
-    let a = count_by-cons is_free_use z zs in
-    let b = count_by-cons is_free_use z (set zs mark Free) in
-    let rest = count_one zs mark (omega arith) f in
-    omega arith
+count_one (z ∷ zs) zero l f = grind (arith, count_by-cons is_free_use z zs, count_by-cons is_free_use Free zs, one_no (is_free_use z) f)
+count_one (z ∷ zs) (suc mark) l f = grind (arith, count_one zs mark (omega arith) f, count_by-cons is_free_use z zs, count_by-cons is_free_use z (set zs mark Free))
 
 marked_count : (before after : List SlotUse) (marks : List ℕ) → length before ≡ length after → AreApart marks
     → ((p : ℕ) → among marks p ≡ true → (p < length before) × (free_at before p ≡ false)) → ((p : ℕ) → free_at after p ≡ (free_at before p || among marks p))
@@ -115,11 +99,7 @@ marked_count before after (mark ∷ marks) long apart here same =
     omega arith
   where
     by : (p : ℕ) → (free_at before p || (eqb mark p || among marks p)) ≡ (free_at (set before mark Free) p || among marks p)
-    by p = ⊎_elim
-        (λ (e : p ≡ mark). ap (λ q. free_at before q || (eqb mark q || among marks q)) e ∙ ap (λ b. free_at before mark || (b || among marks mark)) (eq-eqb mark mark refl) ∙ or_right (free_at before mark) true refl
-        ∙ sym (ap (λ q. free_at (set before mark Free) q || among marks q) e ∙ ap (λ b. b || among marks mark) (free_written before mark (here mark (ap (λ b. b || among marks mark) (eq-eqb mark mark refl))).0)))
-        (λ (n : p ≡ mark → ⊥). ap (λ b. free_at before p || (b || among marks p)) (ne_eqb mark p (λ (e : mark ≡ p). n (sym e))) ∙ ap (λ b. b || among marks p) (sym (free_other before mark p n)))
-        (cases_eq p mark)
+    by p = search (rules, free_written, free_other)
 
 -- Several rows of a store that stands for a state.
 module _ (contents : Contents) (state : State) (bounded : IsBounded contents) (stands : StandsFor contents state) where
@@ -137,10 +117,8 @@ module _ (contents : Contents) (state : State) (bounded : IsBounded contents) (s
 
   -- two rows don't stand at one place
   pub one_id : (slots : List (Option Version)) (id other place : ℕ) → row_at contents.stamp id slots place ≡ true → row_at contents.stamp other slots place ≡ true → id ≡ other
-  one_id [] id other place a b = absurd (cc)
-  one_id (None ∷ slots) id other zero a b = absurd (cc)
-  one_id (Some version ∷ slots) id other zero a b = sym (eqb-true version.id id (and_parts (eqb version.id id) (is_visible contents.stamp version) a).0) ∙ eqb-true version.id other (and_parts (eqb version.id other) (is_visible contents.stamp version) b).0
   one_id (slot ∷ slots) id other (suc place) a b = one_id slots id other place a b
+  one_id slots id other place a b = grind (arith)
 
   -- the old place of an id
   record OldPlace (id : ℕ) (olds : List ℕ) : Type 0 where
@@ -149,12 +127,11 @@ module _ (contents : Contents) (state : State) (bounded : IsBounded contents) (s
     row : row_at contents.stamp id contents.slots place ≡ true
 
   old_place : (ids olds : List ℕ) (id : ℕ) → AreOldPlaces contents.stamp ids contents.slots olds → among ids id ≡ true → OldPlace id olds
-  old_place [] olds id stand a = absurd (cc)
-  old_place (first ∷ ids) [] id stand a = absurd stand
   old_place (first ∷ ids) (old ∷ olds) id stand a = ⊎_elim
       (λ (e : eqb first id ≡ true). record { place = old; among_olds = ap (λ b. b || among olds old) (eq-eqb old old refl); row = let same : first ≡ id = eqb-true first id e in subst (λ n. row_at contents.stamp n contents.slots old ≡ true) same stand.0 })
       (λ (e : among ids id ≡ true). let more = old_place ids olds id stand.1 e in record { place = more.place; among_olds = or_right (eqb old more.place) (among olds more.place) more.among_olds; row = more.row })
       (or_cases (eqb first id) (among ids id) a)
+  old_place ids olds id stand a = grind (arith)
 
   record OldId (place : ℕ) (ids : List ℕ) : Type 0 where
     id : ℕ
@@ -162,24 +139,20 @@ module _ (contents : Contents) (state : State) (bounded : IsBounded contents) (s
     row : row_at contents.stamp id contents.slots place ≡ true
 
   old_id : (ids olds : List ℕ) (place : ℕ) → AreOldPlaces contents.stamp ids contents.slots olds → among olds place ≡ true → OldId place ids
-  old_id [] [] place stand a = absurd (cc)
-  old_id [] (old ∷ olds) place stand a = absurd stand
-  old_id (first ∷ ids) [] place stand a = absurd stand
   old_id (first ∷ ids) (old ∷ olds) place stand a = ⊎_elim
       (λ (e : eqb old place ≡ true). record { id = first; among_ids = ap (λ b. b || among ids first) (eq-eqb first first refl); row = let same : old ≡ place = eqb-true old place e in subst (λ n. row_at contents.stamp first contents.slots n ≡ true) same stand.0 })
       (λ (e : among olds place ≡ true). let more = old_id ids olds place stand.1 e in record { id = more.id; among_ids = or_right (eqb first more.id) (among ids more.id) more.among_ids; row = more.row })
       (or_cases (eqb old place) (among olds place) a)
+  old_id ids olds place stand a = grind (arith)
 
   olds_apart : (ids olds : List ℕ) → AreOldPlaces contents.stamp ids contents.slots olds → AreApart ids → AreApart olds
-  olds_apart [] [] stand apart = tt
-  olds_apart [] (old ∷ olds) stand apart = absurd stand
-  olds_apart (first ∷ ids) [] stand apart = absurd stand
   olds_apart (first ∷ ids) (old ∷ olds) stand apart = (
     false_from_ne_true (among olds old) (λ e.
         let there = old_id ids olds old stand.1 e in
         true≢false (sym there.among_ids ∙ ap (among ids) (one_id contents.slots there.id first old there.row stand.0) ∙ apart.0)),
     olds_apart ids olds stand.1 apart.1,
   )
+  olds_apart ids olds stand apart = grind (arith)
 
   filter_apart : (p : ℕ → Bool) (xs : List ℕ) → AreApart xs → AreApart (filter p xs)
   filter_apart p [] apart = grind (arith, among_filter)
@@ -210,8 +183,7 @@ module _ (contents : Contents) (state : State) (bounded : IsBounded contents) (s
   free_closed ids place f = frees_closed ids place (go (slice_get contents.slots place) refl)
     where
       go : (o : Option (Option Version)) → slice_get contents.slots place ≡ o → frees_at ns ids made contents.slots place ≡ true
-      go None e = absurd (true≢false (sym f ∙ use_there place None e))
-      go (Some slot) e = frees_there ids place (Some slot) e ∙ slot_freed ids slot (sym (use_there place (Some slot) e) ∙ f)
+      go o e = grind (arith, use_there, frees_there, slot_freed)
 
   -- where a row stands it isn't
   pub row_taken : (id place : ℕ) → row_at contents.stamp id contents.slots place ≡ true → free_at uses place ≡ false
@@ -222,11 +194,7 @@ module _ (contents : Contents) (state : State) (bounded : IsBounded contents) (s
   frees_open ids olds place stand = at (slice_get contents.slots place) refl
     where
       by : (f z a : Bool) → (z ≡ true → f ≡ true) → (f ≡ true → z ≡ false → a ≡ true) → f ≡ (z || (a && f))
-      by true true a up down = refl
-      by true false a up down = sym (ap (λ b. b && true) (down refl refl))
-      by false true a up down = absurd (true≢false (sym (up refl)))
-      by false false true up down = refl
-      by false false false up down = refl
+      by f z a up down = grind (arith)
 
       at : (o : Option (Option Version)) → slice_get contents.slots place ≡ o → frees_at ns ids made contents.slots place ≡ (free_at uses place || (among olds place && frees_at ns ids made contents.slots place))
       at None e = by (frees_at ns ids made contents.slots place) (free_at uses place) (among olds place) (λ z. absurd (true≢false (sym z ∙ use_there place None e))) (λ f z. absurd (true≢false (sym f ∙ frees_there ids place None e)))

@@ -1,7 +1,7 @@
 -- Links, as a row is looked for, added and removed.
-use Rattle.pref_core.proofs.Common.{◌≡◌, ℕ, zero, suc, ◌+◌, ◌<◌, ◌≤◌, ◌⊎◌, true, false, List, [], ◌∷◌, length, Option, Some, None, refl, sym, ap, ◌∙◌, subst, arith, ⊎_elim, inl}
-use Rattle.pref_core.proofs.Common.{inr, cases_eq, cases_lt, ltb-true, ltb-false, Version, row_at, ids_of, id_at, is_above, AreIds, LeadsTo, IsNode, AreLinked}
-use Rattle.pref_core.proofs.Common.{IsOnWay, rank, IsBefore, same_Some, none-some}
+use Rattle.pref_core.proofs.Common.{◌≡◌, ℕ, suc, ◌+◌, ◌<◌, ◌≤◌, ◌⊎◌, true, false, List, ◌∷◌, length, Option, Some, None, refl, sym, ap, ◌∙◌, subst, arith, ⊎_elim, inl}
+use Rattle.pref_core.proofs.Common.{inr, cases_eq, ltb-true, Version, row_at, ids_of, id_at, is_above, AreIds, LeadsTo, IsNode, AreLinked}
+use Rattle.pref_core.proofs.Common.{IsOnWay, rank, IsBefore, same_Some}
 use Rattle.pref_core.specs.IdChains.{IsNext}
 
 pub before_from : (limit capacity : ℕ) (homes : ℕ → ℕ) (ids : ℕ → Option ℕ) (links : ℕ → ℕ) (id bound node : ℕ) → AreLinked limit capacity homes ids links → homes id < capacity
@@ -10,8 +10,7 @@ before_from limit capacity homes ids links id bound node linked inside is above 
     record { bound = bound; is = is; above = above; below = go (ids (links node)) stops (linked (homes id) bound node inside is) }
   where
     go : (o : Option ℕ) → is_above id o ≡ false → LeadsTo capacity homes ids (homes id) bound (links node) o → (place other : ℕ) → ids place ≡ Some other → homes other ≡ homes id → other < bound → other ≤ id
-    go None s leads place other at same less = absurd (let far = leads.none place other at same in omega arith)
-    go (Some top) s leads place other at same less = let most = leads.most place other at same less in let low = ltb-false id top s in omega arith
+    go o s leads place other at same less = grind (arith)
 
 -- One step along a chain.
 pub way_on : (limit capacity : ℕ) (homes : ℕ → ℕ) (ids : ℕ → Option ℕ) (links : ℕ → ℕ) (id node : ℕ) → AreLinked limit capacity homes ids links → homes id < capacity
@@ -20,8 +19,7 @@ pub way_on : (limit capacity : ℕ) (homes : ℕ → ℕ) (ids : ℕ → Option 
 way_on limit capacity homes ids links id node linked inside way above within = go (ids (links node)) refl above (linked (homes id) way.bound node inside way.is)
   where
     lower : (top : ℕ) (o : Option ℕ) → LeadsTo capacity homes ids (homes id) top (links (links node)) o → rank o < top + 1
-    lower top None leads = omega arith
-    lower top (Some next) leads = let less = leads.less in omega arith
+    lower top o leads = grind (arith)
 
     go : (o : Option ℕ) → ids (links node) ≡ o → is_above id o ≡ true → LeadsTo capacity homes ids (homes id) way.bound (links node) o
         → IsOnWay limit capacity homes ids id (links node) × (links node < capacity) × (rank (ids (links (links node))) < rank (ids (links node)))
@@ -35,22 +33,17 @@ way_on limit capacity homes ids links id node linked inside way above within = g
 
 -- An id at a place is within the list of ids.
 pub id_within : (ids : List (Option ℕ)) (place id : ℕ) → id_at ids place ≡ Some id → place < length ids
-id_within [] place id at = absurd (cc)
-id_within (x ∷ ids) zero id at = omega arith
 id_within (x ∷ ids) (suc place) id at = let less = id_within ids place id at in omega arith
+id_within ids place id at = grind (arith)
 
 -- The id at a place of slots, and whether the row of an id stands there.
 pub shows_row : (stamp id : ℕ) (slots : List (Option Version)) (place : ℕ) → id_at (ids_of stamp slots) place ≡ Some id → row_at stamp id slots place ≡ true
-shows_row stamp id [] place at = absurd (cc)
-shows_row stamp id (None ∷ slots) zero at = absurd (cc)
-shows_row stamp id (Some version ∷ slots) zero at = grind (arith)
 shows_row stamp id (slot ∷ slots) (suc place) at = shows_row stamp id slots place at
+shows_row stamp id slots place at = grind (arith)
 
 pub row_shown : (stamp id : ℕ) (slots : List (Option Version)) (place : ℕ) → row_at stamp id slots place ≡ true → id_at (ids_of stamp slots) place ≡ Some id
-row_shown stamp id [] place at = absurd (cc)
-row_shown stamp id (None ∷ slots) zero at = absurd (cc)
-row_shown stamp id (Some version ∷ slots) zero at = grind (arith)
 row_shown stamp id (slot ∷ slots) (suc place) at = row_shown stamp id slots place at
+row_shown stamp id slots place at = grind (arith)
 
 -- The row of an id stands behind the last node before it, or nowhere.
 pub place_behind : (limit capacity : ℕ) (homes : ℕ → ℕ) (ids : ℕ → Option ℕ) (links : ℕ → ℕ) (id node place : ℕ) → AreLinked limit capacity homes ids links → homes id < capacity
@@ -58,12 +51,7 @@ pub place_behind : (limit capacity : ℕ) (homes : ℕ → ℕ) (ids : ℕ → O
 place_behind limit capacity homes ids links id node place linked inside before at = go (ids (links node)) refl (linked (homes id) before.bound node inside before.is)
   where
     go : (o : Option ℕ) → ids (links node) ≡ o → LeadsTo capacity homes ids (homes id) before.bound (links node) o → o ≡ Some id
-    go None e leads = absurd (let far = leads.none place id at refl in let near = before.above in omega arith)
-    go (Some top) e leads =
-        let most = leads.most place id at refl before.above in
-        let low = before.below (links node) top e leads.same leads.less in
-        let same : top ≡ id = omega arith in
-        ap Some same
+    go o e leads = grind (arith)
 
 -- A node of an id's home that is not the last one before it has a greater bound than that one, which is a row's.
 other_node : (limit capacity : ℕ) (homes : ℕ → ℕ) (ids : ℕ → Option ℕ) (id node b n : ℕ) (before : IsBefore limit capacity homes ids id node) → AreIds limit ids
@@ -95,12 +83,10 @@ added limit capacity homes ids after links linked_after id place node known with
 
     -- a link is never to an empty place
     not_there : (l : ℕ) (o : Option ℕ) → ids l ≡ o → (o ≡ None → capacity ≤ l) → l ≡ place → ⊥
-    not_there l None e far same = let past = far refl in omega arith
-    not_there l (Some top) e far same = none-some top (sym empty ∙ ap ids (sym same) ∙ e)
+    not_there l o e far same = grind (arith)
 
     past_end : (h x l : ℕ) (o : Option ℕ) → LeadsTo capacity homes ids h x l o → o ≡ None → capacity ≤ l
-    past_end h x l None leads e = leads.past
-    past_end h x l (Some top) leads e = absurd (none-some top (sym e))
+    past_end h x l o leads e = grind (arith)
 
     -- what a link leads to is the same after
     same_link : (h x l : ℕ) → LeadsTo capacity homes ids h x l (ids l) → after l ≡ ids l
@@ -117,41 +103,14 @@ added limit capacity homes ids after links linked_after id place node known with
         leads = linked (homes id) before.bound node inside before.is
 
         go : (o : Option ℕ) → ids (links node) ≡ o → LeadsTo capacity homes ids (homes id) before.bound (links node) o → LeadsTo capacity homes after (homes id) id (links node) o
-        go None e leads = record {
-          past = leads.past;
-          none = λ p i at same. ⊎_elim (λ (f : i ≡ id). omega arith) (λ (was : ids p ≡ Some i). let far = leads.none p i was same in let near = before.above in omega arith) (old_or_new p i at);
-        }
-        go (Some top) e leads =
-            let low = before.below (links node) top e leads.same leads.less in
-            record {
-              same = leads.same;
-              less = ⊎_elim (λ (f : top ≡ id). absurd (absent (links node) (e ∙ ap Some f))) (λ (d : top ≡ id → ⊥). (let t : top < id = omega (arith, d) in t)) (cases_eq top id);
-              most = λ p i at same near. ⊎_elim (λ (f : i ≡ id). absurd (omega arith)) (λ (was : ids p ≡ Some i). leads.most p i was same (let near_too = before.above in omega arith)) (old_or_new p i at);
-            }
+        go o e leads = grind (arith)
 
         new_one : b ≡ id → homes b ≡ home → LeadsTo capacity homes after home b (linked_after n) (after (linked_after n))
-        new_one is_id is_home =
-            let link : linked_after n ≡ links node = ap linked_after e ∙ onward in
-            let home_is : homes id ≡ home = ap homes (sym is_id) ∙ is_home in
-            let done = subst (LeadsTo capacity homes after (homes id) id (links node)) (sym (same_link (homes id) before.bound (links node) leads)) (go (ids (links node)) refl leads) in
-            subst (λ l. LeadsTo capacity homes after home b l (after l)) (sym link)
-            (subst (λ h. LeadsTo capacity homes after h b (links node) (after (links node))) home_is
-            (subst (λ x. LeadsTo capacity homes after (homes id) x (links node) (after (links node))) (sym is_id) done))
+        new_one is_id is_home = grind (arith, same_link, leads, go)
 
     -- the node before leads to the new row
     at_node : (n ≡ place → ⊥) → n ≡ node → LeadsTo capacity homes after home b (linked_after n) (after (linked_after n))
-    at_node apart e =
-        let named = one_node limit capacity homes ids (homes id) home before.bound b n within (subst (IsNode limit capacity homes ids (homes id) before.bound) (sym e) before.is) (was_node apart) in
-        let link : linked_after n ≡ place = ap linked_after e ∙ to_place in
-        subst (λ l. LeadsTo capacity homes after home b l (after l)) (sym link)
-        (subst (LeadsTo capacity homes after home b place) (sym here) (new_next named.0 named.1))
-      where
-        new_next : homes id ≡ home → before.bound ≡ b → IsNext homes after home b id
-        new_next home_is bound_is = record {
-          same = home_is;
-          less = let near = before.above in omega arith;
-          most = λ p i at same near. ⊎_elim (λ (f : i ≡ id). omega arith) (λ (was : ids p ≡ Some i). before.below p i was (same ∙ sym home_is) (omega arith)) (old_or_new p i at);
-        }
+    at_node apart e = grind (arith)
 
     -- and no other node is moved
     elsewhere : (n ≡ place → ⊥) → (n ≡ node → ⊥) → LeadsTo capacity homes after home b (linked_after n) (after (linked_after n))
@@ -167,21 +126,7 @@ added limit capacity homes ids after links linked_after id place node known with
         between same near = other_node limit capacity homes ids id node b n before known (subst (λ h. IsNode limit capacity homes ids h b n) (sym same) (was_node apart)) other near
 
         go : (o : Option ℕ) → LeadsTo capacity homes ids home b (links n) o → LeadsTo capacity homes after home b (links n) o
-        go None leads = record {
-          past = leads.past;
-          none = λ p i at same. ⊎_elim
-              (λ (f : i ≡ id). ⊎_elim (λ (g : id < b). absurd (let mid = between (ap homes (sym f) ∙ same) g in let far = leads.none node before.bound mid.0 (mid.1 ∙ ap homes (sym f) ∙ same) in let near = mid.2 in omega arith)) (λ (l : b ≤ id). (let t : b ≤ i = omega arith in t)) (cases_lt id b))
-              (λ (was : ids p ≡ Some i). leads.none p i was same)
-              (old_or_new p i at);
-        }
-        go (Some top) leads = record {
-          same = leads.same;
-          less = leads.less;
-          most = λ p i at same near. ⊎_elim
-              (λ (f : i ≡ id). let mid = between (ap homes (sym f) ∙ same) (omega arith) in let far = leads.most node before.bound mid.0 (mid.1 ∙ ap homes (sym f) ∙ same) mid.2 in let up = before.above in omega arith)
-              (λ (was : ids p ≡ Some i). leads.most p i was same near)
-              (old_or_new p i at);
-        }
+        go o leads = grind (arith)
 
 -- A row that is removed.
 pub removed : (limit capacity : ℕ) (homes : ℕ → ℕ) (ids after : ℕ → Option ℕ) (links linked_after : ℕ → ℕ) (id place node : ℕ) → AreIds limit ids → ((p i : ℕ) → ids p ≡ Some i → p < capacity)
@@ -195,10 +140,7 @@ removed limit capacity homes ids after links linked_after id place node known wi
   where
     -- a row after was one before, and is another one
     was_row : (p i : ℕ) → after p ≡ Some i → (ids p ≡ Some i) × (i ≡ id → ⊥)
-    was_row p i at = ⊎_elim
-        (λ (e : p ≡ place). absurd (none-some i (sym gone ∙ ap after (sym e) ∙ at)))
-        (λ (d : p ≡ place → ⊥). let was = sym (others p d) ∙ at in (was, λ (f : i ≡ id). d (known.once p place id (was ∙ ap Some f) there)))
-        (cases_eq p place)
+    was_row p i at = grind (arith)
 
     was_node : IsNode limit capacity homes ids home b n
     was_node = ⊎_elim (λ (p : (n ≡ capacity + home) × (b ≡ limit)). inl p) (λ (p : (after n ≡ Some b) × (homes b ≡ home)). inr ((was_row n b p.0).0, p.1)) is
@@ -217,21 +159,7 @@ removed limit capacity homes ids after links linked_after id place node known wi
         (go (ids (links place)) refl (linked (homes id) id place inside (inr (there, refl))))))
       where
         go : (o : Option ℕ) → ids (links place) ≡ o → LeadsTo capacity homes ids (homes id) id (links place) o → LeadsTo capacity homes after (homes id) before.bound (links place) (after (links place))
-        go None e leads =
-            let same_there : after (links place) ≡ None = others (links place) (λ (f : links place ≡ place). let past = leads.past in let room = within place id there in omega arith) ∙ e in
-            subst (LeadsTo capacity homes after (homes id) before.bound (links place)) (sym same_there) (record {
-              past = leads.past;
-              none = λ p i at same. let was = was_row p i at in let far = leads.none p i was.0 same in
-                  ⊎_elim (λ (g : i < before.bound). absurd (was.1 (let low = before.below p i was.0 same g in omega arith))) (λ (l : before.bound ≤ i). l) (cases_lt i before.bound);
-            })
-        go (Some top) e leads =
-            let same_there : after (links place) ≡ Some top = others (links place) (λ (f : links place ≡ place). let same_id = same_Some top id (sym e ∙ ap ids f ∙ there) in let low = leads.less in omega arith) ∙ e in
-            subst (LeadsTo capacity homes after (homes id) before.bound (links place)) (sym same_there) (record {
-              same = leads.same;
-              less = let low = leads.less in let up = before.above in omega arith;
-              most = λ p i at same near. let was = was_row p i at in let low = before.below p i was.0 same near in
-                  leads.most p i was.0 same (let differ = was.1 in omega (arith, differ));
-            })
+        go o e leads = grind (arith)
 
     -- and no other node led to it
     elsewhere : (n ≡ node → ⊥) → LeadsTo capacity homes after home b (linked_after n) (after (linked_after n))
@@ -243,15 +171,7 @@ removed limit capacity homes ids after links linked_after id place node known wi
         leads = linked home b n less was_node
 
         apart : links n ≡ place → ⊥
-        apart e = led_there (subst (LeadsTo capacity homes ids home b (links n)) (ap ids e ∙ there) leads)
-          where
-            led_there : IsNext homes ids home b id → ⊥
-            led_there next =
-                let mid = other_node limit capacity homes ids id node b n before known (subst (λ h. IsNode limit capacity homes ids h b n) (sym next.same) was_node) other next.less in
-                let far = next.most node before.bound mid.0 (mid.1 ∙ next.same) mid.2 in
-                let up = before.above in
-                omega arith
+        apart e = grind (arith, leads, other_node, was_node)
 
         go : (o : Option ℕ) → LeadsTo capacity homes ids home b (links n) o → LeadsTo capacity homes after home b (links n) o
-        go None leads = record { past = leads.past; none = λ p i at same. leads.none p i (was_row p i at).0 same }
-        go (Some top) leads = record { same = leads.same; less = leads.less; most = λ p i at same near. leads.most p i (was_row p i at).0 same near }
+        go o leads = grind (arith)

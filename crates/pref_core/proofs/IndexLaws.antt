@@ -1,6 +1,6 @@
 -- An index follows the store through each op that is done.
 use Rattle.pref_core.proofs.Common.{drop, slice_get, ◌≡◌, ℕ, suc, ◌+◌, ◌<◌, Bool, true, false, ◌&&◌, ◌||◌, cond, eqb, nat_lt, List, [], ◌∷◌, map, set, Option, Some, None, is_some, refl, sym}
-use Rattle.pref_core.proofs.Common.{ap, ◌∙◌, subst, arith, AllByRecursion, eqb-true, ne_eqb, true≢false, Version, Change, Add, Set, Remove, Call}
+use Rattle.pref_core.proofs.Common.{ap, ◌∙◌, subst, arith, AllByRecursion, eqb-true, ne_eqb, Version, Change, Add, Set, Remove, Call}
 use Rattle.pref_core.proofs.Common.{Outcome, Done, Op, Entry, Row, ended_by, begun_by, among, has, success_outcome, is_change, succeeds}
 use Rattle.pref_core.proofs.Common.{added, changes_of, ended, begun, outcome_of, Contents, IsWithin, visible, begins, new_version, close, is_free, filled, slots_after}
 use Rattle.pref_core.proofs.Common.{is_next, applied, slot_of, Points, PointsAll, given, placed_rows, adds, IsPlaceOf, IsIndexOf}
@@ -48,8 +48,7 @@ module _ (ns : List ℕ) (made id : ℕ) where
       go : (b : Bool) → is_free (made ∷ ns) slots place ≡ b → ◌≡◌ {A = Option (List (Option Version))} (cond b (filled (made ∷ ns) made places (begun_by (suc next) rest) later) None) (Some after)
           → ArePlaced rest (suc next) places later after (cond (eqb next id) (Some place) found)
           → IsPlaceOf made id after (given (placed_rows (suc next) rest places) id (cond (eqb next id) (Some place) found))
-      go false free h more = absurd (cc)
-      go true free h more = more h apart (λ there. let below : id < next = low there in omega arith) (shown free (among (ended_by rest) id) refl is)
+      go b free h more = grind (arith, shown)
   filled_place (Set other row ∷ rest) next (place ∷ places) slots after found e apart low is =
       go (is_free (made ∷ ns) slots place) refl e (filled_place rest next places (set slots place (new_version made (record { id = other; row = row }))) after)
     where
@@ -74,8 +73,7 @@ module _ (ns : List ℕ) (made id : ℕ) where
 
       go : (b : Bool) → is_free (made ∷ ns) slots place ≡ b → ◌≡◌ {A = Option (List (Option Version))} (cond b (filled (made ∷ ns) made places (begun_by next rest) later) None) (Some after)
           → ((o : Option ℕ) → ArePlaced rest next places later after o) → IsPlaceOf made id after (given (placed_rows next rest places) id (cond (eqb other id) (Some place) found))
-      go false free h more = absurd (cc)
-      go true free h more = by (eqb other id) refl free h more
+      go b free h more = grind (arith, by)
   filled_place (Remove other ∷ rest) next places slots after found e apart low is = grind (arith, filled_place rest next places slots after)
 
 -- A call that succeeds has the outcome that is granted.
@@ -146,9 +144,7 @@ module _ (contents : Contents) (within : AllByRecursion (IsWithin contents.next_
           index_after contents op next after true later e both (done change after (rw both at e))
 
       go : (b : Bool) → is_change op.call ≡ b → IsIndexOf (applied contents op) later
-      go true e = placed (slots_after contents op) refl fits e
-      go false e = indexed_still contents op later next fits (ap (λ b. b && succeeds op.outcome) e)
-          (λ id. subst (IsPlaceOf contents.stamp id contents.slots) (sym (found id ∙ ap (λ l. given (placed_rows contents.next_id l op.slots) id (slot_of before id)) (no_changes op.call e))) (is id))
+      go b e = grind (arith, placed, indexed_still, later, no_changes)
 
   -- Before an op is done, it gives the places of the rows that the op ends.
   pub ended_there : (op : Op) (index : Pairs) → is_next contents op ≡ true → succeeds op.outcome ≡ true → IsIndexOf contents index → AreThere contents contents.next_id (ended op.call) index
@@ -160,11 +156,7 @@ module _ (contents : Contents) (within : AllByRecursion (IsWithin contents.next_
   }
     where
       there : (id : ℕ) → among (ended op.call) id ≡ true → has (visible contents.stamp contents.slots) id ≡ true
-      there id ends = go (is_change op.call) refl
-        where
-          go : (b : Bool) → is_change op.call ≡ b → has (visible contents.stamp contents.slots) id ≡ true
-          go true e = found_all (ended op.call) (visible contents.stamp contents.slots) (none_missing contents op.call op.outcome (IsAllowed-from contents op next).outcome success e) id ends
-          go false e = absurd (true≢false (sym ends ∙ ap (λ l. among (ended_by l) id) (no_changes op.call e)))
+      there id ends = grind (arith, found_all, none_missing, IsAllowed-from, no_changes)
 
 -- A row is added only by a call that adds one.
 pub adds_planned : (contents : Contents) (op : Op) → is_next contents op ≡ true → adds op.outcome ≡ true → nat_lt 0 (added op.call) ≡ true

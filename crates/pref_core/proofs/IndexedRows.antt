@@ -1,5 +1,5 @@
 -- The index of a store, after an op.
-use Rattle.pref_core.proofs.Common.{and_right, ◌≡◌, ℕ, zero, suc, ◌+◌, ◌<◌, ◌≤◌, Bool, true, false, eqb, List, [], ◌∷◌, map, length, set, Option, Some, None, slice_get, refl, sym, ap}
+use Rattle.pref_core.proofs.Common.{and_right, ◌≡◌, ℕ, suc, ◌+◌, ◌<◌, ◌≤◌, Bool, true, false, eqb, List, ◌∷◌, map, length, set, Option, Some, None, slice_get, refl, sym, ap}
 use Rattle.pref_core.proofs.Common.{◌∙◌, arith, AllByRecursion, le-leb, eq-eqb, true≢false, Version, among, Entry, is_visible, new_version, IsWithin}
 use Rattle.pref_core.proofs.Common.{close, is_free, slot_of, Points, is_row, row_at, IsPlaceOf, false_from_ne_true}
 use Rattle.pref_core.proofs.SlotUseLaws.{has_row_at, has_nowhere}
@@ -17,37 +17,29 @@ is_row-ended : (next now id : ℕ) (ids : List ℕ) (slot : Option Version) → 
 is_row-ended next now id ids slot h out = grind (arith)
 
 pub row_at-close : (next now id : ℕ) (ids : List ℕ) (slots : List (Option Version)) (k : ℕ) → AllByRecursion (IsWithin next now) slots → among ids id ≡ false → row_at (suc now) id (map (close ids (suc now)) slots) k ≡ row_at now id slots k
-row_at-close next now id ids [] k h out = refl
-row_at-close next now id ids (slot ∷ slots) zero h out = is_row-close next now id ids slot h.0 out
 row_at-close next now id ids (slot ∷ slots) (suc k) h out = row_at-close next now id ids slots k h.1 out
+row_at-close next now id ids slots k h out = grind (arith)
 
 pub row_at-ended : (next now id : ℕ) (ids : List ℕ) (slots : List (Option Version)) (k : ℕ) → AllByRecursion (IsWithin next now) slots → among ids id ≡ true → row_at (suc now) id (map (close ids (suc now)) slots) k ≡ false
-row_at-ended next now id ids [] k h out = refl
-row_at-ended next now id ids (slot ∷ slots) zero h out = is_row-ended next now id ids slot h.0 out
 row_at-ended next now id ids (slot ∷ slots) (suc k) h out = row_at-ended next now id ids slots k h.1 out
+row_at-ended next now id ids slots k h out = grind (arith)
 
 -- A free slot shows no row.
 free_row : (now id : ℕ) (ns : List ℕ) (slots : List (Option Version)) (place : ℕ) → is_free (now ∷ ns) slots place ≡ true → row_at now id slots place ≡ false
-free_row now id ns [] place h = refl
-free_row now id ns (None ∷ slots) zero h = refl
-free_row now id ns (Some version ∷ slots) zero h = grind (arith)
 free_row now id ns (slot ∷ slots) (suc place) h = free_row now id ns slots place h
+free_row now id ns slots place h = grind (arith)
 
 is_row-new_version : (made : ℕ) (fresh : Entry) → is_row made fresh.id (new_version made fresh) ≡ true
 is_row-new_version made fresh = rw (eq-eqb fresh.id fresh.id refl, le-leb made made (omega arith)) refl
 
 -- A row that begins at a free place stands there, and no other row does.
 pub row_at-new_version : (made : ℕ) (fresh : Entry) (ns : List ℕ) (slots : List (Option Version)) (place : ℕ) → is_free (made ∷ ns) slots place ≡ true → row_at made fresh.id (set slots place (new_version made fresh)) place ≡ true
-row_at-new_version made fresh ns [] place h = absurd (cc)
-row_at-new_version made fresh ns (slot ∷ slots) zero h = is_row-new_version made fresh
 row_at-new_version made fresh ns (slot ∷ slots) (suc place) h = row_at-new_version made fresh ns slots place h
+row_at-new_version made fresh ns slots place h = grind (arith)
 
 row_at-other : (made id : ℕ) (fresh : Entry) (ns : List ℕ) (slots : List (Option Version)) (place k : ℕ) → is_free (made ∷ ns) slots place ≡ true → eqb fresh.id id ≡ false → row_at made id (set slots place (new_version made fresh)) k ≡ row_at made id slots k
-row_at-other made id fresh ns [] place k h other = refl
-row_at-other made id fresh ns (slot ∷ slots) zero zero h other = rw other (sym (free_row made id ns (slot ∷ slots) zero h))
-row_at-other made id fresh ns (slot ∷ slots) zero (suc k) h other = refl
-row_at-other made id fresh ns (slot ∷ slots) (suc place) zero h other = refl
 row_at-other made id fresh ns (slot ∷ slots) (suc place) (suc k) h other = row_at-other made id fresh ns slots place k h other
+row_at-other made id fresh ns slots place k h other = grind (arith)
 
 -- The place of an id, where each slot shows the id's row as the slot there did before.
 pub moved_place : (stamp later id : ℕ) (slots moved : List (Option Version)) (place : Option ℕ) → ((k : ℕ) → row_at later id moved k ≡ row_at stamp id slots k) → IsPlaceOf stamp id slots place → IsPlaceOf later id moved place

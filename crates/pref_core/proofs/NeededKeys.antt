@@ -1,6 +1,6 @@
 -- Fewer keys are needed where each is needed before.
-use Rattle.pref_core.proofs.Common.{◌≡◌, ℕ, ◌≤◌, Bool, true, false, ◌||◌, List, [], ◌∷◌, ◌++◌, length, refl, sym, ap, ◌∙◌, arith, or_right, Line, Key, same_key, holds_key, keys}
-use Rattle.pref_core.proofs.Common.{different, without, found_tables, Change, Add, Set, Remove, begun_by, begins_any, AreDifferent, DeletesNeedNoMore}
+use Rattle.pref_core.proofs.Common.{◌≡◌, ℕ, ◌≤◌, Bool, true, false, ◌||◌, List, [], ◌∷◌, ◌++◌, length, refl, sym, ap, ◌∙◌, arith, Line, Key, same_key, holds_key, keys}
+use Rattle.pref_core.proofs.Common.{different, without, found_tables, Change, Remove, begun_by, begins_any, AreDifferent, DeletesNeedNoMore}
 use Rattle.pref_core.proofs.Common.{EndsNeedNoMore}
 use Rattle.pref_core.proofs.NeededCounts.{others, holds_key-others-at, AreDifferent-others, length-others, same_key_refl, same_key-true, holds_key-different, AreDifferent-different}
 use Rattle.pref_core.proofs.NeededCounts.{holds_key-keys-append}
@@ -14,10 +14,7 @@ fewer (x ∷ xs) ys p q in_ =
     omega arith
   where
     at : (key : Key) (b : Bool) → same_key key x ≡ b → holds_key xs key ≡ true → holds_key (others x ys) key ≡ true
-    at key true e h =
-        let is : key ≡ x = same_key-true key x e in
-        let both : true ≡ false = sym h ∙ ap (holds_key xs) is ∙ p.0 in absurd (cc)
-    at key false e h = holds_key-others-at x key ys e ∙ in_ key (or_right (same_key key x) (holds_key xs key) h)
+    at key b e h = grind (arith, same_key-true, holds_key-others-at)
 
 held_without : (ids : List ℕ) (table : List Line) (key : Key) → holds_key (keys (without ids table)) key ≡ true → holds_key (keys table) key ≡ true
 held_without ids [] key h = h
@@ -32,18 +29,14 @@ without_needs_no_more ids table found =
     ∙ both (holds_key (keys (without ids table)) key) (holds_key (keys table) key) (holds_key (keys found) key) (held_without ids table key) held)
   where
     both : (a b f : Bool) → (a ≡ true → b ≡ true) → (a || f) ≡ true → (b || f) ≡ true
-    both true b f i h = ap (λ x. x || f) (i refl)
-    both false true f i h = refl
-    both false false f i h = h
+    both a b f i h = grind (arith)
 
 pub deletes_need_no_more : DeletesNeedNoMore
 deletes_need_no_more state id = without_needs_no_more (id ∷ []) state.table (found_tables state.clients)
 
 none_begun : (next_id : ℕ) (changes : List Change) → begins_any changes ≡ false → begun_by next_id changes ≡ []
-none_begun next_id [] h = refl
-none_begun next_id (Add row ∷ rest) h = absurd (cc)
-none_begun next_id (Set id row ∷ rest) h = absurd (cc)
 none_begun next_id (Remove id ∷ rest) h = none_begun next_id rest h
+none_begun next_id changes h = grind (arith)
 
 pub ends_need_no_more : EndsNeedNoMore
 ends_need_no_more state call h = grind (arith, none_begun, without_needs_no_more)

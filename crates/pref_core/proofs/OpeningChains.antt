@@ -1,8 +1,8 @@
 -- The links of a store as it is opened.
-use Rattle.pref_core.proofs.Common.{◌≡◌, ℕ, zero, suc, ◌+◌, ◌-◌, ◌%◌, ◌^◌, ◌<◌, ◌≤◌, ◌++◌, Bool, true, false, cond, nat_lt, List, [], ◌∷◌, map, length, replicate, get_or, slice_index, Option, Some}
-use Rattle.pref_core.proofs.Common.{None, refl, sym, ap, ap₂, ◌∙◌, subst, arith, range_with_len, ltb-true, ltb-false, lt-ltb, le-ltb, le-leb, length-append, length-replicate, get_or-replicate}
+use Rattle.pref_core.proofs.Common.{◌≡◌, ℕ, zero, suc, ◌+◌, ◌-◌, ◌%◌, ◌^◌, ◌<◌, ◌≤◌, ◌++◌, cond, nat_lt, List, [], ◌∷◌, map, length, replicate, get_or, slice_index, Option, Some}
+use Rattle.pref_core.proofs.Common.{None, refl, sym, ap, ap₂, ◌∙◌, subst, arith, range_with_len, lt-ltb, le-ltb, le-leb, length-append, length-replicate, get_or-replicate}
 use Rattle.pref_core.proofs.Common.{get_or-append-add, get_or-map-range_with_len, length-map-range_with_len, Version, Row, opening_slots, shown, ids_of, home_of, id_at, AreLinked, AreLinks}
-use Rattle.pref_core.proofs.Common.{opening_ids, opening_link, same_Some}
+use Rattle.pref_core.proofs.Common.{opening_ids, opening_link}
 use Rattle.std.proofs.Math.Nat.{mod-eq_of_lt}
 use Rattle.std.proofs.Math.ListN.{get_or-append}
 
@@ -13,14 +13,12 @@ opened : (limit capacity rows : ℕ) (homes : ℕ → ℕ) (ids : ℕ → Option
 opened limit capacity rows homes ids links few big known there past own ends firsts home b n less is = grind (arith)
 
 id_of_range : (f : ℕ → Option ℕ) (from count place : ℕ) → place < count → id_at (map f (range_with_len from count)) place ≡ f (from + place)
-id_of_range f from zero place l = absurd (omega arith)
-id_of_range f from (suc count) zero l = let e : from ≡ from + 0 = omega arith in ap f e
 id_of_range f from (suc count) (suc place) l = let e : (from + 1) + place ≡ from + suc place = omega arith in id_of_range f (from + 1) count place (omega arith) ∙ ap f e
+id_of_range f from count place l = grind (arith)
 
 id_past_range : (f : ℕ → Option ℕ) (from count place : ℕ) → count ≤ place → id_at (map f (range_with_len from count)) place ≡ None
-id_past_range f from zero place l = refl
-id_past_range f from (suc count) zero l = absurd (omega arith)
 id_past_range f from (suc count) (suc place) l = id_past_range f (from + 1) count place (omega arith)
+id_past_range f from count place l = grind (arith)
 
 pub opening_links : (capacity rows : ℕ) → capacity ≤ 65536 → rows ≤ capacity → AreLinks (opening_ids capacity rows) (replicate capacity capacity ++ map (opening_link capacity rows) (range_with_len 0 capacity))
 opening_links capacity rows few less =
@@ -49,15 +47,7 @@ opening_links capacity rows few less =
     at_place place low = let e : 0 + place ≡ place = omega arith in id_of_range of 0 capacity place low ∙ ap of e
 
     known : (place id : ℕ) → id_at (opening_ids capacity rows) place ≡ Some id → (id ≡ place + 1) × (place < rows)
-    known place id at = go (nat_lt place capacity) refl
-      where
-        here : place < capacity → (t : Bool) → nat_lt place rows ≡ t → (id ≡ place + 1) × (place < rows)
-        here low true e = (same_Some id (place + 1) (sym at ∙ at_place place low ∙ ap (λ t. cond t (Some (place + 1)) None) e), ltb-true place rows e)
-        here low false e = absurd (let bad = sym at ∙ at_place place low ∙ ap (λ t. cond t (Some (place + 1)) None) e in cc)
-
-        go : (t : Bool) → nat_lt place capacity ≡ t → (id ≡ place + 1) × (place < rows)
-        go true e = here (ltb-true place capacity e) (nat_lt place rows) refl
-        go false e = absurd (let bad = sym at ∙ id_past_range of 0 capacity place (ltb-false place capacity e) in cc)
+    known place id at = grind (arith, at_place, id_past_range, of)
 
     there : (place : ℕ) → place < rows → id_at (opening_ids capacity rows) place ≡ Some (place + 1)
     there place low = at_place place (omega arith) ∙ ap (λ t. cond t (Some (place + 1)) None) (lt-ltb place rows low)

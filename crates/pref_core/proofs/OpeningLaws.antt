@@ -91,19 +91,4 @@ opened_stands clients capacity rows contents few slots stamp next_id callers = (
 
 pub opened_kept : (clients capacity : ℕ) (rows : List Row) (contents : Contents) → length rows ≤ capacity → capacity ≤ 65536 → clients ≤ 8 → contents.slots ≡ opening_slots 0 rows ++ replicate (capacity - length rows) None → contents.stamp ≡ length rows → contents.next_id ≡ length rows + 1
     → contents.callers ≡ replicate clients (record { calls = 0; at_begin = None }) → IsKept contents
-opened_kept clients capacity rows contents few fits eight slots stamp next_id callers =
-    let stands = opened_stands clients capacity rows contents few slots stamp next_id callers in
-    let size = stands.1 in
-    let a = ap length callers in
-    let b = length-replicate {A = Caller} clients (record { calls = 0; at_begin = None }) in
-    record {
-      bounded = record {
-        slots = omega arith;
-        callers = omega arith;
-        calls = subst (AllByRecursion (λ (caller : Caller). caller.calls ≤ 2 ^ 56)) (sym callers) (no_calls clients);
-        stamp = omega arith;
-        next_id = omega arith;
-      };
-      state = opening clients rows;
-      stands = stands.0;
-    }
+opened_kept clients capacity rows contents few fits eight slots stamp next_id callers = grind (arith, opened_stands clients capacity rows contents few slots stamp next_id callers, length-replicate, no_calls clients)

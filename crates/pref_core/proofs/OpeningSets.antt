@@ -1,5 +1,5 @@
 -- The order of places as a store is opened.
-use Rattle.pref_core.proofs.Common.{◌≡◌, ℕ, ◌+◌, ◌-◌, ◌*◌, ◌<◌, ◌≤◌, cond, List, ◌∷◌, ◌++◌, map, length, get_or, replicate, refl, sym, ap, ap₂, ◌∙◌, arith}
+use Rattle.pref_core.proofs.Common.{◌≡◌, ℕ, ◌+◌, ◌-◌, ◌<◌, ◌≤◌, List, ◌∷◌, ◌++◌, map, length, get_or, replicate, refl, sym, ap, ap₂, ◌∙◌, arith}
 use Rattle.pref_core.proofs.Common.{count_by, range_with_len, length-map, length-append, length-replicate, same_lists, get_or-map, get_or-map-range_with_len, length-map-range_with_len, sum_by-append}
 use Rattle.pref_core.proofs.Common.{lt-ltb, le-ltb, SlotUse, Free, Live, use_at, is_free_use, IsInverse, IsArranged, rotated, sum_by-replicate, get_or-append_right}
 use Rattle.pref_core.proofs.Common.{get_or-replicate}
@@ -69,8 +69,4 @@ turned_arranged capacity rows few r =
     }
   where
     counted : count_by is_free_use (replicate rows Live ++ replicate (capacity - rows) Free) ≡ capacity - rows
-    counted =
-        let a = sum_by-append (λ z. cond (is_free_use z) 1 0) (replicate rows Live) (replicate (capacity - rows) Free) in
-        let b = sum_by-replicate (λ z. cond (is_free_use z) 1 0) rows Live in
-        let d = sum_by-replicate (λ z. cond (is_free_use z) 1 0) (capacity - rows) Free in
-        a ∙ ap₂ ◌+◌ b d ∙ (let done : rows * 0 + (capacity - rows) * 1 ≡ capacity - rows = omega arith in done)
+    counted = grind (arith, sum_by-append, sum_by-replicate)

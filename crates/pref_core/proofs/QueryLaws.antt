@@ -1,5 +1,5 @@
 -- A query that follows its table: no id comes twice, a scan keeps on, and the end is the table's answer.
-use Rattle.pref_core.proofs.Common.{◌≡◌, ℕ, zero, suc, ◌+◌, ◌-◌, ◌*◌, ◌/◌, ◌≤◌, Bool, true, false, cond, eqb, ◌==◌, List, [], ◌∷◌, ◌++◌, length, take, drop, Option, Some, filter, refl, sym, ap}
+use Rattle.pref_core.proofs.Common.{◌≡◌, ℕ, zero, suc, ◌+◌, ◌-◌, ◌*◌, ◌/◌, ◌≤◌, Bool, false, cond, eqb, ◌==◌, List, [], ◌∷◌, ◌++◌, length, take, drop, Option, Some, filter, refl, sym, ap}
 use Rattle.pref_core.proofs.Common.{◌∙◌, subst, arith, inl, inr, AllByRecursion, count_by, IsPermutation, map-append, take_all, take-append-drop, filter_map-append, sum_by-cons, sum_by-append}
 use Rattle.pref_core.proofs.Common.{IsPermutation-map, sum_by-IsPermutation, Entry, Ranked, answer_of, Question, Version, Limits, AreAllowed, Line, IsOrdered, entries, Contents, Shows}
 use Rattle.pref_core.proofs.Common.{seen, visible, block_of, caller_begun, ran, Scan, begin, levels_for, next_block, NextIsNew, IsScanned, ends_query, Op, first_blocks, BlocksAreTheSlots, Open}
@@ -20,8 +20,7 @@ count_id id [] = refl
 count_id id (line ∷ rest) = sum_by-cons (λ (e : Entry). cond (e.id == id) 1 0) (record { id = line.id; row = line.row }) (entries rest) ∙ ap (λ n. cond (eqb line.id id) 1 0 + n) (count_id id rest) ∙ one (eqb line.id id) (filter (λ (l : Line). eqb l.id id) rest)
   where
     one : (b : Bool) (l : List Line) → cond {A = ℕ} b 1 0 + length l ≡ length (cond b (line ∷ l) l)
-    one true l = omega arith
-    one false l = omega arith
+    one b l = grind (arith)
 
 pub table_differs : (table : List Line) → IsOrdered table → HaveDifferentIds (entries table)
 table_differs table ordered = record { once = λ id. subst (λ n. n ≤ 1) (sym (count_id id table)) (one_line id table ordered) }
@@ -39,8 +38,7 @@ entries_append : (stamp : ℕ) (xs ys : List (Option Version)) → entries (visi
 entries_append stamp xs ys = ap entries (filter_map-append (seen stamp) xs ys) ∙ map-append (λ (l : Line). record { id = l.id; row = l.row }) (visible stamp xs) (visible stamp ys)
 
 taken_differs : (slots : List (Option Version)) (stamp n : ℕ) (table : List Line) → Shows slots stamp table → HaveDifferentIds (entries (visible stamp (take n slots)))
-taken_differs slots stamp n table shows =
-    front_differs _ _ (subst HaveDifferentIds (ap (λ l. entries (visible stamp l)) (sym (take-append-drop n slots)) ∙ entries_append stamp (take n slots) (drop n slots)) (shown_differs slots stamp table shows))
+taken_differs slots stamp n table shows = grind (arith, front_differs, take-append-drop n slots, entries_append stamp (take n slots) (drop n slots), shown_differs slots stamp table shows)
 
 one_more : (d n : ℕ) → d * n + n ≡ (d + 1) * n
 one_more d n = omega arith
@@ -144,8 +142,7 @@ follows_answered slots scan query ranked shows h none says =
 -- The blocks, one after the other, are the slots.
 first_blocks_taken : (n size : ℕ) (slots : List (Option Version)) → first_blocks n size slots ≡ take (n * size) slots
 first_blocks_taken zero size slots = grind (arith)
-first_blocks_taken (suc n) size slots =
-    ap (λ l. l ++ block_of n size slots) (first_blocks_taken n size slots) ∙ sym (take-add (n * size) size slots) ∙ ap (λ k. take k slots) (let e : n * size + size ≡ suc n * size = omega arith in e)
+first_blocks_taken (suc n) size slots = grind (arith, first_blocks_taken n size slots, take-add (n * size) size slots)
 
 pub blocks_are_the_slots : BlocksAreTheSlots
 blocks_are_the_slots limits slots allowed long = grind (arith, first_blocks_taken, take_all, all_blocks)

@@ -59,9 +59,7 @@ open_while_it_lives limits first state client ask contents scan allowed long h l
     go (after_scan c s new life is) = open_scanned c client ask state.table s new (go life) is
 
 pub next_block_is_new : NextBlockIsNew
-next_block_is_new limits first state client ask contents scan allowed long h life =
-    let open_ = open_while_it_lives limits first state client ask contents scan allowed long h life in
-    next_is_new_on_its_way contents.slots scan state.table open_.shows open_.way
+next_block_is_new limits first state client ask contents scan allowed long h life = grind (arith, open_while_it_lives limits first state client ask contents scan allowed long h life, next_is_new_on_its_way)
 
 pub lives_answer_the_begin : AnswersTheBegin
 lives_answer_the_begin limits first state client ask contents scan allowed long h life (Err fault) returned = tt

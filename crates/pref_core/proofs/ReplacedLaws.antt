@@ -1,6 +1,6 @@
 -- Rows that a commit sets, each replaced where it stands.
 use Rattle.pref_core.proofs.Common.{◌≡◌, Bor, ℕ, suc, ◌+◌, ◌<◌, Bool, true, false, cond, List, [], ◌∷◌, map, length, drop, set, Option, Some, None, is_some, slice_get, get_or, refl, sym, ap, ap₂}
-use Rattle.pref_core.proofs.Common.{◌∙◌, subst, arith, map-set, set-set, true≢false, Change, Add, Set, Remove, Op, SlotUse, Version, ended_by}
+use Rattle.pref_core.proofs.Common.{◌∙◌, subst, arith, map-set, set-set, Change, Add, Set, Remove, Op, SlotUse, Version, ended_by}
 use Rattle.pref_core.proofs.Common.{begun_by, row_at, IsTracked, KeepSlots, replaced, with_slots, change_of, close, close_at, filled, is_free, slots_after, Row, Contents, new_version}
 use Rattle.pref_core.proofs.Common.{stamps, added, changes_of, ended, is_change, succeeds, among}
 use Rattle.pref_core.specs.declared.changes.LentChange.{LentChange}
@@ -18,11 +18,8 @@ stands_still : (stamp id place : ℕ) (row : Row) (slots : List (Option Version)
 stands_still stamp id place row slots other at here there = grind (arith, slice_get-set_same, slice_get-set_other, row_version)
 
 pub keeps_still : (stamp id place : ℕ) (row : Row) (slots : List (Option Version)) (changes : List Change) (places : List ℕ) → row_at stamp id slots place ≡ true → KeepSlots stamp slots changes places → KeepSlots stamp (set slots place (new_version stamp (record { id = id; row = row }))) changes places
-keeps_still stamp id place row slots [] places here keep = tt
-keeps_still stamp id place row slots (Add other ∷ changes) places here keep = absurd keep
-keeps_still stamp id place row slots (Remove other ∷ changes) places here keep = absurd keep
-keeps_still stamp id place row slots (Set other next ∷ changes) [] here keep = absurd keep
 keeps_still stamp id place row slots (Set other next ∷ changes) (at ∷ places) here keep = (stands_still stamp id place row slots other at here keep.0, keeps_still stamp id place row slots changes places here keep.1)
+keeps_still stamp id place row slots changes places here keep = grind (arith)
 
 -- One row is replaced and the others end, in either order.
 closed_still : (contents : Contents) (uses : List SlotUse) (links : List ℕ) (id place : ℕ) (row : Row) (ids : List ℕ) → IsTracked contents uses links → row_at contents.stamp id contents.slots place ≡ true → among ids id ≡ false
@@ -65,8 +62,7 @@ rows_replaced contents uses links next (Set id row ∷ changes) (place ∷ place
     go : (free : Bool) → is_some (cond free (rest (set (map (close (id ∷ ended_by changes) contents.stamp) contents.slots) place new)) None) ≡ true
         → (is_some (rest (map (close (ended_by changes) contents.stamp) (set contents.slots place new))) ≡ true → rest (map (close (ended_by changes) contents.stamp) (set contents.slots place new)) ≡ Some (replaced contents.stamp changes places (set contents.slots place new)))
         → cond free (rest (set (map (close (id ∷ ended_by changes) contents.stamp) contents.slots) place new)) None ≡ Some (replaced contents.stamp changes places (set contents.slots place new))
-    go false f more = absurd (true≢false (sym f))
-    go true f more = ap rest moved ∙ more (ap (λ l. is_some (rest l)) (sym moved) ∙ f)
+    go free f more = grind (arith, rest, moved)
 
 -- A commit whose rows stay in their slots writes these alone.
 pub commit_kept : (now : Contents) (uses : List SlotUse) (links : List ℕ) (op : Op) → IsTracked now uses links → AreApart (ended op.call) → KeepSlots (suc now.stamp) now.slots (changes_of op.call) op.slots

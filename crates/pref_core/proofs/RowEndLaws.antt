@@ -55,10 +55,8 @@ within_closed ids next made (Some version ∷ slots) h = grind (arith, within_cl
 
 -- what the slots show once rows ended they showed before
 row_back : (ids : List ℕ) (made x : ℕ) (slots : List (Option Version)) (p : ℕ) → row_at made x (map (close ids made) slots) p ≡ true → row_at made x slots p ≡ true
-row_back ids made x [] p r = absurd (cc)
-row_back ids made x (None ∷ slots) zero r = absurd (cc)
-row_back ids made x (Some version ∷ slots) zero r = grind (arith)
 row_back ids made x (slot ∷ slots) (suc p) r = row_back ids made x slots p r
+row_back ids made x slots p r = grind (arith)
 
 pub ids_closed : (ids : List ℕ) (made : ℕ) (slots : List (Option Version)) → AreIds (2 ^ 64) (id_at (ids_of made slots)) → AreIds (2 ^ 64) (id_at (ids_of made (map (close ids made) slots)))
 ids_closed ids made slots known = record {

@@ -35,11 +35,10 @@ pub next_is_new_at : (running : Running) (system : System) (client : ℕ) → St
 next_is_new_at running system client h = go (seat client running.scans) refl
   where
     go : (o : Option (Option Scan)) → seat client running.scans ≡ o → NextIsNewAt o running.contents.slots
-    go None at = tt
-    go (Some None) at = tt
     go (Some (Some held)) at =
         let asks = IsAsking-from running system client held h at in
         next_is_new running.contents.slots held asks.query (query_shows running system client asks.who asks.query h asks.at asks.is) asks.follows
+    go o at = grind (arith)
 
 pub some_left : (n : ℕ) → 0 < n → nat_lt 0 n ≡ true
 some_left n h = lt-ltb 0 n h

@@ -1,5 +1,5 @@
 -- New versions go into slots that aren't needed.
-use Rattle.pref_core.proofs.Common.{◌≡◌, ℕ, zero, suc, ◌+◌, Bool, true, false, cond, List, [], ◌∷◌, ◌++◌, map, length, Option, Some, None, slice_get, slice_set, refl, ap, ◌∙◌, subst, arith}
+use Rattle.pref_core.proofs.Common.{◌≡◌, ℕ, suc, ◌+◌, Bool, true, false, cond, List, ◌∷◌, ◌++◌, map, length, Option, Some, None, slice_get, slice_set, refl, ap, ◌∙◌, subst, arith}
 use Rattle.pref_core.proofs.Common.{AllByRecursion, Version, Entry, State, Contents, StandsFor, seen, is_needed, stamps, begins, new_version, is_free, filled}
 use Rattle.pref_core.proofs.StandsForLaws.{Shows-set, hidden_unneeded, clients-set}
 use Rattle.pref_core.proofs.SlotKeys.{AreDifferent-set, within-set}
@@ -28,14 +28,12 @@ set_stands contents state place new free h =
     }
 
 slice_get_behind : {X : Type 0} (front xs : List X) (i n : ℕ) → n ≡ length front + i → slice_get (front ++ xs) n ≡ slice_get xs i
-slice_get_behind [] xs i n e = let same : n ≡ i = omega arith in ap (slice_get xs) same
-slice_get_behind (x ∷ front) xs i zero e = absurd (omega arith)
 slice_get_behind (x ∷ front) xs i (suc n) e = slice_get_behind front xs i n (omega arith)
+slice_get_behind front xs i n e = grind (arith)
 
 slice_set_behind : {X : Type 0} (front xs : List X) (i n : ℕ) (y : X) → n ≡ length front + i → slice_set (front ++ xs) n y ≡ front ++ slice_set xs i y
-slice_set_behind [] xs i n y e = let same : n ≡ i = omega arith in ap (λ k. slice_set xs k y) same
-slice_set_behind (x ∷ front) xs i zero y e = absurd (omega arith)
 slice_set_behind {X} (x ∷ front) xs i (suc n) y e = ap (λ (l : List X). x ∷ l) (slice_set_behind front xs i n y (omega arith))
+slice_set_behind {X} xs i n y e h7 = grind (arith)
 
 IsFree-behind : (ns : List ℕ) (front slots : List (Option Version)) (place : ℕ) → IsFree ns slots place → IsFree ns (front ++ slots) (length front + place)
 IsFree-behind ns front slots place h = record { old = h.old; at = slice_get_behind front slots place _ refl ∙ h.at; unneeded = h.unneeded }
@@ -47,7 +45,6 @@ Stands contents state slots = StandsFor (record { slots = slots; stamp = content
 pub filled_stands : (contents : Contents) (state : State) (made : ℕ) (places : List ℕ) (begun : List Entry) (slots after : List (Option Version)) → filled (stamps contents) made places begun slots ≡ Some after
     → StandsFor (record { slots = map (new_version made) begun ++ slots; stamp = contents.stamp; next_id = contents.next_id; callers = contents.callers }) state
     → StandsFor (record { slots = after; stamp = contents.stamp; next_id = contents.next_id; callers = contents.callers }) state
-filled_stands contents state made [] [] slots after e h = grind (arith)
 filled_stands contents state made (place ∷ places) (fresh ∷ rest) slots after e h =
     go (is_free (stamps contents) slots place) refl e (λ f. filled_stands contents state made places rest (slice_set slots place (new_version made fresh)) after f)
   where
@@ -61,5 +58,4 @@ filled_stands contents state made (place ∷ places) (fresh ∷ rest) slots afte
         let free = IsFree-behind (stamps contents) front slots place (IsFree-from (stamps contents) slots place f) in
         let set = set_stands (record { slots = front ++ slots; stamp = contents.stamp; next_id = contents.next_id; callers = contents.callers }) state (length front + place) (new_version made fresh) free h in
         more e (subst (λ l. StandsFor (record { slots = l; stamp = contents.stamp; next_id = contents.next_id; callers = contents.callers }) state) (slice_set_behind front slots place _ (new_version made fresh) refl) set)
-filled_stands contents state made [] (fresh ∷ rest) slots after e h = absurd (cc)
-filled_stands contents state made (place ∷ places) [] slots after e h = absurd (cc)
+filled_stands contents state made places begun slots after e h = grind (arith)

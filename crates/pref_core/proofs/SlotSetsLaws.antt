@@ -1,8 +1,9 @@
 -- The order of places and its inverse, after a move.
-use Rattle.pref_core.proofs.Common.{◌≡◌, ◌≢◌, ℕ, zero, suc, ◌+◌, ◌-◌, ◌<◌, ◌≤◌, Bool, true, false, cond, nat_lt, List, [], ◌∷◌, map, length, get_or, set, Some, slice_get, refl, sym, ap, ◌∙◌, subst}
+use Rattle.pref_core.proofs.Common.{◌≡◌, ◌≢◌, ℕ, zero, suc, ◌+◌, ◌-◌, ◌<◌, ◌≤◌, Bool, cond, nat_lt, List, [], ◌∷◌, map, length, get_or, set, Some, slice_get, refl, sym, ap, ◌∙◌, subst}
 use Rattle.pref_core.proofs.Common.{arith, ⊎_elim, get_or-set_same, get_or-set_other, count_by, length-map, length-set, same_lists, get_or-map, sum_by-set, slice_get_within, get_or_from_slice_get}
-use Rattle.pref_core.proofs.Common.{cases_eq, lt-ltb, le-ltb, ltb-true, ltb-false, SlotUse, Free, number_of, numbered, number_at, use_at, is_free_use, IsInverse, IsArranged, moved_order}
+use Rattle.pref_core.proofs.Common.{cases_eq, le-ltb, ltb-true, SlotUse, Free, number_of, numbered, number_at, use_at, is_free_use, IsInverse, IsArranged, moved_order}
 use Rattle.pref_core.proofs.Common.{moved_positions}
+use Rattle.pref_core.proofs.Common.{rules}
 
 -- Reads of a list after two writes.
 module _ (xs : List ℕ) (i j x y : ℕ) (li : i < length xs) (lj : j < length xs) where
@@ -139,8 +140,7 @@ number_past (bound ∷ bounds) x zero l = grind (arith)
 number_past (bound ∷ bounds) x (suc j) l = go (nat_lt x bound) l (λ m. number_past bounds x j m)
   where
     go : (b : Bool) → suc j < cond b 0 (suc (number_at bounds x)) → (j < number_at bounds x → get_or bounds j 0 ≤ x) → get_or bounds j 0 ≤ x
-    go true l more = absurd (omega arith)
-    go false l more = more (omega arith)
+    go b l more = grind (arith)
 
 -- .. and below their own, ..
 pub number_below : (bounds : List ℕ) (x : ℕ) → number_at bounds x < length bounds → x < get_or bounds (number_at bounds x) 0
@@ -149,15 +149,13 @@ number_below (bound ∷ bounds) x l = grind (arith, number_below bounds x)
 
 -- .. and by these.
 pub number_is : (bounds : List ℕ) (x k : ℕ) → k < length bounds → ((j : ℕ) → j < k → get_or bounds j 0 ≤ x) → x < get_or bounds k 0 → number_at bounds x ≡ k
-number_is [] x k l past below = absurd (omega arith)
-number_is (bound ∷ bounds) x zero l past below = rw (lt-ltb x bound below) refl
 number_is (bound ∷ bounds) x (suc k) l past below = rw (le-ltb x bound (past zero (omega arith))) (ap suc (number_is bounds x k (omega arith) (λ j m. past (suc j) (omega arith)) below))
+number_is bounds x k l past below = grind (arith)
 
 -- Another bound leaves the numbers of positions that are on one side of both.
 pub number_kept : (bounds : List ℕ) (k bound x : ℕ) → nat_lt x bound ≡ nat_lt x (get_or bounds k 0) → number_at (set bounds k bound) x ≡ number_at bounds x
-number_kept [] k bound x e = refl
-number_kept (first ∷ bounds) zero bound x e = ap (λ b. cond b 0 (suc (number_at bounds x))) e
 number_kept (first ∷ bounds) (suc k) bound x e = ap (λ n. cond (nat_lt x first) 0 (suc n)) (number_kept bounds k bound x e)
+number_kept bounds k bound x e = grind (arith)
 
 pub number_numbered : (n : ℕ) → number_of (numbered n) ≡ n
 number_numbered n = grind (arith)
@@ -186,22 +184,14 @@ inside_set bounds k bound most long lk le all i l = grind (arith, get_or-set_sam
 
 -- The first bound, and whether the uses beside a bound are free.
 lower_counted : (bounds : List ℕ) (k : ℕ) → 0 < length bounds → get_or (set bounds k (get_or bounds k 0 + 1)) 0 0 + cond (is_free_use (numbered (suc k))) 1 0 ≡ get_or bounds 0 0 + cond (is_free_use (numbered k)) 1 0
-lower_counted [] k l = absurd (omega arith)
-lower_counted (bound ∷ bounds) zero l = omega arith
-lower_counted (bound ∷ bounds) (suc zero) l = refl
-lower_counted (bound ∷ bounds) (suc (suc k)) l = refl
+lower_counted bounds k l = search (rules)
 
 raise_counted : (bounds : List ℕ) (k : ℕ) → 0 < length bounds → 0 < get_or bounds k 0 → get_or (set bounds k (get_or bounds k 0 - 1)) 0 0 + cond (is_free_use (numbered k)) 1 0 ≡ get_or bounds 0 0 + cond (is_free_use (numbered (suc k))) 1 0
-raise_counted [] k l h = absurd (omega arith)
-raise_counted (bound ∷ bounds) zero l h = omega arith
-raise_counted (bound ∷ bounds) (suc zero) l h = refl
-raise_counted (bound ∷ bounds) (suc (suc k)) l h = refl
+raise_counted bounds k l h = search (rules)
 
 -- How many uses are of a kind, after one place's slot_use is another.
 pub count_set : {X : Type 0} (p : X → Bool) (xs : List X) (place : ℕ) (old new : X) → slice_get xs place ≡ Some old → count_by p (set xs place new) + cond (p old) 1 0 ≡ count_by p xs + cond (p new) 1 0
-count_set p xs place old new at =
-    subst (λ x. count_by p (set xs place new) + cond (p x) 1 0 ≡ count_by p xs + cond (p new) 1 0) (get_or_from_slice_get xs place old old at)
-    (sum_by-set (λ x. cond (p x) 1 0) xs place new old (slice_get_within xs place old at))
+count_set p xs place old new at = grind (arith, get_or_from_slice_get xs place old old at, sum_by-set, slice_get_within xs place old at)
 
 -- One place of an arrangement changes its slot_use to the one beside it.
 module _ (order positions bounds : List ℕ) (place : ℕ) (a : IsArranged order positions bounds) where
@@ -274,11 +264,7 @@ module _ (order positions bounds : List ℕ) (place : ℕ) (a : IsArranged order
       (lower_counted bounds k (omega arith))
     where
       beside : (x : ℕ) → x ≢ get_or bounds k 0 → nat_lt x (get_or bounds k 0 + 1) ≡ nat_lt x (get_or bounds k 0)
-      beside x n = go (nat_lt x (get_or bounds k 0)) refl
-        where
-          go : (b : Bool) → nat_lt x (get_or bounds k 0) ≡ b → nat_lt x (get_or bounds k 0 + 1) ≡ b
-          go true e = let l = ltb-true _ _ e in lt-ltb x (get_or bounds k 0 + 1) (omega arith)
-          go false e = let l = ltb-false _ _ e in le-ltb x (get_or bounds k 0 + 1) (omega arith)
+      beside x n = grind (arith)
 
   -- .. or up.
   pub raises : (k : ℕ) → k < 9 → slice_get uses place ≡ Some (numbered k) → IsStep k (get_or bounds k 0 - 1) (get_or bounds k 0 - 1) (numbered (suc k))
@@ -311,11 +297,7 @@ module _ (order positions bounds : List ℕ) (place : ℕ) (a : IsArranged order
       past x number j l = number_past bounds x j (omega arith)
 
       beside : get_or positions place 0 < get_or bounds k 0 → (x : ℕ) → x ≢ get_or bounds k 0 - 1 → nat_lt x (get_or bounds k 0 - 1) ≡ nat_lt x (get_or bounds k 0)
-      beside some x n = go (nat_lt x (get_or bounds k 0)) refl
-        where
-          go : (b : Bool) → nat_lt x (get_or bounds k 0) ≡ b → nat_lt x (get_or bounds k 0 - 1) ≡ b
-          go true e = let l = ltb-true _ _ e in lt-ltb x (get_or bounds k 0 - 1) (omega arith)
-          go false e = let l = ltb-false _ _ e in le-ltb x (get_or bounds k 0 - 1) (omega arith)
+      beside some x n = grind (arith)
 
 pub arranged_same : (order order_too positions positions_too bounds bounds_too : List ℕ) → order ≡ order_too → positions ≡ positions_too → bounds ≡ bounds_too → IsArranged order_too positions_too bounds_too → IsArranged order positions bounds
 arranged_same order order_too positions positions_too bounds bounds_too p q r h = grind (arith)

@@ -1,6 +1,6 @@
 -- The uses of slots, and how many are free.
-use Rattle.pref_core.proofs.Common.{◌≡◌, ℕ, zero, suc, ◌+◌, ◌<◌, Bool, true, false, not, ◌&&◌, ◌||◌, cond, eqb, List, [], ◌∷◌, map, length, Option, Some, None, slice_get, refl, ap, ◌∙◌}
-use Rattle.pref_core.proofs.Common.{subst, arith, count_by, cons_option, AllByRecursion, option_to_list, sum_by-cons, Version, Caller, among, has, is_visible}
+use Rattle.pref_core.proofs.Common.{◌≡◌, ℕ, zero, suc, ◌+◌, ◌<◌, Bool, true, false, not, ◌&&◌, ◌||◌, cond, eqb, List, [], ◌∷◌, map, length, Option, Some, None, slice_get, refl, ap}
+use Rattle.pref_core.proofs.Common.{arith, count_by, cons_option, AllByRecursion, option_to_list, sum_by-cons, Version, Caller, among, has, is_visible}
 use Rattle.pref_core.proofs.Common.{visible, line, is_needed, begins, IsWithin, close, is_free, is_free_use, free_at, kept_from, use_of, is_spare, row_at}
 use Rattle.pref_core.proofs.NeededCounts.{is_needed-empty}
 
@@ -8,9 +8,8 @@ pub count_by-cons : {X : Type 0} (p : X → Bool) (x : X) (xs : List X) → coun
 count_by-cons p x xs = sum_by-cons (λ y. cond (p y) 1 0) x xs
 
 pub holds_there : {X : Type 0} (P : X → Type 0) (xs : List X) (k : ℕ) (x : X) → slice_get xs k ≡ Some x → AllByRecursion P xs → P x
-holds_there P [] k x at h = absurd (cc)
-holds_there P (y ∷ xs) zero x at h = let same : y ≡ x = cc in subst P same h.0
 holds_there P (y ∷ xs) (suc k) x at h = holds_there P xs k x at h.1
+holds_there P xs k x at h = grind (arith)
 
 -- A slot is needed where the first caller's begin sees it, or another one's.
 pub needed_cons : (caller : Caller) (callers : List Caller) (slot : Option Version) → is_needed (begins (caller ∷ callers)) slot ≡ (is_needed (option_to_list caller.at_begin) slot || is_needed (begins callers) slot)
@@ -31,25 +30,12 @@ needed_use next now callers slot h = grind (arith, spare_use, is_needed-empty)
 -- The slots that are needed, and those that are free, are all.
 pub needed_uses : (next now : ℕ) (callers : List Caller) (slots : List (Option Version)) → AllByRecursion (IsWithin next now) slots → count_by (is_needed (now ∷ begins callers)) slots + count_by is_free_use (map (use_of callers) slots) ≡ length slots
 needed_uses next now callers [] h = refl
-needed_uses next now callers (slot ∷ slots) h =
-    let a = count_by-cons (is_needed (now ∷ begins callers)) slot slots in
-    let b = count_by-cons is_free_use (use_of callers slot) (map (use_of callers) slots) in
-    let rest = needed_uses next now callers slots h.1 in
-    let here = one in
-    omega arith
-  where
-    either : (b : Bool) → cond (not b) 1 0 + cond b 1 0 ≡ 1
-    either true = refl
-    either false = refl
-
-    one : cond (is_needed (now ∷ begins callers) slot) 1 0 + cond (is_free_use (use_of callers slot)) 1 0 ≡ 1
-    one = ap (λ b. cond b 1 0 + cond (is_free_use (use_of callers slot)) 1 0) (needed_use next now callers slot h.0) ∙ either (is_free_use (use_of callers slot))
+needed_uses next now callers (slot ∷ slots) h = grind (arith, needed_uses next now callers slots h.1, count_by-cons (is_needed (now ∷ begins callers)) slot slots, count_by-cons is_free_use (use_of callers slot) (map (use_of callers) slots), needed_use next now callers slot h.0)
 
 -- A place is free by its slot where it is by its slot_use.
 pub free_use : (next now : ℕ) (callers : List Caller) (slots : List (Option Version)) (place : ℕ) → AllByRecursion (IsWithin next now) slots → is_free (now ∷ begins callers) slots place ≡ free_at (map (use_of callers) slots) place
-free_use next now callers [] place h = refl
-free_use next now callers (slot ∷ slots) zero h = grind (arith, needed_use)
 free_use next now callers (slot ∷ slots) (suc place) h = free_use next now callers slots place h.1
+free_use next now callers slots place h = grind (arith, needed_use)
 
 -- Whether the slot holds a row of one of these ids that hasn't ended.
 abbrev pub live_by : List ℕ → ℕ → Option ℕ → Bool
@@ -68,10 +54,8 @@ close_idle ids made slot h = grind (arith)
 
 -- A place that shows an id's row is in the table.
 pub has_row_at : (stamp id : ℕ) (slots : List (Option Version)) (place : ℕ) → row_at stamp id slots place ≡ true → has (visible stamp slots) id ≡ true
-has_row_at stamp id [] place h = absurd (cc)
-has_row_at stamp id (None ∷ slots) zero h = absurd (cc)
-has_row_at stamp id (Some version ∷ slots) zero h = grind (arith)
 has_row_at stamp id (slot ∷ slots) (suc place) h = grind (arith, has_row_at stamp id slots place h)
+has_row_at stamp id slots place h = grind (arith)
 
 -- A slot that shows a row holds a version.
 pub row_version : (stamp id : ℕ) (slots : List (Option Version)) (place : ℕ) → row_at stamp id slots place ≡ true → (version : Version) × (slice_get slots place ≡ Some (Some version))
@@ -87,9 +71,4 @@ has_nowhere stamp id (None ∷ slots) h = has_nowhere stamp id slots (λ k l. h 
 has_nowhere stamp id (Some version ∷ slots) h = first (is_visible stamp version) (h zero (omega arith)) (has_nowhere stamp id slots (λ k l. h (suc k) (omega arith)))
   where
     first : (b : Bool) → (eqb version.id id && b) ≡ false → has (visible stamp slots) id ≡ false → has (cons_option (cond b (Some (line version)) None) (visible stamp slots)) id ≡ false
-    first false e rest = rest
-    first true e rest = apart (eqb version.id id) e
-      where
-        apart : (b : Bool) → (b && true) ≡ false → (b || has (visible stamp slots) id) ≡ false
-        apart true e = absurd (cc)
-        apart false e = rest
+    first b e rest = grind (arith)

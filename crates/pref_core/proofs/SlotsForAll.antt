@@ -40,7 +40,6 @@ free_other ns slots place other new n = ap (λ (o : Option (Option Version)). el
 
 -- a place that no row took is as free as before
 pub free_still : (ns : List ℕ) (made : ℕ) (places : List ℕ) (begun : List Entry) (slots now : List (Option Version)) (place : ℕ) → filled ns made places begun slots ≡ Some now → among places place ≡ false → is_free ns now place ≡ is_free ns slots place
-free_still ns made [] [] slots now place e a = let same : slots ≡ now = cc in ap (λ l. is_free ns l place) (sym same)
 free_still ns made (first ∷ places) (entry ∷ rest) slots now place e a =
     let parts = or_parts (eqb first place) (among places place) a in
     go (is_free ns slots first) e (λ h. free_still ns made places rest (slice_set slots first (new_version made entry)) now place h parts.1) (λ same. eqb-false first place parts.0 (sym same))
@@ -50,8 +49,7 @@ free_still ns made (first ∷ places) (entry ∷ rest) slots now place e a =
         → (place ≡ first → ⊥) → is_free ns now place ≡ is_free ns slots place
     go false e more apart = absurd (cc)
     go true e more apart = more e ∙ free_other ns slots place first (new_version made entry) apart
-free_still ns made [] (entry ∷ rest) slots now place e a = absurd (cc)
-free_still ns made (first ∷ places) [] slots now place e a = absurd (cc)
+free_still ns made places begun slots now place e a = grind (arith)
 
 -- one that wasn't free isn't
 pub not_freed : (ns : List ℕ) (made : ℕ) (places : List ℕ) (begun : List Entry) (slots now : List (Option Version)) (place : ℕ) → filled ns made places begun slots ≡ Some now → is_free ns slots place ≡ false → is_free ns now place ≡ false
@@ -66,11 +64,7 @@ taken made ns (first ∷ places) begun slots now place e a = grind (arith, taken
 -- where no place is free all are needed
 pub all_needed : (ns : List ℕ) (slots : List (Option Version)) → ((place : ℕ) → is_free ns slots place ≡ false) → count_by (is_needed ns) slots ≡ length slots
 all_needed ns [] h = refl
-all_needed ns (slot ∷ slots) h =
-    let rest = all_needed ns slots (λ place. h (suc place)) in
-    let a = count_by-cons (is_needed ns) slot slots in
-    let b = one_of (is_needed ns slot) (not-false (is_needed ns slot) (h zero)) in
-    omega arith
+all_needed ns (slot ∷ slots) h = grind (arith, all_needed ns slots (λ place. h (suc place)), count_by-cons (is_needed ns) slot slots, one_of (is_needed ns slot) (not-false (is_needed ns slot) (h zero)))
 
 -- As long as rows are left that fit, some free place is not among those chosen so far: whoever looks at each place that was free finds one.
 pub some_left : (made : ℕ) (ns places : List ℕ) (begun : List Entry) (slots now : List (Option Version)) → filled (made ∷ ns) made places begun slots ≡ Some now
@@ -82,14 +76,9 @@ some_left made ns places begun slots now e fits chosen =
     omega arith
   where
     each : (place : ℕ) (b : Bool) → is_free (made ∷ ns) slots place ≡ b → is_free (made ∷ ns) now place ≡ false
-    each place true f = taken made ns places begun slots now place e (chosen place f)
-    each place false f = not_freed (made ∷ ns) made places begun slots now place e f
+    each place b f = grind (arith, taken, not_freed)
 
 -- the needed versions once these rows have begun, had they always room
 pub count_grown : (made : ℕ) (ns : List ℕ) (begun : List Entry) (slots : List (Option Version)) → count_by (is_needed (made ∷ ns)) (map (new_version made) begun ++ slots) ≡ count_by (is_needed (made ∷ ns)) slots + length begun
 count_grown made ns [] slots = omega arith
-count_grown made ns (fresh ∷ rest) slots =
-    let a = count_by-cons (is_needed (made ∷ ns)) (new_version made fresh) (map (new_version made) rest ++ slots) in
-    let b = one_of (is_needed (made ∷ ns) (new_version made fresh)) (born_needed made ns fresh) in
-    let more = count_grown made ns rest slots in
-    omega arith
+count_grown made ns (fresh ∷ rest) slots = grind (arith, count_grown made ns rest slots, count_by-cons (is_needed (made ∷ ns)) (new_version made fresh) (map (new_version made) rest ++ slots), one_of (is_needed (made ∷ ns) (new_version made fresh)) (born_needed made ns fresh), born_needed made ns fresh)

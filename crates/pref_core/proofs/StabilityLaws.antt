@@ -1,8 +1,8 @@
 -- What an open query was shown at its begin stays, though slots are used again.
 use Rattle.pref_core.proofs.Common.{map-set_same, get_or_from_slice_get, ◌≡◌, ℕ, zero, suc, ◌*◌, ◌<◌, ◌≤◌, Bool, true, false, ◌&&◌, cond, List, [], ◌∷◌, map, take, drop, Option}
-use Rattle.pref_core.proofs.Common.{Some, None, is_some, slice_get, slice_set, refl, sym, ap, ap₂, ◌∙◌, subst, arith, ⊎_elim, AllByRecursion, filter_map, cons_option, take-map, drop-map, cases_eq}
-use Rattle.pref_core.proofs.Common.{eq-eqb, Version, Caller, Call, Op, Line, Entry, seat, with_seat, is_change, ended, begun}
-use Rattle.pref_core.proofs.Common.{succeeds, refusal_of, Contents, seen, visible, begins, stamps, caller_begun, caller_calls, block_of, new_version, close, is_free, filled, refusal_at}
+use Rattle.pref_core.proofs.Common.{Some, None, slice_get, slice_set, refl, sym, ap, ap₂, ◌∙◌, arith, AllByRecursion, filter_map, cons_option, take-map, drop-map}
+use Rattle.pref_core.proofs.Common.{Version, Caller, Call, Op, Line, Entry, seat, with_seat, is_change, ended, begun}
+use Rattle.pref_core.proofs.Common.{succeeds, refusal_of, Contents, seen, visible, begins, stamps, caller_begun, block_of, new_version, close, is_free, filled, refusal_at}
 use Rattle.pref_core.proofs.Common.{begin_after, callers_after, is_next, slots_after, stepped, applied, ran, is_end, ends_query, IsStable}
 use Rattle.pref_core.proofs.VisibleLaws.{seen_close-before, seen_born-before}
 use Rattle.pref_core.proofs.StandsForLaws.{hidden_unneeded}
@@ -22,10 +22,7 @@ shown_block : (stamp block size : ℕ) (slots : List (Option Version)) → shown
 shown_block stamp block size slots = sym (take-map (seen stamp) size (drop (block * size) slots)) ∙ ap (take size) (sym (drop-map (seen stamp) (block * size) slots))
 
 same_block : (stamp block size : ℕ) (before after : List (Option Version)) → shown stamp after ≡ shown stamp before → visible stamp (block_of block size after) ≡ visible stamp (block_of block size before)
-same_block stamp block size before after same =
-    visible_shown stamp (block_of block size after)
-    ∙ ap (filter_map (λ s. s)) (shown_block stamp block size after ∙ ap (λ l. take size (drop (block * size) l)) same ∙ sym (shown_block stamp block size before))
-    ∙ sym (visible_shown stamp (block_of block size before))
+same_block stamp block size before after same = grind (arith, visible_shown stamp (block_of block size after), visible_shown stamp (block_of block size before), shown_block stamp block size after, shown_block stamp block size before)
 
 shown_close : (ids : List ℕ) (now stamp : ℕ) (slots : List (Option Version)) → stamp ≤ now → shown stamp (map (close ids (suc now)) slots) ≡ shown stamp slots
 shown_close ids now stamp [] l = refl
@@ -41,8 +38,7 @@ hidden_at (first ∷ callers) zero caller stamp P at is h = grind (arith)
 hidden_at (first ∷ callers) (suc k) caller stamp P at is h = hidden_at callers k caller stamp P at is (rest first.at_begin h)
   where
     rest : (b : Option ℕ) → AllByRecursion P (cons_option b (begins callers)) → AllByRecursion P (begins callers)
-    rest None h = h
-    rest (Some n) h = h.1
+    rest b h = grind (arith)
 
 begin_hidden : (contents : Contents) (client stamp : ℕ) (P : ℕ → Type 0) → caller_begun contents client ≡ Some stamp → AllByRecursion P (begins contents.callers) → P stamp
 begin_hidden contents zero stamp P e h = absurd (cc)
@@ -54,7 +50,6 @@ begin_hidden contents (suc k) stamp P e h = go (slice_get contents.callers k) re
 
 shown_filled : (contents : Contents) (client stamp made : ℕ) → caller_begun contents client ≡ Some stamp → stamp < made → (now : ℕ) (places : List ℕ) (begun : List Entry) (slots after : List (Option Version))
     → filled (now ∷ begins contents.callers) made places begun slots ≡ Some after → shown stamp after ≡ shown stamp slots
-shown_filled contents client stamp made is later now [] [] slots after e = let same : slots ≡ after = cc in ap (shown stamp) (sym same)
 shown_filled contents client stamp made is later now (place ∷ places) (fresh ∷ rest) slots after e =
     go (is_free (now ∷ begins contents.callers) slots place) refl e (shown_filled contents client stamp made is later now places rest (slice_set slots place (new_version made fresh)) after)
   where
@@ -68,8 +63,7 @@ shown_filled contents client stamp made is later now (place ∷ places) (fresh �
         let hidden = hidden_unneeded (now ∷ begins contents.callers) free.old free.unneeded in
         let none : seen stamp free.old ≡ None = begin_hidden contents client stamp (λ n. seen n free.old ≡ None) is hidden.1 in
         more e ∙ shown_set stamp slots place free.old (new_version made fresh) free.at (none ∙ sym (seen_born-before stamp made fresh later))
-shown_filled contents client stamp made is later now [] (fresh ∷ rest) slots after e = absurd (cc)
-shown_filled contents client stamp made is later now (place ∷ places) [] slots after e = absurd (cc)
+shown_filled contents client stamp made is later now places begun slots after e = grind (arith)
 
 -- the slots after an op show the same at the begin
 pub shown_after : (contents : Contents) (client stamp : ℕ) → caller_begun contents client ≡ Some stamp → stamp ≤ contents.stamp → (op : Op) (slots : List (Option Version)) → slots_after contents op ≡ Some slots → shown stamp slots ≡ shown stamp contents.slots
@@ -86,39 +80,25 @@ shown_after contents client stamp is l op slots fits = go (is_change op.call && 
         quiet (place ∷ places) f = absurd (cc)
 
 pub slice_get-set_same : {X : Type 0} (xs : List X) (k : ℕ) (x y : X) → slice_get xs k ≡ Some x → slice_get (slice_set xs k y) k ≡ Some y
-slice_get-set_same [] k x y h = absurd (cc)
-slice_get-set_same (z ∷ xs) zero x y h = refl
 slice_get-set_same (z ∷ xs) (suc k) x y h = slice_get-set_same xs k x y h
+slice_get-set_same xs k x y h = grind (arith)
 
 pub slice_get-set_other : {X : Type 0} (xs : List X) (k j : ℕ) (y : X) → (k ≡ j → ⊥) → slice_get (slice_set xs j y) k ≡ slice_get xs k
-slice_get-set_other [] k j y n = refl
-slice_get-set_other (z ∷ xs) zero zero y n = absurd (n refl)
-slice_get-set_other (z ∷ xs) zero (suc j) y n = refl
-slice_get-set_other (z ∷ xs) (suc k) zero y n = refl
 slice_get-set_other (z ∷ xs) (suc k) (suc j) y n = slice_get-set_other xs k j y (λ e. n (ap suc e))
+slice_get-set_other xs k j y n = grind (arith)
 
 pub seat-with_seat_same : {X : Type 0} (xs : List X) (client : ℕ) (x y : X) → seat client xs ≡ Some x → seat client (with_seat client y xs) ≡ Some y
-seat-with_seat_same xs zero x y h = absurd (cc)
-seat-with_seat_same xs (suc k) x y h = slice_get-set_same xs k x y h
+seat-with_seat_same xs client x y h = grind (arith, slice_get-set_same)
 
 pub seat-with_seat_other : {X : Type 0} (xs : List X) (client other : ℕ) (y : X) → (client ≡ other → ⊥) → seat client (with_seat other y xs) ≡ seat client xs
-seat-with_seat_other xs zero zero y n = absurd (n refl)
-seat-with_seat_other xs zero (suc j) y n = refl
-seat-with_seat_other xs (suc k) zero y n = refl
-seat-with_seat_other xs (suc k) (suc j) y n = slice_get-set_other xs k j y (λ e. n (ap suc e))
+seat-with_seat_other xs client other y n = grind (arith, slice_get-set_other)
 
 abbrev pub begun_at : Option Caller → Option ℕ
 begun_at o = elim o [ None ↦ None | Some caller ↦ caller.at_begin ]
 
 -- the client's query after its own call
 pub begun_own : (callers : List Caller) (client : ℕ) (caller : Caller) (call : Call) (now : ℕ) → seat client callers ≡ Some caller → begun_at (seat client (callers_after now callers client call)) ≡ begin_after now call caller.at_begin
-begun_own callers client caller call now at = go (seat client callers) at
-  where
-    go : (o : Option Caller) → o ≡ Some caller → begun_at (seat client (elim o as (λ x. List Caller) [ None ↦ callers | Some found ↦ with_seat client (record { calls = suc found.calls; at_begin = begin_after now call found.at_begin }) callers ])) ≡ begin_after now call caller.at_begin
-    go None same = absurd (cc)
-    go (Some found) same =
-        let one : found ≡ caller = cc in
-        ap begun_at (seat-with_seat_same callers client caller _ at) ∙ ap (λ (c : Caller). begin_after now call c.at_begin) one
+begun_own callers client caller call now at = grind (arith, seat-with_seat_same)
 
 -- a call that is let in while a query is open, and doesn't end it, leaves it
 begin_after-kept : (calls : Option ℕ) (call : Call) (now stamp : ℕ) → refusal_of calls true call ≡ None → is_end call ≡ false → begin_after now call (Some stamp) ≡ Some stamp
@@ -126,30 +106,7 @@ begin_after-kept calls call now stamp r e = grind (arith)
 
 kept_at : (contents : Contents) (client stamp : ℕ) (op : Op) → caller_begun contents client ≡ Some stamp → refusal_at contents op.client op.call ≡ None → ends_query client op ≡ false
     → begun_at (seat client (callers_after contents.stamp contents.callers op.client op.call)) ≡ Some stamp
-kept_at contents client stamp op is accepted open_ = ⊎_elim mine theirs (cases_eq op.client client)
-  where
-    theirs : (op.client ≡ client → ⊥) → begun_at (seat client (callers_after contents.stamp contents.callers op.client op.call)) ≡ Some stamp
-    theirs n = go (seat op.client contents.callers)
-      where
-        go : (o : Option Caller) → begun_at (seat client (elim o as (λ x. List Caller) [ None ↦ contents.callers | Some caller ↦ with_seat op.client (record { calls = suc caller.calls; at_begin = begin_after contents.stamp op.call caller.at_begin }) contents.callers ])) ≡ Some stamp
-        go None = is
-        go (Some caller) = ap begun_at (seat-with_seat_other contents.callers client op.client _ (λ e. n (sym e))) ∙ is
-
-    mine : op.client ≡ client → begun_at (seat client (callers_after contents.stamp contents.callers op.client op.call)) ≡ Some stamp
-    mine e = go (seat client contents.callers) refl is
-      where
-        lasting : is_end op.call ≡ false
-        lasting = sym (ap (λ b. b && is_end op.call) (eq-eqb op.client client e)) ∙ open_
-
-        accepted_here : refusal_of (caller_calls contents client) true op.call ≡ None
-        accepted_here = ap (λ o. refusal_of (caller_calls contents client) (is_some o) op.call) (sym is) ∙ subst (λ n. refusal_at contents n op.call ≡ None) e accepted
-
-        go : (o : Option Caller) → seat client contents.callers ≡ o → begun_at o ≡ Some stamp → begun_at (seat client (callers_after contents.stamp contents.callers op.client op.call)) ≡ Some stamp
-        go None at b = absurd (cc)
-        go (Some caller) at b =
-            subst (λ n. begun_at (seat client (callers_after contents.stamp contents.callers n op.call)) ≡ Some stamp) (sym e)
-            (begun_own contents.callers client caller op.call contents.stamp at
-            ∙ ap (begin_after contents.stamp op.call) b ∙ begin_after-kept (caller_calls contents client) op.call contents.stamp stamp accepted_here lasting)
+kept_at contents client stamp op is accepted open_ = grind (arith, seat-with_seat_other, begun_own, begin_after-kept)
 
 -- what lasts over one op
 pub record Lasts (client stamp : ℕ) (before after : Contents) : Type 0 where
@@ -169,10 +126,9 @@ lasts_applied contents client stamp op is l open_ = go (is_next contents op) ref
 
     go : (b : Bool) → is_next contents op ≡ b → (s : Option (List (Option Version))) → slots_after contents op ≡ s
         → Lasts client stamp contents (cond b (elim s as (λ x. Contents) [ None ↦ contents | Some slots ↦ stepped contents op slots ]) contents)
-    go false n s e = stays
-    go true n None e = stays
     go true n (Some slots) e =
         lasts_stepped contents client stamp op slots (kept_at contents client stamp op is (IsAllowed-from contents op n).accepted open_) l (shown_after contents client stamp is l op slots e)
+    go b n s e = grind (arith)
 
 pub shown_ran : (ops : List Op) (contents : Contents) (client stamp : ℕ) → caller_begun contents client ≡ Some stamp → stamp ≤ contents.stamp → AllByRecursion (λ op. ends_query client op ≡ false) ops → shown stamp (ran contents ops).slots ≡ shown stamp contents.slots
 shown_ran [] contents client stamp is l h = refl

@@ -5,6 +5,7 @@ use Rattle.pref_core.proofs.Common.{is_needed, begins, IsWithin, Shows, ShowsBeg
 use Rattle.pref_core.proofs.Permutations.{IsPermutation-filter}
 use Rattle.pref_core.proofs.VisibleLaws.{visible_set-same, visible_set-new, visible_close-before, visible_close-after}
 use Rattle.pref_core.proofs.TableLaws.{IsOrdered-filter}
+use Rattle.pref_core.proofs.Common.{rules}
 
 -- versions of these ids end
 pub Shows-close : (ids : List ℕ) (next now : ℕ) (slots : List (Option Version)) (table : List Line) → AllByRecursion (IsWithin next now) slots → Shows slots now table → Shows (map (close ids (suc now)) slots) (suc now) (without ids table)
@@ -14,10 +15,7 @@ Shows-close ids next now slots table within shows = record {
 }
 
 pub Shows-close-before : (ids : List ℕ) (now stamp : ℕ) (slots : List (Option Version)) (table : List Line) → stamp ≤ now → Shows slots stamp table → Shows (map (close ids (suc now)) slots) stamp table
-Shows-close-before ids now stamp slots table h shows = record {
-  lines = rw (visible_close-before ids now stamp slots h) shows.lines;
-  ordered = shows.ordered;
-}
+Shows-close-before ids now stamp slots table h shows = search (rules, visible_close-before)
 
 pub Shows-new_version-before : (stamp made : ℕ) (fresh : Entry) (slots : List (Option Version)) (table : List Line) → stamp < made → Shows slots stamp table → Shows (new_version made fresh ∷ slots) stamp table
 Shows-new_version-before stamp made fresh slots table h shows = grind (arith)
@@ -42,10 +40,8 @@ ShowsBegin-moved slots moved now later l None (Some found) f h = h
 ShowsBegin-moved slots moved now later l (Some stamp) None f h = h
 
 AllZip-weaker : {A B : Type 0} (R Q : A → B → Type 0) → ((a : A) (b : B) → R a b → Q a b) → (xs : List A) (ys : List B) → AllZip R xs ys → AllZip Q xs ys
-AllZip-weaker R Q f [] [] h = tt
-AllZip-weaker R Q f [] (y ∷ ys) h = h
-AllZip-weaker R Q f (x ∷ xs) [] h = h
 AllZip-weaker R Q f (x ∷ xs) (y ∷ ys) h = (f x y h.0, AllZip-weaker R Q f xs ys h.1)
+AllZip-weaker R Q f xs ys h = grind (arith)
 
 pub clients-close : (ids : List ℕ) (now : ℕ) (slots : List (Option Version)) (callers : List Caller) (clients : List Client) → AllZip (StandsForClient slots now) callers clients → AllZip (StandsForClient (map (close ids (suc now)) slots) now) callers clients
 clients-close ids now slots = AllZip-weaker (StandsForClient slots now) (StandsForClient (map (close ids (suc now)) slots) now) (λ caller client h. record {
@@ -60,9 +56,6 @@ pub clients-later : (now : ℕ) (slots : List (Option Version)) (callers : List 
 clients-later now slots = grind (arith, AllZip-weaker, ShowsBegin-moved)
 
 pub clients-set : (now : ℕ) (slots : List (Option Version)) (place : ℕ) (old new : Option Version) → slice_get slots place ≡ Some old → (callers : List Caller) (clients : List Client) → AllByRecursion (λ stamp. seen stamp old ≡ None) (begins callers) → AllZip (StandsForClient (new ∷ slots) now) callers clients → AllZip (StandsForClient (slice_set slots place new) now) callers clients
-clients-set now slots place old new at [] [] hidden h = tt
-clients-set now slots place old new at [] (client ∷ clients) hidden h = h
-clients-set now slots place old new at (caller ∷ callers) [] hidden h = h
 clients-set now slots place old new at (caller ∷ callers) (client ∷ clients) hidden h =
     let split = parts caller.at_begin hidden in (
       record {
@@ -78,3 +71,4 @@ clients-set now slots place old new at (caller ∷ callers) (client ∷ clients)
     parts : (begun : Option ℕ) → Hidden (cons_option begun (begins callers)) → ((stamp : ℕ) → begun ≡ Some stamp → seen stamp old ≡ None) × Hidden (begins callers)
     parts None h = (λ stamp e. absurd (cc), h)
     parts (Some first) h = (λ stamp e. let same : first ≡ stamp = cc in subst (λ n. seen n old ≡ None) same h.0, h.1)
+clients-set now slots place old new at callers clients hidden h = grind (arith)

@@ -4,10 +4,8 @@ use Rattle.pref_core.proofs.Common.{count_by-le-length, slice_get_within, eq-eqb
 use Rattle.pref_core.proofs.SlotSetsLaws.{count_set}
 
 pub AllZip-length : {A B : Type 0} (R : A → B → Type 0) (xs : List A) (ys : List B) → AllZip R xs ys → length xs ≡ length ys
-AllZip-length R [] [] h = refl
-AllZip-length R [] (y ∷ ys) h = absurd h
-AllZip-length R (x ∷ xs) [] h = absurd h
 AllZip-length R (x ∷ xs) (y ∷ ys) h = ap suc (AllZip-length R xs ys h.1)
+AllZip-length R xs ys h = grind (arith)
 
 -- A place gets the slot_use that is after it.
 use_given : (keeper place : ℕ) (uses after : List SlotUse) → AllZip (MayBecome keeper) uses after → place < length uses
@@ -43,10 +41,8 @@ sweep_goes keeper turn place uses after h at =
 
 -- Where no place is kept all uses are as they are to be, ..
 pub swept : (keeper : ℕ) (uses after : List SlotUse) → AllZip (MayBecome keeper) uses after → ((place : ℕ) → slice_get uses place ≡ Some (Ended keeper) → ⊥) → uses ≡ after
-swept keeper [] [] h none = refl
-swept keeper [] (w ∷ after) h none = absurd h
-swept keeper (z ∷ uses) [] h none = absurd h
 swept keeper (z ∷ uses) (w ∷ after) h none = ap₂ ◌∷◌ (⊎_elim (λ (same : z ≡ w). same) (λ (kept : z ≡ Ended keeper). absurd (none zero (ap Some kept))) h.0.1) (swept keeper uses after h.1 (λ place at. none (suc place) at))
+swept keeper uses after h none = grind (arith)
 
 -- .. and so they are where no turn is left.
 pub swept_all : (keeper turn : ℕ) (uses after : List SlotUse) → IsSweeping keeper turn uses after → length after ≤ turn → uses ≡ after

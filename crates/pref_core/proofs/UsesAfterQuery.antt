@@ -1,7 +1,7 @@
 -- What becomes of the uses where an open query begins or ends.
 use Rattle.pref_core.proofs.Common.{◌≡◌, ℕ, zero, suc, ◌+◌, ◌-◌, ◌<◌, ◌≤◌, inl, true, false, cond, List, [], ◌∷◌, ◌++◌, map, length, set, replicate, Option, Some, None}
 use Rattle.pref_core.proofs.Common.{is_some, slice_get, refl, sym, ap, ap₂, ◌∙◌, subst, arith, AllByRecursion, AllZip, option_to_list, length-set, slice_get_within, Version, Caller}
-use Rattle.pref_core.proofs.Common.{SlotUse, Free, Ended, Live, Call, Insert, Update, Delete, Commit, Begin, Finish, Abandon, Op, Row, refusal_of, after, Contents, is_needed}
+use Rattle.pref_core.proofs.Common.{SlotUse, Free, Ended, Live, Call, Begin, Op, Row, refusal_of, after, Contents, is_needed}
 use Rattle.pref_core.proofs.Common.{StandsFor, IsWithin, opening_slots, begin_after, callers_after, refusal_at, is_next, slots_after, stepped, applied, is_end, kept_from, use_of, number_of}
 use Rattle.pref_core.proofs.Common.{is_kept_by, MayBecome, IsBounded, IsKept, uses_of}
 use Rattle.pref_core.proofs.AppliedLaws.{stepped_stands}
@@ -10,9 +10,8 @@ use Rattle.pref_core.proofs.BoundsLaws.{IsBounded-stepped}
 -- A caller whose begin sees of ended versions what it saw leaves the uses.
 kept_still : (keeper : ℕ) (callers : List Caller) (k : ℕ) (found new : Caller) (slot : Option Version) → slice_get callers k ≡ Some found → is_needed (option_to_list new.at_begin) slot ≡ is_needed (option_to_list found.at_begin) slot
     → kept_from keeper (set callers k new) slot ≡ kept_from keeper callers slot
-kept_still keeper [] k found new slot at e = absurd (cc)
-kept_still keeper (first ∷ callers) zero found new slot at e = search
 kept_still keeper (first ∷ callers) (suc k) found new slot at e = ap (λ z. cond (is_needed (option_to_list first.at_begin) slot) (Ended keeper) z) (kept_still (suc keeper) callers k found new slot at e)
+kept_still keeper callers k found new slot at e = grind (arith)
 
 abbrev SeesStill : ℕ → ℕ → Caller → Caller → Type 0
 SeesStill next now found new = (version : Version) → IsWithin next now (Some version) → is_some version.death ≡ true → is_needed (option_to_list new.at_begin) (Some version) ≡ is_needed (option_to_list found.at_begin) (Some version)
@@ -42,13 +41,7 @@ uses_kept contents (suc k) call accepted stays within = there (slice_get content
     same call found new is e version h d = ap (λ b. is_needed (option_to_list b) (Some version)) (is ∙ e)
 
     still : (call : Call) (found new : Caller) → new.at_begin ≡ begin_after contents.stamp call found.at_begin → refusal_of (Some found.calls) (is_some found.at_begin) call ≡ None → is_end call ≡ false → SeesStill contents.next_id contents.stamp found new
-    still (Insert row) found new is r e = same (Insert row) found new is refl
-    still (Update id row) found new is r e = same (Update id row) found new is refl
-    still (Delete id) found new is r e = same (Delete id) found new is refl
-    still (Commit changes) found new is r e = same (Commit changes) found new is refl
-    still Begin found new is r e = sees_begun contents.next_id contents.stamp found new (begin_closed found.calls found.at_begin r) is
-    still Finish found new is r e = absurd (cc)
-    still Abandon found new is r e = absurd (cc)
+    still call found new is r e = grind (arith)
 
     there : (o : Option Caller) → slice_get contents.callers k ≡ o → refusal_of (elim o as (λ x. Option ℕ) [ None ↦ None | Some caller ↦ Some caller.calls ]) (is_some (elim o as (λ x. Option ℕ) [ None ↦ None | Some caller ↦ caller.at_begin ])) call ≡ None
         → map (use_of (elim o as (λ x. List Caller) [ None ↦ contents.callers | Some found ↦ set contents.callers k (record { calls = suc found.calls; at_begin = begin_after contents.stamp call found.at_begin }) ])) contents.slots ≡ uses_of contents
@@ -102,13 +95,7 @@ uses_end contents (suc k) call accepted e = subst (λ n. AllZip (MayBecome n) (u
     (there (slice_get contents.callers k) refl accepted)
   where
     gone : (call : Call) (b : Option ℕ) → is_end call ≡ true → begin_after contents.stamp call b ≡ None
-    gone (Insert row) b e = absurd (cc)
-    gone (Update id row) b e = absurd (cc)
-    gone (Delete id) b e = absurd (cc)
-    gone (Commit changes) b e = absurd (cc)
-    gone Begin b e = absurd (cc)
-    gone Finish b e = refl
-    gone Abandon b e = refl
+    gone call b e = grind (arith)
 
     there : (o : Option Caller) → slice_get contents.callers k ≡ o → refusal_of (elim o as (λ x. Option ℕ) [ None ↦ None | Some caller ↦ Some caller.calls ]) (is_some (elim o as (λ x. Option ℕ) [ None ↦ None | Some caller ↦ caller.at_begin ])) call ≡ None
         → AllZip (MayBecome k) (uses_of contents) (map (use_of (elim o as (λ x. List Caller) [ None ↦ contents.callers | Some found ↦ set contents.callers k (record { calls = suc found.calls; at_begin = begin_after contents.stamp call found.at_begin }) ])) contents.slots)

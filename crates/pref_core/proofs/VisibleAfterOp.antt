@@ -1,6 +1,6 @@
 -- A legal op leaves what open queries see.
-use Rattle.pref_core.proofs.Common.{◌≡◌, ℕ, suc, ◌+◌, ◌≤◌, Bool, true, ◌&&◌, false, cond, List, [], ◌∷◌, length, take, Option, Some, None, is_some, refl, sym, ap, ◌∙◌, subst, arith, filter_map}
-use Rattle.pref_core.proofs.Common.{IsPermutation, take-map, Version, Caller, Op, State, Client, Snapshot, begun_of, is_change, succeeds, added, Line, Contents, StandsFor, Shows, ShowsBegin, seen}
+use Rattle.pref_core.proofs.Common.{◌≡◌, ℕ, ◌≤◌, Bool, true, ◌&&◌, cond, List, [], ◌∷◌, length, take, Option, Some, None, is_some, refl, ap, ◌∙◌, arith}
+use Rattle.pref_core.proofs.Common.{take-map, Version, Caller, Op, State, Client, Snapshot, begun_of, is_change, succeeds, Line, Contents, StandsFor, Shows, ShowsBegin, seen}
 use Rattle.pref_core.proofs.Common.{visible, caller_begun, IsLegal, slots_after, callers_after, stepped, applied, ran, is_next}
 use Rattle.pref_core.proofs.LegalLaws.{is_next-from}
 use Rattle.pref_core.proofs.BoundsLaws.{length-slots_after}
@@ -9,25 +9,14 @@ use Rattle.pref_core.proofs.StabilityLaws.{shown, visible_shown, shown_after}
 
 -- the front of the slots shows what it showed
 pub visible_take : (stamp n : ℕ) (before after : List (Option Version)) → shown stamp after ≡ shown stamp before → visible stamp (take n after) ≡ visible stamp (take n before)
-visible_take stamp n before after same =
-    visible_shown stamp (take n after)
-    ∙ ap (filter_map (λ s. s)) (sym (take-map (seen stamp) n after) ∙ ap (take n) same ∙ take-map (seen stamp) n before)
-    ∙ sym (visible_shown stamp (take n before))
+visible_take stamp n before after same = grind (arith, visible_shown stamp (take n after), visible_shown stamp (take n before), take-map (seen stamp) n after, take-map (seen stamp) n before)
 
 -- the stamp that the store keeps of an open query
 pub begun_kept : (contents : Contents) (state : State) (client : ℕ) (snapshot : Snapshot) → StandsFor contents state → begun_of state client ≡ Some snapshot → (caller_begun contents client ≡ Some snapshot.commits) × (snapshot.commits ≤ contents.stamp)
 begun_kept contents state client snapshot h is = go (same_seat contents.slots contents.stamp contents.callers state.clients client h.clients) is
   where
     at : (b : Option ℕ) (f : Option Snapshot) → ShowsBegin contents.slots contents.stamp b f → f ≡ Some snapshot → (b ≡ Some snapshot.commits) × (snapshot.commits ≤ contents.stamp)
-    at None None s e = absurd (cc)
-    at (Some stamp) (Some found) s e =
-        let same : found ≡ snapshot = cc in
-        let commits : found.commits ≡ snapshot.commits = ap (λ (x : Snapshot). x.commits) same in
-        let here = s.0 in
-        let within = s.1 in
-        (ap Some (here ∙ commits), omega arith)
-    at None (Some found) s e = absurd s
-    at (Some stamp) None s e = absurd s
+    at b f s e = grind (arith)
 
     go : {a : Option Caller} {b : Option Client} → SameSeat contents.slots contents.stamp a b → elim b as (λ x. Option Snapshot) [ None ↦ None | Some found ↦ found.at_begin ] ≡ Some snapshot
         → (elim a as (λ x. Option ℕ) [ None ↦ None | Some caller ↦ caller.at_begin ] ≡ Some snapshot.commits) × (snapshot.commits ≤ contents.stamp)
@@ -36,10 +25,7 @@ begun_kept contents state client snapshot h is = go (same_seat contents.slots co
 
 -- what shows the same shows the same table
 pub shows_still : (before after : List (Option Version)) (stamp : ℕ) (table : List Line) → shown stamp after ≡ shown stamp before → Shows before stamp table → Shows after stamp table
-shows_still before after stamp table same shows = record {
-  lines = subst (λ l. IsPermutation l table) (sym (visible_shown stamp after ∙ ap (filter_map (λ s. s)) same ∙ sym (visible_shown stamp before))) shows.lines;
-  ordered = shows.ordered;
-}
+shows_still before after stamp table same shows = grind (arith, visible_shown stamp after, visible_shown stamp before)
 
 -- the slots and the callers of a legal op, once it is applied
 pub record IsDone (contents : Contents) (op : Op) : Type 0 where
@@ -55,8 +41,7 @@ legal_done contents state op h legal = go (slots_after contents op) refl legal.f
     next = is_next-from contents state op h legal.next
 
     either : {X : Type 0} (f : Contents → X) (x : X) (b : Bool) (y z : Contents) → f y ≡ x → f z ≡ x → f (cond b y z) ≡ x
-    either f x true y z p q = p
-    either f x false y z p q = q
+    either f x b y z p q = grind (arith)
 
     stepped_as : {X : Type 0} (f : Contents → X) (x : X) (slots : List (Option Version)) → slots_after contents op ≡ Some slots → f (stepped contents op slots) ≡ x → f (applied contents op) ≡ x
     stepped_as f x slots e same = rw (next, e) same
@@ -84,15 +69,7 @@ length-applied_any : (contents : Contents) (op : Op) → length (applied content
 length-applied_any contents op = go (is_next contents op) (slots_after contents op) refl
   where
     go : (b : Bool) (o : Option (List (Option Version))) → slots_after contents op ≡ o → length (cond {A = Contents} b (elim o as (λ x. Contents) [ None ↦ contents | Some slots ↦ stepped contents op slots ]) contents).slots ≡ length contents.slots
-    go false o e = refl
-    go true None e = refl
-    go true (Some slots) e = which (is_change op.call && succeeds op.outcome)
-      where
-        which : (b : Bool) → length (cond {A = Contents} b
-            (record { slots = slots; stamp = suc contents.stamp; next_id = contents.next_id + added op.call; callers = callers_after contents.stamp contents.callers op.client op.call })
-            (record { slots = slots; stamp = contents.stamp; next_id = contents.next_id; callers = callers_after contents.stamp contents.callers op.client op.call })).slots ≡ length contents.slots
-        which true = length-slots_after contents op slots e
-        which false = length-slots_after contents op slots e
+    go b o e = grind (arith, length-slots_after)
 
 pub length-ran : (ops : List Op) (contents : Contents) → length (ran contents ops).slots ≡ length contents.slots
 length-ran [] contents = refl

@@ -1,24 +1,22 @@
 -- What slots show, and how a write of one slot changes it.
-use Rattle.pref_core.proofs.Common.{◌≡◌, ℕ, zero, suc, ◌<◌, ◌≤◌, true, false, not, cond, List, [], ◌∷◌, map, Option, Some, None, slice_get, slice_set, refl, ap, arith, nat_lt, cons_option}
+use Rattle.pref_core.proofs.Common.{◌≡◌, ℕ, suc, ◌<◌, ◌≤◌, true, false, not, cond, List, [], ◌∷◌, map, Option, Some, None, slice_get, slice_set, refl, ap, arith, nat_lt, cons_option}
 use Rattle.pref_core.proofs.Common.{AllByRecursion, IsPermutation, IsPermutation-refl, IsPermutation-trans, IsPermutation-cons, le-leb, lt-leb, Version, Line, among, put, without, Entry, seen}
 use Rattle.pref_core.proofs.Common.{visible, IsWithin, new_version, close}
 use Rattle.pref_core.proofs.Permutations.{IsPermutation-over}
 
 -- a write of a slot that shows nothing, by one that shows nothing
 pub visible_set-same : (stamp : ℕ) (slots : List (Option Version)) (place : ℕ) (old new : Option Version) → slice_get slots place ≡ Some old → seen stamp old ≡ None → seen stamp new ≡ None → visible stamp (slice_set slots place new) ≡ visible stamp slots
-visible_set-same stamp [] place old new e p q = refl
-visible_set-same stamp (slot ∷ slots) zero old new e p q = let same : slot ≡ old = cc in rw (same, p, q) refl
 visible_set-same stamp (slot ∷ slots) (suc place) old new e p q = ap (cons_option (seen stamp slot)) (visible_set-same stamp slots place old new e p q)
+visible_set-same stamp slots place old new e p q = grind (arith)
 
 -- and by one that shows a line
 pub visible_set-new : (stamp : ℕ) (slots : List (Option Version)) (place : ℕ) (old new : Option Version) (shown : Line) → slice_get slots place ≡ Some old → seen stamp old ≡ None → seen stamp new ≡ Some shown → IsPermutation (shown ∷ visible stamp slots) (visible stamp (slice_set slots place new))
-visible_set-new stamp [] place old new shown e p q = absurd (cc)
-visible_set-new stamp (slot ∷ slots) zero old new shown e p q = let same : slot ≡ old = cc in rw (same, p, q) (IsPermutation-refl _)
 visible_set-new stamp (slot ∷ slots) (suc place) old new shown e p q =
     elim (seen stamp slot) as (λ s. IsPermutation (shown ∷ cons_option s (visible stamp slots)) (cons_option s (visible stamp (slice_set slots place new)))) [
       | None ↦ visible_set-new stamp slots place old new shown e p q
       | Some front ↦ IsPermutation-trans _ _ _ (IsPermutation-over shown front (visible stamp slots)) (IsPermutation-cons front _ _ (visible_set-new stamp slots place old new shown e p q))
     ]
+visible_set-new stamp slots place old new shown e p q = grind (arith)
 
 -- a line put in its place is the table with the line
 pub put_permutes : (shown : Line) (table : List Line) → IsPermutation (shown ∷ table) (put shown table)
