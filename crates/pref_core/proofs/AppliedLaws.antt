@@ -39,7 +39,7 @@ counted_stands contents state client call h = record {
         (elim a as (λ x. List Caller) [ None ↦ contents.callers | Some found ↦ with_seat client (record { calls = suc found.calls; at_begin = begin_after contents.stamp call found.at_begin }) contents.callers ])
         (elim b as (λ x. List Client) [ None ↦ state.clients | Some found ↦ with_seat client (record { calls = suc found.calls; at_begin = begun_after state call found.at_begin }) state.clients ])
     go nobody = h.clients
-    go (somebody caller found s) = grind (arith, AllZip-with_seat, begun_counts)
+    go (somebody caller found s) = grind (arith, AllZip-with_seat)
 
 -- a change that succeeds misses no row
 pub succeeds-missing : (capacity : ℕ) (begins : Bool) (m : Option ℕ) (size : ℕ) (success_outcome : Outcome) → succeeds (outcome_of capacity begins m size success_outcome) ≡ true → m ≡ None
@@ -60,7 +60,7 @@ pub record IsAllowed (contents : Contents) (op : Op) : Type 0 where
   pub formed : is_formed op.call ≡ true
 
 pub IsAllowed-from : (contents : Contents) (op : Op) → is_next contents op ≡ true → IsAllowed contents op
-IsAllowed-from contents op h = grind (arith, same_outcome-true, and_parts)
+IsAllowed-from contents op h = grind (arith, and_parts)
 
 pub stepped_stands : (contents : Contents) (state : State) (op : Op) (slots : List (Option Version)) → StandsFor contents state → is_next contents op ≡ true → slots_after contents op ≡ Some slots
     → StandsFor (stepped contents op slots) (after (length contents.slots) state op.client op.call)

@@ -5,7 +5,6 @@ use Rattle.pref_core.proofs.Common.{sum_by-le, Entry, Version, Caller, Call, Op,
 use Rattle.pref_core.proofs.Common.{added, refusal_of, is_formed, Contents, filled, slots_after, begin_after, callers_after, is_next, stepped}
 use Rattle.pref_core.proofs.Common.{IsBounded}
 use Rattle.pref_core.proofs.AppliedLaws.{IsAllowed, IsAllowed-from}
-use Rattle.pref_core.proofs.ChangesLaws.{commit_length}
 use Rattle.pref_core.proofs.ChangeCounts.{added_by-length}
 
 total-small : (callers : List Caller) → length callers ≤ 8 → AllByRecursion (λ caller. caller.calls ≤ 2 ^ 56) callers → sum_by (λ caller. caller.calls) callers ≤ 2 ^ 59
@@ -28,7 +27,7 @@ AllByRecursion-set P xs k y p h = grind (arith)
 
 -- the slots stay as many
 pub length-filled : (ns : List ℕ) (made : ℕ) (places : List ℕ) (begun : List Entry) (slots after : List (Option Version)) → filled ns made places begun slots ≡ Some after → length after ≡ length slots
-length-filled ns made [] begun slots after e = grind (arith, length-set)
+length-filled ns made [] begun slots after e = grind (arith)
 length-filled ns made (place ∷ places) begun slots after e = grind (arith, length-filled ns made places, length-set)
 
 pub length-slots_after : (contents : Contents) (op : Op) (slots : List (Option Version)) → slots_after contents op ≡ Some slots → length slots ≡ length contents.slots
@@ -58,7 +57,7 @@ callers_after-counts contents op allowed = go (seat op.client contents.callers) 
 
 -- a call adds no more rows than a commit may have changes
 pub added-small : (call : Call) → is_formed call ≡ true → added call ≤ 8
-added-small call f = grind (arith, added_by-length, commit_length)
+added-small call f = grind (arith, added_by-length)
 
 pub IsBounded-stepped : (contents : Contents) (op : Op) (slots : List (Option Version)) → IsBounded contents → is_next contents op ≡ true → slots_after contents op ≡ Some slots → IsBounded (stepped contents op slots)
-IsBounded-stepped contents op slots h next fits = grind (arith, callers_after-counts contents op (IsAllowed-from contents op next), IsAllowed-from contents op next, length-slots_after contents op slots fits, added-small)
+IsBounded-stepped contents op slots h next fits = grind (arith, callers_after-counts contents op (IsAllowed-from contents op next), length-slots_after contents op slots fits, added-small)

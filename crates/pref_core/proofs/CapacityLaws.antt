@@ -5,7 +5,6 @@ use Rattle.pref_core.proofs.Common.{found_tables, needed, is_change, outcome, su
 use Rattle.pref_core.proofs.Common.{stamps, NeededFits, NeededFitsSlots}
 use Rattle.pref_core.proofs.NeededCounts.{length-needed, holds_key-different, AreDifferent-different, holds_key-keys-append}
 use Rattle.pref_core.proofs.NeededKeys.{fewer, ends_need_no_more}
-use Rattle.pref_core.proofs.PlanLaws.{succeeds-fits}
 
 holds : Key → List Line → Bool
 holds key table = holds_key (keys table) key
@@ -16,7 +15,7 @@ found_of (Some found) = found.table
 
 cons_found : (key : Key) (client : Client) (clients : List Client) → holds key (found_tables (client ∷ clients)) ≡ (holds key (found_of client.at_begin) || holds key (found_tables clients))
 unfolding holds found_of
-cons_found key client clients = grind (arith, found_of, holds_key-keys-append)
+cons_found key client clients = grind (arith, holds_key-keys-append)
 
 -- what open queries found, once a client is another
 found_set : (key : Key) (clients : List Client) (k : ℕ) (new : Client) → holds key (found_tables (slice_set clients k new)) ≡ true → (holds key (found_of new.at_begin) || holds key (found_tables clients)) ≡ true
@@ -28,16 +27,16 @@ found_set key (client ∷ clients) (suc k) new h =
     (λ (rest : holds key (found_tables clients) ≡ true). or_right (holds key (found_of new.at_begin)) _ (cons_found key client clients ∙ or_right (holds key (found_of client.at_begin)) _ rest))
     (or_cases _ _ (found_set key clients k new there)))
     (or_cases _ _ (sym (cons_found key client (slice_set clients k new)) ∙ h))
-found_set key clients k new h = grind (arith, holds, found_of, cons_found)
+found_set key clients k new h = grind (arith, holds, cons_found)
 
 found_has : (key : Key) (clients : List Client) (k : ℕ) (who : Client) → slice_get clients k ≡ Some who → holds key (found_of who.at_begin) ≡ true → holds key (found_tables clients) ≡ true
 found_has key (client ∷ clients) (suc k) who at h = cons_found key client clients ∙ or_right (holds key (found_of client.at_begin)) _ (found_has key clients k who at h)
-found_has key clients k who at h = grind (arith, cons_found, holds, found_of)
+found_has key clients k who at h = grind (arith, cons_found, holds)
 
 -- what open queries found after a call: no more than before, and the table where the call is a begin
 found_counted : (key : Key) (table : List Line) (state : State) (client : ℕ) (call : Call) → (is_change call ≡ false → table ≡ state.table) → holds key (found_tables (counted state client call)) ≡ true → (holds key table || holds key (found_tables state.clients)) ≡ true
 unfolding holds found_of
-found_counted key table state client call quiet = grind (arith, holds, found_of, found_has, found_set)
+found_counted key table state client call quiet = grind (arith, holds, found_has, found_set)
 
 -- with these clients no more is needed
 needed_counted : (table : List Line) (state : State) (client : ℕ) (call : Call) (next_id commits : ℕ) → (is_change call ≡ false → table ≡ state.table)
@@ -57,7 +56,7 @@ noted_fits capacity state client call fits = let fewer_now = needed_counted stat
 
 -- a change that succeeds leaves what is within the capacity: where it begins no row no more is needed
 change_fits : (capacity : ℕ) (state : State) (call : Call) → is_change call ≡ true → succeeds (outcome capacity state call) ≡ true → length (needed state) ≤ capacity → length (needed (committed call state)) ≤ capacity
-change_fits capacity state call c s fits = grind (arith, succeeds-fits, ends_need_no_more)
+change_fits capacity state call c s fits = grind (arith, ends_need_no_more)
 
 after_fits : (capacity : ℕ) (state : State) (client : ℕ) (call : Call) → length (needed state) ≤ capacity → length (needed (after capacity state client call)) ≤ capacity
 after_fits capacity state client call fits = go (is_change call) refl (succeeds (outcome capacity state call)) refl
@@ -68,7 +67,7 @@ after_fits capacity state client call fits = go (is_change call) refl (succeeds 
         let made = change_fits capacity state call c e fits in
         let fewer_now = needed_counted (committed call state).table state client call (committed call state).next_id (committed call state).commits (λ q. absurd (let both : true ≡ false = sym c ∙ q in cc)) in
         omega arith
-    go c h2 s e = grind (arith, noted_fits, change_fits, needed_counted)
+    go c h2 s e = grind (arith, noted_fits, change_fits)
 
 pub needed_fits : NeededFits
 needed_fits capacity state [] fits legal = fits

@@ -19,7 +19,7 @@ ended_first zero changes = grind (arith)
 ended_first (suc at) changes = grind (arith, ended_first at)
 
 pub ended_next : (changes : List Change) (at : ℕ) (change : Change) (id : ℕ) → slice_get changes at ≡ Some change → ended_by (change ∷ []) ≡ id ∷ [] → ended_by changes ≡ ended_by (take at changes) ++ id ∷ ended_by (drop (at + 1) changes)
-ended_next changes at change id e named = grind (arith, take-append-drop at changes, ended_by-append (take at changes) (drop at changes), ended_by-append (change ∷ []) (drop (at + 1) changes), drop_at changes at change e)
+ended_next changes at change id e named = grind (arith, take-append-drop at changes, ended_by-append (take at changes) (drop at changes), drop_at changes at change e)
 
 pub named_at : (changes : List Change) (at : ℕ) (change : Change) (id : ℕ) → slice_get changes at ≡ Some change → ended_by (change ∷ []) ≡ id ∷ [] → among (ended_by changes) id ≡ true
 named_at changes at change id e named = ap (λ l. among l id) (ended_next changes at change id e named) ∙ among_inside (ended_by (take at changes)) (ended_by (drop (at + 1) changes)) id

@@ -38,7 +38,7 @@ record Names (earlier : List ℕ) (ids : List ℕ) : Type 0 where
   others : (id : ℕ) → among ids id ≡ true → among earlier id ≡ false
 
 names_more : (earlier : List ℕ) (id : ℕ) (ids : List ℕ) → among earlier id ≡ false → Names (earlier ++ id ∷ []) ids → Names earlier (id ∷ ids)
-names_more earlier id ids new h = grind (arith, among_append, among_first)
+names_more earlier id ids new h = grind (arith, among_append)
 
 once_named : (earlier : List Change) (change : Change) (id : ℕ) (rest : List Change) → ended_by (change ∷ []) ≡ id ∷ [] → cond (among (ended_by earlier) id) (Some (suc (length earlier))) (twice_from (earlier ++ change ∷ []) rest) ≡ None
     → (twice_from (earlier ++ change ∷ []) rest ≡ None → Names (ended_by (earlier ++ change ∷ [])) (ended_by rest)) → Names (ended_by earlier) (id ∷ ended_by rest)
@@ -55,7 +55,7 @@ once earlier (Set id row ∷ rest) h = once_named earlier (Set id row) id rest r
 once earlier (Remove id ∷ rest) h = once_named earlier (Remove id) id rest refl h (once (earlier ++ Remove id ∷ []) rest)
 
 pub formed_apart : (call : Call) → is_formed call ≡ true → AreApart (ended call)
-formed_apart call h = grind (arith, once, none_is)
+formed_apart call h = grind (arith, once)
 
 -- where none is missing each is there
 pub found_all : (ids : List ℕ) (table : List Line) → missing ids table ≡ None → (id : ℕ) → among ids id ≡ true → has table id ≡ true
@@ -84,7 +84,7 @@ pub begun_fresh : (start next limit : ℕ) (table : List Line) (changes : List C
     → AreApart (ended_by changes) → AreFresh limit table (begun_by next changes)
 begun_fresh start next limit table [] l few low high apart = tt
 begun_fresh start next limit table (Add row ∷ rest) l few low high apart = grind (arith, begun_fresh start (suc next) limit table rest (omega arith) (omega arith) low high apart, begun_ids)
-begun_fresh start next limit table (Set id row ∷ rest) l few low high apart = grind (arith, begun_fresh start next limit table rest l few (λ other there. low other (or_right (eqb id other) (among (ended_by rest) other) there)) high apart.1, among_first, begun_ids)
+begun_fresh start next limit table (Set id row ∷ rest) l few low high apart = grind (arith, begun_fresh start next limit table rest l few (λ other there. low other (or_right (eqb id other) (among (ended_by rest) other) there)) high apart.1, begun_ids)
 begun_fresh start next limit table (Remove id ∷ rest) l few low high apart = grind (arith, begun_fresh start next limit table rest l few (λ other there. low other (or_right (eqb id other) (among (ended_by rest) other) there)) high apart.1)
 
 -- The changes up to a place, and those from it on.

@@ -7,7 +7,7 @@ use Rattle.pref_core.proofs.TableLaws.{has-without, has_below, has_visible-new, 
 use Rattle.pref_core.proofs.VisibleLaws.{seen_born, put_permutes}
 use Rattle.pref_core.proofs.ChangesLaws.{ids_of, begun_fresh, found_all, formed_apart}
 use Rattle.pref_core.proofs.StandsForLaws.{Shows-close, clients-close, clients-new_version, clients-later}
-use Rattle.pref_core.proofs.SlotKeys.{eqb_comm, slot_keys, slot_keys-close, holds_key-new, within-close, within-more}
+use Rattle.pref_core.proofs.SlotKeys.{slot_keys, slot_keys-close, holds_key-new, within-close, within-more}
 
 -- the same table as the slots show
 pub has_visible : (slots : List (Option Version)) (stamp : ℕ) (table : List Line) → Shows slots stamp table → (id : ℕ) → has (visible stamp slots) id ≡ has table id
@@ -48,8 +48,8 @@ has_put shown table id = sym (list_any-IsPermutation (λ line. eqb line.id id) (
 
 -- what stays fresh once another row is there
 fresh_put : (limit : ℕ) (shown : Line) (table : List Line) (begun : List Entry) → among (ids_of begun) shown.id ≡ false → AreFresh limit table begun → AreFresh limit (put shown table) begun
-fresh_put limit shown table [] a h = grind (arith, ids_of, has_put, eqb_comm)
-fresh_put limit shown table (fresh ∷ rest) a h = grind (arith, fresh_put limit shown table rest, ids_of, has_put, eqb_comm)
+fresh_put limit shown table [] a h = grind (arith)
+fresh_put limit shown table (fresh ∷ rest) a h = grind (arith, fresh_put limit shown table rest, ids_of, has_put)
 
 rows_ordered : (limit made : ℕ) (begun : List Entry) (table : List Line) → AreFresh limit table begun → IsOrdered table → IsOrdered (with_rows made begun table)
 rows_ordered limit made [] table f h = h

@@ -21,9 +21,6 @@ use Rattle.pref_core.proofs.SlotUseLaws.{holds_there, free_use, has_row_at, row_
 -- Slots fit rows where there are as many, each is free, and none comes twice.
 fills_where : (made : ℕ) (ns earlier : List ℕ) (before : List Entry) (slots now : List (Option Version)) (places : List ℕ) (begun : List Entry) → filled (made ∷ ns) made earlier before slots ≡ Some now → length places ≡ length begun
     → is_some (filled (made ∷ ns) made places begun now) ≡ are_free (made ∷ ns) slots earlier places
-fills_where made ns earlier before slots now [] [] e long = refl
-fills_where made ns earlier before slots now [] (fresh ∷ rest) e long = absurd (omega arith)
-fills_where made ns earlier before slots now (place ∷ places) [] e long = absurd (omega arith)
 fills_where made ns earlier before slots now (place ∷ places) (fresh ∷ rest) e long =
     go (among earlier place) refl (is_free (made ∷ ns) slots place) refl
     (λ free. fills_where made ns (earlier ++ place ∷ []) (before ++ fresh ∷ []) slots (set now place (new_version made fresh)) places rest (filled_snoc (made ∷ ns) made earlier before slots now place fresh e free) (omega arith))
@@ -32,6 +29,7 @@ fills_where made ns earlier before slots now (place ∷ places) (fresh ∷ rest)
         → (is_free (made ∷ ns) now place ≡ true → is_some (filled (made ∷ ns) made places rest (set now place (new_version made fresh))) ≡ are_free (made ∷ ns) slots (earlier ++ place ∷ []) places)
         → is_some (cond (is_free (made ∷ ns) now place) (filled (made ∷ ns) made places rest (set now place (new_version made fresh))) None) ≡ ((not (among earlier place) && is_free (made ∷ ns) slots place) && are_free (made ∷ ns) slots (earlier ++ place ∷ []) places)
     go a h2 f g more = grind (arith, taken, free_still)
+fills_where made ns earlier before slots now places begun e long = grind (arith)
 
 pub fills_free : (made : ℕ) (ns : List ℕ) (slots : List (Option Version)) (places : List ℕ) (begun : List Entry) → length places ≡ length begun → are_free (made ∷ ns) slots [] places ≡ is_some (filled (made ∷ ns) made places begun slots)
 fills_free made ns slots places begun long = sym (fills_where made ns [] [] slots slots places begun refl long)
@@ -48,7 +46,7 @@ free_there contents uses links place h f = go (slice_get uses place) refl (ap (�
     go o e is = grind (arith)
 
 pub free_inside : (contents : Contents) (uses : List SlotUse) (links : List ℕ) (place : ℕ) → IsTracked contents uses links → is_free (stamps contents) contents.slots place ≡ true → place < length contents.slots
-free_inside contents uses links place h f = grind (arith, slice_get_within, free_there, length-map)
+free_inside contents uses links place h f = grind (arith, slice_get_within, length-map)
 
 -- The ids that the slots show, with one more.
 pub ids_born : (made place : ℕ) (fresh : Entry) (slots : List (Option Version)) → fresh.id < 2 ^ 64 → place < length slots → IsPlaceOf made fresh.id slots None → AreIds (2 ^ 64) (id_at (ids_of made slots))

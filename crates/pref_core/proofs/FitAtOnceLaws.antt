@@ -8,7 +8,7 @@ use Rattle.pref_core.proofs.ChangesLaws.{AreApart, among_append, among_inside, d
 use Rattle.pref_core.proofs.ChosenSlots.{ChosenUpTo, all_chosen, closed_slots, outcome_fits, outcome_other, stamps_next}
 use Rattle.pref_core.proofs.ChangeCounts.{ended_next, one_begins}
 use Rattle.pref_core.proofs.FilledLaws.{fills_free}
-use Rattle.pref_core.proofs.FreedLaws.{free_closed, frees_closed, one_id, row_taken}
+use Rattle.pref_core.proofs.FreedLaws.{free_closed, frees_closed, row_taken}
 use Rattle.pref_core.proofs.PlanLaws.{plan_is_not_full}
 use Rattle.pref_core.proofs.SlotUseLaws.{has_row_at}
 
@@ -17,7 +17,7 @@ granted_succeeds next_id call = grind (arith)
 
 -- Slots for all rows that a change begins, which misses none: it succeeds.
 chosen_at_once : (contents : Contents) (call : Call) (slots : List ℕ) → is_change call ≡ true → is_formed call ≡ true → missing (ended call) (visible contents.stamp contents.slots) ≡ None → ChosenUpTo contents call [] slots → FitAtOnce contents call slots
-chosen_at_once contents call slots c formed none h = grind (arith, all_chosen, granted_succeeds, stamps_next, closed_slots, append-nil, outcome_fits, plan_is_not_full, outcome_other)
+chosen_at_once contents call slots c formed none h = grind (arith, all_chosen, stamps_next, closed_slots, append-nil, outcome_fits, plan_is_not_full, outcome_other)
 
 -- A place that was taken for one of the first changes: it was free, or a row stood there that one of them ends.
 pub record StoodThere (contents : Contents) (ids : List ℕ) (place : ℕ) : Type 0 where
@@ -116,7 +116,7 @@ fits_set contents call slots at used id row place kept formed here is stands fre
     before = apart_before (ended_by (take at (changes_of call))) (ended_by (drop (at + 1) (changes_of call))) id (subst AreApart (ended_next (changes_of call) at (Set id row) id here refl) (formed_apart call formed))
 
     not_taken : among (take used slots) place ≡ true → ⊥
-    not_taken e = grind (arith, row_taken, one_id, before)
+    not_taken e = grind (arith, row_taken, before)
 
 -- .. and one that is removed needs none.
 pub fits_removed : (contents : Contents) (call : Call) (slots : List ℕ) (at used id : ℕ) (place : Option ℕ) → IsKept contents → slice_get (changes_of call) at ≡ Some (Remove id) → IsPlaceOf contents.stamp id contents.slots place → is_some place ≡ true

@@ -35,7 +35,7 @@ free_there positions bounds p some = grind (arith, slice_get-map, free_number)
 -- The places that a caller keeps are between two bounds: the first one is there, ..
 pub kept_first : (order positions bounds : List ℕ) (keeper place : ℕ) → IsArranged order positions bounds → keeper < 8 → get_or bounds (keeper + 1) 0 < get_or bounds (keeper + 2) 0 → place ≡ get_or order (get_or bounds (keeper + 1) 0) place
     → slice_get (map (use_at bounds) positions) place ≡ Some (Ended keeper)
-kept_first order positions bounds keeper place a few some is = grind (arith, get_or_from_slice_get, slice_get-get_or, number_is, slice_get-map)
+kept_first order positions bounds keeper place a few some is = grind (arith, slice_get-get_or, number_is, slice_get-map)
 
 -- .. or there is none.
 pub kept_none : (order positions bounds : List ℕ) (keeper : ℕ) → IsArranged order positions bounds → keeper < 8 → get_or bounds (keeper + 2) 0 ≤ get_or bounds (keeper + 1) 0

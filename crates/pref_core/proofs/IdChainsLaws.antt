@@ -106,7 +106,7 @@ added limit capacity homes ids after links linked_after id place node known with
         go o e leads = grind (arith)
 
         new_one : b ≡ id → homes b ≡ home → LeadsTo capacity homes after home b (linked_after n) (after (linked_after n))
-        new_one is_id is_home = grind (arith, same_link, leads, go)
+        new_one is_id is_home = grind (arith, leads, go)
 
     -- the node before leads to the new row
     at_node : (n ≡ place → ⊥) → n ≡ node → LeadsTo capacity homes after home b (linked_after n) (after (linked_after n))
@@ -171,7 +171,7 @@ removed limit capacity homes ids after links linked_after id place node known wi
         leads = linked home b n less was_node
 
         apart : links n ≡ place → ⊥
-        apart e = grind (arith, leads, other_node, was_node)
+        apart e = grind (arith, leads, was_node)
 
         go : (o : Option ℕ) → LeadsTo capacity homes ids home b (links n) o → LeadsTo capacity homes after home b (links n) o
         go o leads = grind (arith)

@@ -2,7 +2,7 @@
 use Rattle.pref_core.proofs.Common.{◌≡◌, ℕ, ◌≤◌, Bool, true, false, ◌||◌, List, [], ◌∷◌, ◌++◌, length, refl, sym, ap, ◌∙◌, arith, Line, Key, same_key, holds_key, keys}
 use Rattle.pref_core.proofs.Common.{different, without, found_tables, Change, Remove, begun_by, begins_any, AreDifferent, DeletesNeedNoMore}
 use Rattle.pref_core.proofs.Common.{EndsNeedNoMore}
-use Rattle.pref_core.proofs.NeededCounts.{others, holds_key-others-at, AreDifferent-others, length-others, same_key_refl, same_key-true, holds_key-different, AreDifferent-different}
+use Rattle.pref_core.proofs.NeededCounts.{others, holds_key-others-at, AreDifferent-others, length-others, same_key_refl, holds_key-different, AreDifferent-different}
 use Rattle.pref_core.proofs.NeededCounts.{holds_key-keys-append}
 
 pub fewer : (xs ys : List Key) → AreDifferent xs → AreDifferent ys → ((key : Key) → holds_key xs key ≡ true → holds_key ys key ≡ true) → length xs ≤ length ys
@@ -14,7 +14,7 @@ fewer (x ∷ xs) ys p q in_ =
     omega arith
   where
     at : (key : Key) (b : Bool) → same_key key x ≡ b → holds_key xs key ≡ true → holds_key (others x ys) key ≡ true
-    at key b e h = grind (arith, same_key-true, holds_key-others-at)
+    at key b e h = grind (arith, holds_key-others-at)
 
 held_without : (ids : List ℕ) (table : List Line) (key : Key) → holds_key (keys (without ids table)) key ≡ true → holds_key (keys table) key ≡ true
 held_without ids [] key h = h

@@ -47,7 +47,7 @@ opening_links capacity rows few less =
     at_place place low = let e : 0 + place ≡ place = omega arith in id_of_range of 0 capacity place low ∙ ap of e
 
     known : (place id : ℕ) → id_at (opening_ids capacity rows) place ≡ Some id → (id ≡ place + 1) × (place < rows)
-    known place id at = grind (arith, at_place, id_past_range, of)
+    known place id at = grind (arith, at_place, id_past_range)
 
     there : (place : ℕ) → place < rows → id_at (opening_ids capacity rows) place ≡ Some (place + 1)
     there place low = at_place place (omega arith) ∙ ap (λ t. cond t (Some (place + 1)) None) (lt-ltb place rows low)

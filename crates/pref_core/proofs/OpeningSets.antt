@@ -26,7 +26,7 @@ long : (capacity first : ℕ) → length (all capacity first) ≡ capacity
 long capacity first = length-map-range_with_len (rotated capacity first) 0 capacity
 
 inverse : (capacity rows : ℕ) → rows ≤ capacity → IsInverse (all capacity rows) (all capacity (capacity - rows))
-inverse capacity rows r = grind (arith, long, at, back)
+inverse capacity rows r = grind (arith, long, at)
 
 -- the bounds: no version has ended
 abbrev pub opened : ℕ → ℕ → List ℕ
@@ -44,7 +44,7 @@ use_live capacity free x past below = rw (le-ltb x free past, lt-ltb x capacity 
 -- the uses, pointwise and as a list
 slot_use : (capacity rows p : ℕ) → rows ≤ capacity → p < capacity → (d : SlotUse)
     → use_at (opened capacity (capacity - rows)) (rotated capacity (capacity - rows) p) ≡ get_or (replicate rows Live ++ replicate (capacity - rows) Free) p d
-slot_use capacity rows p r l d = grind (arith, length-replicate, low, use_live, get_or-append, get_or-replicate, high, use_free, get_or-append_right)
+slot_use capacity rows p r l d = grind (arith, length-replicate, low, get_or-append, get_or-replicate, high, use_free, get_or-append_right)
 
 pub turned_uses : (capacity rows : ℕ) → rows ≤ capacity → map (use_at (opened capacity (capacity - rows))) (map (rotated capacity (capacity - rows)) (range_with_len 0 capacity)) ≡ replicate rows Live ++ replicate (capacity - rows) Free
 turned_uses capacity rows r = same_lists _ _

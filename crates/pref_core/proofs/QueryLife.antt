@@ -3,7 +3,6 @@ use Rattle.pref_core.proofs.Common.{◌≡◌, ℕ, ◌≤◌, false, List, [], 
 use Rattle.pref_core.proofs.Common.{AreAllowed, Line, entries, State, after, Contents, StandsFor, Shows, caller_begun, IsPlan, IsLegal, applied, ends_query, Scan, begin}
 use Rattle.pref_core.proofs.Common.{IsScanned}
 use Rattle.pref_core.specs.Queries.{IsOnItsWay, LivesTo, at_begin, after_op, after_scan, NextBlockIsNew, AnswersTheBegin}
-use Rattle.pref_core.proofs.AppliedLaws.{IsAllowed-from}
 use Rattle.pref_core.proofs.LegalLaws.{is_next-from, applied_stands, plans_in}
 use Rattle.pref_core.proofs.StabilityLaws.{begun_at, begun_own, lasts_applied}
 use Rattle.pref_core.proofs.VisibleAfterOp.{legal_done, length-applied, length-ran, shows_still}
@@ -19,7 +18,7 @@ record IsOpen (contents : Contents) (client : ℕ) (ask : Question) (table : Lis
 
 -- the stamp that is kept of a client that begins a query
 begin_kept : (contents : Contents) (state : State) (op : Op) → StandsFor contents state → IsLegal state contents op → op.call ≡ Begin → caller_begun (applied contents op) op.client ≡ Some contents.stamp
-begin_kept contents state op h legal what = grind (arith, IsAllowed-from, is_next-from, begun_at, legal_done, begun_own)
+begin_kept contents state op h legal what = grind (arith, is_next-from, begun_at, legal_done, begun_own)
 
 open_begun : (limits : Limits) (first : Contents) (state : State) (client : ℕ) (ask : Question) (op : Op) → AreAllowed limits → length first.slots ≡ limits.capacity → StandsFor first state → IsPlan first client Begin op
     → IsOpen (applied first op) client ask state.table (begin ask first.stamp limits)

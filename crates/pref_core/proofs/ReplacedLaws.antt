@@ -15,7 +15,7 @@ use Rattle.pref_core.proofs.SlotUseLaws.{row_version}
 
 -- A row that stands in its slot still does once another one was replaced.
 stands_still : (stamp id place : ℕ) (row : Row) (slots : List (Option Version)) (other at : ℕ) → row_at stamp id slots place ≡ true → row_at stamp other slots at ≡ true → row_at stamp other (set slots place (new_version stamp (record { id = id; row = row }))) at ≡ true
-stands_still stamp id place row slots other at here there = grind (arith, slice_get-set_same, slice_get-set_other, row_version)
+stands_still stamp id place row slots other at here there = grind (arith, slice_get-set_same, slice_get-set_other)
 
 pub keeps_still : (stamp id place : ℕ) (row : Row) (slots : List (Option Version)) (changes : List Change) (places : List ℕ) → row_at stamp id slots place ≡ true → KeepSlots stamp slots changes places → KeepSlots stamp (set slots place (new_version stamp (record { id = id; row = row }))) changes places
 keeps_still stamp id place row slots (Set other next ∷ changes) (at ∷ places) here keep = (stands_still stamp id place row slots other at here keep.0, keeps_still stamp id place row slots changes places here keep.1)
@@ -62,7 +62,7 @@ rows_replaced contents uses links next (Set id row ∷ changes) (place ∷ place
     go : (free : Bool) → is_some (cond free (rest (set (map (close (id ∷ ended_by changes) contents.stamp) contents.slots) place new)) None) ≡ true
         → (is_some (rest (map (close (ended_by changes) contents.stamp) (set contents.slots place new))) ≡ true → rest (map (close (ended_by changes) contents.stamp) (set contents.slots place new)) ≡ Some (replaced contents.stamp changes places (set contents.slots place new)))
         → cond free (rest (set (map (close (id ∷ ended_by changes) contents.stamp) contents.slots) place new)) None ≡ Some (replaced contents.stamp changes places (set contents.slots place new))
-    go free f more = grind (arith, rest, moved)
+    go free f more = grind (arith, moved)
 
 -- A commit whose rows stay in their slots writes these alone.
 pub commit_kept : (now : Contents) (uses : List SlotUse) (links : List ℕ) (op : Op) → IsTracked now uses links → AreApart (ended op.call) → KeepSlots (suc now.stamp) now.slots (changes_of op.call) op.slots

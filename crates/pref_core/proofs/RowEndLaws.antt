@@ -19,7 +19,7 @@ idle next made id slot w r = grind (arith)
 
 module _ (next made id : ℕ) (slots : List (Option Version)) (within : AllByRecursion (IsWithin next made) slots) where
   stays : (k : ℕ) → (row_at made id slots k ≡ true → ⊥) → slice_get (map (close (id ∷ []) made) slots) k ≡ slice_get slots k
-  stays k n = grind (arith, slice_get-map, idle, holds_there)
+  stays k n = grind (arith, slice_get-map, holds_there)
 
   -- Where the table has no row of the id no slot is written.
   pub none_closed : IsPlaceOf made id slots None → map (close (id ∷ []) made) slots ≡ slots

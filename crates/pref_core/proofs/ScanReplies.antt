@@ -5,7 +5,7 @@ use Rattle.pref_core.proofs.Common.{step, Scan, Running, Follows, StandsForSyste
 use Rattle.pref_core.proofs.SeatLaws.{with_seat_self}
 use Rattle.pref_core.proofs.QueryLaws.{next_is_new, follows_scanned}
 use Rattle.pref_core.proofs.SystemsLaws.{scanned_stands, query_shows}
-use Rattle.pref_core.proofs.ChangeReplies.{running_of, refused_returns, nobody_steps, somebody_steps}
+use Rattle.pref_core.proofs.ChangeReplies.{running_of, nobody_steps, somebody_steps}
 
 -- what an open query's place and the client's query are
 pub record IsAsking (running : Running) (system : System) (client : ℕ) (held : Scan) : Type 0 where
@@ -50,9 +50,9 @@ no_left n h = le-ltb 0 n (omega arith)
 scan_one : (running : Running) (system : System) (client : ℕ) (held : Scan) (result : Result ℕ CoreFault) (scans : List (Option Scan)) → StandsForSystem running system → seat client running.scans ≡ Some (Some held)
     → ScansOne held running.contents.slots client running.scans result scans
     → Returns running (step running.limits system (record { client = client; act = ActScan })) ActScan (as_reply Left result) (running_of running.contents running.limits scans)
-scan_one running system client held result scans h at says = grind (arith, IsAsking-from, somebody_steps, some_left, running_of, query_shows, follows_scanned, scanned_stands, with_seat_self)
+scan_one running system client held result scans h at says = grind (arith, IsAsking-from, some_left, running_of, query_shows, follows_scanned, scanned_stands, with_seat_self)
 
 pub scan_returns : (running : Running) (system : System) (client : ℕ) (result : Result ℕ CoreFault) (scans : List (Option Scan)) → StandsForSystem running system
     → ScansAt (seat client running.scans) running.contents.slots client running.scans result scans
     → Returns running (step running.limits system (record { client = client; act = ActScan })) ActScan (as_reply Left result) (running_of running.contents running.limits scans)
-scan_returns running system client result scans h = grind (arith, running_of, refused_returns, nobody_steps, nobody_there, IsIdle-from, somebody_steps, scan_one)
+scan_returns running system client result scans h = grind (arith, running_of, nobody_steps, nobody_there, IsIdle-from, somebody_steps, scan_one)

@@ -68,7 +68,7 @@ module _ (order positions : List ℕ) (place to : ℕ) (inv : IsInverse order po
   at_other = second positions place other to from (lq place lp) (lq other lo)
 
   at_place : get_or new_positions place 0 ≡ to
-  at_place = grind (arith, at_other, same_to, first, lq, lo)
+  at_place = grind (arith, at_other, first, lq, lo)
 
   at_neither : (k : ℕ) → k ≢ place → k ≢ other → get_or new_positions k 0 ≡ get_or positions k 0
   at_neither k a b = neither positions place other to from (lq place lp) (lq other lo) k a b
@@ -77,7 +77,7 @@ module _ (order positions : List ℕ) (place to : ℕ) (inv : IsInverse order po
   order_to = second order from to other place lf lt
 
   pub order_from : get_or new_order from 0 ≡ other
-  order_from = grind (arith, order_to, same_place, first, lf)
+  order_from = grind (arith, order_to, first, lf)
 
   pub order_neither : (k : ℕ) → k ≢ from → k ≢ to → get_or new_order k 0 ≡ get_or order k 0
   order_neither k a b = neither order from to other place lf lt k a b
@@ -135,12 +135,11 @@ module _ (order positions : List ℕ) (place to : ℕ) (inv : IsInverse order po
 
 -- Numbers of positions: past each bound before, ..
 pub number_past : (bounds : List ℕ) (x j : ℕ) → j < number_at bounds x → get_or bounds j 0 ≤ x
-number_past [] x j l = absurd (omega arith)
-number_past (bound ∷ bounds) x zero l = grind (arith)
 number_past (bound ∷ bounds) x (suc j) l = go (nat_lt x bound) l (λ m. number_past bounds x j m)
   where
     go : (b : Bool) → suc j < cond b 0 (suc (number_at bounds x)) → (j < number_at bounds x → get_or bounds j 0 ≤ x) → get_or bounds j 0 ≤ x
     go b l more = grind (arith)
+number_past bounds x j l = grind (arith)
 
 -- .. and below their own, ..
 pub number_below : (bounds : List ℕ) (x : ℕ) → number_at bounds x < length bounds → x < get_or bounds (number_at bounds x) 0

@@ -1,6 +1,6 @@
 -- Slots for all rows that a commit begins: there are some exactly where the needed versions fit, and they can be chosen one after the other, in any way.
 use Rattle.pref_core.proofs.Common.{◌≡◌, ℕ, zero, suc, ◌+◌, ◌<◌, ◌≤◌, Bool, true, false, not, ◌||◌, cond, eqb, List, [], ◌∷◌, ◌++◌, map, length, Option, Some, None, is_some, slice_get, slice_set}
-use Rattle.pref_core.proofs.Common.{refl, sym, ap, ◌∙◌, arith, count_by, list_any, count_by-le-length, or_parts, eqb-false, Version, Entry, among, is_needed, seen}
+use Rattle.pref_core.proofs.Common.{refl, sym, ap, arith, count_by, list_any, count_by-le-length, or_parts, eqb-false, Version, Entry, among, is_needed, seen}
 use Rattle.pref_core.proofs.Common.{new_version, is_free, filled, not-false}
 use Rattle.pref_core.proofs.SlotSetsLaws.{count_set}
 use Rattle.pref_core.proofs.SlotUseLaws.{count_by-cons, one_no}
@@ -21,8 +21,8 @@ born_needed made ns entry = ap (λ s. is_some s || list_any (λ n. is_some (seen
 -- as many more are needed as rows begin
 pub filled_needs : (made : ℕ) (ns places : List ℕ) (begun : List Entry) (slots after : List (Option Version)) → filled (made ∷ ns) made places begun slots ≡ Some after
     → count_by (is_needed (made ∷ ns)) after ≡ count_by (is_needed (made ∷ ns)) slots + length begun
-filled_needs made ns [] begun slots after e = grind (arith, count_by_set, born_needed)
-filled_needs made ns (place ∷ places) begun slots after e = grind (arith, filled_needs made ns places, count_by_set, born_needed)
+filled_needs made ns [] begun slots after e = grind (arith)
+filled_needs made ns (place ∷ places) begun slots after e = grind (arith, filled_needs made ns places, count_by_set)
 
 -- .. so they fit where there are slots
 pub filled_fits : (made : ℕ) (ns places : List ℕ) (begun : List Entry) (slots after : List (Option Version)) → filled (made ∷ ns) made places begun slots ≡ Some after
@@ -47,19 +47,18 @@ free_still ns made (first ∷ places) (entry ∷ rest) slots now place e a =
     go : (b : Bool) → cond b (filled ns made places rest (slice_set slots first (new_version made entry))) None ≡ Some now
         → (filled ns made places rest (slice_set slots first (new_version made entry)) ≡ Some now → is_free ns now place ≡ is_free ns (slice_set slots first (new_version made entry)) place)
         → (place ≡ first → ⊥) → is_free ns now place ≡ is_free ns slots place
-    go false e more apart = absurd (cc)
-    go true e more apart = more e ∙ free_other ns slots place first (new_version made entry) apart
+    go b e more apart = grind (arith, free_other)
 free_still ns made places begun slots now place e a = grind (arith)
 
 -- one that wasn't free isn't
 pub not_freed : (ns : List ℕ) (made : ℕ) (places : List ℕ) (begun : List Entry) (slots now : List (Option Version)) (place : ℕ) → filled ns made places begun slots ≡ Some now → is_free ns slots place ≡ false → is_free ns now place ≡ false
-not_freed ns made [] begun slots now place e n = grind (arith, free_other)
+not_freed ns made [] begun slots now place e n = grind (arith)
 not_freed ns made (first ∷ places) begun slots now place e n = grind (arith, not_freed ns made places, free_other)
 
 -- one that a row took isn't
 pub taken : (made : ℕ) (ns places : List ℕ) (begun : List Entry) (slots now : List (Option Version)) (place : ℕ) → filled (made ∷ ns) made places begun slots ≡ Some now → among places place ≡ true → is_free (made ∷ ns) now place ≡ false
-taken made ns [] begun slots now place e a = grind (arith, slice_get-set_same, born_needed, not_freed)
-taken made ns (first ∷ places) begun slots now place e a = grind (arith, taken made ns places, slice_get-set_same, born_needed, not_freed)
+taken made ns [] begun slots now place e a = grind (arith)
+taken made ns (first ∷ places) begun slots now place e a = grind (arith, taken made ns places, slice_get-set_same, not_freed)
 
 -- where no place is free all are needed
 pub all_needed : (ns : List ℕ) (slots : List (Option Version)) → ((place : ℕ) → is_free ns slots place ≡ false) → count_by (is_needed ns) slots ≡ length slots
@@ -81,4 +80,4 @@ some_left made ns places begun slots now e fits chosen =
 -- the needed versions once these rows have begun, had they always room
 pub count_grown : (made : ℕ) (ns : List ℕ) (begun : List Entry) (slots : List (Option Version)) → count_by (is_needed (made ∷ ns)) (map (new_version made) begun ++ slots) ≡ count_by (is_needed (made ∷ ns)) slots + length begun
 count_grown made ns [] slots = omega arith
-count_grown made ns (fresh ∷ rest) slots = grind (arith, count_grown made ns rest slots, count_by-cons (is_needed (made ∷ ns)) (new_version made fresh) (map (new_version made) rest ++ slots), one_of (is_needed (made ∷ ns) (new_version made fresh)) (born_needed made ns fresh), born_needed made ns fresh)
+count_grown made ns (fresh ∷ rest) slots = grind (arith, count_grown made ns rest slots, count_by-cons (is_needed (made ∷ ns)) (new_version made fresh) (map (new_version made) rest ++ slots), born_needed made ns fresh)

@@ -33,12 +33,11 @@ shown_set stamp slots place old new at same = map-set_same (seen stamp) slots pl
 
 -- the client's begin is one of the begins
 hidden_at : (callers : List Caller) (k : ℕ) (caller : Caller) (stamp : ℕ) (P : ℕ → Type 0) → slice_get callers k ≡ Some caller → caller.at_begin ≡ Some stamp → AllByRecursion P (begins callers) → P stamp
-hidden_at [] k caller stamp P at is h = absurd (cc)
-hidden_at (first ∷ callers) zero caller stamp P at is h = grind (arith)
 hidden_at (first ∷ callers) (suc k) caller stamp P at is h = hidden_at callers k caller stamp P at is (rest first.at_begin h)
   where
     rest : (b : Option ℕ) → AllByRecursion P (cons_option b (begins callers)) → AllByRecursion P (begins callers)
     rest b h = grind (arith)
+hidden_at callers k caller stamp P at is h = grind (arith)
 
 begin_hidden : (contents : Contents) (client stamp : ℕ) (P : ℕ → Type 0) → caller_begun contents client ≡ Some stamp → AllByRecursion P (begins contents.callers) → P stamp
 begin_hidden contents zero stamp P e h = absurd (cc)
@@ -106,7 +105,7 @@ begin_after-kept calls call now stamp r e = grind (arith)
 
 kept_at : (contents : Contents) (client stamp : ℕ) (op : Op) → caller_begun contents client ≡ Some stamp → refusal_at contents op.client op.call ≡ None → ends_query client op ≡ false
     → begun_at (seat client (callers_after contents.stamp contents.callers op.client op.call)) ≡ Some stamp
-kept_at contents client stamp op is accepted open_ = grind (arith, seat-with_seat_other, begun_own, begin_after-kept)
+kept_at contents client stamp op is accepted open_ = grind (arith, seat-with_seat_other, begun_own)
 
 -- what lasts over one op
 pub record Lasts (client stamp : ℕ) (before after : Contents) : Type 0 where

@@ -1,6 +1,6 @@
 -- What slots show at each stamp when versions end, begin, and take a slot that isn't needed.
-use Rattle.pref_core.proofs.Common.{◌≡◌, ℕ, suc, ◌<◌, ◌≤◌, false, not, List, [], ◌∷◌, map, Option, Some, None, slice_get, slice_set, refl, subst, arith, cons_option, AllByRecursion, AllZip}
-use Rattle.pref_core.proofs.Common.{IsPermutation, IsPermutation-refl, IsPermutation-trans, IsPermutation-sym, Version, Caller, Line, among, without, Entry, Client, Snapshot, seen, visible}
+use Rattle.pref_core.proofs.Common.{◌≡◌, ℕ, suc, ◌<◌, ◌≤◌, false, not, List, [], ◌∷◌, map, Option, Some, None, slice_get, slice_set, refl, arith, cons_option, AllByRecursion, AllZip}
+use Rattle.pref_core.proofs.Common.{IsPermutation, IsPermutation-trans, IsPermutation-sym, Version, Caller, Line, among, without, Entry, Client, Snapshot, seen, visible}
 use Rattle.pref_core.proofs.Common.{is_needed, begins, IsWithin, Shows, ShowsBegin, StandsForClient, new_version, close}
 use Rattle.pref_core.proofs.Permutations.{IsPermutation-filter}
 use Rattle.pref_core.proofs.VisibleLaws.{visible_set-same, visible_set-new, visible_close-before, visible_close-after}
@@ -22,7 +22,7 @@ Shows-new_version-before stamp made fresh slots table h shows = grind (arith)
 
 -- a slot that shows nothing is used again
 visible_set : (stamp : ℕ) (slots : List (Option Version)) (place : ℕ) (old new : Option Version) → slice_get slots place ≡ Some old → seen stamp old ≡ None → IsPermutation (visible stamp (new ∷ slots)) (visible stamp (slice_set slots place new))
-visible_set stamp slots place old new at hidden = grind (arith, visible_set-same, IsPermutation-refl, visible_set-new)
+visible_set stamp slots place old new at hidden = grind (arith, visible_set-same, visible_set-new)
 
 pub Shows-set : (stamp : ℕ) (slots : List (Option Version)) (place : ℕ) (old new : Option Version) (table : List Line) → slice_get slots place ≡ Some old → seen stamp old ≡ None → Shows (new ∷ slots) stamp table → Shows (slice_set slots place new) stamp table
 Shows-set stamp slots place old new table at hidden shows = grind (arith, IsPermutation-trans, IsPermutation-sym, visible_set)
@@ -50,10 +50,10 @@ clients-close ids now slots = AllZip-weaker (StandsForClient slots now) (StandsF
 })
 
 pub clients-new_version : (now : ℕ) (fresh : Entry) (slots : List (Option Version)) (callers : List Caller) (clients : List Client) → AllZip (StandsForClient slots now) callers clients → AllZip (StandsForClient (new_version (suc now) fresh ∷ slots) now) callers clients
-clients-new_version now fresh slots = grind (arith, AllZip-weaker, ShowsBegin-moved, Shows-new_version-before)
+clients-new_version now fresh slots = grind (arith, AllZip-weaker, ShowsBegin-moved)
 
 pub clients-later : (now : ℕ) (slots : List (Option Version)) (callers : List Caller) (clients : List Client) → AllZip (StandsForClient slots now) callers clients → AllZip (StandsForClient slots (suc now)) callers clients
-clients-later now slots = grind (arith, AllZip-weaker, ShowsBegin-moved)
+clients-later now slots = grind (arith, AllZip-weaker)
 
 pub clients-set : (now : ℕ) (slots : List (Option Version)) (place : ℕ) (old new : Option Version) → slice_get slots place ≡ Some old → (callers : List Caller) (clients : List Client) → AllByRecursion (λ stamp. seen stamp old ≡ None) (begins callers) → AllZip (StandsForClient (new ∷ slots) now) callers clients → AllZip (StandsForClient (slice_set slots place new) now) callers clients
 clients-set now slots place old new at (caller ∷ callers) (client ∷ clients) hidden h =
@@ -69,6 +69,5 @@ clients-set now slots place old new at (caller ∷ callers) (client ∷ clients)
     Hidden = AllByRecursion (λ stamp. seen stamp old ≡ None)
 
     parts : (begun : Option ℕ) → Hidden (cons_option begun (begins callers)) → ((stamp : ℕ) → begun ≡ Some stamp → seen stamp old ≡ None) × Hidden (begins callers)
-    parts None h = (λ stamp e. absurd (cc), h)
-    parts (Some first) h = (λ stamp e. let same : first ≡ stamp = cc in subst (λ n. seen n old ≡ None) same h.0, h.1)
+    parts begun h = grind (arith)
 clients-set now slots place old new at callers clients hidden h = grind (arith)
