@@ -1,4 +1,4 @@
-use Rattle.pref_core.proofs.Common.{◌≡◌, ◌+◌, ◌≤◌, ◌∷◌, ℕ, suc, List, Option, Some, None, drop, sym, ap, ap₂, ◌∙◌, subst, arith, ltb-false, ltb-true, Add, Set, Change, added_by, ended, slot_of, given}
+use Rattle.pref_core.proofs.Common.{◌≡◌, ◌+◌, ◌≤◌, ◌∷◌, ℕ, suc, List, Option, Some, None, drop, sym, ap, ap₂, ◌∙◌, subst, arith, ltb-true, Change, added_by, ended, slot_of, given}
 use Rattle.pref_core.proofs.Common.{placed_rows, change_of, changes_of, op_of, drop_all}
 use Rattle.indexmap.specs.IndexMap.{spare}
 use Rattle.pref_core.proofs.BoundsLaws.{next_id-small}
@@ -7,6 +7,7 @@ use Rattle.pref_core.proofs.ChangeCounts.{drop_item}
 use Rattle.pref_core.proofs.IndexLaws.{AreThere, PlacesRest, adds_one, moves_one, ended_there, rest_there}
 use Rattle.pref_core.proofs.index.place_rows.Goals.{in-Add-Some, in-Set-Some, in-Remove-default}
 use Rattle.pref_core.proofs.index.place_rows.Goals as goal
+use Rattle.pref_core.proofs.Common.{common_steps}
 
 pub loop-at-init : goal.loop-at-init
 loop-at-init c =
@@ -25,17 +26,10 @@ loop-at-init c =
     }
 
 pub put_slot-requires : goal.put_slot-requires
-put_slot-requires c =
-    let changes = changes_of c.args.op.now.call.now in
-    let here = drop_at changes c.loop-at.at (Add c.in-Add-Some.field-0-0.now) c.in-Add-Some.ensures in
-    let room : suc (added_by (drop (c.loop-at.at + 1) changes)) ≤ spare c.loop-at.map = subst (λ l. added_by l ≤ spare c.loop-at.map) here c.loop-at.invariant.room in
-    omega arith
+put_slot-requires c = grind (arith, common_steps, drop_at, in-Add-Some)
 
 pub overflow_add-next_id : goal.overflow_add-next_id
-overflow_add-next_id c =
-    let small = next_id-small c.args.contents.now c.requires.kept.bounded in
-    let few = c.loop-at.invariant.few in
-    omega arith
+overflow_add-next_id c = grind (arith, common_steps, next_id-small)
 
 pub move_slot-requires-clause-there : goal.move_slot-requires-clause-there
 move_slot-requires-clause-there c =
@@ -48,16 +42,10 @@ move_slot-requires-clause-index c =
     c.in-Set-Some.id (among_first c.in-Set-Some.id _)
 
 pub returns-in_default : goal.returns-in_default
-returns-in_default c id =
-    let here = drop_at (changes_of c.args.op.now.call.now) c.loop-at.at (Add c.in_default.field-0-0.now) c.in_default.ensures in
-    let none = drop_all c.loop-at.used c.as_slice-slots.result.now (ltb-false _ _ (sym c.in_default.ensures'.lookup.0)) in
-    sym (ap₂ (λ l s. given (placed_rows c.loop-at.next_id l s) id (slot_of c.loop-at.map.entries id)) here none) ∙ c.loop-at.invariant.rest.gives id
+returns-in_default c id = grind (arith, common_steps, drop_at, drop_all)
 
 pub returns-in_default-2 : goal.returns-in_default-2
-returns-in_default-2 c id =
-    let here = drop_at (changes_of c.args.op.now.call.now) c.loop-at.at (Set c.in_default.field-0-0 c.in_default.field-1-0.now) c.in_default.ensures in
-    let none = drop_all c.loop-at.used c.as_slice-slots.result.now (ltb-false _ _ (sym c.in_default.ensures'.lookup.0)) in
-    sym (ap₂ (λ l s. given (placed_rows c.loop-at.next_id l s) id (slot_of c.loop-at.map.entries id)) here none) ∙ c.loop-at.invariant.rest.gives id
+returns-in_default-2 c id = grind (arith, common_steps, drop_at, drop_all)
 
 pub loop-at-preserved : goal.loop-at-preserved
 loop-at-preserved c =

@@ -1,17 +1,13 @@
-use Rattle.pref_core.proofs.Common.{◌+◌, ◌++◌, [], ◌∷◌, drop, sym, ap, ◌∙◌, subst, arith, Inside, IsBounded, begun_by, added_by, is_open, uses_of, Contents, changes_of, change_of}
+use Rattle.pref_core.proofs.Common.{◌+◌, ◌++◌, [], ◌∷◌, drop, sym, ap, ◌∙◌, subst, arith, begun_by, added_by, is_open, uses_of, changes_of, change_of}
 use Rattle.pref_core.proofs.BoundsLaws.{next_id-small}
 use Rattle.pref_core.proofs.ChangesLaws.{begun_at, added_one}
 use Rattle.pref_core.proofs.ChosenSlots.{ChosenUpTo, none_chosen, chosen_few, choose_one, one_left}
 use Rattle.pref_core.proofs.store.Store.places_for.Goals.{in-Some+in-Some-choose, in_default}
 use Rattle.pref_core.proofs.store.Store.places_for.Goals as goal
+use Rattle.pref_core.proofs.Common.{common_steps}
 
 pub loop-at-init : goal.loop-at-init
-loop-at-init c =
-    let first = ap (λ (s : Contents). s.next_id) (ap (λ (s : Inside). s.contents) c.self-inside.view_is ∙ c.self.view_is) in
-    record {
-      chosen = subst (λ n. ChosenUpTo c.args.self.now c.args.call.now (begun_by n (changes_of c.args.call.now)) []) (sym first) (none_chosen c.args.self.now c.args.call.now);
-      few = omega (arith, first);
-    }
+loop-at-init c = grind (arith, common_steps, none_chosen)
 
 pub push-requires : goal.push-requires
 push-requires c =
@@ -27,10 +23,7 @@ unreachable-requires c =
     (λ place opens. c.in-None.ensures.none place (ap (λ s. is_open (uses_of s) c.args.freed.now place) c.self.view_is ∙ opens)) (subst (λ l. ChosenUpTo c.args.self.now c.args.call.now l c.loop-at.chosen) is c.loop-at.invariant.chosen)
 
 pub overflow_add-next_id : goal.overflow_add-next_id
-overflow_add-next_id c =
-    let small = next_id-small _ (subst IsBounded c.self.view_is c.self.invariant.bounded) in
-    let one = added_one (change_of c.change-change.result) in
-    omega arith
+overflow_add-next_id c = grind (arith, common_steps, next_id-small, added_one)
 
 pub loop-at-preserved : goal.loop-at-preserved
 loop-at-preserved c =

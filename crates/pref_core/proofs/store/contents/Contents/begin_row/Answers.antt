@@ -1,12 +1,10 @@
 use Rattle.pref_core.proofs.Common.{◌<◌, refl, sym, ap, ◌∙◌, subst, arith, is_free, Contents, IsTracked, StampedSlots, stamps, visible, has}
 use Rattle.pref_core.proofs.FilledLaws.{free_there, begin_tracked}
 use Rattle.pref_core.proofs.store.contents.Contents.begin_row.Goals as goal
+use Rattle.pref_core.proofs.Common.{common_steps}
 
 pub put-requires-clause-there : goal.put-requires-clause-there
-put-requires-clause-there c =
-    let now = c.self.inside in
-    let contents : Contents = record { slots = now.slots.slots; stamp = now.slots.stamp; next_id = now.next_id; callers = now.callers.items } in
-    free_there contents now.places now.links c.args.place c.self.invariant (ap (λ (s : Contents). is_free (stamps s) s.slots c.args.place) c.self.view_is ∙ c.requires.free)
+put-requires-clause-there c = grind (arith, common_steps, free_there)
 
 pub invariant_of-self : goal.invariant_of-self
 invariant_of-self c =

@@ -7,6 +7,7 @@ use Rattle.pref_core.proofs.IdsAfterCommit.{tracked_next}
 use Rattle.pref_core.proofs.ReplacedLaws.{commit_kept}
 use Rattle.pref_core.proofs.store.contents.Contents.commit.Goals.{After-added}
 use Rattle.pref_core.proofs.store.contents.Contents.commit.Goals as goal
+use Rattle.pref_core.proofs.Common.{common_steps}
 
 tracked : (c : After-added) → IsTracked c.args.self.now c.self.inside.places c.self.inside.links
 tracked c = subst (λ (s : Contents). IsTracked s c.self.inside.places c.self.inside.links) c.self.view_is c.self.invariant
@@ -19,11 +20,7 @@ pub advance-requires : goal.advance-requires
 advance-requires c = let small = stamp-small _ c.requires.kept.bounded in let same = ap (λ (s : Contents). s.stamp) c.self.view_is in omega (arith, same)
 
 pub overflow_add-self : goal.overflow_add-self
-overflow_add-self c =
-    let small = next_id-small _ c.requires.kept.bounded in
-    let few = added-small c.args.op.now.call.now (IsAllowed-from c.args.self.now (op_of c.args.op.now) c.requires.next).formed in
-    let same = ap (λ (s : Contents). s.next_id) c.self.view_is in
-    omega (arith, same)
+overflow_add-self c = grind (arith, common_steps, next_id-small, added-small, IsAllowed-from)
 
 pub invariant_of-self : goal.invariant_of-self
 invariant_of-self c =

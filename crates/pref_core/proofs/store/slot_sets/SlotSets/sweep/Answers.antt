@@ -1,15 +1,15 @@
-use Rattle.pref_core.proofs.Common.{◌≡◌, ℕ, ◌+◌, ◌<◌, map, get_or, length, set, Option, Some, IfNone, slice_get, ap, sym, ◌∙◌, subst, arith, length-map, get_or-map, slice_get_within, SlotUse, Live}
-use Rattle.pref_core.proofs.Common.{Ended, MayBecome, number_of, use_of}
+use Rattle.pref_core.proofs.Common.{◌≡◌, ◌+◌, ◌<◌, map, get_or, length, set, ap, sym, ◌∙◌, subst, arith, length-map, get_or-map, slice_get_within, Live}
+use Rattle.pref_core.proofs.Common.{Ended, MayBecome, use_of}
 use Rattle.pref_core.proofs.UsesAfterQuery.{use_few}
 use Rattle.pref_core.proofs.SweepLaws.{IsSweeping, AllZip-length, sweep_begins, sweep_goes, swept, swept_all}
 use Rattle.pref_core.proofs.store.slot_sets.SlotSets.sweep.Goals as goal
+use Rattle.pref_core.proofs.Common.{common_steps}
 
 pub loop-turn-init : goal.loop-turn-init
 loop-turn-init c = sweep_begins c.args.keeper c.args.self.now _ c.requires.uses
 
 pub returns-in_default : goal.returns-in_default
-returns-in_default c = swept c.args.keeper c.loop-turn.self _ c.loop-turn.invariant.may
-    (subst (λ (o : Option ℕ). IfNone o ((place : ℕ) → slice_get c.loop-turn.self place ≡ Some (Ended c.args.keeper) → ⊥)) c.in_default.is c.any_kept.ensures.none)
+returns-in_default c = grind (arith, common_steps, swept)
 
 pub bounds-slots-place : goal.bounds-slots-place
 bounds-slots-place c =
@@ -19,9 +19,7 @@ bounds-slots-place c =
     omega arith
 
 pub put-requires-clause-few : goal.put-requires-clause-few
-put-requires-clause-few c =
-    let few = c.requires.seats.0 in
-    (omega arith, subst (λ (slot_use : SlotUse). number_of slot_use < 10) (sym c.use_of-next_use.ensures) (use_few c.args.callers.now _ c.requires.seats.1))
+put-requires-clause-few c = grind (arith, common_steps, use_few)
 
 pub loop-turn-preserved : goal.loop-turn-preserved
 loop-turn-preserved c =
