@@ -1,15 +1,12 @@
 -- An op that is legal at slots that stand for a state leaves slots that stand for the next one.
 use Rattle.pref_core.proofs.Common.{◌≡◌, ℕ, suc, Bool, true, false, List, [], ◌∷◌, length, Option, Some, None, slice_set, refl, sym, ap, ◌∙◌, arith, AllZip, and_parts}
-use Rattle.pref_core.proofs.Common.{Version, Caller, Call, Outcome, Op, State, Client, Snapshot, with_seat}
+use Rattle.pref_core.proofs.Common.{Version, Caller, Call, Outcome, Op, State, Client, with_seat}
 use Rattle.pref_core.proofs.Common.{is_change, missing, ended, begun, begins_row, needed_after, success_outcome, outcome, succeeds, committed, begun_after, counted, after, is_formed, outcome_of}
-use Rattle.pref_core.proofs.Common.{Contents, StandsFor, StandsForClient, ShowsBegin, stamps, caller_calls, grown, filled, begin_after, callers_after, is_next, same_number, same_outcome, outcome_at}
+use Rattle.pref_core.proofs.Common.{Contents, StandsFor, StandsForClient, stamps, caller_calls, grown, filled, begin_after, callers_after, is_next, same_number, outcome_at}
 use Rattle.pref_core.proofs.Common.{refusal_at, slots_after, stepped}
 use Rattle.pref_core.proofs.CommitLaws.{grown_stands}
 use Rattle.pref_core.proofs.SlotReuse.{filled_stands}
 use Rattle.pref_core.proofs.OutcomeLaws.{SameSeat, nobody, somebody, same_seat, same_outcome_at}
-
-same_outcome-true : (a b : Outcome) → same_outcome a b ≡ true → a ≡ b
-same_outcome-true a b h = grind (arith)
 
 AllZip-set : {A B : Type 0} (R : A → B → Type 0) (xs : List A) (ys : List B) (k : ℕ) (a : A) (b : B) → R a b → AllZip R xs ys → AllZip R (slice_set xs k a) (slice_set ys k b)
 AllZip-set R (x ∷ xs) (y ∷ ys) (suc k) a b r h = (h.0, AllZip-set R xs ys k a b r h.1)
@@ -17,11 +14,6 @@ AllZip-set R xs ys k a b r h = grind (arith)
 
 AllZip-with_seat : {A B : Type 0} (R : A → B → Type 0) (xs : List A) (ys : List B) (client : ℕ) (a : A) (b : B) → R a b → AllZip R xs ys → AllZip R (with_seat client a xs) (with_seat client b ys)
 AllZip-with_seat R xs ys client a b r h = grind (arith, AllZip-set)
-
--- what a call makes of the client's open query
-begun_counts : (contents : Contents) (state : State) (call : Call) (b : Option ℕ) (f : Option Snapshot) → StandsFor contents state → ShowsBegin contents.slots contents.stamp b f
-    → ShowsBegin contents.slots contents.stamp (begin_after contents.stamp call b) (begun_after state call f)
-begun_counts contents state call b f h s = grind (arith)
 
 counted_stands : (contents : Contents) (state : State) (client : ℕ) (call : Call) → StandsFor contents state → StandsFor
     (record { slots = contents.slots; stamp = contents.stamp; next_id = contents.next_id; callers = callers_after contents.stamp contents.callers client call })

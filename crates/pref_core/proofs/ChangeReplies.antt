@@ -167,9 +167,6 @@ begin_returns running system client ask op new stamp allowed now h plans is =
     let_in : IsLetIn there.who Begin
     let_in = IsLetIn-from system client there.who Begin there.at accepted
 
-    opens : Open
-    opens = record { ask = ask; table = system.table; commits = system.commits; left = blocks running.limits }
-
     right : step running.limits system (record { client = client; act = ActBegin ask })
         ≡ record { reply = Begun (blocks running.limits); next = counted_with (Some (record { ask = ask; table = system.table; commits = system.commits; left = blocks running.limits })) client there.who system }
     right = somebody_steps running.limits system client (ActBegin ask) there.who there.at ∙ go there.who.query let_in.allowed

@@ -1,12 +1,9 @@
 -- The changes of a commit: which ids they name, and that the rows that they begin have ids of their own.
-use Rattle.pref_core.proofs.Common.{◌≡◌, ℕ, suc, ◌+◌, ◌<◌, ◌≤◌, Bool, true, false, not, ◌||◌, cond, eqb, List, [], ◌∷◌, ◌++◌, map, length, take, drop, add-one, slice_get, Option, Some, None}
-use Rattle.pref_core.proofs.Common.{is_some, refl, sym, ap, ◌∙◌, subst, arith, ⊎_elim, ◌⊎◌, inl, inr, append-nil, take_more, slice_get_within, get_or_from_slice_get}
+use Rattle.pref_core.proofs.Common.{◌≡◌, ℕ, suc, ◌+◌, ◌<◌, ◌≤◌, Bool, true, false, ◌||◌, cond, eqb, List, [], ◌∷◌, ◌++◌, map, length, take, drop, add-one, slice_get, Some, None}
+use Rattle.pref_core.proofs.Common.{refl, sym, ap, ◌∙◌, subst, arith, ⊎_elim, ◌⊎◌, inl, inr, append-nil, take_more, slice_get_within, get_or_from_slice_get}
 use Rattle.pref_core.proofs.Common.{or_cases, or_right, eqb-true, eq-eqb, Change, Add, Set, Remove, Call, ended_by}
 use Rattle.pref_core.proofs.Common.{begun_by, added_by, twice_from, is_commit, Line, among, has, missing, ended, is_formed, AreFresh, Entry}
 use Rattle.pref_core.proofs.Common.{list_any-append}
-
-none_is : {X : Type 0} (o : Option X) → not (is_some o) ≡ true → o ≡ None
-none_is o e = grind (arith)
 
 pub commit_length : (commit : List Change) → is_commit commit ≡ true → length commit ≤ 8
 commit_length commit h = grind (arith)

@@ -5,23 +5,14 @@ use Rattle.pref_core.proofs.Common.{ActAbandon, ActGet, ActRoom, Reply, Answer, 
 use Rattle.pref_core.proofs.Common.{refusal_of, refusal_by_query, begun_after, needed, Open, Member, System, Step, snapshot, state_of, refused, counted_with, finish, step, Contents, StandsFor}
 use Rattle.pref_core.proofs.Common.{applied, Scan, Running, StandsForSystem, Returns, is_refusal, AnswersAt, step_of}
 use Rattle.std.specs.Global.{Vec}
-use Rattle.pref_core.specs.MachineParts.{numbered}
 use Rattle.pref_core.proofs.QueryLaws.{follows_answered}
 use Rattle.pref_core.proofs.SystemsLaws.{refusal_nobody, IsThere-from, IsLetIn, IsLetIn-from, queried_stands, query_shows}
 use Rattle.pref_core.proofs.ChangeReplies.{PlansAlways, plan_accepts, running_of, refused_does, refused_returns, somebody_steps, let_in_steps}
 use Rattle.pref_core.proofs.ScanReplies.{IsAsking-from, IsIdle-from, nobody_there, some_left, no_left}
 
--- A call that ends a query is refused where there is none.
-ends_refused : (system : System) (member : Member) (fault : CoreFault) (right : Open → Step) (call : Call) → refusal_by_query true call ≡ None → refusal_by_query false call ≡ Some NoQuery → (q : Option Open) → refusal_of (Some member.calls) (is_some (option_map snapshot q)) call ≡ Some fault
-    → numbered member system (elim q as (λ x. Step) [ None ↦ refused NoQuery system | Some query ↦ right query ]) ≡ refused fault system
-ends_refused system member fault right call t f q e = grind (arith)
-
 pub abandon_not : (old : Running) (client : ℕ) (fault : CoreFault) → PlansAlways old.contents client Abandon (Err fault) → Does old client ActAbandon (Err fault) old
 abandon_not old client fault plans = refused_does old client ActAbandon Abandon fault refuses plans
   where
-    right : System → Member → Open → Step
-    right system member query = record { reply = Abandoned; next = counted_with None client member system }
-
     refuses : (system : System) (member : Member) (q : Option Open) → refusal_of (Some member.calls) (is_some (option_map snapshot q)) Abandon ≡ Some fault → step_of old.limits system client member ActAbandon q ≡ refused fault system
     refuses system member q e = grind (arith)
 

@@ -2,8 +2,8 @@
 use Rattle.pref_core.proofs.Common.{◌≡◌, ℕ, suc, ◌+◌, ◌≤◌, Bool, true, false, not, ◌&&◌, cond, eqb, List, [], ◌∷◌, ◌++◌, length, take, drop, Option, Some, None, is_some, slice_get, ◌⊎◌}
 use Rattle.pref_core.proofs.Common.{inl, inr, ⊎_elim, refl, sym, ap, ap₂, ◌∙◌, subst, arith, eqb-true, or_from, or_left, true≢false, append-nil, Call, Op, Change, Add}
 use Rattle.pref_core.proofs.Common.{Set, Remove, Version, Row, ended_by, begun_by, begins_any, row_at, IsPlaceOf, IsKept, FitAtOnce, are_free, frees_at, uses_of, filled, is_free, is_next}
-use Rattle.pref_core.proofs.Common.{slots_after, used, free_at, Contents, begins, visible, begun, changes_of, ended, success_outcome, is_change, is_formed, missing}
-use Rattle.pref_core.proofs.Common.{succeeds, Line, among, false_from_ne_true, drop_all}
+use Rattle.pref_core.proofs.Common.{slots_after, used, free_at, Contents, begins, visible, begun, changes_of, ended, is_change, is_formed, missing}
+use Rattle.pref_core.proofs.Common.{Line, among, false_from_ne_true, drop_all}
 use Rattle.pref_core.proofs.ChangesLaws.{AreApart, among_append, among_inside, drop_at, ended_so_far, formed_apart, take_at}
 use Rattle.pref_core.proofs.ChosenSlots.{ChosenUpTo, all_chosen, closed_slots, outcome_fits, outcome_other, stamps_next}
 use Rattle.pref_core.proofs.ChangeCounts.{ended_next, one_begins}
@@ -11,9 +11,6 @@ use Rattle.pref_core.proofs.FilledLaws.{fills_free}
 use Rattle.pref_core.proofs.FreedLaws.{free_closed, frees_closed, row_taken}
 use Rattle.pref_core.proofs.PlanLaws.{plan_is_not_full}
 use Rattle.pref_core.proofs.SlotUseLaws.{has_row_at}
-
-granted_succeeds : (next_id : ℕ) (call : Call) → succeeds (success_outcome next_id call) ≡ true
-granted_succeeds next_id call = grind (arith)
 
 -- Slots for all rows that a change begins, which misses none: it succeeds.
 chosen_at_once : (contents : Contents) (call : Call) (slots : List ℕ) → is_change call ≡ true → is_formed call ≡ true → missing (ended call) (visible contents.stamp contents.slots) ≡ None → ChosenUpTo contents call [] slots → FitAtOnce contents call slots

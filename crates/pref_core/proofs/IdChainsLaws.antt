@@ -1,8 +1,7 @@
 -- Links, as a row is looked for, added and removed.
-use Rattle.pref_core.proofs.Common.{◌≡◌, ℕ, suc, ◌+◌, ◌<◌, ◌≤◌, ◌⊎◌, true, false, List, ◌∷◌, length, Option, Some, None, refl, sym, ap, ◌∙◌, subst, arith, ⊎_elim, inl}
+use Rattle.pref_core.proofs.Common.{◌≡◌, ℕ, suc, ◌+◌, ◌<◌, ◌≤◌, true, false, List, ◌∷◌, length, Option, Some, None, refl, sym, ap, ◌∙◌, subst, arith, ⊎_elim, inl}
 use Rattle.pref_core.proofs.Common.{inr, cases_eq, ltb-true, Version, row_at, ids_of, id_at, is_above, AreIds, LeadsTo, IsNode, AreLinked}
 use Rattle.pref_core.proofs.Common.{IsOnWay, rank, IsBefore, same_Some}
-use Rattle.pref_core.specs.IdChains.{IsNext}
 
 pub before_from : (limit capacity : ℕ) (homes : ℕ → ℕ) (ids : ℕ → Option ℕ) (links : ℕ → ℕ) (id bound node : ℕ) → AreLinked limit capacity homes ids links → homes id < capacity
     → IsNode limit capacity homes ids (homes id) bound node → id < bound → is_above id (ids (links node)) ≡ false → IsBefore limit capacity homes ids id node
@@ -73,10 +72,6 @@ pub added : (limit capacity : ℕ) (homes : ℕ → ℕ) (ids after : ℕ → Op
 added limit capacity homes ids after links linked_after id place node known within linked inside before room empty absent here others to_place onward rest home b n less is =
     ⊎_elim at_place (λ (apart : n ≡ place → ⊥). ⊎_elim (at_node apart) (elsewhere apart) (cases_eq n node)) (cases_eq n place)
   where
-    -- a row after is the new one or one from before
-    old_or_new : (p i : ℕ) → after p ≡ Some i → (i ≡ id) ⊎ (ids p ≡ Some i)
-    old_or_new p i at = ⊎_elim (λ (e : p ≡ place). inl (same_Some i id (sym at ∙ ap after e ∙ here))) (λ (d : p ≡ place → ⊥). inr (sym (others p d) ∙ at)) (cases_eq p place)
-
     -- a node after, other than the new one, was one before
     was_node : (n ≡ place → ⊥) → IsNode limit capacity homes ids home b n
     was_node apart = ⊎_elim (λ (p : (n ≡ capacity + home) × (b ≡ limit)). inl p) (λ (p : (after n ≡ Some b) × (homes b ≡ home)). inr (sym (others n apart) ∙ p.0, p.1)) is
@@ -121,10 +116,6 @@ added limit capacity homes ids after links linked_after id place node known with
         leads : LeadsTo capacity homes ids home b (links n) (ids (links n))
         leads = linked home b n less (was_node apart)
 
-        -- where the new row is of this home and below the bound, so is the node before it
-        between : homes id ≡ home → id < b → (ids node ≡ Some before.bound) × (homes before.bound ≡ homes id) × (before.bound < b)
-        between same near = other_node limit capacity homes ids id node b n before known (subst (λ h. IsNode limit capacity homes ids h b n) (sym same) (was_node apart)) other near
-
         go : (o : Option ℕ) → LeadsTo capacity homes ids home b (links n) o → LeadsTo capacity homes after home b (links n) o
         go o leads = grind (arith)
 
@@ -144,9 +135,6 @@ removed limit capacity homes ids after links linked_after id place node known wi
 
     was_node : IsNode limit capacity homes ids home b n
     was_node = ⊎_elim (λ (p : (n ≡ capacity + home) × (b ≡ limit)). inl p) (λ (p : (after n ≡ Some b) × (homes b ≡ home)). inr ((was_row n b p.0).0, p.1)) is
-
-    here : IsNext homes ids (homes id) before.bound id
-    here = subst (LeadsTo capacity homes ids (homes id) before.bound (links node)) (ap ids led ∙ there) (linked (homes id) before.bound node inside before.is)
 
     -- the node before leads on to what the row led to
     at_node : n ≡ node → LeadsTo capacity homes after home b (linked_after n) (after (linked_after n))

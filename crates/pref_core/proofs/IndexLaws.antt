@@ -1,8 +1,8 @@
 -- An index follows the store through each op that is done.
 use Rattle.pref_core.proofs.Common.{drop, slice_get, ◌≡◌, ℕ, suc, ◌+◌, ◌<◌, Bool, true, false, ◌&&◌, ◌||◌, cond, eqb, nat_lt, List, [], ◌∷◌, map, set, Option, Some, None, is_some, refl, sym}
 use Rattle.pref_core.proofs.Common.{ap, ◌∙◌, subst, arith, AllByRecursion, eqb-true, ne_eqb, Version, Change, Add, Set, Remove, Call}
-use Rattle.pref_core.proofs.Common.{Outcome, Done, Op, Entry, Row, ended_by, begun_by, among, has, success_outcome, is_change, succeeds}
-use Rattle.pref_core.proofs.Common.{added, changes_of, ended, begun, outcome_of, Contents, IsWithin, visible, begins, new_version, close, is_free, filled, slots_after}
+use Rattle.pref_core.proofs.Common.{Done, Op, Entry, Row, ended_by, begun_by, among, has, success_outcome, is_change, succeeds}
+use Rattle.pref_core.proofs.Common.{added, changes_of, ended, begun, Contents, IsWithin, visible, begins, new_version, close, is_free, filled, slots_after}
 use Rattle.pref_core.proofs.Common.{is_next, applied, slot_of, Points, PointsAll, given, placed_rows, adds, IsPlaceOf, IsIndexOf}
 use Rattle.pref_core.proofs.AppliedLaws.{IsAllowed-from}
 use Rattle.pref_core.proofs.ChangesLaws.{AreApart, drop_at, formed_apart, found_all}
@@ -75,10 +75,6 @@ module _ (ns : List ℕ) (made id : ℕ) where
           → ((o : Option ℕ) → ArePlaced rest next places later after o) → IsPlaceOf made id after (given (placed_rows next rest places) id (cond (eqb other id) (Some place) found))
       go b free h more = grind (arith, by)
   filled_place (Remove other ∷ rest) next places slots after found e apart low is = grind (arith, filled_place rest next places slots after)
-
--- A call that succeeds has the outcome that is granted.
-granted_is : (capacity : ℕ) (begins : Bool) (m : Option ℕ) (size : ℕ) (success_outcome : Outcome) → succeeds (outcome_of capacity begins m size success_outcome) ≡ true → outcome_of capacity begins m size success_outcome ≡ success_outcome
-granted_is capacity begins m size success_outcome s = grind (arith)
 
 -- a call that is no commit changes nothing
 no_changes : (call : Call) → is_change call ≡ false → changes_of call ≡ []

@@ -1,6 +1,6 @@
 -- The index of a store, after an op.
 use Rattle.pref_core.proofs.Common.{and_right, ◌≡◌, ℕ, suc, ◌+◌, ◌<◌, ◌≤◌, Bool, true, false, eqb, List, ◌∷◌, map, length, set, Option, Some, None, slice_get, refl, sym, ap}
-use Rattle.pref_core.proofs.Common.{◌∙◌, arith, AllByRecursion, le-leb, eq-eqb, true≢false, Version, among, Entry, is_visible, new_version, IsWithin}
+use Rattle.pref_core.proofs.Common.{◌∙◌, arith, AllByRecursion, true≢false, Version, among, Entry, is_visible, new_version, IsWithin}
 use Rattle.pref_core.proofs.Common.{close, is_free, slot_of, Points, is_row, row_at, IsPlaceOf, false_from_ne_true}
 use Rattle.pref_core.proofs.SlotUseLaws.{has_row_at, has_nowhere}
 
@@ -9,17 +9,11 @@ abbrev row_of : ℕ → ℕ → Option (Option Version) → Bool
 row_of stamp id o = elim o [ None ↦ false | Some slot ↦ is_row stamp id slot ]
 
 -- A commit that doesn't end the id's row leaves it where it is.
-is_row-close : (next now id : ℕ) (ids : List ℕ) (slot : Option Version) → IsWithin next now slot → among ids id ≡ false → is_row (suc now) id (close ids (suc now) slot) ≡ is_row now id slot
-is_row-close next now id ids slot h out = grind (arith)
-
--- A commit that ends it leaves it nowhere.
-is_row-ended : (next now id : ℕ) (ids : List ℕ) (slot : Option Version) → IsWithin next now slot → among ids id ≡ true → is_row (suc now) id (close ids (suc now) slot) ≡ false
-is_row-ended next now id ids slot h out = grind (arith)
-
 pub row_at-close : (next now id : ℕ) (ids : List ℕ) (slots : List (Option Version)) (k : ℕ) → AllByRecursion (IsWithin next now) slots → among ids id ≡ false → row_at (suc now) id (map (close ids (suc now)) slots) k ≡ row_at now id slots k
 row_at-close next now id ids (slot ∷ slots) (suc k) h out = row_at-close next now id ids slots k h.1 out
 row_at-close next now id ids slots k h out = grind (arith)
 
+-- A commit that ends it leaves it nowhere.
 pub row_at-ended : (next now id : ℕ) (ids : List ℕ) (slots : List (Option Version)) (k : ℕ) → AllByRecursion (IsWithin next now) slots → among ids id ≡ true → row_at (suc now) id (map (close ids (suc now)) slots) k ≡ false
 row_at-ended next now id ids (slot ∷ slots) (suc k) h out = row_at-ended next now id ids slots k h.1 out
 row_at-ended next now id ids slots k h out = grind (arith)
@@ -28,9 +22,6 @@ row_at-ended next now id ids slots k h out = grind (arith)
 free_row : (now id : ℕ) (ns : List ℕ) (slots : List (Option Version)) (place : ℕ) → is_free (now ∷ ns) slots place ≡ true → row_at now id slots place ≡ false
 free_row now id ns (slot ∷ slots) (suc place) h = free_row now id ns slots place h
 free_row now id ns slots place h = grind (arith)
-
-is_row-new_version : (made : ℕ) (fresh : Entry) → is_row made fresh.id (new_version made fresh) ≡ true
-is_row-new_version made fresh = rw (eq-eqb fresh.id fresh.id refl, le-leb made made (omega arith)) refl
 
 -- A row that begins at a free place stands there, and no other row does.
 pub row_at-new_version : (made : ℕ) (fresh : Entry) (ns : List ℕ) (slots : List (Option Version)) (place : ℕ) → is_free (made ∷ ns) slots place ≡ true → row_at made fresh.id (set slots place (new_version made fresh)) place ≡ true

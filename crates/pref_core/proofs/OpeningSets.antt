@@ -38,9 +38,6 @@ opened_less capacity free i h l = grind (arith)
 opened_ascend : (capacity free i j : ℕ) → free ≤ capacity → i ≤ j → j < 10 → get_or (opened capacity free) i 0 ≤ get_or (opened capacity free) j 0
 opened_ascend capacity free i j h le l = grind (arith)
 
-use_live : (capacity free x : ℕ) → free ≤ x → x < capacity → use_at (opened capacity free) x ≡ Live
-use_live capacity free x past below = rw (le-ltb x free past, lt-ltb x capacity below) refl
-
 -- the uses, pointwise and as a list
 slot_use : (capacity rows p : ℕ) → rows ≤ capacity → p < capacity → (d : SlotUse)
     → use_at (opened capacity (capacity - rows)) (rotated capacity (capacity - rows) p) ≡ get_or (replicate rows Live ++ replicate (capacity - rows) Free) p d

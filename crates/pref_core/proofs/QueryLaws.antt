@@ -85,9 +85,6 @@ follows_scanned slots scan new query shows h is =
       way = scanned_on_its_way slots scan new query.table (subst (λ n. Shows slots n query.table) (sym h.stamp) shows) h.way is;
     }
 
-zero_blocks : (n : ℕ) → 0 * n ≡ 0
-zero_blocks n = omega arith
-
 -- All blocks are the whole store.
 all_blocks : (capacity block : ℕ) → 1 ≤ block → capacity ≤ (capacity + block - 1) / block * block
 all_blocks capacity block h = omega (arith, mul_comm ((capacity + block - 1) / block) block)

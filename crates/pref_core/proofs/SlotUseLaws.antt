@@ -1,7 +1,7 @@
 -- The uses of slots, and how many are free.
-use Rattle.pref_core.proofs.Common.{◌≡◌, ℕ, zero, suc, ◌+◌, ◌<◌, Bool, true, false, not, ◌&&◌, ◌||◌, cond, eqb, List, [], ◌∷◌, map, length, Option, Some, None, slice_get, refl, ap}
-use Rattle.pref_core.proofs.Common.{arith, count_by, cons_option, AllByRecursion, option_to_list, sum_by-cons, Version, Caller, among, has, is_visible}
-use Rattle.pref_core.proofs.Common.{visible, line, is_needed, begins, IsWithin, close, is_free, is_free_use, free_at, kept_from, use_of, is_spare, row_at}
+use Rattle.pref_core.proofs.Common.{◌≡◌, ℕ, zero, suc, ◌+◌, ◌<◌, Bool, true, false, not, ◌&&◌, cond, eqb, List, [], ◌∷◌, map, length, Option, Some, None, slice_get, refl, ap}
+use Rattle.pref_core.proofs.Common.{arith, count_by, cons_option, AllByRecursion, sum_by-cons, Version, Caller, among, has, is_visible}
+use Rattle.pref_core.proofs.Common.{visible, line, is_needed, begins, IsWithin, is_free, is_free_use, free_at, kept_from, use_of, is_spare, row_at}
 use Rattle.pref_core.proofs.NeededCounts.{is_needed-empty}
 
 pub count_by-cons : {X : Type 0} (p : X → Bool) (x : X) (xs : List X) → count_by p (x ∷ xs) ≡ cond (p x) 1 0 + count_by p xs
@@ -10,10 +10,6 @@ count_by-cons p x xs = sum_by-cons (λ y. cond (p y) 1 0) x xs
 pub holds_there : {X : Type 0} (P : X → Type 0) (xs : List X) (k : ℕ) (x : X) → slice_get xs k ≡ Some x → AllByRecursion P xs → P x
 holds_there P (y ∷ xs) (suc k) x at h = holds_there P xs k x at h.1
 holds_there P xs k x at h = grind (arith)
-
--- A slot is needed where the first caller's begin sees it, or another one's.
-pub needed_cons : (caller : Caller) (callers : List Caller) (slot : Option Version) → is_needed (begins (caller ∷ callers)) slot ≡ (is_needed (option_to_list caller.at_begin) slot || is_needed (begins callers) slot)
-needed_cons caller callers slot = grind (arith)
 
 kept_spare : (keeper : ℕ) (callers : List Caller) (slot : Option Version) → is_free_use (kept_from keeper callers slot) ≡ not (is_needed (begins callers) slot)
 kept_spare keeper [] slot = refl
@@ -48,9 +44,6 @@ live ids (Some version) = live_by ids version.id version.death
 
 pub one_no : (b : Bool) → b ≡ false → ◌≡◌ {A = ℕ} (cond b 1 0) 0
 one_no b e = ap (λ t. cond t 1 0) e
-
-pub close_idle : (ids : List ℕ) (made : ℕ) (slot : Option Version) → live ids slot ≡ false → close ids made slot ≡ slot
-close_idle ids made slot h = grind (arith)
 
 -- A place that shows an id's row is in the table.
 pub has_row_at : (stamp id : ℕ) (slots : List (Option Version)) (place : ℕ) → row_at stamp id slots place ≡ true → has (visible stamp slots) id ≡ true

@@ -2,8 +2,8 @@
 use Rattle.pref_core.proofs.Common.{map-set_same, get_or_from_slice_get, ◌≡◌, ℕ, zero, suc, ◌*◌, ◌<◌, ◌≤◌, Bool, true, false, ◌&&◌, cond, List, [], ◌∷◌, map, take, drop, Option}
 use Rattle.pref_core.proofs.Common.{Some, None, slice_get, slice_set, refl, sym, ap, ap₂, ◌∙◌, arith, AllByRecursion, filter_map, cons_option, take-map, drop-map}
 use Rattle.pref_core.proofs.Common.{Version, Caller, Call, Op, Line, Entry, seat, with_seat, is_change, ended, begun}
-use Rattle.pref_core.proofs.Common.{succeeds, refusal_of, Contents, seen, visible, begins, stamps, caller_begun, block_of, new_version, close, is_free, filled, refusal_at}
-use Rattle.pref_core.proofs.Common.{begin_after, callers_after, is_next, slots_after, stepped, applied, ran, is_end, ends_query, IsStable}
+use Rattle.pref_core.proofs.Common.{succeeds, Contents, seen, visible, begins, stamps, caller_begun, block_of, new_version, close, is_free, filled, refusal_at}
+use Rattle.pref_core.proofs.Common.{begin_after, callers_after, is_next, slots_after, stepped, applied, ran, ends_query, IsStable}
 use Rattle.pref_core.proofs.VisibleLaws.{seen_close-before, seen_born-before}
 use Rattle.pref_core.proofs.StandsForLaws.{hidden_unneeded}
 use Rattle.pref_core.proofs.SlotReuse.{IsFree-from}
@@ -99,10 +99,6 @@ begun_at o = elim o [ None ↦ None | Some caller ↦ caller.at_begin ]
 pub begun_own : (callers : List Caller) (client : ℕ) (caller : Caller) (call : Call) (now : ℕ) → seat client callers ≡ Some caller → begun_at (seat client (callers_after now callers client call)) ≡ begin_after now call caller.at_begin
 begun_own callers client caller call now at = grind (arith, seat-with_seat_same)
 
--- a call that is let in while a query is open, and doesn't end it, leaves it
-begin_after-kept : (calls : Option ℕ) (call : Call) (now stamp : ℕ) → refusal_of calls true call ≡ None → is_end call ≡ false → begin_after now call (Some stamp) ≡ Some stamp
-begin_after-kept calls call now stamp r e = grind (arith)
-
 kept_at : (contents : Contents) (client stamp : ℕ) (op : Op) → caller_begun contents client ≡ Some stamp → refusal_at contents op.client op.call ≡ None → ends_query client op ≡ false
     → begun_at (seat client (callers_after contents.stamp contents.callers op.client op.call)) ≡ Some stamp
 kept_at contents client stamp op is accepted open_ = grind (arith, seat-with_seat_other, begun_own)
@@ -120,9 +116,6 @@ lasts_stepped contents client stamp op slots begun l shows = grind (arith)
 pub lasts_applied : (contents : Contents) (client stamp : ℕ) (op : Op) → caller_begun contents client ≡ Some stamp → stamp ≤ contents.stamp → ends_query client op ≡ false → Lasts client stamp contents (applied contents op)
 lasts_applied contents client stamp op is l open_ = go (is_next contents op) refl (slots_after contents op) refl
   where
-    stays : Lasts client stamp contents contents
-    stays = record { at_begin = is; within = l; shows = refl }
-
     go : (b : Bool) → is_next contents op ≡ b → (s : Option (List (Option Version))) → slots_after contents op ≡ s
         → Lasts client stamp contents (cond b (elim s as (λ x. Contents) [ None ↦ contents | Some slots ↦ stepped contents op slots ]) contents)
     go true n (Some slots) e =

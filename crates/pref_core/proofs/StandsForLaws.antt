@@ -1,5 +1,5 @@
 -- What slots show at each stamp when versions end, begin, and take a slot that isn't needed.
-use Rattle.pref_core.proofs.Common.{◌≡◌, ℕ, suc, ◌<◌, ◌≤◌, false, not, List, [], ◌∷◌, map, Option, Some, None, slice_get, slice_set, refl, arith, cons_option, AllByRecursion, AllZip}
+use Rattle.pref_core.proofs.Common.{◌≡◌, ℕ, suc, ◌≤◌, false, not, List, [], ◌∷◌, map, Option, Some, None, slice_get, slice_set, refl, arith, cons_option, AllByRecursion, AllZip}
 use Rattle.pref_core.proofs.Common.{IsPermutation, IsPermutation-trans, IsPermutation-sym, Version, Caller, Line, among, without, Entry, Client, Snapshot, seen, visible}
 use Rattle.pref_core.proofs.Common.{is_needed, begins, IsWithin, Shows, ShowsBegin, StandsForClient, new_version, close}
 use Rattle.pref_core.proofs.Permutations.{IsPermutation-filter}
@@ -16,9 +16,6 @@ Shows-close ids next now slots table within shows = record {
 
 pub Shows-close-before : (ids : List ℕ) (now stamp : ℕ) (slots : List (Option Version)) (table : List Line) → stamp ≤ now → Shows slots stamp table → Shows (map (close ids (suc now)) slots) stamp table
 Shows-close-before ids now stamp slots table h shows = search (rules, visible_close-before)
-
-pub Shows-new_version-before : (stamp made : ℕ) (fresh : Entry) (slots : List (Option Version)) (table : List Line) → stamp < made → Shows slots stamp table → Shows (new_version made fresh ∷ slots) stamp table
-Shows-new_version-before stamp made fresh slots table h shows = grind (arith)
 
 -- a slot that shows nothing is used again
 visible_set : (stamp : ℕ) (slots : List (Option Version)) (place : ℕ) (old new : Option Version) → slice_get slots place ≡ Some old → seen stamp old ≡ None → IsPermutation (visible stamp (new ∷ slots)) (visible stamp (slice_set slots place new))

@@ -154,9 +154,6 @@ numbered_stands running system next op member new scan at h legal is members min
   members = λ client. ⊎_elim (same client) (others client) (cases_eq client op.client);
 }
   where
-    Stands : Option (Option Scan) → Option Member → Type 0
-    Stands = StandsForMember (applied running.contents op).slots
-
     same : (client : ℕ) → client ≡ op.client → StandsForMember (applied running.contents op).slots (seat client (with_seat op.client scan running.scans)) (seat client next.members)
     same client e =
         let place = HasPlace-from running system op.client member h at in
@@ -206,9 +203,6 @@ scanned_stands running system client member scan query at same h mine = record {
   members = λ other. ⊎_elim (here other) (others other) (cases_eq other client);
 }
   where
-    new : Member
-    new = record { calls = member.calls; query = Some query }
-
     unchanged : state_of (scanned_with query client member system) ≡ state_of system
     unchanged =
         let clients = with_seat-map client_of client (record { calls = member.calls; query = Some query }) system.members

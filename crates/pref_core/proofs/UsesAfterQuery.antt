@@ -1,7 +1,7 @@
 -- What becomes of the uses where an open query begins or ends.
 use Rattle.pref_core.proofs.Common.{◌≡◌, ℕ, zero, suc, ◌+◌, ◌-◌, ◌<◌, ◌≤◌, inl, true, false, cond, List, [], ◌∷◌, ◌++◌, map, length, set, replicate, Option, Some, None}
 use Rattle.pref_core.proofs.Common.{is_some, slice_get, refl, sym, ap, ap₂, ◌∙◌, subst, arith, AllByRecursion, AllZip, option_to_list, length-set, slice_get_within, Version, Caller}
-use Rattle.pref_core.proofs.Common.{SlotUse, Free, Ended, Live, Call, Begin, Op, Row, refusal_of, after, Contents, is_needed}
+use Rattle.pref_core.proofs.Common.{SlotUse, Free, Ended, Live, Call, Op, Row, refusal_of, after, Contents, is_needed}
 use Rattle.pref_core.proofs.Common.{StandsFor, IsWithin, opening_slots, begin_after, callers_after, refusal_at, is_next, slots_after, stepped, applied, is_end, kept_from, use_of, number_of}
 use Rattle.pref_core.proofs.Common.{is_kept_by, MayBecome, IsBounded, IsKept, uses_of}
 use Rattle.pref_core.proofs.AppliedLaws.{stepped_stands}
@@ -24,22 +24,12 @@ uses_still : (next now : ℕ) (callers : List Caller) (k : ℕ) (found new : Cal
 uses_still next now callers k found new [] at still h = refl
 uses_still next now callers k found new (slot ∷ slots) at still h = ap₂ ◌∷◌ (use_still next now callers k found new slot at still h.0) (uses_still next now callers k found new slots at still h.1)
 
--- No ended version is seen now.
-sees_begun : (next now : ℕ) (found new : Caller) → found.at_begin ≡ None → new.at_begin ≡ Some now → SeesStill next now found new
-sees_begun next now found new none some version h d = grind (arith)
-
-begin_closed : (calls : ℕ) (b : Option ℕ) → refusal_of (Some calls) (is_some b) Begin ≡ None → b ≡ None
-begin_closed calls b h = grind (arith)
-
 -- Every call that doesn't end a query leaves the uses.
 pub uses_kept : (contents : Contents) (client : ℕ) (call : Call) → refusal_at contents client call ≡ None → is_end call ≡ false → AllByRecursion (IsWithin contents.next_id contents.stamp) contents.slots
     → map (use_of (callers_after contents.stamp contents.callers client call)) contents.slots ≡ uses_of contents
 uses_kept contents zero call accepted stays within = refl
 uses_kept contents (suc k) call accepted stays within = there (slice_get contents.callers k) refl accepted
   where
-    same : (call : Call) (found new : Caller) → new.at_begin ≡ begin_after contents.stamp call found.at_begin → begin_after contents.stamp call found.at_begin ≡ found.at_begin → SeesStill contents.next_id contents.stamp found new
-    same call found new is e version h d = ap (λ b. is_needed (option_to_list b) (Some version)) (is ∙ e)
-
     still : (call : Call) (found new : Caller) → new.at_begin ≡ begin_after contents.stamp call found.at_begin → refusal_of (Some found.calls) (is_some found.at_begin) call ≡ None → is_end call ≡ false → SeesStill contents.next_id contents.stamp found new
     still call found new is r e = grind (arith)
 

@@ -40,10 +40,6 @@ abbrev pub kept : List ℕ → Option Line → Option Line
 kept ids None = None
 kept ids (Some shown) = cond (not (among ids shown.id)) (Some shown) None
 
--- what it shows from then on: the line, where its id isn't chosen
-pub seen_close-after : (ids : List ℕ) (next now : ℕ) (slot : Option Version) → IsWithin next now slot → seen (suc now) (close ids (suc now) slot) ≡ kept ids (seen now slot)
-seen_close-after ids next now slot h = grind (arith)
-
 pub visible_close-after : (ids : List ℕ) (next now : ℕ) (slots : List (Option Version)) → AllByRecursion (IsWithin next now) slots → visible (suc now) (map (close ids (suc now)) slots) ≡ without ids (visible now slots)
 visible_close-after ids next now [] h = refl
 visible_close-after ids next now (slot ∷ slots) h = grind (arith, visible_close-after ids next now slots h.1)
