@@ -1,9 +1,9 @@
 -- The table block, line by line.
-use Rattle.pref_script.proofs.Common.{◌≡◌, ◌∙◌, ℕ, zero, suc, ◌+◌, ◌-◌, ◌<◌, ◌≤◌, true, false, List, [], ◌∷◌, ◌++◌, length, take, drop, get_or, ap, refl, sym, subst, arith, append_assoc, Option, Some}
-use Rattle.pref_script.proofs.Common.{Ok, Err, inl, inr, ◌⊎◌, cases_lt, eqb-true, lt-ltb, le-ltb, append-nil, drop-append-le, drop-take, drop_all, get_or_append_left, length-append, length-drop}
-use Rattle.pref_script.proofs.Common.{length-take, take-append-drop, take-append-le, take_all, take_at, fails_before_first, passes_at_first, position_or_len_is, get_or-append_seam, IsFirstByte}
+use Rattle.pref_script.proofs.Common.{◌≡◌, ◌∙◌, ℕ, zero, suc, ◌+◌, ◌-◌, ◌<◌, ◌≤◌, true, false, List, [], ◌∷◌, ◌++◌, length, take, drop, get_or, ap, refl, sym, subst, arith, append_assoc, Option}
+use Rattle.pref_script.proofs.Common.{Ok, Err, inl, inr, ◌⊎◌, cases_lt, eqb-true, append-nil, drop-append-le, drop-take, drop_all, get_or_append_left, length-append, length-drop}
+use Rattle.pref_script.proofs.Common.{length-take, take-append-drop, take-append-le, take_all, take_at, fails_before_first, passes_at_first, position_or_len_is, get_or-append_seam}
 use Rattle.pref_script.proofs.Common.{is_byte, Consumes-trans, Consumes, concat, position_or_len, HearsNone, IsBlock, LacksBlock, ReadsBlock, EndsWithLine, HeardNone, IsTooLong, IsLineAt, IsLittle}
-use Rattle.pref_script.proofs.Common.{IsLong, LineFault, NoLineFeed, ReadBehind, ReadSome, between, is_at_end, most_ahead, unread, Source, block_lines, is_end_line, is_table_line, parts_of, raw_lines}
+use Rattle.pref_script.proofs.Common.{IsLong, LineFault, NoLineFeed, ReadBehind, ReadSome, between, is_at_end, unread, Source, block_lines, is_end_line, is_table_line, parts_of, raw_lines}
 use Rattle.pref_script.proofs.Common.{RunFault, ReadAhead}
 use borrow.Author.Count.{below_more}
 use Rattle.pref_script.proofs.LineFacts.{behind_more, ends_more, front_is, front_more, line_at, little_left, none_behind, none_in_front, same_front}
@@ -22,57 +22,31 @@ pub record BlockLines (text : List ℕ) (start count : ℕ) : Type 0 where
   pub front : length first ≡ start
 
 block_first : (line : List ℕ) (start : ℕ) → length line ≡ start → raw_lines line ≡ line ∷ [] → is_table_line line ≡ true → BlockLines line start 0
-block_first line start size one is = record {
-  first = line;
-  rest = [];
-  lines = one;
-  is_first = is;
-  others = λ k h. absurd (omega (arith, h));
-  counted = refl;
-  text_is = sym (append-nil line);
-  front = size;
-}
+block_first line start size one is = grind (arith, append-nil)
 
 block_more : (text line : List ℕ) (start count : ℕ) → BlockLines text start count → EndsWithLine text → raw_lines line ≡ line ∷ [] → is_end_line line ≡ false → BlockLines (text ++ line) start (count + 1)
-block_more text line start count block ends one other =
-    let rest = block.rest ++ line ∷ [] in
-    let size : length rest ≡ length block.rest + 1 = length-append block.rest (line ∷ []) in
-    let below : (k : ℕ) → k < length block.rest + 1 → is_end_line (get_or rest k []) ≡ false =
-    below_more (λ (k : ℕ). is_end_line (get_or rest k []) ≡ false) (length block.rest) (λ k h. ap is_end_line (get_or_append_left block.rest (line ∷ []) [] k h) ∙ block.others k h) (ap is_end_line (get_or-append_seam block.rest line [] []) ∙ other) in
-    record {
-      first = block.first;
-      rest = rest;
-      lines = ends line ∙ ap (λ (t : List (List ℕ)). t ++ raw_lines line) block.lines ∙ ap (λ (t : List (List ℕ)). (block.first ∷ block.rest) ++ t) one;
-      is_first = block.is_first;
-      others = λ k h. below k (omega (arith, h, size));
-      counted = omega (arith, block.counted, size);
-      text_is = ap (λ (t : List ℕ). t ++ line) block.text_is ∙ append_assoc block.first (concat block.rest) line ∙ ap (λ (t : List ℕ). block.first ++ t) (sym (concat-push block.rest line));
-      front = block.front;
-    }
+block_more text line start count block ends one other = record {
+  first = block.first;
+  rest = block.rest ++ line ∷ [];
+  lines = grind (arith, ends line, block.lines, one);
+  is_first = block.is_first;
+  others = λ k h. grind (arith, h, length-append block.rest (line ∷ []), get_or_append_left block.rest (line ∷ []) [] k, block.others k, get_or-append_seam block.rest line [] []);
+  counted = omega (arith, block.counted, length-append block.rest (line ∷ []));
+  text_is = grind (arith, block.text_is, append_assoc block.first (concat block.rest) line, concat-push block.rest line);
+  front = block.front;
+}
 
 -- the table text of a block, whose line `end` comes now
 block_found : (text line : List ℕ) (start count : ℕ) → BlockLines text start count → EndsWithLine text → raw_lines line ≡ line ∷ [] → is_end_line line ≡ true
     → parts_of (raw_lines (text ++ line)) ≡ Ok (record { table = drop start text; commands = []; first = count + 3 })
 block_found text line start count block ends one is_last =
     let rest = block.rest ++ line ∷ [] in
-    let all : raw_lines (text ++ line) ≡ block.first ∷ rest = ends line ∙ ap (λ (t : List (List ℕ)). t ++ raw_lines line) block.lines ∙ ap (λ (t : List (List ℕ)). (block.first ∷ block.rest) ++ t) one in
-    let size : length rest ≡ length block.rest + 1 = length-append block.rest (line ∷ []) in
-    let place : position_or_len is_end_line rest ≡ length block.rest =
-    position_or_len_is is_end_line rest (length block.rest) [] (omega (arith, size)) (λ k h. ap is_end_line (get_or_append_left block.rest (line ∷ []) [] k h) ∙ block.others k h) (λ h. ap is_end_line (get_or-append_seam block.rest line [] []) ∙ is_last) in
-    let inside = lt-ltb (length block.rest) (length rest) (omega (arith, size)) in
-    let before : take (length block.rest) rest ≡ block.rest = take-append-le (length block.rest) block.rest (line ∷ []) (omega arith) ∙ take_all (length block.rest) block.rest (omega arith) in
-    let after : drop (length block.rest + 1) rest ≡ [] = drop_all (length block.rest + 1) rest (omega (arith, size)) in
-    let table : concat block.rest ≡ drop start text =
-    sym (ap (drop start) block.text_is ∙ ap (λ (n : ℕ). drop n (block.first ++ concat block.rest)) (sym block.front) ∙ drop-append-le (length block.first) block.first (concat block.rest) (omega arith)
-    ∙ ap (λ (t : List ℕ). t ++ concat block.rest) (drop_all (length block.first) block.first (omega arith))) in
-    ap parts_of all ∙ rw (block.is_first, place, inside, before, after, table, block.counted) refl
+    let place = position_or_len_is is_end_line rest (length block.rest) [] (omega (arith, length-append block.rest (line ∷ []))) (λ k h. grind (arith, get_or_append_left block.rest (line ∷ []) [] k h, block.others k h)) (λ h. grind (arith, get_or-append_seam block.rest line [] [])) in
+    grind (arith, ends line, block, one, length-append block.rest (line ∷ []), place, take-append-le (length block.rest) block.rest (line ∷ []), take_all (length block.rest) block.rest, drop_all, drop-append-le (length block.first) block.first (concat block.rest))
 
 -- a text without a line `end`
 block_none : (text : List ℕ) (start count : ℕ) → BlockLines text start count → parts_of (raw_lines text) ≡ Err fault.NoEnd
-block_none text start count block =
-    let place : position_or_len is_end_line block.rest ≡ length block.rest = position_or_len_is is_end_line block.rest (length block.rest) [] (omega arith) block.others (λ h. absurd (omega (arith, h))) in
-    let over = le-ltb (length block.rest) (length block.rest) (omega arith) in
-    ap parts_of block.lines ∙ rw (block.is_first, place, over) refl
+block_none text start count block = grind (arith, position_or_len_is is_end_line block.rest (length block.rest) [] (omega arith) block.others (λ h. absurd (omega (arith, h))), block.lines, block.is_first)
 
 -- a text without a line `table`
 no_table : (text line : List ℕ) (more : List (List ℕ)) → raw_lines text ≡ line ∷ more → is_table_line line ≡ false → parts_of (raw_lines text) ≡ Err fault.NoTable
@@ -87,37 +61,16 @@ pub record BlockAt (ahead : ReadAhead) (start stop count : ℕ) : Type 0 where
   pub lines : EndsWithLine (take stop (unread ahead)) ⊎ (is_at_end ahead ≡ true) × (stop ≡ length (unread ahead))
 
 pub block_open : (ahead : ReadAhead) (start : ℕ) → 0 < start → start ≤ length (unread ahead) → start ≤ 16777216 → IsLineAt 0 start ahead → is_table_line (take start (unread ahead)) ≡ true → BlockAt ahead start start 0
-block_open ahead start some inside most line is =
-    let at = rw (front_is start (unread ahead)) at (line_at ahead 0 start line some) in
-    record {
-      inside = inside;
-      few = omega arith;
-      most = most;
-      block = block_first (take start (unread ahead)) start (omega (arith, length-take start (unread ahead), inside)) at.0 is;
-      lines = at.1;
-    }
+block_open ahead start some inside most line is = grind (arith, front_is start (unread ahead), line_at ahead 0 start line some, block_first, length-take start (unread ahead))
 
 -- the input has no line `table`
 pub table_missing : (ahead : ReadAhead) (start : ℕ) → start ≤ length (unread ahead) → IsLineAt 0 start ahead → is_table_line (take start (unread ahead)) ≡ false → LacksBlock ahead fault.NoTable
 table_missing ahead start inside (inl (some, whole)) other =
-    let line = take start (unread ahead) in
-    let rest = drop start (unread ahead) in
-    let first = rw (front_is start (unread ahead)) at whole in
-    inl (λ more. no_table (unread ahead ++ more) line (raw_lines (rest ++ more)) (ap raw_lines (ap (λ (t : List ℕ). t ++ more) (sym (take-append-drop start (unread ahead))) ∙ append_assoc line rest more) ∙ first (rest ++ more)) other)
-table_missing ahead start inside (inr (ended, all, last)) other = inr (
-  ended,
-  elim (cases_lt 0 start) [
-    | inl some ↦
-        let whole = take_all start (unread ahead) (omega (arith, all)) in
-        let here = rw (front_is start (unread ahead) ∙ whole) at (last some) in
-        no_table (unread ahead) (unread ahead) [] here (ap is_table_line (sym whole) ∙ other)
-    | inr none ↦ script-none (unread ahead) (omega (arith, all, none))
-  ],
-)
+    inl (λ more. grind (arith, take-append-drop start (unread ahead), append_assoc (take start (unread ahead)) (drop start (unread ahead)) more, whole (drop start (unread ahead) ++ more), front_is start (unread ahead)))
+table_missing ahead start inside (inr (ended, all, last)) other = grind (arith, cases_lt, take_all, front_is, no_table, script-none)
 
 pub input_missing : (ahead : ReadAhead) → IsLineAt 0 0 ahead → LacksBlock ahead fault.NoTable
-input_missing ahead (inl (some, whole)) = absurd (omega arith)
-input_missing ahead (inr (ended, all, last)) = inr (ended, script-none (unread ahead) (sym all))
+input_missing ahead h1 = grind (arith, script-none)
 
 -- A beginning of a table block stands there, and more was read behind it.
 module _ (had left : Option (List ℕ)) (old new : ReadAhead) (start stop count : ℕ) (so_far : BlockAt old start stop count) (read : ReadBehind had left old new) where
@@ -126,17 +79,12 @@ module _ (had left : Option (List ℕ)) (old new : ReadAhead) (start stop count 
 
   -- before a line more the text ends with a line
   ends_before : (end : ℕ) → stop < end → end ≤ length (unread new) → EndsWithLine (take stop (unread new))
-  ends_before end some inside = elim so_far.lines [
-    | inl ends ↦ subst EndsWithLine (sym (same_front had left old new stop read so_far.inside)) ends
-    | inr (ended, all) ↦ absurd (let (none, still) = read.no_more ended in omega (arith, some, inside, all, ap length read.behind, length-append (unread old) read.bytes, ap length none))
-  ]
+  ends_before end some inside = grind (arith, same_front had left old new stop read so_far.inside, length-append (unread old) read.bytes)
 
   -- the text with the line, and how it ends
   with_line : (end : ℕ) → IsLineAt stop end new → stop < end → end ≤ length (unread new)
       → (take stop (unread new) ++ between stop end (unread new) ≡ take end (unread new)) × (EndsWithLine (take end (unread new)) ⊎ (is_at_end new ≡ true) × (end ≡ length (unread new)))
-  with_line end line some inside =
-      let all : take stop (unread new) ++ between stop end (unread new) ≡ take end (unread new) = sym (front_more stop end (unread new) (omega arith)) in
-      (all, elim (line_at new stop end line some).1 [ inl e ↦ inl (subst EndsWithLine all (ends_more (take stop (unread new)) (between stop end (unread new)) (ends_before end some inside) e)) | inr last ↦ inr last ])
+  with_line end line some inside = grind (arith, front_more, line_at new stop end line some, ends_more, ends_before end some inside)
 
   pub block_next : (end : ℕ) → IsLineAt stop end new → stop < end → end ≤ length (unread new) → end ≤ 16777216 → is_end_line (between stop end (unread new)) ≡ false → BlockAt new start end (count + 1)
   block_next end line some inside most other =
@@ -148,8 +96,7 @@ module _ (had left : Option (List ℕ)) (old new : ReadAhead) (start stop count 
   pub block_end : (end : ℕ) → IsLineAt stop end new → stop < end → end ≤ length (unread new) → is_end_line (between stop end (unread new)) ≡ true → IsBlock (record { start = start; stop = stop; end = end; first = count + 3 }) new
   block_end end line some inside is_last =
       let (all, lines) = with_line end line some inside in
-      let sum : stop ≡ start + (stop - start) = omega (arith, so_far.few) in
-      let table : drop start (take stop (unread new)) ≡ between start stop (unread new) = ap (λ (n : ℕ). drop start (take n (unread new))) sum ∙ drop-take start (stop - start) (unread new) in
+      let table : drop start (take stop (unread new)) ≡ between start stop (unread new) = grind (arith, drop-take start (stop - start) (unread new), so_far.few) in
       let cut = block_found (take stop (unread new)) (between stop end (unread new)) start count block_still (ends_before end some inside) (line_at new stop end line some).0 is_last in
       record { inside = inside; places = (omega (arith, so_far.few), omega arith); few = omega (arith, so_far.few, so_far.most); cut = rw (all, table) at cut; lines = lines }
 
@@ -163,14 +110,17 @@ module _ (had left : Option (List ℕ)) (old new : ReadAhead) (start stop count 
 -- the first line of a text is longer than this
 long_first : (size : ℕ) (text : List ℕ) → NoLineFeed 0 size text → size < length text → (line : List ℕ) × (rest : List (List ℕ)) × (raw_lines text ≡ line ∷ rest) × (size < length line)
 long_first size text none more =
-    let place = position_or_len (is_byte 10) text in elim (cases_lt place (length text)) [
-      | inl inside ↦
-          let is = passes_at_first (is_byte 10) text 0 inside in
-          let found : IsFirstByte (is_byte 10) text (Some place) = (record { low = omega arith; high = inside; before = λ k low early at. absurd (let not = fails_before_first (is_byte 10) text k 0 early in cc) }, is) in
-          let late : size ≤ place = elim (cases_lt place size) [ inl early ↦ absurd (none place (omega arith) early (eqb-true _ 10 is)) | inr late ↦ late ] in
-          (take (place + 1) text, raw_lines (drop (place + 1) text), lines_at text place found, omega (arith, late, inside, length-take (place + 1) text))
-      | inr past ↦ (text, raw_lines [], lines_last text (omega (arith, more)) (λ k low early at. absurd (let not = fails_before_first (is_byte 10) text k 0 (omega arith) in cc)), more)
-    ]
+    grind (
+      arith,
+      cases_lt (position_or_len (is_byte 10) text) (length text),
+      cases_lt (position_or_len (is_byte 10) text) size,
+      passes_at_first,
+      fails_before_first,
+      eqb-true,
+      lines_at,
+      length-take ((position_or_len (is_byte 10) text) + 1) text,
+      lines_last,
+    )
 
 -- the line that stands behind a place, whatever follows
 long_rest : (stop : ℕ) (text more : List ℕ) → IsLong stop text → stop ≤ 16777216 → (line : List ℕ) × (rest : List (List ℕ)) × (raw_lines (drop stop text ++ more) ≡ line ∷ rest) × (16777216 - stop < length line)
@@ -180,9 +130,7 @@ long_rest stop text more (none, long) inside =
 
 -- a long line among others
 pub long_among : (text : List ℕ) (before rest : List (List ℕ)) (line : List ℕ) → raw_lines text ≡ before ++ line ∷ rest → 16777216 < length line → IsTooLong text
-long_among text before rest line is long =
-    let size = ap length is in
-    inr (inl (length before, line, omega (arith, size, length-append before (line ∷ rest)), ap (λ (t : List (List ℕ)). get_or t (length before) line) is ∙ get_or-append_seam before line rest line, long))
+long_among text before rest line is long = grind (arith, length-append before (line ∷ rest), get_or-append_seam before line rest line)
 
 -- the first line is too long, whatever follows
 pub first_too_long : (text more : List ℕ) → IsLong 0 text → (line : List ℕ) × (rest : List (List ℕ)) × (raw_lines (text ++ more) ≡ line ∷ rest) × (16777216 < length line)
@@ -191,52 +139,42 @@ first_too_long text more long = long_rest 0 text more long (omega arith)
 -- more of some lists are together no shorter
 concat_longer : (m n : ℕ) (lists : List (List ℕ)) → m ≤ n → length (concat (take m lists)) ≤ length (concat (take n lists))
 concat_longer zero n lists h = omega arith
-concat_longer (suc m) zero lists h = absurd (omega arith)
-concat_longer (suc m) (suc n) [] h = omega arith
-concat_longer (suc m) (suc n) (list ∷ lists) h =
-    let rest = concat_longer m n lists (omega arith) in
-    omega (arith, rest, length-append list (concat (take m lists)), length-append list (concat (take n lists)))
+concat_longer (suc m) (suc n) (list ∷ lists) h = grind (arith, concat_longer m n lists, length-append list (concat (take m lists)), length-append list (concat (take n lists)))
+concat_longer m n lists h = grind (arith)
 
 -- a table block with this line is as long as the lines so far are together
 long_block : (first : List ℕ) (rest more : List (List ℕ)) (line : List ℕ) → is_table_line first ≡ true → ((k : ℕ) → k < length rest → is_end_line (get_or rest k []) ≡ false)
     → length first + length (concat rest) + length line ≤ length (concat (block_lines (first ∷ (rest ++ line ∷ more))))
 long_block first rest more line is others =
-    let all = rest ++ line ∷ more in
-    let place = position_or_len is_end_line all in
-    let size : length all ≡ length rest + suc (length more) = length-append rest (line ∷ more) in
-    let late : length rest ≤ place = elim (cases_lt place (length rest)) [
-      | inl early ↦ absurd (let at = sym (get_or_append_left rest (line ∷ more) [] place early) in let yes = passes_at_first is_end_line all [] (omega (arith, early, size)) in let no = others place early in cc)
-      | inr late ↦ late
-    ] in
-    let front : take (length rest + 1) all ≡ rest ++ line ∷ [] =
-    ap (take (length rest + 1)) (sym (append_assoc rest (line ∷ []) more)) ∙ take_at (rest ++ line ∷ []) more (length rest + 1) (length-append rest (line ∷ [])) in
-    let longer = concat_longer (length rest + 1) (place + 1) all (omega (arith, late)) in
-    let sum : length (concat (take (length rest + 1) all)) ≡ length (concat rest) + length line = ap (λ (t : List (List ℕ)). length (concat t)) front ∙ ap length (concat-push rest line) ∙ length-append (concat rest) line in
-    rw is (omega (arith, longer, sum, length-append first (concat (take (place + 1) all))))
+    grind (
+      arith,
+      length-append first (concat (take ((position_or_len is_end_line (rest ++ line ∷ more)) + 1) (rest ++ line ∷ more))),
+      length-append rest (line ∷ more),
+      length-append rest (line ∷ []),
+      length-append (concat rest) line,
+      cases_lt (position_or_len is_end_line (rest ++ line ∷ more)) (length rest),
+      get_or_append_left rest (line ∷ more),
+      passes_at_first is_end_line (rest ++ line ∷ more),
+      append_assoc rest (line ∷ []) more,
+      take_at (rest ++ line ∷ []) more (length rest + 1) (length-append rest (line ∷ [])),
+      concat_longer,
+      concat-push rest line,
+    )
 
 -- a line of the table block ends too far away
 block_too_long : (had left : Option (List ℕ)) (old new : ReadAhead) (start stop count : ℕ) → BlockAt old start stop count → ReadBehind had left old new → IsLong stop (unread new) → (more : List ℕ) → IsTooLong (unread new ++ more)
 block_too_long had left old new start stop count so_far read long more =
-    let all = unread new in
-    let text = take stop all in
-    let tail = drop stop all ++ more in
-    let ends = ends_before had left old new start stop count so_far read (length all) (omega (arith, so_far.most, long.1)) (omega arith) in
+    let ends = ends_before had left old new start stop count so_far read (length (unread new)) (omega (arith, so_far.most, long.1)) (omega arith) in
     let block = block_still had left old new start stop count so_far read in
-    let (line, rest, cut, size) = long_rest stop all more long so_far.most in
-    let lines : raw_lines (all ++ more) ≡ block.first ∷ (block.rest ++ line ∷ rest) =
-    ap raw_lines (ap (λ (t : List ℕ). t ++ more) (sym (take-append-drop stop all)) ∙ append_assoc text (drop stop all) more) ∙ ends tail ∙ ap (λ (t : List (List ℕ)). t ++ raw_lines tail) block.lines
-    ∙ ap (λ (t : List (List ℕ)). (block.first ∷ block.rest) ++ t) cut in
-    let front : stop ≡ length block.first + length (concat block.rest) =
-    sym (omega (arith, length-take stop all, so_far.most, long.1)) ∙ ap length block.text_is ∙ length-append block.first (concat block.rest) in
-    inl (rw lines (omega (arith, front, size, so_far.most, long_block block.first block.rest rest line block.is_first block.others)))
+    let (line, rest, cut, size) = long_rest stop (unread new) more long so_far.most in
+    let lines : raw_lines (unread new ++ more) ≡ block.first ∷ (block.rest ++ line ∷ rest) = grind (arith, take-append-drop stop (unread new), append_assoc (take stop (unread new)) (drop stop (unread new)) more, ends (drop stop (unread new) ++ more), block.lines, cut) in
+    inl (rw lines (omega (arith, size, so_far.most, long.1, length-take stop (unread new), ap length block.text_is, length-append block.first (concat block.rest), long_block block.first block.rest rest line block.is_first block.others)))
 
 -- ---- no line of the block was read
 
 -- the lines of a table block so far are all of its block
 block_part : (text : List ℕ) (start count : ℕ) → BlockLines text start count → block_lines (raw_lines text) ≡ raw_lines text
-block_part text start count block =
-    let place : position_or_len is_end_line block.rest ≡ length block.rest = position_or_len_is is_end_line block.rest (length block.rest) [] (omega arith) block.others (λ h. absurd (omega (arith, h))) in
-    ap block_lines block.lines ∙ rw (block.is_first, place) (ap (λ (t : List (List ℕ)). block.first ∷ t) (take_all (length block.rest + 1) block.rest (omega arith))) ∙ sym block.lines
+block_part text start count block = grind (arith, position_or_len_is is_end_line block.rest (length block.rest) [] (omega arith) block.others (λ h. absurd (omega (arith, h))), block.lines, block.is_first, take_all (length block.rest + 1) block.rest)
 
 pub so_far_part : (had left : Option (List ℕ)) (old new : ReadAhead) (start stop count : ℕ) → BlockAt old start stop count → ReadBehind had left old new → block_lines (raw_lines (take stop (unread new))) ≡ raw_lines (take stop (unread new))
 so_far_part had left old new start stop count so_far read = block_part (take stop (unread new)) start count (block_still had left old new start stop count so_far read)
@@ -251,16 +189,7 @@ little_at_first old none = subst (IsLittle 0) (sym none) (record { no_line = λ 
 
 -- what was read is lines of a table block up to a place, and little behind it
 pub heard_none : (source : Source) (text : List ℕ) (stop : ℕ) → Consumes source.had source.left text → block_lines (raw_lines (take stop text)) ≡ raw_lines (take stop text) → IsLittle stop text → HeardNone source
-heard_none source text stop consumed lines little =
-    let whole = sym (take-append-drop stop text) in
-    record {
-      block = take stop text;
-      unheard = drop stop text;
-      consumed = subst (Consumes source.had source.left) whole consumed;
-      lines = lines;
-      little = little_left stop text little;
-      most = subst (λ (t : List ℕ). length t ≤ most_ahead) whole little.most;
-    }
+heard_none source text stop consumed lines little = grind (arith, take-append-drop stop text, little_left stop text little)
 
 no_lines : (text : List ℕ) → block_lines (raw_lines (take 0 text)) ≡ raw_lines (take 0 text)
 no_lines text = ap block_lines lines_none ∙ sym lines_none
@@ -278,9 +207,15 @@ hears_first source old new read little = hears_part source old new 0 read little
 hears_no_more : (source : Source) (mid : Option (List ℕ)) (old now : ReadAhead) (start stop count : ℕ) → ReadBehind source.had mid old now → (IsLittle 0 (unread old) → IsLittle stop (unread now)) → BlockAt now start stop count → ReadSome mid source.left stop now
     → HearsNone source old
 hears_no_more source mid old now start stop count first little so_far next none =
-    let front : take stop (unread now ++ next.bytes) ≡ take stop (unread now) = take-append-le stop (unread now) next.bytes so_far.inside in
-    heard_none source (unread now ++ next.bytes) stop (Consumes-trans source.had mid source.left (unread now) next.bytes (all_read source.had mid old now none first) next.consumed)
-    (subst (λ (t : List ℕ). block_lines (raw_lines t) ≡ raw_lines t) (sym front) (block_part (take stop (unread now)) start count so_far.block)) (next.little (little (little_at_first old none)))
+    grind (
+      arith,
+      take-append-le stop (unread now) next.bytes so_far.inside,
+      heard_none,
+      Consumes-trans source.had mid source.left (unread now) next.bytes (all_read source.had mid old now none first) next.consumed,
+      all_read source.had mid old now none first,
+      block_part (take stop (unread now)) start count so_far.block,
+      little_at_first old none,
+    )
 
 -- a line was not read
 line_missing : (source : Source) (mid : Option (List ℕ)) (old now new : ReadAhead) (stop : ℕ) (why : RunFault) → LineFault (record { had = mid; left = source.left; failed = source.failed }) stop now new why → HearsNone source old
@@ -293,9 +228,7 @@ first_missing source old new why is some =
     line_missing source source.had old old new 0 why is none (λ read long. (read, λ more. let (line, rest, cut, size) = first_too_long (unread new) more long in long_among (unread new ++ more) [] rest line cut size))
   where
     none : HearsNone source old
-    none empty =
-        let same : unread old ++ some.bytes ≡ some.bytes = ap (λ (t : List ℕ). t ++ some.bytes) empty in
-        heard_none source some.bytes 0 some.consumed (no_lines some.bytes) (subst (IsLittle 0) same (some.little (little_at_first old empty)))
+    none empty = heard_none source some.bytes 0 some.consumed (no_lines some.bytes) (grind (arith, some.little (little_at_first old empty), empty))
 
 -- a line behind it was not read
 pub next_missing : (source : Source) (mid : Option (List ℕ)) (old now new : ReadAhead) (start stop count : ℕ) (why : RunFault) → ReadBehind source.had mid old now → (IsLittle 0 (unread old) → IsLittle stop (unread now)) → BlockAt now start stop count

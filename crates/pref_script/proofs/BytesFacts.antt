@@ -1,5 +1,5 @@
 -- Bytes that are read and written part by part.
-use Rattle.pref_script.proofs.Common.{◌≡◌, ◌++◌, [], ◌∙◌, ℕ, ◌+◌, ◌-◌, ◌<◌, ◌≤◌, List, length, take, drop, ap, refl, sym, subst, arith, Option, ◌∷◌, ℤ, pos, map, get_or, append_assoc, Appends}
+use Rattle.pref_script.proofs.Common.{◌≡◌, ◌++◌, [], ◌∙◌, ℕ, ◌+◌, ◌-◌, ◌<◌, ◌≤◌, List, length, take, drop, ap, refl, sym, arith, Option, ◌∷◌, ℤ, pos, map, get_or, append_assoc, Appends}
 use Rattle.pref_script.proofs.Common.{Appends-trans, signed_decimal, join_with_byte, range_with_len, row_text, drop-drop, take_all, length-drop, take-add}
 use Rattle.std.proofs.lemmas.List.FromFn.{length-map-range_with_len, map-range_with_len_more}
 
@@ -7,31 +7,19 @@ use Rattle.std.proofs.lemmas.List.FromFn.{length-map-range_with_len, map-range_w
 pub written_more : (a b c : Option (List ℕ)) (bytes rest : List ℕ) (done count : ℕ) → done ≤ length bytes → rest ≡ drop done bytes → count ≤ length rest
     → Appends a b (take done bytes) → Appends b c (take count rest)
     → (done + count ≤ length bytes) × (take (length rest - count) (drop count rest) ≡ drop (done + count) bytes) × Appends a c (take (done + count) bytes)
-written_more a b c bytes rest done count inside parts few before now =
-    let left = length-drop done bytes in
-    let size : length rest ≡ length bytes - done = ap length parts ∙ left in
-    let both = take-add done count bytes in
-    let tail = take_all (length rest - count) (drop count rest) (omega (arith, length-drop count rest)) in
-    let next = ap (drop count) parts ∙ drop-drop count done bytes in
-    let wrote = subst (λ (t : List ℕ). Appends b c (take count t)) parts now in
-    (omega arith, tail ∙ next, rw both (Appends-trans a b c (take done bytes) (take count (drop done bytes)) before wrote))
+written_more a b c bytes rest done count inside parts few before now = grind (arith, length-drop, take-add, take_all, drop-drop, Appends-trans)
 
 -- one more of some parts that are joined by a byte
 pub join-push : (c : ℕ) (parts : List (List ℕ)) (part : List ℕ) → 0 < length parts → join_with_byte c (parts ++ part ∷ []) ≡ join_with_byte c parts ++ (c ∷ part)
 join-push c [] part h = absurd (omega arith)
-join-push c (x ∷ []) part h = refl
-join-push c (x ∷ y ∷ rest) part h = ap (λ (t : List ℕ). x ++ (c ∷ t)) (join-push c (y ∷ rest) part (omega arith)) ∙ sym (append_assoc x (c ∷ join_with_byte c (y ∷ rest)) (c ∷ part))
+join-push c (x ∷ rest) part h = grind (arith, join-push c rest part, append_assoc)
 
 -- one cell more
 pub row_text-more : (cells : List ℤ) (col : ℕ) → 0 < col → row_text (col + 1) cells ≡ row_text col cells ++ (44 ∷ signed_decimal (get_or cells col (pos 0)))
 row_text-more cells col some =
     let text = λ (k : ℕ). signed_decimal (get_or cells k (pos 0)) in
-    let parts = map text (range_with_len 0 col) in
-    let count : 0 < length parts = omega (arith, length-map-range_with_len text 0 col) in
-    rw (map-range_with_len_more text 0 col col (omega arith)) (join-push 44 parts (text col) count)
+    rw (map-range_with_len_more text 0 col col (omega arith)) (join-push 44 (map text (range_with_len 0 col)) (text col) (omega (arith, length-map-range_with_len text 0 col)))
 
 -- a comma and a text pushed after a row
 pub pushed-more : (out row a b c text : List ℕ) → a ≡ out ++ row → b ≡ a ++ 44 ∷ [] → c ≡ b ++ text → c ≡ out ++ (row ++ (44 ∷ text))
-pushed-more out row a b c text first comma last =
-    last ∙ ap (λ (t : List ℕ). t ++ text) (comma ∙ ap (λ (t : List ℕ). t ++ 44 ∷ []) first)
-    ∙ append_assoc (out ++ row) (44 ∷ []) text ∙ append_assoc out row (44 ∷ text)
+pushed-more out row a b c text first comma last = grind (arith, append_assoc)

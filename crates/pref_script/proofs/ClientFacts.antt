@@ -1,5 +1,5 @@
 -- The acts of one client among events.
-use Rattle.pref_script.proofs.Common.{◌≡◌, ◌≢◌, ◌∙◌, ℕ, ◌≤◌, cond, List, [], ◌∷◌, ◌++◌, length, map, ap, arith, ◌==◌, filter, eq-eqb, ne_eqb, map-append, Event}
+use Rattle.pref_script.proofs.Common.{◌≡◌, ◌≢◌, ℕ, ◌≤◌, cond, List, [], ◌∷◌, ◌++◌, length, map, ap, arith, eq-eqb, ne_eqb, map-append, Event}
 use Rattle.std.proofs.lemmas.List.{length-map}
 use Rattle.std.proofs.lemmas.List.Elements.{filter-append}
 use Rattle.std.proofs.lemmas.List.Sums.{count_by-le-length, length-filter}
@@ -14,12 +14,8 @@ acts-other event client other = ap (λ own. map (λ (x : Event). x.act) (cond ow
 
 -- the acts of events and more events
 pub acts-append : (client : ℕ) (xs ys : List Event) → acts_of client (xs ++ ys) ≡ acts_of client xs ++ acts_of client ys
-acts-append client xs ys =
-    ap (map (λ (x : Event). x.act)) (filter-append (λ (x : Event). x.client == client) xs ys)
-    ∙ map-append (λ (x : Event). x.act) (filter (λ (x : Event). x.client == client) xs) (filter (λ (x : Event). x.client == client) ys)
+acts-append client xs ys = grind (arith, filter-append, map-append)
 
 -- a client has no more acts than there are events
 pub acts-few : (client : ℕ) (events : List Event) → length (acts_of client events) ≤ length events
-acts-few client events =
-    let own = λ (x : Event). x.client == client in
-    omega (arith, length-map (filter own events) (λ (x : Event). x.act), length-filter own events, count_by-le-length own events)
+acts-few client events = grind (arith, length-map, length-filter, count_by-le-length)

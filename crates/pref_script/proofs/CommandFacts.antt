@@ -1,7 +1,7 @@
 -- The commands of a script, one line at a time.
-use Rattle.pref_script.proofs.Common.{◌≡◌, ◌∙◌, ℕ, suc, ◌+◌, ◌<◌, ◌≤◌, Bool, true, false, List, [], ◌∷◌, ◌++◌, length, refl, sym, ap, arith, append_assoc, Result, Ok, Err, ◌==◌, cond, nat_le, nat_lt}
-use Rattle.pref_script.proofs.Common.{if◌then◌else◌, inl, inr, list_all, onto_first, slice_split, and_from, le-leb, lt-ltb, append-nil, length-append, is_blank, Event, Command, refused, runs, accepted_events, command_of}
-use Rattle.pref_script.proofs.Common.{commands_in, commands_of, event_of, is_line_feed, raw_lines, with_line_feeds, without_line_end, refused_line, reply_lines, texts, is_client, unowned_line}
+use Rattle.pref_script.proofs.Common.{◌≡◌, ◌∙◌, ℕ, suc, ◌+◌, ◌<◌, ◌≤◌, Bool, true, false, List, [], ◌∷◌, ◌++◌, length, refl, sym, ap, arith, append_assoc, Result, Ok, Err, nat_le, nat_lt}
+use Rattle.pref_script.proofs.Common.{if◌then◌else◌, inl, inr, list_all, and_from, le-leb, lt-ltb, append-nil, is_blank, Event, Command, refused, runs, accepted_events}
+use Rattle.pref_script.proofs.Common.{commands_in, commands_of, event_of, raw_lines, without_line_end, refused_line, reply_lines, texts, is_client, unowned_line}
 use Rattle.pref_script.proofs.Common.{unowned_lines, Refusal}
 use Rattle.std.proofs.lemmas.Bool.{cases_Bool}
 use Rattle.pref_core.specs.declared.event.Reply.TheVariants.{Refused as NotThere}
@@ -12,8 +12,7 @@ use Rattle.pref_script.proofs.TextFacts.{texts-append}
 pub accepted_events-append : (xs ys : List Command) → accepted_events (xs ++ ys) ≡ accepted_events xs ++ accepted_events ys
 unfolding accepted_events
 accepted_events-append [] ys = refl
-accepted_events-append (refused number why ∷ xs) ys = accepted_events-append xs ys
-accepted_events-append (runs event ∷ xs) ys = ap (λ (t : List Event). event ∷ t) (accepted_events-append xs ys)
+accepted_events-append (command ∷ xs) ys = grind (arith, accepted_events-append xs ys)
 
 -- the event of a line: of one that is not blank, where it is not refused; the number of the line is nothing to it
 abbrev pub event_in : Result Event Refusal → Bool → List Event
@@ -28,24 +27,12 @@ events-in names number line = grind (arith)
 pub events-any_number : (names : List (List ℕ)) (n m : ℕ) (raws : List (List ℕ)) → accepted_events (commands_of names n raws) ≡ accepted_events (commands_of names m raws)
 unfolding commands_of
 events-any_number names n m [] = refl
-events-any_number names n m (raw ∷ more) =
-    accepted_events-append (commands_in names n (without_line_end raw)) (commands_of names (n + 1) more)
-    ∙ ap (λ (t : List Event). t ++ accepted_events (commands_of names (n + 1) more)) (events-in names n (without_line_end raw) ∙ sym (events-in names m (without_line_end raw)))
-    ∙ ap (λ (t : List Event). accepted_events (commands_in names m (without_line_end raw)) ++ t) (events-any_number names (n + 1) (m + 1) more)
-    ∙ sym (accepted_events-append (commands_in names m (without_line_end raw)) (commands_of names (m + 1) more))
-
--- a line has one event at most
-event_in-few : (said : Result Event Refusal) (blank : Bool) → length (event_in said blank) ≤ 1
-event_in-few x1 x2 = grind (arith)
+events-any_number names n m (raw ∷ more) = grind (arith, accepted_events-append, events-in, events-any_number names (n + 1) (m + 1) more)
 
 pub events-of_lines : (names : List (List ℕ)) (number : ℕ) (raws : List (List ℕ)) → length (accepted_events (commands_of names number raws)) ≤ length raws
 unfolding commands_of accepted_events
 events-of_lines names number [] = omega arith
 events-of_lines names number (raw ∷ more) = grind (arith, events-of_lines names (number + 1) more)
-
--- what follows the last line feed is one line at most
-last-few : (part : List ℕ) → length (with_line_feeds (part ∷ [])) ≤ 1
-last-few part = elim (cases_Bool (length part == 0)) [ inl none ↦ rw none (omega arith) | inr some ↦ rw some (omega arith) ]
 
 -- a text has no more lines than bytes
 pub lines-few : (text : List ℕ) → length (raw_lines text) ≤ length text
@@ -71,17 +58,11 @@ module _ (clients width : ℕ) (names : List (List ℕ)) (number : ℕ) (line : 
 
   -- an event of one of the clients
   pub unowned-own : (out : List ℕ) (place : ℕ) (event : Event) → event_of names line ≡ Ok event → event.client ≡ suc place → place < clients → out ≡ out ++ unowned_lines clients width (commands_in names number line)
-  unowned-own out place event said own inside =
-      let client = and_from (nat_lt 0 (suc place)) (nat_le (suc place) clients) (lt-ltb 0 (suc place) (omega arith)) (le-leb (suc place) clients (omega (arith, inside))) in
-      elim (cases_Bool (list_all is_blank line)) [ inl blank ↦ unowned-blank out blank | inr some ↦ unowned-event out out event some said (rw (own, client) (sym (append-nil out))) ]
+  unowned-own out place event said own inside = grind (arith, unowned-blank out, unowned-event out out event, append-nil out)
 
 -- one line more
 pub unowned-more : (clients width : ℕ) (names : List (List ℕ)) (number : ℕ) (left raw tail old new all : List ℕ) → old ++ unowned_lines clients width (commands_of names number (raw_lines left)) ≡ all
     → raw_lines left ≡ raw ∷ raw_lines tail → new ≡ old ++ unowned_lines clients width (commands_in names number (without_line_end raw))
     → new ++ unowned_lines clients width (commands_of names (number + 1) (raw_lines tail)) ≡ all
 unfolding commands_of
-unowned-more clients width names number left raw tail old new all before cut wrote =
-    let first = commands_in names number (without_line_end raw) in
-    let rest = commands_of names (number + 1) (raw_lines tail) in
-    let whole = rw (cut, texts-append (unowned_line clients width) first rest) at before in
-    rw wrote (append_assoc old (unowned_lines clients width first) (unowned_lines clients width rest) ∙ whole)
+unowned-more clients width names number left raw tail old new all before cut wrote = grind (arith, texts-append, append_assoc)

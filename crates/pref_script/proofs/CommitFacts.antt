@@ -11,17 +11,11 @@ use Rattle.pref_script.proofs.SplitFacts.{drop_here}
 use Rattle.pref_script.specs.Pieces.{ChangeSaid}
 use Rattle.pref_script.specs.declared.command.Refusal.TheVariants.{NotCommand}
 use Rattle.pref_script.specs.declared.command.Stop.{Stop}
-use Rattle.pref_script.specs.declared.command.Stop.TheVariants.{Refused as StopRefused, OutOfMemory as StopMemory}
+use Rattle.pref_script.specs.declared.command.Stop.TheVariants.{Refused as StopRefused}
 
 -- nine changes are too many already, whatever follows them
 pub commit_of-first : (all : List Change) → commit_of (take 9 all) ≡ commit_of all
-commit_of-first all = elim (cases_lt (length all) 10) [
-  | inl few ↦ ap commit_of (take_all 9 all (omega arith))
-  | inr many ↦ too_many (take 9 all) (omega (arith, length-take-le 9 all (omega arith))) ∙ sym (too_many all (omega arith))
-]
-  where
-    too_many : (changes : List Change) → 8 < length changes → commit_of changes ≡ Err ChangeCount
-    too_many changes h = rw (and_right (nat_lt 0 (length changes)) (nat_le (length changes) 8) (lt-leb (length changes) 8 h)) refl
+commit_of-first all = elim (cases_lt (length all) 10) [ inl few ↦ ap commit_of (take_all 9 all (omega arith)) | inr many ↦ grind (arith, many, length-take-le 9 all) ]
 
 -- So many pieces were read, and of their changes the first nine are kept.
 pub record KeepsFirst (names : List (List ℕ)) (pieces : List (List ℕ)) (place : ℕ) (kept : List Change) (count : ℕ) : Type 0 where
@@ -38,16 +32,13 @@ kept_count names pieces place kept count h = ap length (sym h.first) ∙ length-
 -- a change that is kept, and one past the ninth
 pub keeps_one : (names pieces : List (List ℕ)) (place : ℕ) (kept : List Change) (count : ℕ) (piece : List ℕ) (change : Change) → KeepsFirst names pieces place kept count
     → (place < length pieces) × (piece ≡ get_or pieces place piece) → count < 9 → piece_change names (piece_said piece) ≡ Ok change → KeepsFirst names pieces (place + 1) (set kept count change) (count + 1)
-keeps_one names pieces place kept count piece change h turn room is =
-    let sum : length h.all ≡ count = omega (arith, room, length-take 9 h.all, kept_count names pieces place kept count h) in
-    let whole : take 9 h.all ≡ h.all = take_all 9 h.all (omega arith) in
-    record {
-      all = h.all ++ change ∷ [];
-      read = all_from-more _ 1 pieces h.all place piece change turn.0 h.read (ap (λ (p : List ℕ). piece_change names (piece_said p)) (sym turn.1) ∙ is);
-      size = length-set kept count change ∙ h.size;
-      few = omega arith;
-      first = take_more_set kept count change (omega (arith, h.size)) ∙ ap (λ (l : List Change). l ++ change ∷ []) (h.first ∙ whole) ∙ sym (take_all 9 (h.all ++ change ∷ []) (omega (arith, length_push h.all change)));
-    }
+keeps_one names pieces place kept count piece change h turn room is = record {
+  all = h.all ++ change ∷ [];
+  read = all_from-more _ 1 pieces h.all place piece change turn.0 h.read (ap (λ (p : List ℕ). piece_change names (piece_said p)) (sym turn.1) ∙ is);
+  size = length-set kept count change ∙ h.size;
+  few = omega arith;
+  first = grind (arith, take_more_set kept count change, h.first, h.size, take_all 9 h.all, take_all 9 (h.all ++ change ∷ []), length_push h.all change, length-take 9 h.all, kept_count names pieces place kept count h);
+}
 
 pub keeps_past : (names pieces : List (List ℕ)) (place : ℕ) (kept : List Change) (count : ℕ) (piece : List ℕ) (change : Change) → KeepsFirst names pieces place kept count
     → (place < length pieces) × (piece ≡ get_or pieces place piece) → (count < 9 → ⊥) → piece_change names (piece_said piece) ≡ Ok change → KeepsFirst names pieces (place + 1) kept count
@@ -64,18 +55,13 @@ pub keeps_fails : (names : List (List ℕ)) (text : List ℕ) (place : ℕ) (kep
     → KeepsFirst names (pieces_of text) place kept count → (place < length (pieces_of text)) × (piece ≡ get_or (pieces_of text) place piece)
     → Reads {X = Change} (Err why) (piece_change names (piece_said piece)) → Reads {X = List Change} (Err why) (commit_said names text)
 unfolding commit_said
-keeps_fails names text place kept count piece (StopRefused why) forms h turn is =
-    rw (forms, all_from-fails_at (λ _ part. piece_change names (piece_said part)) 1 (pieces_of text) h.all place piece why turn.0 h.read (ap (λ (p : List ℕ). piece_change names (piece_said p)) (sym turn.1) ∙ is)) refl
-keeps_fails names text place kept count piece StopMemory forms h turn is = tt
+keeps_fails names text place kept count piece why forms h turn is = grind (arith, all_from-fails_at)
 
 -- all pieces were read
 pub keeps_all : (names : List (List ℕ)) (text : List ℕ) (place : ℕ) (kept : List Change) (count : ℕ) → are_changes text ≡ true
     → KeepsFirst names (pieces_of text) place kept count → length (pieces_of text) ≤ place → commit_said names text ≡ of_changes (commit_of (take count kept))
 unfolding commit_said
-keeps_all names text place kept count forms h end =
-    let read = all_from-all (λ _ part. piece_change names (piece_said part)) 1 (pieces_of text) h.all place end h.read in
-    let whole : commit_said names text ≡ of_changes (commit_of h.all) = rw (forms, read) refl in
-    whole ∙ ap of_changes (sym (commit_of-first h.all) ∙ ap commit_of (sym h.first))
+keeps_all names text place kept count forms h end = grind (arith, all_from-all (λ _ part. piece_change names (piece_said part)) 1 (pieces_of text) h.all place end h.read, commit_of-first h.all, forms, h.first)
 
 -- whether each of these pieces has the form of a change
 abbrev all_forms : List (List ℕ) → Bool
@@ -93,16 +79,13 @@ pieces_none names text kept size = record { place = 0; rest = refl; forms = refl
 
 -- the first refusal, by the forms of the pieces that follow
 refusal-by_forms : (why : Stop) (rest : Option (List ℕ)) → first_refusal why rest ≡ cond (all_forms (pieces_left rest)) why (StopRefused NotCommand)
-refusal-by_forms why None = refl
-refusal-by_forms why (Some text) = refl
+refusal-by_forms why rest = grind (arith)
 
 -- the next piece, which says a change: its place, and the forms of those after it
 module _ (names : List (List ℕ)) (text now : List ℕ) (kept : List Change) (count : ℕ) (piece : List ℕ) (what : ChangeSaid) (rest : Option (List ℕ))
     (reads : ReadsPieces names text (Some now) kept count) (cut : pieces_of now ≡ piece ∷ pieces_left rest) (says : Some what ≡ piece_said piece) where
   turn : (reads.place < length (pieces_of text)) × (piece ≡ get_or (pieces_of text) reads.place piece) × (drop (reads.place + 1) (pieces_of text) ≡ pieces_left rest)
-  turn =
-      let here = drop_here (pieces_of text) reads.place piece piece (pieces_left rest) (reads.rest ∙ cut) in
-      (here.0, sym here.1, here.2)
+  turn = grind (arith, drop_here (pieces_of text) reads.place piece piece (pieces_left rest) (reads.rest ∙ cut))
 
   forms_left : are_changes text ≡ all_forms (pieces_left rest)
   forms_left = reads.forms ∙ ap all_forms cut ∙ rw (← says) refl
@@ -117,12 +100,7 @@ module _ (names : List (List ℕ)) (text now : List ℕ) (kept : List Change) (c
 
   -- it is read, and kept or not
   pub pieces_kept : (change : Change) → count < 9 → change_of names what ≡ Ok change → ReadsPieces names text rest (set kept count change) (count + 1)
-  pieces_kept change room is = record {
-    place = reads.place + 1;
-    rest = turn.2;
-    forms = forms_left;
-    keeps = keeps_one names (pieces_of text) reads.place kept count piece change reads.keeps (turn.0, turn.1) room (rw (← says) is);
-  }
+  pieces_kept change room is = grind (arith, turn, forms_left, keeps_one)
 
   pub pieces_past : (change : Change) → (count < 9 → ⊥) → change_of names what ≡ Ok change → ReadsPieces names text rest kept count
   pieces_past change full is = record {
@@ -134,6 +112,4 @@ module _ (names : List (List ℕ)) (text now : List ℕ) (kept : List Change) (c
 
 -- no piece is left
 pub pieces_all : (names : List (List ℕ)) (text : List ℕ) (kept : List Change) (count : ℕ) → ReadsPieces names text None kept count → commit_said names text ≡ of_changes (commit_of (take count kept))
-pieces_all names text kept count reads =
-    let none : length (drop reads.place (pieces_of text)) ≡ 0 = ap length reads.rest in
-    keeps_all names text reads.place kept count reads.forms reads.keeps (omega (arith, none, length-drop reads.place (pieces_of text)))
+pieces_all names text kept count reads = keeps_all names text reads.place kept count reads.forms reads.keeps (omega (arith, ap length reads.rest, length-drop reads.place (pieces_of text)))

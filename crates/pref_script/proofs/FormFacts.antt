@@ -1,6 +1,6 @@
 -- A command line that begins as most do.
-use Rattle.pref_script.proofs.Common.{◌≡◌, ◌∙◌, ℕ, suc, ◌+◌, ◌-◌, ◌≤◌, Bool, cond, not, true, false, List, [], ◌∷◌, inl, inr, length, drop, take, get_or, ap, refl, arith, Some, position_or_len}
-use Rattle.pref_script.proofs.Common.{prefix_len, codes, is_ascii_digit, bytes_eq, digits_value, prefix_len_is, after_blanks, is_blank, Said, client_named, said_by, said_in, verb_of, said_by_client}
+use Rattle.pref_script.proofs.Common.{◌≡◌, ◌∙◌, ℕ, suc, ◌-◌, ◌≤◌, Bool, cond, not, true, false, List, [], ◌∷◌, length, drop, take, get_or, ap, refl, arith, Some, position_or_len}
+use Rattle.pref_script.proofs.Common.{is_ascii_digit, prefix_len_is, after_blanks, is_blank, Said, client_named, said_in, said_by_client}
 use Rattle.pref_script.proofs.Common.{after_word, word_number, word_of}
 use Rattle.std.specs.Int.{IsInRange}
 use Rattle.std.proofs.lemmas.Bool.{cases_Bool}
@@ -9,15 +9,11 @@ use Rattle.pref_script.proofs.WordsFacts.{digit_not_blank, number-is, value_more
 
 -- the number of one digit
 digit_number : (digit : ℕ) → IsInRange 48 57 digit → is_ascii_digit digit ≡ true → word_number 255 (digit ∷ []) ≡ Some (digit - 48)
-digit_number digit range is =
-    let value : digits_value 10 (digit ∷ []) ≡ digit - 48 = omega (arith, value_more (digit ∷ []) 0 0 (omega arith) range refl) in
-    number-is 255 (digit ∷ []) (rw is refl) (omega (arith, value, range.1)) ∙ ap Some value
+digit_number digit range is = grind (arith, value_more, number-is)
 
 -- what follows one blank
 after_one : (rest : List ℕ) → after_blanks (32 ∷ rest) ≡ after_blanks rest
-after_one rest =
-    let one : 1 + prefix_len is_blank rest ≡ suc (prefix_len is_blank rest) = omega arith in
-    ap (λ (n : ℕ). drop n (32 ∷ rest)) one
+after_one rest = grind (arith)
 
 -- the word `as`, a blank, a digit and a blank, word by word
 module _ (digit : ℕ) (rest : List ℕ) (blank : is_blank digit ≡ false) where
@@ -27,9 +23,7 @@ module _ (digit : ℕ) (rest : List ℕ) (blank : is_blank digit ≡ false) wher
 
   as_after : after_word (97 ∷ 115 ∷ 32 ∷ digit ∷ 32 ∷ rest) ≡ digit ∷ 32 ∷ rest
   unfolding after_word
-  as_after =
-      let none : prefix_len is_blank (digit ∷ 32 ∷ rest) ≡ 0 = prefix_len_is is_blank (digit ∷ 32 ∷ rest) 0 0 (omega arith) (λ k h. absurd (omega (arith, h))) (λ _. blank) in
-      after_one (digit ∷ 32 ∷ rest) ∙ ap (λ (n : ℕ). drop n (digit ∷ 32 ∷ rest)) none
+  as_after = grind (arith, prefix_len_is, after_one)
 
   digit_word : word_of (digit ∷ 32 ∷ rest) ≡ digit ∷ []
   unfolding word_of
@@ -42,40 +36,18 @@ module _ (digit : ℕ) (rest : List ℕ) (blank : is_blank digit ≡ false) wher
 -- what the line says, and the client that it names
 client_in : (digit : ℕ) (rest : List ℕ) → IsInRange 48 57 digit → is_ascii_digit digit ≡ true → said_in (97 ∷ 115 ∷ 32 ∷ digit ∷ 32 ∷ rest) ≡ said_by_client (digit - 48) (after_blanks rest)
 unfolding said_in
-client_in digit rest range is =
-    let blank = digit_not_blank digit range in
-    rw (as_word digit rest blank, as_after digit rest blank, digit_word digit rest blank, digit_after digit rest blank, digit_number digit range is) refl
+client_in digit rest range is = grind (arith, digit_not_blank, as_word, as_after, digit_word, digit_after, digit_number)
 
 named_in : (digit : ℕ) (rest : List ℕ) → IsInRange 48 57 digit → is_ascii_digit digit ≡ true → client_named (97 ∷ 115 ∷ 32 ∷ digit ∷ 32 ∷ rest) ≡ Some (digit - 48)
 unfolding client_named
-named_in digit rest range is =
-    let blank = digit_not_blank digit range in
-    rw (as_word digit rest blank, as_after digit rest blank, digit_word digit rest blank, digit_number digit range is) refl
+named_in digit rest range is = grind (arith, digit_not_blank, as_word, as_after, digit_word, digit_number)
 
 pub client_at : (line : List ℕ) → 5 ≤ length line → get_or line 0 0 ≡ 97 → get_or line 1 0 ≡ 115 → get_or line 2 0 ≡ 32 → IsInRange 48 57 (get_or line 3 0) → is_ascii_digit (get_or line 3 0) ≡ true → get_or line 4 0 ≡ 32
     → (said_in line ≡ said_by_client (get_or line 3 0 - 48) (after_blanks (drop 5 line))) × (client_named line ≡ Some (get_or line 3 0 - 48))
-client_at [] few = absurd (omega (arith, few))
-client_at (a ∷ []) few = absurd (omega (arith, few))
-client_at (a ∷ s ∷ []) few = absurd (omega (arith, few))
-client_at (a ∷ s ∷ blank ∷ []) few = absurd (omega (arith, few))
-client_at (a ∷ s ∷ blank ∷ digit ∷ []) few = absurd (omega (arith, few))
 client_at (a ∷ s ∷ blank ∷ digit ∷ end ∷ rest) few = λ at0 at1 at2 range is at4. rw (at0, at1, at2, at4) (client_in digit rest range is, named_in digit rest range is)
+client_at line few = absurd (omega (arith, few))
 
 -- a line names the client whose command it is
 pub said_named : (line : List ℕ) (client : ℕ) (what : Said) → said_in line ≡ Some (client, what) → client_named line ≡ Some client
 unfolding said_in client_named
-said_named line client what said = elim (cases_Bool (bytes_eq (word_of text) (codes "as"))) [
-  | inl begins ↦ option_and_then_some _ (word_number 255 (word_of rest)) (client, what) (rw begins at said) (λ number is more.
-      option_and_then_some _ (verb_of (word_of (after_word rest))) (client, what) more (λ verb named follows.
-      option_and_then_some _ (said_by verb (after_word (after_word rest))) (client, what) follows (λ found says last.
-      let pair : (number, found) ≡ (client, what) = cc last in
-      let same : number ≡ client = ap (λ (p : ℕ × Said). p.0) pair in
-      rw (begins, is) (ap Some same))))
-  | inr other ↦ cc (rw other at said)
-]
-  where
-    text : List ℕ
-    text = after_blanks line
-
-    rest : List ℕ
-    rest = after_word text
+said_named line client what said = grind (arith, cases_Bool, option_and_then_some)

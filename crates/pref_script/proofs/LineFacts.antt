@@ -1,6 +1,6 @@
 -- Lines that are read ahead.
 use Rattle.pref_script.proofs.Common.{◌≡◌, ◌∙◌, ℕ, ◌+◌, ◌-◌, ◌<◌, ◌≤◌, true, false, Bool, List, [], ◌∷◌, ◌++◌, length, take, drop, get_or, ap, refl, sym, subst, arith, append_assoc, eq-eqb, Option}
-use Rattle.pref_script.proofs.Common.{Some, None, inl, inr, ◌⊎◌, Consumes-nil, Consumes-trans, append-nil, drop-append-le, drop_all, get_or-drop, get_or-take, get_or_append_left}
+use Rattle.pref_script.proofs.Common.{Some, None, ◌⊎◌, Consumes-nil, Consumes-trans, append-nil, drop-append-le, drop_all, get_or-drop, get_or-take, get_or_append_left}
 use Rattle.pref_script.proofs.Common.{length-append, length-drop, length-take, take-append-le, take_all, take-add, cases_lt, is_some, IsFirstByte, is_byte, EndsWithLine, IsLineAt}
 use Rattle.pref_script.proofs.Common.{IsLittle, IsLong, IsWhole, NoLineFeed, ReadBehind, ReadOnce, ReadSome, between, is_at_end, unread, raw_lines, ReadAhead}
 use Rattle.std.proofs.lemmas.Bool.{cases_Bool}
@@ -8,53 +8,25 @@ use Rattle.pref_script.proofs.ScriptFacts.{lines_at, lines_last, lines_none}
 
 -- something was read, and then something more
 pub behind_more : (a b c : Option (List ℕ)) (x y z : ReadAhead) → ReadBehind a b x y → ReadBehind b c y z → ReadBehind a c x z
-behind_more a b c x y z first next = record {
-  bytes = first.bytes ++ next.bytes;
-  consumed = Consumes-trans a b c first.bytes next.bytes first.consumed next.consumed;
-  behind = next.behind ∙ ap (λ (t : List ℕ). t ++ next.bytes) first.behind ∙ append_assoc (unread x) first.bytes next.bytes;
-  no_more = λ e. let (none, still) = first.no_more e in let (empty, last) = next.no_more still in (rw (none, empty) refl, last);
-  at_end = λ before e. next.at_end (first.at_end before) e;
-}
+behind_more a b c x y z first next = grind (arith, Consumes-trans, append_assoc)
 
 -- a text up to its first line feed is a whole line
 line_first : (text : List ℕ) (place : ℕ) → IsFirstByte (is_byte 10) text (Some place) → IsWhole (take (place + 1) text)
-line_first text place found = λ more.
-    let inside : place < length text = found.0.high in
-    let front = take (place + 1) text in
-    let size : length front ≡ place + 1 = omega (arith, length-take (place + 1) text, inside) in
-    let same : (k : ℕ) → k < place + 1 → get_or (front ++ more) k 0 ≡ get_or text k 0 =
-    λ k h. get_or_append_left front more 0 k (omega (arith, size, h)) ∙ get_or-take (place + 1) text k 0 h in
-    let longer : IsFirstByte (is_byte 10) (front ++ more) (Some place) = (
-      record {
-        low = found.0.low;
-        high = omega (arith, length-append front more, size);
-        before = λ k a b p. found.0.before k a b (sym (ap (is_byte 10) (same k (omega (arith, b)))) ∙ p);
-      },
-      ap (is_byte 10) (same place (omega arith)) ∙ found.1,
-    ) in
-    let first : take (place + 1) (front ++ more) ≡ front = take-append-le (place + 1) front more (omega (arith, size)) ∙ take_all (place + 1) front (omega (arith, size)) in
-    let rest : drop (place + 1) (front ++ more) ≡ more = drop-append-le (place + 1) front more (omega (arith, size)) ∙ ap (λ (t : List ℕ). t ++ more) (drop_all (place + 1) front (omega (arith, size))) in
-    lines_at (front ++ more) place longer ∙ ap (λ (t : List ℕ). t ∷ raw_lines (drop (place + 1) (front ++ more))) first ∙ ap (λ (t : List ℕ). front ∷ raw_lines t) rest
+line_first text place found = λ more. grind (arith, lines_at (take (place + 1) text ++ more) place, length-take, get_or_append_left, get_or-take, take-append-le, take_all, drop-append-le, drop_all)
 
 -- the line that a line feed ends
 pub whole_at : (a : ReadAhead) (from place : ℕ) → IsFirstByte (is_byte 10) (drop from (unread a)) (Some place) → IsLineAt from (from + place + 1) a
-whole_at a from place found =
-    let count : from + place + 1 - from ≡ place + 1 = omega arith in
-    inl (omega arith, subst (λ (n : ℕ). IsWhole (take n (drop from (unread a)))) (sym count) (line_first (drop from (unread a)) place found))
+whole_at a from place found = grind (arith, line_first (drop from (unread a)) place found)
 
 -- the last line
 pub last_at : (a : ReadAhead) (from : ℕ) → from ≤ length (unread a) → IsFirstByte (is_byte 10) (drop from (unread a)) None → is_at_end a ≡ true → IsLineAt from (length (unread a)) a
-last_at a from inside none ended =
-    let all : between from (length (unread a)) (unread a) ≡ drop from (unread a) = take_all (length (unread a) - from) (drop from (unread a)) (omega (arith, length-drop from (unread a))) in
-    inr (ended, refl, λ some. subst (λ (t : List ℕ). raw_lines t ≡ t ∷ []) (sym all) (rw lines_none at (lines_last (drop from (unread a)) (omega (arith, some, length-drop from (unread a))) none)))
+last_at a from inside none ended = grind (arith, take_all, length-drop, lines_none, lines_last)
 
 -- ---- line feeds
 
 -- a byte behind a place, from there
 at_place : (text : List ℕ) (from place : ℕ) → from ≤ place → get_or (drop from text) (place - from) 0 ≡ get_or text place 0
-at_place text from place low =
-    let sum : from + (place - from) ≡ place = omega arith in
-    get_or-drop from text (place - from) 0 ∙ ap (λ (n : ℕ). get_or text n 0) sum
+at_place text from place low = grind (arith, get_or-drop)
 
 -- a search that met no line feed
 pub none_met : (text : List ℕ) (from : ℕ) → IsFirstByte (is_byte 10) (drop from text) None → NoLineFeed from (length text) text
@@ -67,10 +39,7 @@ none_found text from (Some place) none nowhere = absurd (cc)
 
 -- none where it went on, and none before that
 pub none_more : (from : ℕ) (old more new : List ℕ) → new ≡ old ++ more → NoLineFeed from (length old) old → NoLineFeed (length old) (length new) new → NoLineFeed from (length new) new
-none_more from old more new is before after = λ place low high at. elim (cases_lt place (length old)) [
-  | inl early ↦ before place low early (sym (ap (λ (t : List ℕ). get_or t place 0) is ∙ get_or_append_left old more 0 place early) ∙ at)
-  | inr late ↦ after place late high at
-]
+none_more from old more new is before after = grind (arith, cases_lt, get_or_append_left)
 
 -- none in a text with others behind it
 pub none_in_front : (from end : ℕ) (text more : List ℕ) → NoLineFeed from end text → end ≤ length text → NoLineFeed from end (text ++ more)
@@ -84,27 +53,16 @@ none_behind from end text none = λ place low high at. none (from + place) (omeg
 
 -- a read more, where no line feed was
 pub little_more : (from : ℕ) (text more : List ℕ) → NoLineFeed from (length text) text → length text ≤ 16777216 → length more ≤ 8192 → IsLittle from (text ++ more)
-little_more from text more none few size =
-    let sum : length (text ++ more) ≡ length text + length more = length-append text more in
-    record {
-      no_line = λ place low high at. let early : place < length text = omega (arith, high, sum, size) in none place low early (sym (get_or_append_left text more 0 place early) ∙ at);
-      most = omega arith;
-    }
+little_more from text more none few size = grind (arith, length-append, get_or_append_left)
 
 -- a read more, where no line feed was
 pub once_more : (a b c : Option (List ℕ)) (x y : ReadAhead) (from : ℕ) → ReadBehind a b x y → ReadOnce b c y → NoLineFeed from (length (unread y)) (unread y) → length (unread y) ≤ 16777216 → ReadSome a c from x
-once_more a b c x y from first next none few = record {
-  bytes = first.bytes ++ next.bytes;
-  consumed = Consumes-trans a b c first.bytes next.bytes first.consumed next.consumed;
-  no_more = λ e. let (empty, still) = first.no_more e in let (nothing, last) = next.no_more still in (rw (empty, nothing) refl, λ end. last (first.at_end (λ _. end) still));
-  little = λ _. subst (IsLittle from) (ap (λ (t : List ℕ). t ++ next.bytes) first.behind ∙ append_assoc (unread x) first.bytes next.bytes) (little_more from (unread y) next.bytes none few next.few);
-}
+once_more a b c x y from first next none few =
+    grind (arith, Consumes-trans a b c first.bytes next.bytes first.consumed next.consumed, append_assoc (unread x) first.bytes next.bytes, little_more from (unread y) next.bytes none few next.few)
 
 -- the same of what is there then
 pub little_behind : (a b : Option (List ℕ)) (x y : ReadAhead) (from : ℕ) → ReadBehind a b x y → NoLineFeed from (length (unread x)) (unread x) → length (unread x) ≤ 16777216 → length (unread y) ≤ length (unread x) + 8192 → IsLittle from (unread y)
-little_behind a b x y from read none few more =
-    let size : length read.bytes ≤ 8192 = omega (arith, ap length read.behind, length-append (unread x) read.bytes) in
-    subst (IsLittle from) (sym read.behind) (little_more from (unread x) read.bytes none few size)
+little_behind a b x y from read none few more = subst (IsLittle from) (sym read.behind) (little_more from (unread x) read.bytes none few (omega (arith, ap length read.behind, length-append (unread x) read.bytes)))
 
 -- the same from a later place on
 pub little_later : (from to : ℕ) (text : List ℕ) → from ≤ to → IsLittle from text → IsLittle to text
@@ -112,25 +70,17 @@ little_later from to text later little = record { no_line = λ place low high. l
 
 -- what is left when the bytes up to that place were taken
 pub little_left : (from : ℕ) (text : List ℕ) → IsLittle from text → IsLittle 0 (drop from text)
-little_left from text little = let size : length (drop from text) ≡ length text - from = length-drop from text in record {
-  no_line = λ place low high at. little.no_line (from + place) (omega arith) (omega (arith, high, size)) (sym (get_or-drop from text place 0) ∙ at);
-  most = omega (arith, size, little.most);
-}
+little_left from text little = grind (arith, length-drop, get_or-drop)
 
 -- ---- a line
 
 -- the line that was found ends too far away
 pub long_some : (text : List ℕ) (from place : ℕ) → IsFirstByte (is_byte 10) (drop from text) (Some place) → 16777216 < from + place + 1 → IsLong from text
-long_some text from place found long =
-    let high : place < length (drop from text) = found.0.high in
-    (λ k low below at. found.0.before (k - from) (omega arith) (omega (arith, below, long)) (eq-eqb _ 10 (at_place text from k low ∙ at)), omega (arith, high, long, length-drop from text))
+long_some text from place found long = grind (arith, eq-eqb, at_place, length-drop)
 
 -- no line end was found, and more is there than a line has
 pub long_none : (text : List ℕ) (from : ℕ) (ended : Bool) → IsFirstByte (is_byte 10) (drop from text) None → (NoLineFeed from (length text) text → ended ≡ false → 16777216 < length text) → (ended ≡ true → 16777216 < length text) → IsLong from text
-long_none text from ended none before after =
-    let nowhere = none_met text from none in
-    let long : 16777216 < length text = elim (cases_Bool ended) [ inl end ↦ after end | inr not_yet ↦ before nowhere not_yet ] in
-    (λ k low below at. nowhere k low (omega (arith, below, long)) at, long)
+long_none text from ended none before after = grind (arith, none_met text from none, cases_Bool ended)
 
 -- a whole line is one line
 pub one_line : (line : List ℕ) → IsWhole line → raw_lines line ≡ line ∷ []
@@ -141,9 +91,7 @@ ends_whole line whole = λ more. whole more ∙ ap (λ (t : List (List ℕ)). t 
 
 -- two texts that end with a line, one after the other
 pub ends_more : (a b : List ℕ) → EndsWithLine a → EndsWithLine b → EndsWithLine (a ++ b)
-ends_more a b first next = λ more.
-    ap raw_lines (append_assoc a b more) ∙ first (b ++ more) ∙ ap (λ (t : List (List ℕ)). raw_lines a ++ t) (next more)
-    ∙ sym (append_assoc (raw_lines a) (raw_lines b) (raw_lines more)) ∙ ap (λ (t : List (List ℕ)). t ++ raw_lines more) (sym (first b))
+ends_more a b first next = grind (arith, append_assoc)
 
 -- a text up to a place
 pub front_is : (end : ℕ) (text : List ℕ) → between 0 end text ≡ take end text
@@ -155,14 +103,11 @@ same_front a b x y end read inside = ap (take end) read.behind ∙ take-append-l
 
 -- a text up to a place and on to another
 pub front_more : (stop end : ℕ) (text : List ℕ) → stop ≤ end → take end text ≡ take stop text ++ between stop end text
-front_more stop end text inside =
-    let sum : end ≡ stop + (end - stop) = omega arith in
-    ap (λ (n : ℕ). take n text) sum ∙ take-add stop (end - stop) text
+front_more stop end text inside = grind (arith, take-add stop (end - stop) text)
 
 -- what stands at a line: one line, which is whole or the last
 pub line_at : (a : ReadAhead) (from end : ℕ) → IsLineAt from end a → from < end → (raw_lines (between from end (unread a)) ≡ between from end (unread a) ∷ []) × (EndsWithLine (between from end (unread a)) ⊎ (is_at_end a ≡ true) × (end ≡ length (unread a)))
-line_at a from end (inl (some, whole)) inside = (one_line (between from end (unread a)) whole, inl (ends_whole (between from end (unread a)) whole))
-line_at a from end (inr (ended, all, last)) inside = (last inside, inr (ended, all))
+line_at a from end h3 inside = grind (arith, one_line, ends_whole)
 
 -- nothing was read
 pub some_none : (a : Option (List ℕ)) (x : ReadAhead) (from : ℕ) → ReadSome a a from x

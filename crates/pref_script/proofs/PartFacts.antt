@@ -1,8 +1,8 @@
 -- A client's part of a script, one line at a time.
-use Rattle.pref_script.proofs.Common.{◌≡◌, ◌≢◌, ◌∙◌, ℕ, suc, ◌+◌, ◌<◌, ◌≤◌, ◌^◌, true, false, List, [], ◌∷◌, ◌++◌, length, map, slice_get, Option, Some, None, Result, Ok, Err, refl, sym}
-use Rattle.pref_script.proofs.Common.{ap, arith, append_assoc, subst, inl, inr, string_bytes, All, list_all, Vec, append-nil, length-append, is_blank, Event, AcceptsLeft, AllAccepted, AreParts, ArePartsUpTo}
+use Rattle.pref_script.proofs.Common.{◌≡◌, ◌≢◌, ◌∙◌, ℕ, suc, ◌+◌, ◌<◌, ◌≤◌, ◌^◌, true, false, List, [], ◌∷◌, ◌++◌, length, map, slice_get, Some, Ok, Err, refl, sym}
+use Rattle.pref_script.proofs.Common.{ap, arith, append_assoc, inl, inr, string_bytes, All, list_all, Vec, append-nil, length-append, is_blank, Event, AcceptsLeft, AllAccepted, AreParts, ArePartsUpTo}
 use Rattle.pref_script.proofs.Common.{HasReplied, IsAccepted, IsFound, IsGiven, AllGiven, IsPart, AreActs, acts_in, acts_left, accepted_events, act_of, commands_in, commands_of}
-use Rattle.pref_script.proofs.Common.{event_of, Said, client_named, said_in, raw_lines, without_line_end, reply_lines, texts, clients_lines, unowned_line, unowned_lines, Refusal, Part}
+use Rattle.pref_script.proofs.Common.{event_of, client_named, said_in, raw_lines, without_line_end, reply_lines, texts, clients_lines, unowned_line, unowned_lines, Refusal, Part}
 use Rattle.pref_script.proofs.Common.{◌==◌, NamesNone, cases_lt, drop, drop_all, drop_more, eqb-false, eqb-true, get_or, get_or_append_left, length-set, lines_in, lines_left, map-append, range_with_len, set, vec_len}
 use Rattle.std.proofs.Common.{Bor}
 use Rattle.std.proofs.lemmas.Bool.{cases_Bool}
@@ -11,7 +11,6 @@ use Rattle.std.proofs.lemmas.List.{get_or-map, get_or-set_other, get_or_push, le
 use Rattle.std.proofs.lemmas.List.FromFn.{get_or-map-range_with_len, length-map-range_with_len}
 use Rattle.std.proofs.lemmas.Simd.{map-map}
 use Rattle.std.proofs.lemmas.Option.{get_or_from_slice_get, slice_get-get_or, slice_get_read, slice_get_within}
-use Rattle.pref_table.proofs.NumberedFacts.{ok_bind}
 use Rattle.pref_core.specs.declared.event.Act.{Act}
 use Rattle.pref_core.specs.declared.event.Reply.{Reply}
 use Rattle.pref_share.specs.Interleavings.{acts_of}
@@ -30,29 +29,16 @@ pub found-refused : (names : List (List ℕ)) (client : ℕ) (line : List ℕ) (
 found-refused names client line why said = (rw (events-in names 0 line, said) refl, λ other. absurd (other refl))
 
 first-other : (names : List (List ℕ)) (client : ℕ) (line : List ℕ) (event : Event) → event_of names line ≡ Ok event → event.client ≢ client → acts_of client (accepted_events (commands_in names 0 line)) ≡ []
-first-other names client line event said other = elim (cases_Bool (list_all is_blank line)) [
-  | inl blank ↦ rw (events-in names 0 line, said, blank) refl
-  | inr some ↦ rw (events-in names 0 line, said, some) (acts-other event client other)
-]
+first-other names client line event said other = grind (arith, cases_Bool, events-in, acts-other)
 
 -- the event of a line is of the client that it names
 event-named : (names : List (List ℕ)) (line : List ℕ) (event : Event) → event_of names line ≡ Ok event → client_named line ≡ Some event.client
-event-named names line event is = by (said_in line) refl
-  where
-    by : (said : Option (ℕ × Said)) → said_in line ≡ said → client_named line ≡ Some event.client
-    by None e = cc (rw e at is)
-    by (Some (number, what)) e =
-        let (act, read, made) = ok_bind (act_of names what) _ event (rw e at is) in
-        let same : record { client = number; act = act } ≡ event = cc made in
-        said_named line number what e ∙ ap (λ (x : Event). Some x.client) same
+unfolding act_of said_in
+event-named names line event is = grind (arith, said_named line)
 
 -- a line that does not name the client
 first-unnamed : (names : List (List ℕ)) (client : ℕ) (line : List ℕ) → client_named line ≢ Some client → acts_of client (accepted_events (commands_in names 0 line)) ≡ []
-first-unnamed names client line other = by (event_of names line) refl
-  where
-    by : (said : Result Event Refusal) → event_of names line ≡ said → acts_of client (accepted_events (commands_in names 0 line)) ≡ []
-    by (Ok event) e = first-other names client line event e (λ same. other (event-named names line event e ∙ ap Some same))
-    by (Err why) e = (found-refused names client line why e).0
+first-unnamed names client line other = grind (arith, first-other, event-named, found-refused)
 
 -- what a line is to a client: one of blanks, another client's event and its own
 pub found-blank : (names : List (List ℕ)) (client : ℕ) (line : List ℕ) → list_all is_blank line ≡ true → IsFound names client line found.Nothing
@@ -60,13 +46,7 @@ unfolding accepted_events
 found-blank names client line blank = (rw blank refl, λ _ _. inl blank)
 
 pub found-other : (names : List (List ℕ)) (client : ℕ) (line : List ℕ) (event : Event) → event_of names line ≡ Ok event → event.client ≢ client → IsFound names client line found.Nothing
-found-other names client line event said other = (
-  first-other names client line event said other,
-  λ _ named.
-      let both : Some event.client ≡ Some client = sym (event-named names line event said) ∙ named in
-      let own : event.client ≡ client = cc both in
-      absurd (other own),
-)
+found-other names client line event said other = grind (arith, first-other, event-named)
 
 pub found-act : (names : List (List ℕ)) (client : ℕ) (line : List ℕ) (event : Event) → list_all is_blank line ≡ false → event_of names line ≡ Ok event → event.client ≡ client → IsFound names client line (found.Act event.act)
 found-act names client line event some said own = (rw (events-in names 0 line, said, some) (acts-own event client own), λ _ _. inr (event, said, own))
@@ -75,20 +55,13 @@ found-act names client line event some said own = (rw (events-in names 0 line, s
 acts-line : (names : List (List ℕ)) (client : ℕ) (raw : List ℕ) (more : List (List ℕ))
     → acts_in names client (raw ∷ more) ≡ acts_of client (accepted_events (commands_in names 0 (without_line_end raw))) ++ acts_in names client more
 unfolding commands_of
-acts-line names client raw more =
-    let first = commands_in names 0 (without_line_end raw) in
-    let rest = commands_of names 1 more in
-    let events = accepted_events-append first rest ∙ ap (λ (t : List Event). accepted_events first ++ t) (events-any_number names 1 0 more) in
-    ap (acts_of client) events ∙ acts-append client (accepted_events first) (accepted_events (commands_of names 0 more))
+acts-line names client raw more = grind (arith, accepted_events-append, events-any_number, acts-append)
 
 -- a line that does not name the client is nothing to it, among others
 acts-unnamed : (names : List (List ℕ)) (client : ℕ) (before : List (List ℕ)) (raw : List ℕ) (left : List (List ℕ)) → client_named (without_line_end raw) ≢ Some client
     → acts_in names client (before ++ raw ∷ left) ≡ acts_in names client (before ++ left)
 acts-unnamed names client [] raw left other = acts-line names client raw left ∙ ap (λ (acts : List Act). acts ++ acts_in names client left) (first-unnamed names client (without_line_end raw) other)
-acts-unnamed names client (first ∷ before) raw left other =
-    acts-line names client first (before ++ raw ∷ left)
-    ∙ ap (λ (acts : List Act). acts_of client (accepted_events (commands_in names 0 (without_line_end first))) ++ acts) (acts-unnamed names client before raw left other)
-    ∙ sym (acts-line names client first (before ++ left))
+acts-unnamed names client (first ∷ before) raw left other = grind (arith, acts-line, acts-unnamed names client before raw left other)
 
 accepted-unnamed : (names : List (List ℕ)) (client : ℕ) (before : List (List ℕ)) (raw : List ℕ) (left : List (List ℕ)) → client_named (without_line_end raw) ≢ Some client
     → AllAccepted names client (before ++ left) → AllAccepted names client (before ++ raw ∷ left)
@@ -107,38 +80,15 @@ pub record HasGone (old new : Part) (past : List Act) : Type 0 where
 -- one line more
 pub gone-line : (old now new : Part) (raw line : List ℕ) (what : Found) → HasGone old now [] → lines_left now ≡ raw ∷ lines_left new → line ≡ without_line_end raw → IsFound now.schema.now now.client line what
     → new.client ≡ now.client → new.schema.now ≡ now.schema.now → string_bytes new.text ≡ string_bytes now.text → (new.refused ≡ false → (now.refused ≡ false) × (what ≡ found.Refused → ⊥)) → HasGone old new (acts_found what)
-gone-line old now new raw line what gone cut is found client schema text clean =
-    let names = now.schema.now in
-    let found_here : IsFound names now.client (without_line_end raw) what = rw is at found in
-    let acts : acts_left now ≡ acts_found what ++ acts_left new =
-    ap (acts_in names now.client) cut ∙ acts-line names now.client raw (lines_left new)
-    ∙ ap (λ (acts : List Act). acts ++ acts_in names now.client (lines_left new)) found_here.0
-    ∙ rw (schema, client) refl in record {
-      client = client ∙ gone.client;
-      schema = schema ∙ gone.schema;
-      text = text ∙ gone.text;
-      acts = gone.acts ∙ acts;
-      refused = λ none. gone.refused (clean none).0;
-      accepted = λ none rest.
-          let here = found_here.1 (clean none).1 in
-          let behind : AllAccepted names now.client (lines_left new) = rw (schema, client) at rest in
-          gone.accepted (clean none).0 (subst (AllAccepted names now.client) (sym cut) (here, behind));
-    }
+gone-line old now new raw line what gone cut is found client schema text clean = grind (arith, acts-line)
 
 -- the replies to a part stay
 pub returned-on : (first old new : Part) (acts : List Act) (replies : List Reply) → HasReplied first old replies → HasGone old new acts → HasReplied first new replies
-returned-on first old new acts replies returned gone = record {
-  client = gone.client ∙ returned.client;
-  schema = gone.schema ∙ returned.schema;
-  text = gone.text ∙ returned.text;
-  accepted = λ none rest. returned.accepted (gone.refused none) (gone.accepted none rest);
-}
+returned-on first old new acts replies returned gone = grind (arith)
 
 -- the next line of a part, and no line
 pub line-next : (part : Part) (raw : Bor (List ℕ)) → part.read < vec_len part.lines → raw ≡ get_or part.lines.items part.read raw → lines_left part ≡ raw.now ∷ map (λ (r : Bor (List ℕ)). r.now) (drop (part.read + 1) part.lines.items)
-line-next part raw some is =
-    let cut = drop_more part.lines.items part.read raw (omega (arith, some, part.lines.ok.0)) in
-    ap (map (λ (r : Bor (List ℕ)). r.now)) cut ∙ ap (λ (first : List ℕ). first ∷ map (λ (r : Bor (List ℕ)). r.now) (drop (part.read + 1) part.lines.items)) (ap (λ (r : Bor (List ℕ)). r.now) (sym is))
+line-next part raw some is = grind (arith, drop_more)
 
 pub lines-none : (part : Part) → vec_len part.lines ≤ part.read → lines_left part ≡ []
 lines-none part none = ap (map (λ (r : Bor (List ℕ)). r.now)) (drop_all part.read part.lines.items (omega (arith, none, part.lines.ok.0)))
@@ -151,15 +101,7 @@ acts-short names client text = omega (arith, acts-few client (accepted_events (c
 pub returned-more : (first old new : Part) (replies : List Reply) (reply : Reply) → HasReplied first old replies → new.client ≡ old.client → new.schema.now ≡ old.schema.now → lines_left new ≡ lines_left old → new.refused ≡ old.refused
     → string_bytes new.text ≡ string_bytes old.text ++ reply_lines (length old.schema.now) old.client reply → HasReplied first new (replies ++ reply ∷ [])
 unfolding texts
-returned-more first old new replies reply returned client schema left refused wrote =
-    let text = reply_lines (length first.schema.now) first.client in
-    let line : reply_lines (length old.schema.now) old.client reply ≡ text reply = rw (returned.schema, returned.client) refl in record {
-      client = client ∙ returned.client;
-      schema = schema ∙ returned.schema;
-      text = wrote ∙ ap (λ (t : List ℕ). string_bytes old.text ++ t) line ∙ ap (λ (t : List ℕ). t ++ text reply) returned.text ∙ append_assoc (string_bytes first.text) (texts text replies) (text reply)
-          ∙ ap (λ (t : List ℕ). string_bytes first.text ++ (texts text replies ++ t)) (sym (append-nil (text reply))) ∙ ap (λ (t : List ℕ). string_bytes first.text ++ t) (sym (texts-append text replies (reply ∷ [])));
-      accepted = λ none rest. returned.accepted (sym refused ∙ none) (subst (AllAccepted old.schema.now old.client) left (rw (client, schema) at rest));
-    }
+returned-more first old new replies reply returned client schema left refused wrote = grind (arith, append_assoc, append-nil, texts-append)
 
 -- the parts of clients before they have lines, and one part more
 pub are-more : (names raws : List (List ℕ)) (parts : List Part) (part : Part) → ArePartsUpTo names raws raws parts → part.schema.now ≡ names → part.client ≡ suc (length parts) → lines_left part ≡ [] → part.read ≡ 0
@@ -168,10 +110,7 @@ are-more names raws parts part are schema client lines read returned place other
   | inl inside ↦
       let stays : other ≡ get_or parts place other = sym (get_or_from_slice_get (parts ++ part ∷ []) place other other here) ∙ get_or_append_left parts (part ∷ []) other place inside in
       are place other (slice_get_read parts (length parts) place other refl inside stays)
-  | inr past ↦
-      let last : length parts ≡ place = omega (arith, past, slice_get_within (parts ++ part ∷ []) place other here, length-append parts (part ∷ [])) in
-      let same : part ≡ other = sym (get_or_push parts part part place last) ∙ get_or_from_slice_get (parts ++ part ∷ []) place other part here in
-      subst (IsPart names raws raws (suc place)) same (record { schema = schema; number = client ∙ ap suc last; acts = ap (λ (l : List (List ℕ)). acts_in names (suc place) (l ++ raws)) lines; accepted = subst (λ (l : List (List ℕ)). AllAccepted names (suc place) (l ++ raws)) lines; unread = read; returned = returned })
+  | inr past ↦ grind (arith, past, slice_get_within (parts ++ part ∷ []) place other here, length-append parts (part ∷ []), get_or_push parts part part place, get_or_from_slice_get (parts ++ part ∷ []) place other part here)
 ]
 
 -- a line more
@@ -180,14 +119,9 @@ lines-push old new raw pushed = ap (map (λ (r : Bor (List ℕ)). r.now)) pushed
 
 -- a line is given to the part of the client that it names
 part-next : (names raws left : List (List ℕ)) (raw : List ℕ) (client : ℕ) (part : Part) → IsPart names raws (raw ∷ left) client part → client_named (without_line_end raw) ≢ Some client → IsPart names raws left client part
-part-next names raws left raw client part is other = record {
-  schema = is.schema;
-  number = is.number;
-  acts = sym (acts-unnamed names client (lines_left part) raw left other) ∙ is.acts;
-  accepted = λ all. is.accepted (accepted-unnamed names client (lines_left part) raw left other all);
-  unread = is.unread;
-  returned = is.returned;
-}
+part-next names raws left raw client part is other =
+    let accepts : AllAccepted names client (lines_left part ++ left) → AllAccepted names client (lines_left part ++ raw ∷ left) = accepted-unnamed names client (lines_left part) raw left other in
+    grind (arith, acts-unnamed names client (lines_left part) raw left other)
 
 pub given-nobody : (names raws left : List (List ℕ)) (raw : List ℕ) (parts : List Part) → NamesNone (length parts) (without_line_end raw) → ArePartsUpTo names raws (raw ∷ left) parts → ArePartsUpTo names raws left parts
 given-nobody names raws left raw parts nobody are place part here = part-next names raws left raw (suc place) part (are place part here) (nobody place (slice_get_within parts place part here))
@@ -200,19 +134,10 @@ pub given-here : (names raws left : List (List ℕ)) (raw : List ℕ) (parts : L
     → new.schema.now ≡ old.schema.now → new.client ≡ old.client → lines_in new ≡ lines_in old ++ raw ∷ [] → new.read ≡ old.read → string_bytes new.text ≡ string_bytes old.text
     → ArePartsUpTo names raws (raw ∷ left) parts → ArePartsUpTo names raws left (set parts place new)
 given-here names raws left raw parts place old new inside held named schema client lines read text are spot part here = elim (cases_Bool (spot == place)) [
-  | inl e ↦
-      let is = eqb-true spot place e in
-      let given : new ≡ part = sym (get_or-set_at parts place spot new new is inside) ∙ get_or_from_slice_get (set parts place new) spot part new here in
-      let number : suc place ≡ suc spot = ap suc (sym is) in
-      subst (λ (client : ℕ). IsPart names raws left client part) number (subst (IsPart names raws left (suc place)) given more)
+  | inl e ↦ grind (arith, eqb-true spot place e, get_or-set_at parts place spot new new, get_or_from_slice_get (set parts place new) spot part new here, was, whole)
   | inr e ↦
-      let isnt = eqb-false spot place e in
-      let stays : part ≡ get_or parts spot part = sym (get_or_from_slice_get (set parts place new) spot part part here) ∙ get_or-set_other parts place spot new part isnt in
-      let other : client_named (without_line_end raw) ≢ Some (suc spot) = λ its.
-      let both : Some (suc spot) ≡ Some (suc place) = sym its ∙ named in
-      let numbers : suc spot ≡ suc place = cc both in
-      isnt (omega (arith, numbers)) in
-      part-next names raws left raw (suc spot) part (are spot part (slice_get_read parts (length parts) spot part refl within stays)) other
+      let stays : part ≡ get_or parts spot part = grind (arith, get_or_from_slice_get (set parts place new) spot part part here, get_or-set_other parts place spot new part (eqb-false spot place e)) in
+      part-next names raws left raw (suc spot) part (are spot part (slice_get_read parts (length parts) spot part refl within stays)) (λ its. grind (arith, eqb-false spot place e, named, its))
 ]
   where
     within : spot < length parts
@@ -222,19 +147,7 @@ given-here names raws left raw parts place old new inside held named schema clie
     was = are place old (slice_get_read parts (length parts) place old refl inside held)
 
     whole : lines_left old ++ raw ∷ left ≡ lines_left new ++ left
-    whole =
-        ap (λ (l : List (List ℕ)). l ++ raw ∷ left) (lines-unread old was.unread) ∙ sym (append_assoc (lines_in old) (raw ∷ []) left)
-        ∙ ap (λ (l : List (List ℕ)). l ++ left) (sym lines ∙ sym (lines-unread new (read ∙ was.unread)))
-
-    more : IsPart names raws left (suc place) new
-    more = record {
-      schema = schema ∙ was.schema;
-      number = client ∙ was.number;
-      acts = ap (acts_in names (suc place)) (sym whole) ∙ was.acts;
-      accepted = λ all. was.accepted (subst (AllAccepted names (suc place)) (sym whole) all);
-      unread = read ∙ was.unread;
-      returned = text ∙ was.returned;
-    }
+    whole = grind (arith, lines-unread old was.unread, lines-unread new (read ∙ was.unread), append_assoc (lines_in old) (raw ∷ []) left, lines)
 
 -- all lines were given to the parts: these are the acts of each
 pub part-acts : (names raws : List (List ℕ)) (client : ℕ) (part : Part) → IsPart names raws [] client part → acts_left part ≡ acts_in names client raws
@@ -242,8 +155,7 @@ part-acts names raws client part is = rw (is.schema, is.number) (ap (acts_in nam
 
 pub parts-few : (names : List (List ℕ)) (text : List ℕ) (parts : List Part) → length text < 2 ^ 63 → AreParts names (raw_lines text) parts → All (λ part. length (acts_left part) < 2 ^ 63) parts
 parts-few names text parts short are i d within =
-    let same = part-acts names (raw_lines text) (suc i) (get_or parts i d) (are i (get_or parts i d) (slice_get-get_or parts i d within)) in
-    omega (arith, ap length same, acts-short names (suc i) text, short)
+    grind (arith, part-acts names (raw_lines text) (suc i) (get_or parts i d) (are i (get_or parts i d) (slice_get-get_or parts i d within)), slice_get-get_or parts i d within, acts-short names (suc i) text)
 
 -- The acts of clients whose lines are this text, as lists.
 module _ {X : Type 0} (given : Vec X) (names : List (List ℕ)) (text : List ℕ) (short : length text < 2 ^ 63) where
@@ -269,10 +181,7 @@ module _ {X : Type 0} (given : Vec X) (names : List (List ℕ)) (text : List ℕ
   pub are-acts : (clients first : ℕ) → AreActs clients (accepted_events (commands_of names first (raw_lines text))) (acts_from clients)
   are-acts clients first = record {
     lists = length-map-range_with_len held 1 clients;
-    each = λ place list here.
-        let inside : place < clients = omega (arith, slice_get_within (acts_from clients) place list here, length-map-range_with_len held 1 clients) in
-        let is = sym (get_or_from_slice_get (acts_from clients) place list list here) ∙ get_or-map-range_with_len held 1 clients place (suc place) list inside (omega arith) in
-        ap (λ (l : Vec Act). l.items) is ∙ ap (acts_of (suc place)) (events-any_number names 0 first (raw_lines text));
+    each = λ place list here. grind (arith, slice_get_within (acts_from clients) place list here, length-map-range_with_len held 1 clients, get_or_from_slice_get (acts_from clients) place list list here, get_or-map-range_with_len held 1 clients place (suc place) list, events-any_number names 0 first (raw_lines text));
   }
 
 -- the texts of the parts, one after the other
@@ -281,29 +190,17 @@ parts-returned : (names : List (List ℕ)) (client : ℕ) (done : List Part) (re
     → texts (λ part. string_bytes part.text) done ≡ clients_lines (length names) client replies
 unfolding texts clients_lines
 parts-returned names client [] [] same each = refl
-parts-returned names client [] (list ∷ lists) same each = absurd (omega (arith, same))
-parts-returned names client (part ∷ more) [] same each = absurd (omega (arith, same))
 parts-returned names client (part ∷ more) (list ∷ lists) same each =
-    let number : client + 0 ≡ client = omega arith in
-    let here = each 0 part list refl refl ∙ ap (λ (n : ℕ). texts (reply_lines (length names) n) list.items) number in
-    let rest = parts-returned names (client + 1) more lists (omega (arith, same)) (λ place p l p_at l_at.
-    let next : client + suc place ≡ (client + 1) + place = omega arith in
-    each (suc place) p l p_at l_at ∙ ap (λ (n : ℕ). texts (reply_lines (length names) n) l.items) next) in
-    ap (λ (t : List ℕ). t ++ texts (λ (x : Part). string_bytes x.text) more) here ∙ ap (λ (t : List ℕ). texts (reply_lines (length names) client) list.items ++ t) rest
+    grind (arith, each 0 part list refl refl, parts-returned names (client + 1) more lists (omega (arith, same)) (λ place p l p_at l_at. let next : client + suc place ≡ (client + 1) + place = omega arith in rw next at (each (suc place) p l p_at l_at)))
+parts-returned names client done replies same each = absurd (omega (arith, same))
 
 -- the texts of done parts are the lines of the replies that they took
 pub parts-shown : (names : List (List ℕ)) (text : List ℕ) (parts done : List Part) (replies : List (Vec Reply)) → AreParts names (raw_lines text) parts → AreTaken HasReplied parts done replies
     → texts (λ part. string_bytes part.text) done ≡ clients_lines (length names) 1 replies
 parts-shown names text parts done replies are taken = parts-returned names 1 done replies (taken.tasks_done ∙ sym taken.lists) (λ place part list part_at list_at.
-    let inside : place < length parts = omega (arith, slice_get_within done place part part_at, taken.tasks_done) in
-    let (first, first_at) = there parts place inside in
+    let (first, first_at) = there parts place (omega (arith, slice_get_within done place part part_at, taken.tasks_done)) in
     let (returned, returned_at, has) = taken.each place first part first_at part_at in
-    let both : Some returned ≡ Some list = sym returned_at ∙ list_at in
-    let same : returned ≡ list = cc both in
-    let is = are place first first_at in
-    let number : suc place ≡ 1 + place = omega arith in
-    let wrote : string_bytes part.text ≡ string_bytes first.text ++ texts (reply_lines (length first.schema.now) first.client) returned.items = has.text in
-    rw (is.returned, is.schema, is.number ∙ number, same) at wrote)
+    grind (arith, are place first first_at, returned_at, list_at, has.text))
 
 -- no line that names a client whose part is whole was refused
 whole-accepts : (names : List (List ℕ)) (text : List ℕ) (parts done : List Part) (replies : List (Vec Reply)) → AreParts names (raw_lines text) parts → AreTaken HasReplied parts done replies → All IsWhole done
@@ -312,30 +209,21 @@ whole-accepts names text parts done replies are taken all place inside =
     let (first, first_at) = there parts place (omega (arith, inside, taken.tasks_done)) in
     let (part, part_at) = there done place inside in
     let (returned, returned_at, has) = taken.each place first part first_at part_at in
-    let is = are place first first_at in
-    let whole : IsWhole part = subst IsWhole (get_or_from_slice_get done place part part part_at) (all place part inside) in
-    let none : lines_left part ≡ [] = lines-none part (omega (arith, whole.through)) in
-    let accepts : AllAccepted first.schema.now first.client (lines_left first) = has.accepted whole.accepted (subst (AllAccepted part.schema.now part.client) (sym none) tt) in
-    let left : AllAccepted names (suc place) (lines_left first) = rw (is.schema, is.number) at accepts in
-    is.accepted (subst (AllAccepted names (suc place)) (sym (append-nil (lines_left first))) left)
+    let whole = all place part inside in
+    grind (arith, are place first first_at, get_or_from_slice_get done place part part part_at, whole, lines-none part, has, append-nil (lines_left first))
 
 -- a line that was given to a part, and that is not refused, is none of nobody's
 unowned-given : (clients width : ℕ) (names : List (List ℕ)) (number : ℕ) (raw : List ℕ) → IsGiven clients raw → ((place : ℕ) → place < clients → IsAccepted names (suc place) (without_line_end raw))
     → unowned_lines clients width (commands_in names number (without_line_end raw)) ≡ []
 unowned-given clients width names number raw (inl blank) accept = sym (unowned-blank clients width names number (without_line_end raw) [] blank)
-unowned-given clients width names number raw (inr (place, inside, named)) accept = elim (accept place inside named) [
-  | inl blank ↦ sym (unowned-blank clients width names number (without_line_end raw) [] blank)
-  | inr (event, said, own) ↦ sym (unowned-own clients width names number (without_line_end raw) [] place event said own inside)
-]
+unowned-given clients width names number raw (inr (place, inside, named)) accept = grind (arith, accept place inside named, unowned-blank clients width names number (without_line_end raw) [], unowned-own clients width names number (without_line_end raw) [] place)
 
 all-given : (clients width : ℕ) (names : List (List ℕ)) (number : ℕ) (raws : List (List ℕ)) → AllGiven clients raws → ((place : ℕ) → place < clients → AllAccepted names (suc place) raws)
     → unowned_lines clients width (commands_of names number raws) ≡ []
 unfolding commands_of texts
 all-given clients width names number [] given accept = refl
 all-given clients width names number (raw ∷ more) given accept =
-    texts-append (unowned_line clients width) (commands_in names number (without_line_end raw)) (commands_of names (number + 1) more)
-    ∙ ap (λ (t : List ℕ). t ++ unowned_lines clients width (commands_of names (number + 1) more)) (unowned-given clients width names number raw given.0 (λ place inside. (accept place inside).0))
-    ∙ all-given clients width names (number + 1) more given.1 (λ place inside. (accept place inside).1)
+    grind (arith, texts-append (unowned_line clients width) (commands_in names number (without_line_end raw)) (commands_of names (number + 1) more), unowned-given clients width names number raw given.0 (λ place inside. (accept place inside).0), all-given clients width names (number + 1) more given.1 (λ place inside. (accept place inside).1))
 
 -- no line belongs to nobody, where each was given to a part and all parts are whole
 pub unowned-none : (names : List (List ℕ)) (text : List ℕ) (number : ℕ) (parts done : List Part) (replies : List (Vec Reply)) → AreParts names (raw_lines text) parts → AreTaken HasReplied parts done replies

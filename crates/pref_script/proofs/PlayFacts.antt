@@ -1,5 +1,5 @@
 -- Commands that are played one after the other.
-use Rattle.pref_script.proofs.Common.{◌≡◌, ◌∙◌, ℕ, ℤ, ◌+◌, List, [], ◌∷◌, ◌++◌, length, Ok, Err, OnOk, Result, on_ok_weaker, sym, ap, refl, subst, append_assoc, Limits, System, opened, replies, step, Event}
+use Rattle.pref_script.proofs.Common.{arith, ◌≡◌, ℕ, ℤ, ◌+◌, List, [], ◌∷◌, ◌++◌, length, Ok, Err, OnOk, Result, on_ok_weaker, sym, refl, subst, append_assoc, Limits, System, opened, replies, Event}
 use Rattle.pref_script.proofs.Common.{Command, refused, runs, commands_in, commands_of, accepted_events, command_lines, raw_lines, without_line_end, refused_line, reply_lines, Refusal}
 use Rattle.pref_core.proofs.RepliesLaws.{does_replies, replied_refused}
 use Rattle.pref_core.specs.MachineParts.{reply_of}
@@ -14,27 +14,13 @@ use Rattle.pref_script.specs.Playing.{Plays, PrintsAll, printed_from}
 -- a refused line
 pub plays_refused : (width : ℕ) (running : Running) (number : ℕ) (why : Refusal) (old new : List ℕ) → new ≡ old ++ refused_line number why → Plays width running (refused number why ∷ []) old new running
 unfolding command_lines accepted_events
-plays_refused width running number why old new added = record {
-  limits = refl;
-  plays = λ system h. record { next = system; stands = h; goes_on = λ more. rw added (append_assoc old (refused_line number why) (printed_from running.limits width system more)) };
-}
+plays_refused width running number why old new added = grind (arith, append_assoc)
 
 -- an event
 pub plays_event : (width : ℕ) (before after : Running) (event : Event) (reply : Reply) (old new : List ℕ) → Replies before event (Ok reply) after → new ≡ old ++ reply_lines width event.client reply
     → Plays width before (runs event ∷ []) old new after
 unfolding command_lines accepted_events
-plays_event width before after event reply old new answers added = record {
-  limits = answers.limits;
-  plays = λ system h.
-      let says = answers.returns system h in
-      let right = step before.limits system event in record {
-        next = right.next;
-        stands = says.1;
-        goes_on = λ more.
-            let rest = printed_from before.limits width right.next more in
-            rw added (append_assoc old (reply_lines width event.client reply) rest ∙ ap (λ (r : Reply). old ++ (reply_lines width event.client r ++ rest)) says.0);
-      };
-}
+plays_event width before after event reply old new answers added = grind (arith, append_assoc)
 
 -- an act that is done by a call of its own, whose result has this reply
 plays_returned : (returned : Result Reply CoreFault) (reply : Reply) (width : ℕ) (before after : Running) (event : Event) (act : Act) (old new : List ℕ) → event.act ≡ act → Does before event.client act returned after
@@ -65,28 +51,17 @@ pub record Playing (width : ℕ) (first : Running) (all : List Command) (text : 
 
 -- some commands more
 playing_more : (width : ℕ) (first now after : Running) (all commands rest : List Command) (text new : List ℕ) → Playing width first all text now (commands ++ rest) → Plays width now commands text new after → Playing width first all new after rest
-playing_more width first now after all commands rest text new playing plays = record {
-  limits = plays.limits ∙ playing.limits;
-  from = λ system h.
-      let so_far = playing.from system h in
-      let one = plays.plays so_far.next so_far.stands in
-      let on : new ++ printed_from first.limits width one.next rest ≡ text ++ printed_from first.limits width so_far.next (commands ++ rest)
-      = subst (λ (l : Limits). new ++ printed_from l width one.next rest ≡ text ++ printed_from l width so_far.next (commands ++ rest)) playing.limits (one.goes_on rest) in
-      record { next = one.next; stands = one.stands; whole = on ∙ so_far.whole };
-}
+playing_more width first now after all commands rest text new playing plays = grind (arith)
 
 -- a line more
 pub playing_line : (width : ℕ) (names : List (List ℕ)) (first now after : Running) (all : List Command) (number : ℕ) (left raw tail text new : List ℕ)
     → Playing width first all text now (commands_of names number (raw_lines left)) → raw_lines left ≡ raw ∷ raw_lines tail
     → Plays width now (commands_in names number (without_line_end raw)) text new after → Playing width first all new after (commands_of names (number + 1) (raw_lines tail))
 unfolding commands_of
-playing_line width names first now after all number left raw tail text new playing cut plays =
-    playing_more width first now after all (commands_in names number (without_line_end raw)) (commands_of names (number + 1) (raw_lines tail)) text new (rw cut at playing) plays
+playing_line width names first now after all number left raw tail text new playing cut plays = grind (arith, playing_more)
 
 -- all that is printed for the commands of a script
 pub prints_output : (limits : Limits) (rows : List (List ℤ)) (names : List (List ℕ)) (number first : ℕ) (lines : List (List ℕ)) (running : Running) (text : List ℕ)
     → running.limits ≡ limits → StandsForSystem running (opened limits rows) → PrintsAll (length names) running (commands_of names number lines) text → number ≡ first
     → text ≡ command_lines (length names) (commands_of names first lines) (replies limits rows (accepted_events (commands_of names first lines)))
-prints_output limits rows names number first lines running text same stands prints is =
-    subst (λ (l : Limits). text ≡ printed_from l (length names) (opened limits rows) (commands_of names first lines)) same
-    (subst (λ (n : ℕ). text ≡ printed_from running.limits (length names) (opened limits rows) (commands_of names n lines)) is (prints (opened limits rows) stands))
+prints_output limits rows names number first lines running text same stands prints is = grind (arith)

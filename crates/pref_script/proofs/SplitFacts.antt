@@ -1,5 +1,5 @@
 -- A text that is cut at the first of some bytes.
-use Rattle.pref_script.proofs.Common.{◌≡◌, ◌∙◌, ℕ, ◌+◌, ◌-◌, ◌<◌, false, List, [], ◌∷◌, length, take, drop, get_or, sym, ap, arith, suc, Some, None, ◌==◌, position_or_len, slice_split, eq-eqb, ne_eqb}
+use Rattle.pref_script.proofs.Common.{◌≡◌, ◌∙◌, ℕ, ◌+◌, ◌<◌, false, List, [], ◌∷◌, length, take, drop, get_or, ap, arith, Some, None, ◌==◌, slice_split, eq-eqb, ne_eqb}
 use Rattle.pref_script.proofs.Common.{drop_more, get_or_default, length-drop, position_or_len_is, IsFirstByte, Nowhere, Passes, is_byte}
 use Rattle.std.proofs.lemmas.List.Splits.{slice_split_first, slice_split_none}
 
@@ -9,10 +9,7 @@ before_byte byte text end none k h = ne_eqb (get_or text k 0) byte (λ same. non
 
 pub split_first : (byte : ℕ) (text : List ℕ) (place : ℕ) → IsFirstByte (is_byte byte) text (Some place)
     → slice_split (λ (b : ℕ). b == byte) text ≡ take place text ∷ slice_split (λ (b : ℕ). b == byte) (drop (place + 1) text)
-split_first byte text place found =
-    let inside = found.0.high in
-    let first : position_or_len (λ (b : ℕ). b == byte) text ≡ place = position_or_len_is (λ (b : ℕ). b == byte) text place 0 (omega arith) (before_byte byte text place found.0.before) (λ h. found.1) in
-    rw first at (slice_split_first (λ (b : ℕ). b == byte) text 0 (omega arith))
+split_first byte text place found = grind (arith, position_or_len_is, before_byte, slice_split_first)
 
 pub split_none : (byte : ℕ) (text : List ℕ) → IsFirstByte (is_byte byte) text None → slice_split (λ (b : ℕ). b == byte) text ≡ text ∷ []
 split_none byte text none = slice_split_none (λ (b : ℕ). b == byte) text (λ k d h. ap (λ (b : ℕ). b == byte) (get_or_default text k d 0 h) ∙ before_byte byte text (length text) none k h)
@@ -20,8 +17,4 @@ split_none byte text none = slice_split_none (λ (b : ℕ). b == byte) text (λ 
 -- the first element that is left of a list, and those after it
 pub drop_here : {A : Type 0} (xs : List A) (n : ℕ) (d x : A) (more : List A) → drop n xs ≡ x ∷ more
     → (n < length xs) × (get_or xs n d ≡ x) × (drop (n + 1) xs ≡ more)
-drop_here xs n d x more e =
-    let size : length xs - n ≡ suc (length more) = sym (length-drop n xs) ∙ ap length e in
-    let inside : n < length xs = omega arith in
-    let both : get_or xs n d ∷ drop (n + 1) xs ≡ x ∷ more = sym (drop_more xs n d inside) ∙ e in
-    (inside, cc both, cc both)
+drop_here xs n d x more e = grind (arith, length-drop n xs, drop_more xs n d, e)

@@ -1,13 +1,11 @@
 -- Lines that are printed one after the other.
-use Rattle.pref_script.proofs.Common.{◌≡◌, ◌∙◌, ℕ, ◌+◌, ◌<◌, ◌≤◌, List, [], ◌∷◌, ◌++◌, length, drop, get_or, refl, sym, ap, append_assoc, append-nil, drop_more, drop_all, texts}
+use Rattle.pref_script.proofs.Common.{arith, ◌≡◌, ◌∙◌, ℕ, ◌+◌, ◌<◌, ◌≤◌, List, [], ◌∷◌, ◌++◌, length, drop, get_or, refl, sym, ap, append_assoc, append-nil, drop_more, drop_all, texts}
 
 -- one text more
 pub texts-more : {A : Type 0} (text : A → List ℕ) (out wrote all : List ℕ) (xs : List A) (place : ℕ) (x d : A) → place < length xs → get_or xs place d ≡ x
     → out ++ texts text (drop place xs) ≡ all → wrote ≡ out ++ text x → wrote ++ texts text (drop (place + 1) xs) ≡ all
 unfolding texts
-texts-more text out wrote all xs place x d inside here before now =
-    let whole = rw (drop_more xs place d inside, here) at before in
-    rw now (append_assoc out (text x) (texts text (drop (place + 1) xs)) ∙ whole)
+texts-more text out wrote all xs place x d inside here before now = grind (arith, drop_more, append_assoc)
 
 -- and none more
 pub texts-end : {A : Type 0} (text : A → List ℕ) (out all : List ℕ) (xs : List A) (place : ℕ) → length xs ≤ place → out ++ texts text (drop place xs) ≡ all → out ≡ all
@@ -18,4 +16,4 @@ texts-end text out all xs place none before = sym (append-nil out) ∙ rw (drop_
 pub texts-append : {A : Type 0} (text : A → List ℕ) (xs ys : List A) → texts text (xs ++ ys) ≡ texts text xs ++ texts text ys
 unfolding texts
 texts-append text [] ys = refl
-texts-append text (x ∷ xs) ys = ap (λ (t : List ℕ). text x ++ t) (texts-append text xs ys) ∙ sym (append_assoc (text x) (texts text xs) (texts text ys))
+texts-append text (x ∷ xs) ys = grind (arith, texts-append text xs ys, append_assoc)

@@ -1,10 +1,10 @@
 -- The words of a command line.
-use Rattle.pref_script.proofs.Common.{◌≡◌, ◌∙◌, ℕ, ◌+◌, ◌-◌, ◌*◌, ◌<◌, true, false, List, length, take, drop, get_or, sym, ap, refl, arith, nat_lt, Some, None, inl, inr, ◌≤◌, nat_le, not}
-use Rattle.pref_script.proofs.Common.{is_ascii_digit, list_any, position_or_len, all_ascii_digits, bytes_eq, digits_value, and_left, and_right, cases_lt, le-leb, le-ltb, lt-leb, ne_eqb, true≢false}
+use Rattle.pref_script.proofs.Common.{◌≡◌, ◌∙◌, ℕ, ◌+◌, ◌-◌, ◌*◌, ◌<◌, true, false, List, length, take, drop, get_or, sym, ap, refl, arith, nat_lt, Some, None, ◌≤◌, nat_le, not}
+use Rattle.pref_script.proofs.Common.{is_ascii_digit, list_any, position_or_len, all_ascii_digits, bytes_eq, digits_value, and_left, and_right, le-leb, le-ltb, lt-leb, ne_eqb, true≢false}
 use Rattle.pref_script.proofs.Common.{drop_all, get_or-drop, get_or-take, length-drop, take_all, fails_before_first, passes_at_first, position_or_len_is, digits_next, after_blanks, is_blank}
 use Rattle.pref_script.proofs.Common.{is_numeral, IsDigitsWord, after_word, word_number, word_of}
 use Rattle.std.specs.Int.{IsInRange}
-use Rattle.std.specs.Cmp.Lexicographic.{other_text, same_text}
+use Rattle.std.specs.Cmp.Lexicographic.{same_text}
 use Rattle.std.proofs.lemmas.Bool.{false_from_ne_true}
 use Rattle.std.proofs.lemmas.Int.Digits.{digits_value_more}
 use Rattle.std.proofs.lemmas.List.Folds.{length-prefix_len, list_any_at}
@@ -29,16 +29,7 @@ word_size text = length-prefix_len (λ byte. not (is_blank byte)) text
 pub word_goes_on : (text : List ℕ) (place : ℕ) → place ≤ length (word_of text) → place < length text → is_blank (get_or text place 0) ≡ false
     → (place < length (word_of text)) × (get_or (word_of text) place 0 ≡ get_or text place 0)
 unfolding word_of
-word_goes_on text place before inside other =
-    let size = position_or_len is_blank text in
-    let whole = word_size text in
-    let more : place < size = elim (cases_lt place size) [
-      | inl less ↦ less
-      | inr over ↦
-          let here : size ≡ place = omega (arith, whole) in
-          absurd (true≢false (sym (passes_at_first is_blank text 0 (omega arith)) ∙ ap (λ n. is_blank (get_or text n 0)) here ∙ other))
-    ] in
-    (omega (arith, whole), get_or-take size text place 0 more)
+word_goes_on text place before inside other = grind (arith, word_size text, passes_at_first is_blank text 0, get_or-take (position_or_len is_blank text) text place 0)
 
 -- the word ends where a blank comes, or the text ends
 pub word_ends : (text : List ℕ) (place : ℕ) → place ≤ length (word_of text) → place ≤ length text → (place < length text → is_blank (get_or text place 0) ≡ true) → position_or_len is_blank text ≡ place
@@ -47,14 +38,7 @@ word_ends text place before inside here = position_or_len_is is_blank text place
 -- a word that was read as digits to its end
 pub digits_word : (text : List ℕ) (place number : ℕ) → place ≤ length (word_of text) → digits_value 10 (take place (word_of text)) ≡ number → all_ascii_digits (drop place (word_of text)) ≡ all_ascii_digits (word_of text)
     → place ≤ length text → (place < length text → is_blank (get_or text place 0) ≡ true) → IsDigitsWord text number place
-digits_word text place number before so_far digits inside here =
-    let size : length (word_of text) ≡ place = word_size text ∙ word_ends text place before inside here in
-    record {
-      size = size;
-      inside = inside;
-      digits = sym digits ∙ ap all_ascii_digits (drop_all place (word_of text) (omega arith));
-      is = ap (digits_value 10) (sym (take_all place (word_of text) (omega arith))) ∙ so_far;
-    }
+digits_word text place number before so_far digits inside here = grind (arith, word_size text, word_ends text place before inside here, drop_all place (word_of text), take_all place (word_of text))
 
 -- a digit is no blank
 pub digit_not_blank : (digit : ℕ) → IsInRange 48 57 digit → is_blank digit ≡ false
@@ -68,29 +52,22 @@ word_place text word same = sym (word_size text) ∙ ap length (same_text (word_
 pub word_stripped : (text word : List ℕ) → list_any is_blank word ≡ false → true ≡ bytes_eq (take (length word) text) word → length word ≤ length text
     → (length word < length text → is_blank (get_or text (length word) 0) ≡ true) → (word_of text ≡ word) × (after_word text ≡ after_blanks (drop (length word) text))
 word_stripped text word plain begins inside end =
-    let size = length word in
-    let plain_at : (k : ℕ) → k < size → is_blank (get_or word k 0) ≡ false = λ k h. false_from_ne_true (is_blank (get_or word k 0)) (λ is. true≢false (sym (list_any_at is_blank word k 0 h is) ∙ plain)) in
-    let same : take size text ≡ word = same_text (take size text) word begins in
-    let place : position_or_len is_blank text ≡ size =
-    position_or_len_is is_blank text size 0 inside (λ k h. ap is_blank (sym (get_or-take size text k 0 h) ∙ ap (λ t. get_or t k 0) same) ∙ plain_at k h) end in
-    (word_at text size place ∙ same, after_at text size place ∙ ap after_blanks (take_all (length text - size) (drop size text) (omega (arith, length-drop size text))))
+    let plain_at : (k : ℕ) → k < length word → is_blank (get_or word k 0) ≡ false = λ k h. grind (arith, list_any_at is_blank word k 0 h) in
+    let same : take (length word) text ≡ word = same_text (take (length word) text) word begins in
+    let place = position_or_len_is is_blank text (length word) 0 inside (λ k h. grind (arith, get_or-take (length word) text k 0 h, same, plain_at k h)) end in
+    grind (arith, word_at, after_at, same, place, take_all (length text - length word) (drop (length word) text), length-drop (length word) text)
 
 -- the first byte of what is left behind so many
 pub rest_first : (text rest : List ℕ) (size : ℕ) → rest ≡ drop size text → get_or rest 0 0 ≡ get_or text size 0
-rest_first text rest size is =
-    let place : size + 0 ≡ size = omega arith in
-    ap (λ t. get_or t 0 0) is ∙ get_or-drop size text 0 0 ∙ ap (λ n. get_or text n 0) place
+rest_first text rest size is = grind (arith, get_or-drop)
 
 -- one that begins with other bytes
 pub word_other : (text word : List ℕ) → false ≡ bytes_eq (take (length word) text) word → bytes_eq (word_of text) word ≡ false
-word_other text word other =
-    false_from_ne_true (bytes_eq (word_of text) word) (λ is. other_text (take (length word) text) word other (sym (word_at text (length word) (word_place text word is)) ∙ same_text (word_of text) word (sym is)))
+word_other text word other = grind (arith, false_from_ne_true, word_at, word_place)
 
 -- one whose word goes on
 pub word_longer : (text word : List ℕ) → length word < length text → is_blank (get_or text (length word) 0) ≡ false → bytes_eq (word_of text) word ≡ false
-word_longer text word inside more = false_from_ne_true (bytes_eq (word_of text) word) (λ is.
-    let place = word_place text word is in
-    true≢false (sym (passes_at_first is_blank text 0 (omega (arith, place))) ∙ ap (λ n. is_blank (get_or text n 0)) place ∙ more))
+word_longer text word inside more = grind (arith, false_from_ne_true, word_place, true≢false, passes_at_first)
 
 -- the number of the digits so far, with one digit more
 pub value_more : (word : List ℕ) (place number : ℕ) → place < length word → IsInRange 48 57 (get_or word place 0) → digits_value 10 (take place word) ≡ number
@@ -119,7 +96,4 @@ number-empty most word none = number-not most word (and_left (nat_lt 0 (length w
 
 pub number-others : (most : ℕ) (word : List ℕ) (place : ℕ) → place < length word → all_ascii_digits (drop place word) ≡ all_ascii_digits word → is_ascii_digit (get_or word place 0) ≡ false
     → word_number most word ≡ None
-number-others most word place inside rest other =
-    let all : all_ascii_digits word ≡ false =
-    sym rest ∙ digits_next word place inside ∙ and_left (is_ascii_digit (get_or word place 0)) (all_ascii_digits (drop (place + 1) word)) other in
-    number-not most word (and_right (nat_lt 0 (length word)) (all_ascii_digits word) all)
+number-others most word place inside rest other = grind (arith, digits_next, and_left, number-not, and_right)
