@@ -7,7 +7,7 @@ pub use Rattle.std.proofs.lemmas.Bool.{and_from, and_left, and_right, cases_lt, 
 pub use Rattle.std.proofs.lemmas.List.{append-nil, drop-append-le, drop-drop, drop-take, drop_all, drop_more, get_or-drop, get_or-take, get_or_append_left, get_or_default, length-append, length-drop}
 pub use Rattle.std.proofs.lemmas.List.{length-set, length-take, length-take-le, length_push, map-append, take-append-drop, take-append-le, take_all, take_at, take_more, take_more_set, take_rest}
 pub use Rattle.std.proofs.lemmas.List.Sums.{fails_before_first, passes_at_first, position_or_len_is, prefix_len_is}
-pub use Rattle.std.proofs.lemmas.Result.{IfOk-equal, IfOk-weaker, err_from_is_err_and, on_ok_weaker}
+pub use Rattle.std.proofs.lemmas.Result.{IfOk-equal, IfOk-weaker, on_ok_weaker}
 pub use Rattle.std.specs.Char.{is_ascii_digit}
 pub use Rattle.std.specs.Fmt.{signed_decimal}
 pub use Rattle.std.specs.Global.{Global, Vec}
@@ -20,6 +20,7 @@ pub use Rattle.memchr.specs.Find.{IsFirstByte, Nowhere, Passes, is_byte}
 pub use Rattle.pref_core.specs.Limits.{Limits}
 pub use Rattle.pref_core.specs.Step.{System, opened, replies, step}
 pub use Rattle.pref_core.specs.declared.event.Event.{Event}
+pub use Rattle.pref_script.proofs.ExitFacts.{exits}
 pub use Rattle.pref_script.specs.ClientParts.{AcceptsLeft, AllAccepted, AllGiven, AreParts, ArePartsUpTo, HasReplied, IsAccepted, IsFound, IsGiven, IsPart, NamesNone, acts_in, acts_left, lines_in, lines_left}
 pub use Rattle.pref_script.specs.Commands.{Command, command_of, commands_in, event_of, of_changes, piece_change, refused, runs}
 pub use Rattle.pref_script.specs.Forms.{Said}

@@ -1,4 +1,5 @@
 pub mod Common
+pub mod ExitFacts
 pub mod BytesFacts
 pub mod SplitFacts
 pub mod ScriptFacts

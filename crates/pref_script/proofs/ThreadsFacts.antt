@@ -21,8 +21,7 @@ use Rattle.pref_script.specs.declared.fault.RunFault.TheVariants as fault
 
 -- a fault of the script
 pub prints-fault : (limits : Limits) (says : ℕ → ℕ → Bool → Type 0) (bytes : List ℕ) (why : RunFault) → ScriptFault why (script_of limits bytes) → PrintsOnThreads limits says bytes (Err why)
-prints-fault limits says bytes (fault.Threads why) h = absurd h
-prints-fault limits says bytes why h = h
+prints-fault limits says bytes why h = grind (arith)
 
 -- of the refusals of the table out of memory alone stops clients
 memory-alone : (o : Opening) (says : ℕ → ℕ → Bool → Type 0) (acts : List (Vec Act)) (why : CoreFault) → length acts ≡ o.limits.clients → ClosesOrStops Brand o says acts (share.Core why) → why ≡ core.OutOfMemory
@@ -51,24 +50,20 @@ commands-short bytes r read few short = omega (arith, few, short, read.first, fi
 
 -- A script whose clients have these parts, of which the acts are these lists.
 module _ (limits : Limits) (says : ℕ → ℕ → Bool → Type 0) (bytes : List ℕ) (r : OpeningRead) (read : IsOpeningOf bytes r) (parts : Vec Part) (count : length parts.items ≡ limits.clients)
-    (are : AreParts r.schema (raw_lines r.text.commands.now) parts.items) (short : length r.text.commands.now < 2 ^ 63) where
+    (are : AreParts r.schema (raw_lines r.text.commands.now) parts.items) (few : r.text.first + length r.text.commands.now ≤ length bytes + 3) (small : length bytes < 2 ^ 63) where
   abbrev acts : List (Vec Act)
-  acts = acts_from parts r.schema r.text.commands.now short limits.clients
+  acts = acts_from parts r.schema r.text.commands.now (commands-short bytes r read few small) limits.clients
 
   listed : map (λ list. list.items) acts ≡ map acts_left parts.items
-  listed = acts-listed parts r.schema r.text.commands.now short limits.clients parts.items count are
+  listed = acts-listed parts r.schema r.text.commands.now (commands-short bytes r read few small) limits.clients parts.items count are
 
   owned : AreActs limits.clients (accepted_events (commands_of r.schema read.parts.first read.parts.commands)) acts
-  owned =
-      subst (λ (raws : List (List ℕ)). AreActs limits.clients (accepted_events (commands_of r.schema read.parts.first raws)) acts) read.commands
-      (are-acts parts r.schema r.text.commands.now short limits.clients read.parts.first)
+  owned = grind (arith, are-acts parts r.schema r.text.commands.now (commands-short bytes r read few small) limits.clients read.parts.first, commands-short bytes r read few small)
 
   -- the clients were stopped
   prints-stopped : (limits.capacity < length r.rows.items → ⊥) → (why : ShareFault) → ClosesOrStops Brand (record { limits = limits; rows = r.rows.items }) says acts why → PrintsOnThreads limits says bytes (Err (share_fault why))
   prints-stopped room (share.Core core) stops = rw (memory-alone (record { limits = limits; rows = r.rows.items }) says acts core owned.lists stops) tt
-  prints-stopped room why stops =
-      let is_script = script-ok limits bytes read.parts (r.schema, r.rows.items) read.cut read.table room in
-      (script_with read.parts (r.schema, r.rows.items), is_script, record { acts = acts; of_script = owned; stops = stops })
+  prints-stopped room why stops = grind (arith, script-ok limits bytes read.parts (r.schema, r.rows.items) read.cut read.table room, owned)
 
   -- the board was not opened, or the clients were stopped
   pub prints-refused : (rows : List (List ℤ)) (why : ShareFault) → rows ≡ r.rows.items
@@ -95,12 +90,8 @@ module _ (limits : Limits) (says : ℕ → ℕ → Bool → Type 0) (bytes : Lis
       → unowned ≡ unowned_lines (length shown) (length r.schema) (commands_of r.schema r.text.first (raw_lines r.text.commands.now)) → shown ≡ done
       → text ≡ unowned ++ texts (λ part. string_bytes part.text) printed → printed ≡ done → PrintsOnThreads limits says bytes (Ok text)
   prints-joint rows done shown printed unowned text same room ran first all wrote printed_all =
-      let space = rw same at room in
-      let run = rw same at (ran acts listed) in
-      let many : length shown ≡ limits.clients = ap length all ∙ run.taken.tasks_done ∙ count in
-      let before = rw (many, read.first, read.commands) at first in
-      let lines = parts-shown r.schema r.text.commands.now parts.items done run.replies are run.taken in (
+      let run = rw same at (ran acts listed) in (
         script_with read.parts (r.schema, r.rows.items),
-        script-ok limits bytes read.parts (r.schema, r.rows.items) read.cut read.table space,
-        record { acts = acts; replies = run.replies; of_script = owned; joint = run.joint; sequential = run.sequential; returned = rw (printed_all, before, lines) at wrote },
+        script-ok limits bytes read.parts (r.schema, r.rows.items) read.cut read.table (rw same at room),
+        record { acts = acts; replies = run.replies; of_script = owned; joint = run.joint; sequential = run.sequential; returned = grind (arith, wrote, printed_all, first, read.first, read.commands, all, run.taken.tasks_done, count, parts-shown r.schema r.text.commands.now parts.items done run.replies are run.taken) },
       )

@@ -6,29 +6,17 @@ pub loop-left-init : goal.loop-left-init
 loop-left-init c = pieces_none c.args.schema.now c.args.text.now _ refl
 
 pub returns-in-Err : goal.returns-in-Err
-returns-in-Err c =
-    let reads = rw c.in-Some.is at c.loop-left.invariant in
-    rw c.refusal_before.ensures
-    (pieces_refused c.args.schema.now c.args.text.now c.in-Some.pieces.now c.loop-left.changes c.loop-left.count c.cut_piece.result.0.now _ (option_map (λ rest. rest.now) c.cut_piece.result.1) reads c.cut_piece.ensures c.in-Some-piece_form.ensures c.in-Err.why c.in-Err.ensures)
+returns-in-Err c = rw c.refusal_before.ensures (pieces_refused _ _ _ _ _ _ _ (option_map (λ rest. rest.now) c.cut_piece.result.1) (rw c.in-Some.is at c.loop-left.invariant) c.cut_piece.ensures c.in-Some-piece_form.ensures _ c.in-Err.ensures)
 
 pub loop-left-preserved-then-count-lt-KEPT : goal.loop-left-preserved-then-count-lt-KEPT
-loop-left-preserved-then-count-lt-KEPT c =
-    let reads = rw c.in-Some.is at c.loop-left.invariant in
-    pieces_kept c.args.schema.now c.args.text.now c.in-Some.pieces.now c.loop-left.changes c.loop-left.count c.cut_piece.result.0.now _ (option_map (λ rest. rest.now) c.cut_piece.result.1) reads c.cut_piece.ensures c.in-Some-piece_form.ensures c.in-Ok.change
-    c.if-count-lt-KEPT.true c.in-Ok.ensures
+loop-left-preserved-then-count-lt-KEPT c = pieces_kept _ _ _ _ _ _ _ _ (rw c.in-Some.is at c.loop-left.invariant) c.cut_piece.ensures c.in-Some-piece_form.ensures _ c.if-count-lt-KEPT.true c.in-Ok.ensures
 
 pub loop-left-preserved : goal.loop-left-preserved
 loop-left-preserved c =
-    let reads = rw c.in-Some.is at c.loop-left.invariant in
-    pieces_past c.args.schema.now c.args.text.now c.in-Some.pieces.now c.loop-left.changes c.loop-left.count c.cut_piece.result.0.now _ (option_map (λ rest. rest.now) c.cut_piece.result.1) reads c.cut_piece.ensures c.in-Some-piece_form.ensures c.in-Ok.change
-    (λ h. absurd (omega (arith, h, c.if-count-lt-KEPT.false))) c.in-Ok.ensures
+    pieces_past _ _ _ _ _ _ _ _ (rw c.in-Some.is at c.loop-left.invariant) c.cut_piece.ensures c.in-Some-piece_form.ensures _ (λ h. absurd (omega (arith, h, c.if-count-lt-KEPT.false))) c.in-Ok.ensures
 
 pub returns-in-Ok-of : goal.returns-in-Ok-of
-returns-in-Ok-of c =
-    let reads = rw c.in_default.is at c.loop-left.invariant in
-    pieces_all c.args.schema.now c.args.text.now c.loop-left.changes c.loop-left.count reads ∙ ap of_changes (sym c.of.ensures ∙ c.in-Ok-of.is)
+returns-in-Ok-of c = pieces_all _ _ _ _ (rw c.in_default.is at c.loop-left.invariant) ∙ ap of_changes (sym c.of.ensures ∙ c.in-Ok-of.is)
 
 pub returns-in-Err-of : goal.returns-in-Err-of
-returns-in-Err-of c =
-    let reads = rw c.in_default.is at c.loop-left.invariant in
-    pieces_all c.args.schema.now c.args.text.now c.loop-left.changes c.loop-left.count reads ∙ ap of_changes (sym c.of.ensures ∙ c.in-Err-of.is)
+returns-in-Err-of c = pieces_all _ _ _ _ (rw c.in_default.is at c.loop-left.invariant) ∙ ap of_changes (sym c.of.ensures ∙ c.in-Err-of.is)

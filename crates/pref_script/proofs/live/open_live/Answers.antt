@@ -1,25 +1,21 @@
-use Rattle.pref_script.proofs.Common.{List, ℕ, subst, err_from_is_err_and, IsOpened, OpeningFault, between, source_of}
+use Rattle.pref_script.proofs.Common.{List, ℕ, subst, exits, IsOpened, OpeningFault, between, source_of}
 use Rattle.pref_script.proofs.LiveRunFacts.{opened_live, refused_block, refused_table}
 use Rattle.pref_script.proofs.live.open_live.Goals as goal
 
 pub returns-in_err-block : goal.returns-in_err-block
 returns-in_err-block g c =
     let source = source_of g.R.Read.remaining c.args.reader.now c.read_block.new.reader in
-    let p = err_from_is_err_and c.from_residual.result c.from_residual.ensures.1 in
-    rw (p.1, p.2) (refused_block c.args.setup source c.args.ahead.now c.read_block.new.ahead c.in_err-block.field-0.0 c.requires.empty c.requires.fresh c.in_err-block.ensures)
+    rw (exits c.from_residual.result c.from_residual.ensures.1) (refused_block c.args.setup source c.args.ahead.now c.read_block.new.ahead c.in_err-block.field-0.0 c.requires.empty c.requires.fresh c.in_err-block.ensures)
 
 pub returns-in_err-live : goal.returns-in_err-live
 returns-in_err-live g c =
     let source = source_of g.R.Read.remaining c.args.reader.now c.read_block.new.reader in
     let block = c.in_ok-block.block in
     let refused = subst (λ (t : List ℕ). OpeningFault c.args.setup (between block.start block.stop t) c.in_err-live.field-0.0) c.as_slice.ensures c.in_err-live.ensures.fault in
-    let p = err_from_is_err_and c.from_residual-in_err-live.result c.from_residual-in_err-live.ensures.1 in
-    rw (p.1, p.2) (refused_table c.args.setup source c.args.ahead.now c.read_block.new.ahead block c.in_err-live.field-0.0 c.requires.empty c.requires.fresh c.in_ok-block.ensures.0 c.in_ok-block.ensures.1 c.in_ok-block.ensures.2 refused)
+    rw (exits c.from_residual-in_err-live.result c.from_residual-in_err-live.ensures.1) (refused_table c.args.setup source c.args.ahead.now c.read_block.new.ahead block c.in_err-live.field-0.0 c.requires.empty c.requires.fresh c.in_ok-block.ensures.0 c.in_ok-block.ensures.1 c.in_ok-block.ensures.2 refused)
 
 pub returns : goal.returns
 returns g c =
-    let had = g.R.Read.remaining c.args.reader.now.inner in
-    let left = g.R.Read.remaining c.read_block.new.reader.inner in
     let block = c.in_ok-block.block in
     let opens = subst (λ (t : List ℕ). IsOpened c.args.setup (between block.start block.stop t) block.first c.in_ok-live.live) c.as_slice.ensures c.in_ok-live.ensures.opened in
-    opened_live c.args.setup had left c.args.ahead.now c.read_block.new.ahead c.take.new.self block c.in_ok-live.live c.requires.empty c.requires.fresh c.in_ok-block.ensures.0 c.in_ok-block.ensures.1 c.in_ok-block.ensures.2 opens c.take.ensures.unread c.take.ensures.ended
+    opened_live _ _ _ _ _ _ block _ c.requires.empty c.requires.fresh c.in_ok-block.ensures.0 c.in_ok-block.ensures.1 c.in_ok-block.ensures.2 opens c.take.ensures.unread c.take.ensures.ended

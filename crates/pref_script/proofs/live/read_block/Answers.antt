@@ -1,36 +1,31 @@
-use Rattle.pref_script.proofs.Common.{◌<◌, ℕ, arith, sym, subst, ◌∙◌, err_from_is_err_and, IsLineAt, unread, source_of}
+use Rattle.pref_script.proofs.Common.{◌<◌, ℕ, arith, sym, subst, ◌∙◌, exits, IsLineAt, source_of}
 use Rattle.pref_script.proofs.BlockFacts.{block_end, block_next, block_open, end_missing, first_missing, hears_first, hears_part, input_missing, next_missing, so_far_part, table_missing}
 use Rattle.pref_script.proofs.LineFacts.{behind_more, little_later}
 use Rattle.pref_script.proofs.live.read_block.Goals as goal
 
 pub loop-end-init : goal.loop-end-init
 loop-end-init g c =
-    let some : 0 < c.in_ok-start.start = omega (arith, c.if-start-eq0.false) in
     let is = sym (rw c.as_slice.ensures at c.is_table_line.ensures) ∙ c.if-not-is_table_line.false in
     record {
       read = c.in_ok-start.ensures.behind;
-      block = block_open c.read_line.new.self c.in_ok-start.start some c.in_ok-start.ensures.inside.1 c.in_ok-start.ensures.most c.in_ok-start.ensures.line is;
-      little = λ few. little_later 0 c.in_ok-start.start (unread c.read_line.new.self) c.in_ok-start.ensures.inside.0 (c.in_ok-start.ensures.little few);
+      block = block_open _ c.in_ok-start.start (omega (arith, c.if-start-eq0.false)) c.in_ok-start.ensures.inside.1 c.in_ok-start.ensures.most c.in_ok-start.ensures.line is;
+      little = λ few. little_later _ _ _ c.in_ok-start.ensures.inside.0 (c.in_ok-start.ensures.little few);
     }
 
 pub loop-end-preserved : goal.loop-end-preserved
 loop-end-preserved g c =
-    let had = g.R.Read.remaining c.loop-end.reader.inner in
-    let left = g.R.Read.remaining c.read_line-in-loop-end.new.reader.inner in
     let some : c.loop-end.stop < c.in_ok-end.end = omega (arith, c.in_ok-end.ensures.inside.0, c.if-end-stop.false) in
     let other = sym (rw c.as_slice-in-loop-end.ensures at c.is_end_line.ensures) ∙ c.if-is_end_line.false in
     record {
-      read = behind_more _ had left c.args.ahead.now c.loop-end.ahead c.read_line-in-loop-end.new.self c.loop-end.invariant.read c.in_ok-end.ensures.behind;
-      block = block_next had left c.loop-end.ahead c.read_line-in-loop-end.new.self c.in_ok-start.start c.loop-end.stop c.loop-end.count c.loop-end.invariant.block c.in_ok-end.ensures.behind c.in_ok-end.end c.in_ok-end.ensures.line some
-          c.in_ok-end.ensures.inside.1 c.in_ok-end.ensures.most other;
-      little = λ few. little_later c.loop-end.stop c.in_ok-end.end (unread c.read_line-in-loop-end.new.self) c.in_ok-end.ensures.inside.0 (c.in_ok-end.ensures.little (c.loop-end.invariant.little few));
+      read = behind_more _ _ _ _ _ _ c.loop-end.invariant.read c.in_ok-end.ensures.behind;
+      block = block_next _ _ _ _ _ _ _ c.loop-end.invariant.block c.in_ok-end.ensures.behind c.in_ok-end.end c.in_ok-end.ensures.line some c.in_ok-end.ensures.inside.1 c.in_ok-end.ensures.most other;
+      little = λ few. little_later _ _ _ c.in_ok-end.ensures.inside.0 (c.in_ok-end.ensures.little (c.loop-end.invariant.little few));
     }
 
 pub returns-in_err-start : goal.returns-in_err-start
 returns-in_err-start g c =
     let source = source_of g.R.Read.remaining c.args.reader.now c.read_line.new.reader in
-    let p = err_from_is_err_and c.from_residual.result c.from_residual.ensures.1 in
-    rw (p.1, p.2) (first_missing source c.args.ahead.now c.read_line.new.self c.in_err-start.field-0.0 c.in_err-start.ensures.fault c.in_err-start.ensures.read)
+    rw (exits c.from_residual.result c.from_residual.ensures.1) (first_missing source c.args.ahead.now c.read_line.new.self c.in_err-start.field-0.0 c.in_err-start.ensures.fault c.in_err-start.ensures.read)
 
 pub returns-then-start-eq0 : goal.returns-then-start-eq0
 returns-then-start-eq0 g c =
@@ -44,35 +39,27 @@ returns-then-not-is_table_line g c =
 pub returns-in_err-end : goal.returns-in_err-end
 returns-in_err-end g c =
     let source = source_of g.R.Read.remaining c.args.reader.now c.read_line-in-loop-end.new.reader in
-    let mid = g.R.Read.remaining c.loop-end.reader.inner in
     let so_far = c.loop-end.invariant in
-    let p = err_from_is_err_and c.from_residual-in_err-end.result c.from_residual-in_err-end.ensures.1 in
-    rw (p.1, p.2)
-    (next_missing source mid c.args.ahead.now c.loop-end.ahead c.read_line-in-loop-end.new.self c.in_ok-start.start c.loop-end.stop c.loop-end.count c.in_err-end.field-0.0 so_far.read so_far.little so_far.block c.in_err-end.ensures.fault
-    c.in_err-end.ensures.read)
+    rw (exits c.from_residual-in_err-end.result c.from_residual-in_err-end.ensures.1)
+    (next_missing source _ _ _ _ _ _ _ c.in_err-end.field-0.0 so_far.read so_far.little so_far.block c.in_err-end.ensures.fault c.in_err-end.ensures.read)
 
 pub returns-then-end-stop : goal.returns-then-end-stop
 returns-then-end-stop g c =
-    let had = g.R.Read.remaining c.loop-end.reader.inner in
-    let left = g.R.Read.remaining c.read_line-in-loop-end.new.reader.inner in
     let new = c.read_line-in-loop-end.new.self in
     let so_far = c.loop-end.invariant in
     let source = source_of g.R.Read.remaining c.args.reader.now c.read_line-in-loop-end.new.reader in
-    let behind = behind_more source.had had left c.args.ahead.now c.loop-end.ahead new so_far.read c.in_ok-end.ensures.behind in
+    let behind = behind_more source.had _ source.left _ _ new so_far.read c.in_ok-end.ensures.behind in
     let line = subst (λ (n : ℕ). IsLineAt c.loop-end.stop n new) c.if-end-stop.true c.in_ok-end.ensures.line in (
       behind,
-      hears_part source c.args.ahead.now new c.loop-end.stop behind (λ few. c.in_ok-end.ensures.little (so_far.little few)) (so_far_part had left c.loop-end.ahead new c.in_ok-start.start c.loop-end.stop c.loop-end.count so_far.block c.in_ok-end.ensures.behind),
-      end_missing had left c.loop-end.ahead c.read_line-in-loop-end.new.self c.in_ok-start.start c.loop-end.stop c.loop-end.count c.loop-end.invariant.block c.in_ok-end.ensures.behind line,
+      hears_part source c.args.ahead.now new c.loop-end.stop behind (λ few. c.in_ok-end.ensures.little (so_far.little few)) (so_far_part _ _ _ _ _ _ _ so_far.block c.in_ok-end.ensures.behind),
+      end_missing _ _ _ _ _ _ _ so_far.block c.in_ok-end.ensures.behind line,
     )
 
 pub returns-then-is_end_line : goal.returns-then-is_end_line
 returns-then-is_end_line g c =
-    let had = g.R.Read.remaining c.loop-end.reader.inner in
-    let left = g.R.Read.remaining c.read_line-in-loop-end.new.reader.inner in
     let some : c.loop-end.stop < c.in_ok-end.end = omega (arith, c.in_ok-end.ensures.inside.0, c.if-end-stop.false) in
     let is = sym (rw c.as_slice-in-loop-end.ensures at c.is_end_line.ensures) ∙ c.if-is_end_line.true in (
-      behind_more _ had left c.args.ahead.now c.loop-end.ahead c.read_line-in-loop-end.new.self c.loop-end.invariant.read c.in_ok-end.ensures.behind,
-      λ few. little_later c.loop-end.stop c.in_ok-end.end (unread c.read_line-in-loop-end.new.self) c.in_ok-end.ensures.inside.0 (c.in_ok-end.ensures.little (c.loop-end.invariant.little few)),
-      block_end had left c.loop-end.ahead c.read_line-in-loop-end.new.self c.in_ok-start.start c.loop-end.stop c.loop-end.count c.loop-end.invariant.block c.in_ok-end.ensures.behind c.in_ok-end.end c.in_ok-end.ensures.line some
-          c.in_ok-end.ensures.inside.1 is,
+      behind_more _ _ _ _ _ _ c.loop-end.invariant.read c.in_ok-end.ensures.behind,
+      λ few. little_later _ _ _ c.in_ok-end.ensures.inside.0 (c.in_ok-end.ensures.little (c.loop-end.invariant.little few)),
+      block_end _ _ _ _ _ _ _ c.loop-end.invariant.block c.in_ok-end.ensures.behind c.in_ok-end.end c.in_ok-end.ensures.line some c.in_ok-end.ensures.inside.1 is,
     )

@@ -1,4 +1,4 @@
-use Rattle.pref_script.proofs.Common.{Ok, [], arith, subst, Appends-kept, err_from_is_err_and, Turns, sink_of, source_of}
+use Rattle.pref_script.proofs.Common.{Ok, [], arith, subst, Appends-kept, exits, Turns, sink_of, source_of}
 use Rattle.pref_script.specs.declared.live.Turn.{Turn}
 use Rattle.pref_script.proofs.HeardFacts.{heard_number, heard_too_many, ran_whole, stops_early}
 use Rattle.pref_script.proofs.LineFacts.{some_none}
@@ -7,13 +7,10 @@ use Rattle.pref_script.proofs.live.reply_to_all.Goals as goal
 
 pub loop-line-preserved : goal.loop-line-preserved
 loop-line-preserved g c =
-    let source = source_of g.R.Read.remaining c.loop-line.reader c.take_turn.new.reader in
-    let sink = sink_of g.W.Write.contents c.loop-line.writer c.take_turn.new.writer in
-    let held = g.W.Write.contents c.args.writer.now.inner in
-    let turned = subst (λ (t : Turn). Turns source sink c.loop-line.ahead c.take_turn.new.ahead c.loop-line.live c.take_turn.new.live (Ok t)) c.in-Replied.is c.in_ok-take_turn.ensures in
+    let turned = rw c.in-Replied.is at c.in_ok-take_turn.ensures in
     record {
       number = omega (arith, turned.1.prints.number, c.loop-line.invariant.number);
-      replying = λ limits had h. replying_more limits had held source sink c.loop-line.ahead c.take_turn.new.ahead c.loop-line.live c.take_turn.new.live turned.0 (c.loop-line.invariant.replying limits had h) turned.1 turned.2;
+      replying = λ limits had h. replying_more limits had _ _ (sink_of g.W.Write.contents c.loop-line.writer c.take_turn.new.writer) _ _ _ _ _ (c.loop-line.invariant.replying limits had h) turned.1 turned.2;
     }
 
 pub returns-in_err-take_turn : goal.returns-in_err-take_turn
@@ -21,8 +18,7 @@ returns-in_err-take_turn g c =
     let source = source_of g.R.Read.remaining c.loop-line.reader c.take_turn.new.reader in
     let sink = sink_of g.W.Write.contents c.loop-line.writer c.take_turn.new.writer in
     let held = g.W.Write.contents c.args.writer.now.inner in
-    let p = err_from_is_err_and c.from_residual.result c.from_residual.ensures.1 in
-    λ limits had h. rw (p.1, p.2)
+    λ limits had h. rw (exits c.from_residual.result c.from_residual.ensures.1)
     (turn_failed limits had held source sink c.loop-line.ahead c.take_turn.new.ahead c.loop-line.live c.take_turn.new.live c.in_err-take_turn.field-0.0 (c.loop-line.invariant.replying limits had h) c.in_err-take_turn.ensures)
 
 pub returns-in-End : goal.returns-in-End

@@ -1,4 +1,4 @@
-use Rattle.pref_script.proofs.Common.{arith, string_bytes, err_from_is_err_and}
+use Rattle.pref_script.proofs.Common.{arith, string_bytes, exits}
 use Rattle.pref_script.proofs.live.take_turn.Goals as goal
 
 pub returns : goal.returns
@@ -21,10 +21,9 @@ returns g c = (
 
 pub returns-in_err-write_output : goal.returns-in_err-write_output
 returns-in_err-write_output g c =
-    let p = err_from_is_err_and c.from_residual-in_err-write_output.result c.from_residual-in_err-write_output.ensures.1 in
     let (written, failed, count, few, part) = c.in_err-write_output.ensures.fault in
     let line = rw c.as_bytes.ensures.value at part in
-    rw (p.1, p.2, written) (
+    rw (exits c.from_residual-in_err-write_output.result c.from_residual-in_err-write_output.ensures.1, written) (
       failed,
       string_bytes c.reply_to.new.text,
       record {

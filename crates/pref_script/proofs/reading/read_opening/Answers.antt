@@ -1,13 +1,10 @@
-use Rattle.pref_script.proofs.Common.{err_from_is_err_and}
+use Rattle.pref_script.proofs.Common.{exits}
 use Rattle.pref_script.proofs.OutputFacts.{script-parts-fault, script-table-fault}
 use Rattle.pref_script.proofs.reading.read_opening.Goals as goal
 
 pub returns-in_err-text-clause-fault : goal.returns-in_err-text-clause-fault
-returns-in_err-text-clause-fault c =
-    let p = err_from_is_err_and c.from_residual.result c.from_residual.ensures.1 in
-    rw (p.1, p.2) (λ limits. script-parts-fault limits c.args.bytes.now c.in_err-text.field-0.0 c.in_err-text.ensures.parts)
+returns-in_err-text-clause-fault c = rw (exits c.from_residual.result c.from_residual.ensures.1) (λ limits. script-parts-fault limits c.args.bytes.now c.in_err-text.field-0.0 c.in_err-text.ensures.parts)
 
 pub returns-in_err-schema-clause-fault : goal.returns-in_err-schema-clause-fault
 returns-in_err-schema-clause-fault c =
-    let p = err_from_is_err_and c.from_residual-in_err-schema.result c.from_residual-in_err-schema.ensures.1 in
-    rw (p.1, p.2) (λ limits. script-table-fault limits c.args.bytes.now _ c.in_err-schema.field-0.0 c.in_ok-text.ensures.parts c.in_err-schema.ensures)
+    rw (exits c.from_residual-in_err-schema.result c.from_residual-in_err-schema.ensures.1) (λ limits. script-table-fault limits c.args.bytes.now _ c.in_err-schema.field-0.0 c.in_ok-text.ensures.parts c.in_err-schema.ensures)

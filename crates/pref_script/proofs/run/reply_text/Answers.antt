@@ -1,17 +1,13 @@
-use Rattle.pref_script.proofs.Common.{refl, IfOk-weaker, err_from_is_err_and, names_of, running_of}
+use Rattle.pref_script.proofs.Common.{refl, IfOk-weaker, exits, names_of, running_of}
 use Rattle.pref_script.proofs.OutputFacts.{script-ok, script-parts-fault, prints-played}
 use Rattle.pref_script.proofs.PlayFacts.{prints_output}
 use Rattle.pref_script.proofs.run.reply_text.Goals as goal
 
 pub returns-in_err-table : goal.returns-in_err-table
-returns-in_err-table c =
-    let p = err_from_is_err_and c.from_residual.result c.from_residual.ensures.1 in
-    rw (p.1, p.2) (script-parts-fault c.args.setup c.args.bytes.now c.in_err-table.field-0.0 c.in_err-table.ensures.parts)
+returns-in_err-table c = rw (exits c.from_residual.result c.from_residual.ensures.1) (script-parts-fault c.args.setup c.args.bytes.now c.in_err-table.field-0.0 c.in_err-table.ensures.parts)
 
 pub returns-in_err-live : goal.returns-in_err-live
-returns-in_err-live c =
-    let p = err_from_is_err_and c.from_residual-in_err-live.result c.from_residual-in_err-live.ensures.1 in
-    rw (p.1, p.2) (c.in_err-live.ensures.fault c.args.bytes.now _ c.in_ok-table.ensures.parts refl)
+returns-in_err-live c = rw (exits c.from_residual-in_err-live.result c.from_residual-in_err-live.ensures.1) (c.in_err-live.ensures.fault c.args.bytes.now _ c.in_ok-table.ensures.parts refl)
 
 pub returns : goal.returns
 returns c =

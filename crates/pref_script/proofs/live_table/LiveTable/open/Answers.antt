@@ -1,17 +1,15 @@
-use Rattle.pref_script.proofs.Common.{◌∙◌, ap, subst, sym, List, ℕ, err_from_is_err_and, Fails, table_of}
+use Rattle.pref_script.proofs.Common.{◌∙◌, ap, subst, sym, List, ℕ, exits, Fails, table_of}
 use Rattle.pref_script.proofs.OutputFacts.{script-core-fault, script-table-fault}
 use Rattle.pref_script.proofs.live_table.LiveTable.open.Goals as goal
 
 pub returns-in_err-schema-clause-fault : goal.returns-in_err-schema-clause-fault
 returns-in_err-schema-clause-fault c =
-    let p = err_from_is_err_and c.from_residual.result c.from_residual.ensures.1 in
-    rw (p.1, p.2) (λ bytes parts cut same. script-table-fault c.args.setup bytes parts c.in_err-schema.field-0.0 cut
+    rw (exits c.from_residual.result c.from_residual.ensures.1) (λ bytes parts cut same. script-table-fault c.args.setup bytes parts c.in_err-schema.field-0.0 cut
     (subst (λ (t : List ℕ). Fails c.in_err-schema.field-0.0 (table_of t)) (sym same) c.in_err-schema.ensures))
 
 pub returns-in_err-machine-clause-fault : goal.returns-in_err-machine-clause-fault
 returns-in_err-machine-clause-fault c =
-    let p = err_from_is_err_and c.from_residual-in_err-machine.result c.from_residual-in_err-machine.ensures.1 in
     let full = rw c.as_slice.ensures.value at c.in_err-machine.ensures.full in
     let other = rw c.as_slice.ensures.value at c.in_err-machine.ensures.other in
-    rw (p.1, p.2) (λ bytes parts cut same. script-core-fault c.args.setup bytes parts _ c.in_err-machine.field-0.0 cut (ap table_of same ∙ c.in_ok-schema.ensures)
+    rw (exits c.from_residual-in_err-machine.result c.from_residual-in_err-machine.ensures.1) (λ bytes parts cut same. script-core-fault c.args.setup bytes parts _ c.in_err-machine.field-0.0 cut (ap table_of same ∙ c.in_ok-schema.ensures)
     (λ many. let e = full.1 many in cc) other)
