@@ -12,8 +12,7 @@ pub loop-left-preserved-then-count-lt-KEPT : goal.loop-left-preserved-then-count
 loop-left-preserved-then-count-lt-KEPT c = pieces_kept _ _ _ _ _ _ _ _ (rw c.in-Some.is at c.loop-left.invariant) c.cut_piece.ensures c.in-Some-piece_form.ensures _ c.if-count-lt-KEPT.true c.in-Ok.ensures
 
 pub loop-left-preserved : goal.loop-left-preserved
-loop-left-preserved c =
-    pieces_past _ _ _ _ _ _ _ _ (rw c.in-Some.is at c.loop-left.invariant) c.cut_piece.ensures c.in-Some-piece_form.ensures _ (λ h. absurd (omega (arith, h, c.if-count-lt-KEPT.false))) c.in-Ok.ensures
+loop-left-preserved c = grind (arith, pieces_past)
 
 pub returns-in-Ok-of : goal.returns-in-Ok-of
 returns-in-Ok-of c = pieces_all _ _ _ _ (rw c.in_default.is at c.loop-left.invariant) ∙ ap of_changes (sym c.of.ensures ∙ c.in-Ok-of.is)

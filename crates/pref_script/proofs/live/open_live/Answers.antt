@@ -1,11 +1,10 @@
+use Rattle.pref_script.proofs.Common.{arith}
 use Rattle.pref_script.proofs.Common.{List, ℕ, subst, exits, IsOpened, OpeningFault, between, source_of}
 use Rattle.pref_script.proofs.LiveRunFacts.{opened_live, refused_block, refused_table}
 use Rattle.pref_script.proofs.live.open_live.Goals as goal
 
 pub returns-in_err-block : goal.returns-in_err-block
-returns-in_err-block g c =
-    let source = source_of g.R.Read.remaining c.args.reader.now c.read_block.new.reader in
-    rw (exits c.from_residual.result c.from_residual.ensures.1) (refused_block c.args.setup source c.args.ahead.now c.read_block.new.ahead c.in_err-block.field-0.0 c.requires.empty c.requires.fresh c.in_err-block.ensures)
+returns-in_err-block g c = grind (arith, refused_block, exits)
 
 pub returns-in_err-live : goal.returns-in_err-live
 returns-in_err-live g c =

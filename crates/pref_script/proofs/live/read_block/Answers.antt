@@ -23,9 +23,7 @@ loop-end-preserved g c =
     }
 
 pub returns-in_err-start : goal.returns-in_err-start
-returns-in_err-start g c =
-    let source = source_of g.R.Read.remaining c.args.reader.now c.read_line.new.reader in
-    rw (exits c.from_residual.result c.from_residual.ensures.1) (first_missing source c.args.ahead.now c.read_line.new.self c.in_err-start.field-0.0 c.in_err-start.ensures.fault c.in_err-start.ensures.read)
+returns-in_err-start g c = grind (arith, first_missing, exits)
 
 pub returns-then-start-eq0 : goal.returns-then-start-eq0
 returns-then-start-eq0 g c =

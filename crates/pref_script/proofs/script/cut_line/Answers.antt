@@ -6,7 +6,4 @@ pub returns-in-Some-clause-lines : goal.returns-in-Some-clause-lines
 returns-in-Some-clause-lines c = rw (c.split_at.ensures.front, c.split_at.ensures.back) (lines_at c.args.text.now c.in-Some.place c.in-Some.ensures)
 
 pub returns-in-None-clause-lines : goal.returns-in-None-clause-lines
-returns-in-None-clause-lines c =
-    let text = c.args.text.now in
-    rw (c.split_at-in-None.ensures.front, c.split_at-in-None.ensures.back, take_all (length text) text (omega arith), drop_all (length text) text (omega arith))
-    (lines_last text c.requires c.in-None.ensures)
+returns-in-None-clause-lines c = grind (arith, take_all, drop_all, lines_last)

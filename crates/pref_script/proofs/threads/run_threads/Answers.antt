@@ -4,8 +4,7 @@ use Rattle.pref_script.proofs.ThreadsFacts.{commands-short, prints-fault, prints
 use Rattle.pref_script.proofs.threads.run_threads.Goals as goal
 
 pub returns-in_err-schema : goal.returns-in_err-schema
-returns-in_err-schema g c =
-    rw (exits c.from_residual.result c.from_residual.ensures.1) (prints-fault c.args.setup (g.G.Gate.says c.args.gate.now) c.args.bytes.now c.in_err-schema.field-0.0 (c.in_err-schema.ensures.fault c.args.setup))
+returns-in_err-schema g c = grind (arith, prints-fault, exits)
 
 pub joint_parts-requires-clause-few : goal.joint_parts-requires-clause-few
 joint_parts-requires-clause-few g c κs within =

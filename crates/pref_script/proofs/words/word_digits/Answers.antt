@@ -8,10 +8,7 @@ returns-then-is_blank_byte c =
     digits_word c.args.text.now c.loop-place.place c.loop-place.number kept.inside kept.so_far kept.digits (omega (arith, c.loop-place-test.true)) (λ _. sym c.is_blank_byte.ensures ∙ c.if-is_blank_byte.true)
 
 pub returns-then-not-is_ascii_digit : goal.returns-then-not-is_ascii_digit
-returns-then-not-is_ascii_digit c =
-    let kept = c.loop-place.invariant in
-    let here = word_goes_on c.args.text.now c.loop-place.place kept.inside c.loop-place-test.true (sym c.is_blank_byte.ensures ∙ c.if-is_blank_byte.false) in
-    λ most _. number-others most (word_of c.args.text.now) c.loop-place.place here.0 kept.digits (rw here.1 (sym c.if-not-is_ascii_digit.ensures.value))
+returns-then-not-is_ascii_digit c = grind (arith, word_goes_on, number-others)
 
 pub returns-in_err-checked_mul : goal.returns-in_err-checked_mul
 returns-in_err-checked_mul c =

@@ -1,11 +1,10 @@
+use Rattle.pref_script.proofs.Common.{arith}
 use Rattle.pref_script.proofs.Common.{◌∙◌, ap, subst, sym, List, ℕ, exits, Fails, table_of}
 use Rattle.pref_script.proofs.OutputFacts.{script-core-fault, script-table-fault}
 use Rattle.pref_script.proofs.live_table.LiveTable.open.Goals as goal
 
 pub returns-in_err-schema-clause-fault : goal.returns-in_err-schema-clause-fault
-returns-in_err-schema-clause-fault c =
-    rw (exits c.from_residual.result c.from_residual.ensures.1) (λ bytes parts cut same. script-table-fault c.args.setup bytes parts c.in_err-schema.field-0.0 cut
-    (subst (λ (t : List ℕ). Fails c.in_err-schema.field-0.0 (table_of t)) (sym same) c.in_err-schema.ensures))
+returns-in_err-schema-clause-fault c = grind (arith, script-table-fault, exits)
 
 pub returns-in_err-machine-clause-fault : goal.returns-in_err-machine-clause-fault
 returns-in_err-machine-clause-fault c =
