@@ -21,9 +21,6 @@ pub record BlockLines (text : List ℕ) (start count : ℕ) : Type 0 where
   pub text_is : text ≡ first ++ concat rest
   pub front : length first ≡ start
 
-block_first : (line : List ℕ) (start : ℕ) → length line ≡ start → raw_lines line ≡ line ∷ [] → is_table_line line ≡ true → BlockLines line start 0
-block_first line start size one is = grind (arith, append-nil)
-
 block_more : (text line : List ℕ) (start count : ℕ) → BlockLines text start count → EndsWithLine text → raw_lines line ≡ line ∷ [] → is_end_line line ≡ false → BlockLines (text ++ line) start (count + 1)
 block_more text line start count block ends one other = record {
   first = block.first;
@@ -61,7 +58,7 @@ pub record BlockAt (ahead : ReadAhead) (start stop count : ℕ) : Type 0 where
   pub lines : EndsWithLine (take stop (unread ahead)) ⊎ (is_at_end ahead ≡ true) × (stop ≡ length (unread ahead))
 
 pub block_open : (ahead : ReadAhead) (start : ℕ) → 0 < start → start ≤ length (unread ahead) → start ≤ 16777216 → IsLineAt 0 start ahead → is_table_line (take start (unread ahead)) ≡ true → BlockAt ahead start start 0
-block_open ahead start some inside most line is = grind (arith, front_is start (unread ahead), line_at ahead 0 start line some, block_first, length-take start (unread ahead))
+block_open ahead start some inside most line is = grind (arith, front_is start (unread ahead), line_at ahead 0 start line some, append-nil, length-take start (unread ahead))
 
 -- the input has no line `table`
 pub table_missing : (ahead : ReadAhead) (start : ℕ) → start ≤ length (unread ahead) → IsLineAt 0 start ahead → is_table_line (take start (unread ahead)) ≡ false → LacksBlock ahead fault.NoTable
@@ -146,20 +143,9 @@ concat_longer m n lists h = grind (arith)
 long_block : (first : List ℕ) (rest more : List (List ℕ)) (line : List ℕ) → is_table_line first ≡ true → ((k : ℕ) → k < length rest → is_end_line (get_or rest k []) ≡ false)
     → length first + length (concat rest) + length line ≤ length (concat (block_lines (first ∷ (rest ++ line ∷ more))))
 long_block first rest more line is others =
-    grind (
-      arith,
-      length-append first (concat (take ((position_or_len is_end_line (rest ++ line ∷ more)) + 1) (rest ++ line ∷ more))),
-      length-append rest (line ∷ more),
-      length-append rest (line ∷ []),
-      length-append (concat rest) line,
-      cases_lt (position_or_len is_end_line (rest ++ line ∷ more)) (length rest),
-      get_or_append_left rest (line ∷ more),
-      passes_at_first is_end_line (rest ++ line ∷ more),
-      append_assoc rest (line ∷ []) more,
-      take_at (rest ++ line ∷ []) more (length rest + 1) (length-append rest (line ∷ [])),
-      concat_longer,
-      concat-push rest line,
-    )
+    let all = rest ++ line ∷ more in
+    let place = position_or_len is_end_line all in
+    grind (arith, is, others place, length-append first (concat (take (place + 1) all)), length-append rest (line ∷ more), length-append rest (line ∷ []), length-append (concat rest) line, get_or_append_left rest (line ∷ more) [] place, passes_at_first is_end_line all [], append_assoc rest (line ∷ []) more, take_at (rest ++ line ∷ []) more (length rest + 1), concat_longer (length rest + 1) (place + 1) all, concat-push rest line)
 
 -- a line of the table block ends too far away
 block_too_long : (had left : Option (List ℕ)) (old new : ReadAhead) (start stop count : ℕ) → BlockAt old start stop count → ReadBehind had left old new → IsLong stop (unread new) → (more : List ℕ) → IsTooLong (unread new ++ more)
@@ -207,15 +193,8 @@ hears_first source old new read little = hears_part source old new 0 read little
 hears_no_more : (source : Source) (mid : Option (List ℕ)) (old now : ReadAhead) (start stop count : ℕ) → ReadBehind source.had mid old now → (IsLittle 0 (unread old) → IsLittle stop (unread now)) → BlockAt now start stop count → ReadSome mid source.left stop now
     → HearsNone source old
 hears_no_more source mid old now start stop count first little so_far next none =
-    grind (
-      arith,
-      take-append-le stop (unread now) next.bytes so_far.inside,
-      heard_none,
-      Consumes-trans source.had mid source.left (unread now) next.bytes (all_read source.had mid old now none first) next.consumed,
-      all_read source.had mid old now none first,
-      block_part (take stop (unread now)) start count so_far.block,
-      little_at_first old none,
-    )
+    let consumed = Consumes-trans source.had mid source.left (unread now) next.bytes (all_read source.had mid old now none first) next.consumed in
+    grind (arith, consumed, take-append-le stop (unread now) next.bytes so_far.inside, heard_none, block_part (take stop (unread now)) start count so_far.block, little_at_first old none)
 
 -- a line was not read
 line_missing : (source : Source) (mid : Option (List ℕ)) (old now new : ReadAhead) (stop : ℕ) (why : RunFault) → LineFault (record { had = mid; left = source.left; failed = source.failed }) stop now new why → HearsNone source old

@@ -93,10 +93,7 @@ module _ (names : List (List ℕ)) (text now : List ℕ) (kept : List Change) (c
   -- its values are refused
   pub pieces_refused : (why : Stop) → Reads {X = Change} (Err why) (change_of names what) → Reads {X = List Change} (Err (first_refusal why rest)) (commit_said names text)
   unfolding commit_said
-  pieces_refused why is = elim (cases_Bool (all_forms (pieces_left rest))) [
-    | inl h ↦ rw (refusal-by_forms why rest, h) (keeps_fails names text reads.place kept count piece why (forms_left ∙ h) reads.keeps (turn.0, turn.1) (rw (← says) is))
-    | inr h ↦ rw (refusal-by_forms why rest, h, forms_left ∙ h) refl
-  ]
+  pieces_refused why is = elim (cases_Bool (all_forms (pieces_left rest))) [ inl h ↦ rw (refusal-by_forms why rest, h) (keeps_fails names text reads.place kept count piece why (forms_left ∙ h) reads.keeps (turn.0, turn.1) (rw (← says) is)) | inr h ↦ grind (arith, refusal-by_forms why rest, h, forms_left) ]
 
   -- it is read, and kept or not
   pub pieces_kept : (change : Change) → count < 9 → change_of names what ≡ Ok change → ReadsPieces names text rest (set kept count change) (count + 1)

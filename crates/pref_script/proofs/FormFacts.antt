@@ -1,7 +1,6 @@
 -- A command line that begins as most do.
 use Rattle.pref_script.proofs.Common.{◌≡◌, ◌∙◌, ℕ, suc, ◌-◌, ◌≤◌, Bool, cond, not, true, false, List, [], ◌∷◌, length, drop, take, get_or, ap, refl, arith, Some, position_or_len}
-use Rattle.pref_script.proofs.Common.{is_ascii_digit, prefix_len_is, after_blanks, is_blank, Said, client_named, said_in, said_by_client}
-use Rattle.pref_script.proofs.Common.{after_word, word_number, word_of}
+use Rattle.pref_script.proofs.Common.{is_ascii_digit, prefix_len_is, after_blanks, is_blank, Said, client_named, said_in, said_by_client, after_word, word_number, word_of}
 use Rattle.std.specs.Int.{IsInRange}
 use Rattle.std.proofs.lemmas.Bool.{cases_Bool}
 use Rattle.std.proofs.lemmas.Option.{option_and_then_some}
@@ -27,27 +26,15 @@ module _ (digit : ℕ) (rest : List ℕ) (blank : is_blank digit ≡ false) wher
 
   digit_word : word_of (digit ∷ 32 ∷ rest) ≡ digit ∷ []
   unfolding word_of
-  digit_word = ap (λ (b : Bool). take (cond (not b) (suc (position_or_len is_blank (32 ∷ rest))) 0) (digit ∷ 32 ∷ rest)) blank
+  digit_word = grind (arith)
 
   digit_after : after_word (digit ∷ 32 ∷ rest) ≡ after_blanks rest
   unfolding after_word
-  digit_after = ap (λ (b : Bool). after_blanks (drop (cond (not b) (suc (position_or_len is_blank (32 ∷ rest))) 0) (digit ∷ 32 ∷ rest))) blank ∙ after_one rest
+  digit_after = grind (arith, after_one)
 
 -- what the line says, and the client that it names
-client_in : (digit : ℕ) (rest : List ℕ) → IsInRange 48 57 digit → is_ascii_digit digit ≡ true → said_in (97 ∷ 115 ∷ 32 ∷ digit ∷ 32 ∷ rest) ≡ said_by_client (digit - 48) (after_blanks rest)
-unfolding said_in
-client_in digit rest range is = grind (arith, digit_not_blank, as_word, as_after, digit_word, digit_after, digit_number)
-
-named_in : (digit : ℕ) (rest : List ℕ) → IsInRange 48 57 digit → is_ascii_digit digit ≡ true → client_named (97 ∷ 115 ∷ 32 ∷ digit ∷ 32 ∷ rest) ≡ Some (digit - 48)
-unfolding client_named
-named_in digit rest range is = grind (arith, digit_not_blank, as_word, as_after, digit_word, digit_number)
-
 pub client_at : (line : List ℕ) → 5 ≤ length line → get_or line 0 0 ≡ 97 → get_or line 1 0 ≡ 115 → get_or line 2 0 ≡ 32 → IsInRange 48 57 (get_or line 3 0) → is_ascii_digit (get_or line 3 0) ≡ true → get_or line 4 0 ≡ 32
     → (said_in line ≡ said_by_client (get_or line 3 0 - 48) (after_blanks (drop 5 line))) × (client_named line ≡ Some (get_or line 3 0 - 48))
-client_at (a ∷ s ∷ blank ∷ digit ∷ end ∷ rest) few = λ at0 at1 at2 range is at4. rw (at0, at1, at2, at4) (client_in digit rest range is, named_in digit rest range is)
-client_at line few = absurd (omega (arith, few))
-
--- a line names the client whose command it is
-pub said_named : (line : List ℕ) (client : ℕ) (what : Said) → said_in line ≡ Some (client, what) → client_named line ≡ Some client
 unfolding said_in client_named
-said_named line client what said = grind (arith, cases_Bool, option_and_then_some)
+client_at (a ∷ s ∷ blank ∷ digit ∷ end ∷ rest) few = λ at0 at1 at2 range is at4. grind (arith, at0, at1, at2, at4, digit_not_blank digit range, as_word digit rest, as_after digit rest, digit_word digit rest, digit_after digit rest, digit_number digit range is)
+client_at line few = absurd (omega (arith, few))

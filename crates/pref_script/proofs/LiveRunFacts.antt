@@ -51,10 +51,8 @@ pub refused_table : (limits : Limits) (source : Source) (old new : ReadAhead) (b
     → (IsLittle 0 (unread old) → IsLittle block.end (unread new)) → IsBlock block new → OpeningFault limits (between block.start block.stop (unread new)) why → OpensLive limits source new (Err why)
 refused_table limits source old new block why none fresh read little is refused =
     let heard = hears_part source old new block.end read little (block_whole (raw_lines (take block.end (unread new))) _ is.cut refl) none in
-    opening_refused limits source new why (unread new) heard (all_read source.had source.left old new none read) (elim is.lines [
-      | inl ends ↦ inl (λ more. refused (unread new ++ more) _ (block_with block new more is ends) refl)
-      | inr last ↦ inr (at_end source.had source.left old new fresh read last.0, refused (unread new) _ (block_alone block new is last.1) refl)
-    ])
+    opening_refused limits source new why (unread new) heard (all_read source.had source.left old new none read)
+    (elim is.lines [ inl ends ↦ inl (λ more. refused (unread new ++ more) _ (block_with block new more is ends) refl) | inr last ↦ inr (at_end source.had source.left old new fresh read last.0, refused (unread new) _ (block_alone block new is last.1) refl) ])
 
 -- the table of the block was opened
 pub opened_live : (limits : Limits) (had left : Option (List ℕ)) (old mid new : ReadAhead) (block : TableBlock) (live : LiveTable) → unread old ≡ [] → is_at_end old ≡ false → ReadBehind had left old mid → (IsLittle 0 (unread old) → IsLittle block.end (unread mid)) → IsBlock block mid
@@ -91,25 +89,14 @@ turn_failed limits had held source sink old new before after fault.TooLarge so_f
 turn_failed limits had held source sink old new before after fault.Memory so_far (some, kept) = stopped limits had held source sink old before so_far some kept
 turn_failed limits had held source sink old new before after why so_far never = absurd never
 
--- how much was read where the table was refused
-none_heard : (limits : Limits) (source : Source) (ahead : ReadAhead) (why : RunFault) → OpensLive limits source ahead (Err why) → HeardNone source
-none_heard limits source ahead why shows = grind (arith)
-
 -- no byte was written
 nothing-written : (held holds : Option (List ℕ)) → Appends held holds [] → Keeps held holds
 nothing-written held holds h = grind (arith, append-nil)
-
--- the table was refused, and that was written
-refused_with : (limits : Limits) (source : Source) (sink : Sink) (ahead : ReadAhead) (why : RunFault) → OpensLive limits source ahead (Err why) → WroteAll sink (fault_text why) → RanLive limits source sink (Err why)
-refused_with limits source sink ahead why shows wrote = grind (arith, nothing-written)
 
 -- of a refusal's line a beginning was written
 none_begun : (limits : Limits) (source : Source) (sink : Sink) → HeardNone source → sink.failed ≡ true → WroteBeginning sink [] → RanLive limits source sink (Err fault.Write)
 none_begun limits source sink heard failed (count, part) = (failed, inr (inl (heard, nothing-written sink.held sink.holds (subst (Appends sink.held sink.holds) (take_all count [] (omega arith)) part))))
 
-refused_write : (limits : Limits) (source : Source) (sink : Sink) (ahead : ReadAhead) (why : RunFault) → OpensLive limits source ahead (Err why) → sink.failed ≡ true → WroteBeginning sink (fault_text why) → RanLive limits source sink (Err fault.Write)
-refused_write limits source sink ahead why shows failed part = grind (arith, none_begun)
-
 -- a refused table, by what was written of its line
 pub refused_live : (limits : Limits) (source : Source) (sink : Sink) (ahead : ReadAhead) (why : RunFault) (result : Result (Unit {0}) RunFault) → OpensLive limits source ahead (Err why) → Wrote sink (Err why) result → RanLive limits source sink result
-refused_live limits source sink ahead why result opens wrote = grind (arith, refused_with limits source sink ahead why opens, refused_write limits source sink ahead why opens, none_heard limits source ahead why opens)
+refused_live limits source sink ahead why result opens wrote = grind (arith, nothing-written sink.held sink.holds, none_begun limits source sink)

@@ -8,10 +8,6 @@ use Rattle.pref_core.specs.declared.fault.CoreFault.{CoreFault}
 use Rattle.pref_core.specs.declared.fault.CoreFault.TheVariants as core
 use Rattle.pref_script.specs.declared.fault.RunFault.TheVariants as fault
 
--- a script's parts fail in two ways
-parts-faults : (raws : List (List ℕ)) (why : RunFault) → parts_of raws ≡ Err why → (why ≡ fault.NoTable) ⊎ (why ≡ fault.NoEnd)
-parts-faults raws why h = grind (arith, cases_Bool)
-
 -- how a script with a table block is cut
 pub record IsCut (lines : List (List ℕ)) (parts : Parts) : Type 0 where
   pub first : List ℕ
@@ -24,16 +20,13 @@ pub record IsCut (lines : List (List ℕ)) (parts : Parts) : Type 0 where
 pub cut_of : (lines : List (List ℕ)) (parts : Parts) → parts_of lines ≡ Ok parts → IsCut lines parts
 cut_of lines parts h = grind (arith, cases_Bool, ltb-true)
 
--- a script's first command line follows two lines at least
-pub first-least : (raws : List (List ℕ)) (parts : Parts) → parts_of raws ≡ Ok parts → 3 ≤ parts.first
-first-least raws parts h = grind (arith, cut_of)
-
 pub script-parts : (limits : Limits) (bytes : List ℕ) (why : RunFault) → parts_of (raw_lines bytes) ≡ Err why → script_of limits bytes ≡ Err why
 unfolding script_of
 script-parts limits bytes why h = rw h refl
 
 pub script-parts-fault : (limits : Limits) (bytes : List ℕ) (why : RunFault) → parts_of (raw_lines bytes) ≡ Err why → ScriptFault why (script_of limits bytes)
-script-parts-fault limits bytes why h = grind (arith, parts-faults, script-parts)
+unfolding script_of
+script-parts-fault limits bytes why h = grind (arith)
 
 -- a table's fault is the script's
 pub script-table-fault : (limits : Limits) (bytes : List ℕ) (parts : Parts) (why : TableFault) → parts_of (raw_lines bytes) ≡ Ok parts → Fails why (table_of parts.table)

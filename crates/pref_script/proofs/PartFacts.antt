@@ -4,8 +4,9 @@ use Rattle.pref_script.proofs.Common.{ap, arith, append_assoc, inl, inr, string_
 use Rattle.pref_script.proofs.Common.{HasReplied, IsAccepted, IsFound, IsGiven, AllGiven, IsPart, AreActs, acts_in, acts_left, accepted_events, act_of, commands_in, commands_of}
 use Rattle.pref_script.proofs.Common.{event_of, client_named, said_in, raw_lines, without_line_end, reply_lines, texts, clients_lines, unowned_line, unowned_lines, Refusal, Part}
 use Rattle.pref_script.proofs.Common.{◌==◌, NamesNone, cases_lt, drop, drop_all, drop_more, eqb-false, eqb-true, get_or, get_or_append_left, length-set, lines_in, lines_left, map-append, range_with_len, set, vec_len}
-use Rattle.std.proofs.Common.{Bor}
+use Rattle.std.proofs.lemmas.List.Elements.{filter-append}
 use Rattle.std.proofs.lemmas.Bool.{cases_Bool}
+use Rattle.std.proofs.Common.{Bor}
 use Rattle.std.proofs.lemmas.Grind.{get_or-set_at}
 use Rattle.std.proofs.lemmas.List.{get_or-map, get_or-set_other, get_or_push, length-map, same_lists}
 use Rattle.std.proofs.lemmas.List.FromFn.{get_or-map-range_with_len, length-map-range_with_len}
@@ -18,44 +19,25 @@ use Rattle.pref_share.specs.Reports.{AreTaken}
 use Rattle.pref_share.proofs.RunsLaws.{there}
 use Rattle.pref_script.specs.ClientParts.{IsWhole, acts_found}
 use Rattle.pref_script.specs.declared.parts.Found.{Found}
-use Rattle.pref_script.proofs.ClientFacts.{acts-append, acts-few, acts-other, acts-own}
+use Rattle.pref_script.proofs.ClientFacts.{acts-few, acts-other, acts-own}
 use Rattle.pref_script.proofs.CommandFacts.{accepted_events-append, events-any_number, events-in, events-of_lines, lines-few, unowned-blank, unowned-own}
-use Rattle.pref_script.proofs.FormFacts.{said_named}
 use Rattle.pref_script.proofs.TextFacts.{texts-append}
 use Rattle.pref_script.specs.declared.parts.Found.TheVariants as found
 
--- a refused line is nothing to a client, nor is another client's event
-pub found-refused : (names : List (List ℕ)) (client : ℕ) (line : List ℕ) (why : Refusal) → event_of names line ≡ Err why → IsFound names client line found.Refused
-found-refused names client line why said = (rw (events-in names 0 line, said) refl, λ other. absurd (other refl))
-
-first-other : (names : List (List ℕ)) (client : ℕ) (line : List ℕ) (event : Event) → event_of names line ≡ Ok event → event.client ≢ client → acts_of client (accepted_events (commands_in names 0 line)) ≡ []
-first-other names client line event said other = grind (arith, cases_Bool, events-in, acts-other)
-
 -- the event of a line is of the client that it names
-event-named : (names : List (List ℕ)) (line : List ℕ) (event : Event) → event_of names line ≡ Ok event → client_named line ≡ Some event.client
-unfolding act_of said_in
-event-named names line event is = grind (arith, said_named line)
+pub event-named : (names : List (List ℕ)) (line : List ℕ) (event : Event) → event_of names line ≡ Ok event → client_named line ≡ Some event.client
+unfolding act_of said_in client_named
+event-named names line event is = grind (arith, cases_Bool)
 
 -- a line that does not name the client
 first-unnamed : (names : List (List ℕ)) (client : ℕ) (line : List ℕ) → client_named line ≢ Some client → acts_of client (accepted_events (commands_in names 0 line)) ≡ []
-first-unnamed names client line other = grind (arith, first-other, event-named, found-refused)
-
--- what a line is to a client: one of blanks, another client's event and its own
-pub found-blank : (names : List (List ℕ)) (client : ℕ) (line : List ℕ) → list_all is_blank line ≡ true → IsFound names client line found.Nothing
-unfolding accepted_events
-found-blank names client line blank = (rw blank refl, λ _ _. inl blank)
-
-pub found-other : (names : List (List ℕ)) (client : ℕ) (line : List ℕ) (event : Event) → event_of names line ≡ Ok event → event.client ≢ client → IsFound names client line found.Nothing
-found-other names client line event said other = grind (arith, first-other, event-named)
-
-pub found-act : (names : List (List ℕ)) (client : ℕ) (line : List ℕ) (event : Event) → list_all is_blank line ≡ false → event_of names line ≡ Ok event → event.client ≡ client → IsFound names client line (found.Act event.act)
-found-act names client line event some said own = (rw (events-in names 0 line, said, some) (acts-own event client own), λ _ _. inr (event, said, own))
+first-unnamed names client line other = grind (arith, events-in, acts-other, event-named)
 
 -- the act of the first line comes before those of the lines behind it
 acts-line : (names : List (List ℕ)) (client : ℕ) (raw : List ℕ) (more : List (List ℕ))
     → acts_in names client (raw ∷ more) ≡ acts_of client (accepted_events (commands_in names 0 (without_line_end raw))) ++ acts_in names client more
 unfolding commands_of
-acts-line names client raw more = grind (arith, accepted_events-append, events-any_number, acts-append)
+acts-line names client raw more = grind (arith, accepted_events-append, events-any_number, filter-append, map-append)
 
 -- a line that does not name the client is nothing to it, among others
 acts-unnamed : (names : List (List ℕ)) (client : ℕ) (before : List (List ℕ)) (raw : List ℕ) (left : List (List ℕ)) → client_named (without_line_end raw) ≢ Some client
@@ -107,9 +89,7 @@ returned-more first old new replies reply returned client schema left refused wr
 pub are-more : (names raws : List (List ℕ)) (parts : List Part) (part : Part) → ArePartsUpTo names raws raws parts → part.schema.now ≡ names → part.client ≡ suc (length parts) → lines_left part ≡ [] → part.read ≡ 0
     → string_bytes part.text ≡ [] → ArePartsUpTo names raws raws (parts ++ part ∷ [])
 are-more names raws parts part are schema client lines read returned place other here = elim (cases_lt place (length parts)) [
-  | inl inside ↦
-      let stays : other ≡ get_or parts place other = sym (get_or_from_slice_get (parts ++ part ∷ []) place other other here) ∙ get_or_append_left parts (part ∷ []) other place inside in
-      are place other (slice_get_read parts (length parts) place other refl inside stays)
+  | inl inside ↦ are place other (slice_get_read parts (length parts) place other refl inside (grind (arith, get_or_from_slice_get (parts ++ part ∷ []) place other other here, get_or_append_left parts (part ∷ []) other place inside)))
   | inr past ↦ grind (arith, past, slice_get_within (parts ++ part ∷ []) place other here, length-append parts (part ∷ []), get_or_push parts part part place, get_or_from_slice_get (parts ++ part ∷ []) place other part here)
 ]
 

@@ -49,16 +49,12 @@ pub record Playing (width : ℕ) (first : Running) (all : List Command) (text : 
   pub limits : now.limits ≡ first.limits
   pub from : (system : System) → StandsForSystem first system → PlayingFrom width first.limits system all text now rest
 
--- some commands more
-playing_more : (width : ℕ) (first now after : Running) (all commands rest : List Command) (text new : List ℕ) → Playing width first all text now (commands ++ rest) → Plays width now commands text new after → Playing width first all new after rest
-playing_more width first now after all commands rest text new playing plays = grind (arith)
-
 -- a line more
 pub playing_line : (width : ℕ) (names : List (List ℕ)) (first now after : Running) (all : List Command) (number : ℕ) (left raw tail text new : List ℕ)
     → Playing width first all text now (commands_of names number (raw_lines left)) → raw_lines left ≡ raw ∷ raw_lines tail
     → Plays width now (commands_in names number (without_line_end raw)) text new after → Playing width first all new after (commands_of names (number + 1) (raw_lines tail))
 unfolding commands_of
-playing_line width names first now after all number left raw tail text new playing cut plays = grind (arith, playing_more)
+playing_line width names first now after all number left raw tail text new playing cut plays = grind (arith)
 
 -- all that is printed for the commands of a script
 pub prints_output : (limits : Limits) (rows : List (List ℤ)) (names : List (List ℕ)) (number first : ℕ) (lines : List (List ℕ)) (running : Running) (text : List ℕ)

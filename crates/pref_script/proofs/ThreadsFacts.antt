@@ -2,6 +2,7 @@
 use Rattle.pref_script.proofs.Common.{◌≡◌, ◌∙◌, ℕ, ◌+◌, ◌<◌, ◌≤◌, ◌^◌, arith, map, Bool, List, ◌++◌, length, refl, sym, ap, subst, Result, Ok, Err, IfErr, ◌⊎◌, inl, inr, ℤ, Vec, string_bytes, All, [], Limits}
 use Rattle.pref_script.proofs.Common.{AllGiven, AreParts, HasReplied, acts_left, accepted_events, commands_of, ScriptFault, script_of, script_with, IsOpeningOf, share_fault, raw_lines}
 use Rattle.pref_script.proofs.Common.{texts, Sink, Wrote, AreActs, ClosesOrStops, HoldsNobody, PrintsOnThreads, always_open, opening_of, unowned_lines, RunFault, Part}
+use Rattle.pref_script.proofs.OutputFacts.{cut_of, script-core-fault, script-ok}
 use Rattle.std.specs.declared.marker.Brand.{Brand}
 use Rattle.pref_core.specs.declared.event.Act.{Act}
 use Rattle.pref_core.specs.declared.fault.CoreFault.{CoreFault}
@@ -13,7 +14,6 @@ use Rattle.pref_share.proofs.InterleavingsLaws.{length-newcomers}
 use Rattle.pref_share.proofs.ReportsLaws.{first_stops}
 use Rattle.pref_script.specs.ClientParts.{IsWhole}
 use Rattle.pref_script.specs.declared.reading.Opening.{Opening as OpeningRead}
-use Rattle.pref_script.proofs.OutputFacts.{first-least, script-core-fault, script-ok}
 use Rattle.pref_script.proofs.PartFacts.{acts_from, acts-listed, are-acts, parts-shown, unowned-none}
 use Rattle.pref_core.specs.declared.fault.CoreFault.TheVariants as core
 use Rattle.pref_share.specs.declared.fault.ShareFault.TheVariants as share
@@ -46,7 +46,7 @@ holds-nobody limits bytes sink returned result prints wrote = tt
 
 -- the command lines of a script have fewer bytes than the script
 pub commands-short : (bytes : List ℕ) (r : OpeningRead) → IsOpeningOf bytes r → r.text.first + length r.text.commands.now ≤ length bytes + 3 → length bytes < 2 ^ 63 → length r.text.commands.now < 2 ^ 63
-commands-short bytes r read few short = omega (arith, few, short, read.first, first-least (raw_lines bytes) read.parts read.cut)
+commands-short bytes r read few short = grind (arith, cut_of)
 
 -- A script whose clients have these parts, of which the acts are these lists.
 module _ (limits : Limits) (says : ℕ → ℕ → Bool → Type 0) (bytes : List ℕ) (r : OpeningRead) (read : IsOpeningOf bytes r) (parts : Vec Part) (count : length parts.items ≡ limits.clients)
@@ -70,8 +70,7 @@ module _ (limits : Limits) (says : ℕ → ℕ → Bool → Type 0) (bytes : Lis
       → ((limits.capacity < length rows) × (why ≡ share.Core (core.Full (length rows)))) ⊎ ((limits.capacity < length rows → ⊥)
       × ((acts : List (Vec Act)) → map (λ list. list.items) acts ≡ map acts_left parts.items → ClosesOrStops Brand (record { limits = limits; rows = rows }) says acts why))
       → PrintsOnThreads limits says bytes (Err (share_fault why))
-  prints-refused rows why same (inl (many, full)) =
-      rw (full, same) (script-core-fault limits bytes read.parts (r.schema, r.rows.items) (core.Full (length r.rows.items)) read.cut read.table (λ _. refl) (inr (rw same at many)))
+  prints-refused rows why same (inl (many, full)) = grind (arith, script-core-fault limits bytes read.parts (r.schema, r.rows.items) (core.Full (length r.rows.items)) read.cut read.table (λ _. refl))
   prints-refused rows why same (inr (room, stops)) = prints-stopped (rw same at room) why (rw same at (stops acts listed))
 
   -- no line belongs to nobody, where each was given to a part and all parts are whole

@@ -45,7 +45,7 @@ pub digit_not_blank : (digit : ℕ) → IsInRange 48 57 digit → is_blank digit
 digit_not_blank digit range = rw (ne_eqb digit 32 (λ e. absurd (omega (arith, range.0, e))), ne_eqb digit 9 (λ e. absurd (omega (arith, range.0, e)))) refl
 
 -- where the word ends that a text begins with
-word_place : (text word : List ℕ) → bytes_eq (word_of text) word ≡ true → position_or_len is_blank text ≡ length word
+pub word_place : (text word : List ℕ) → bytes_eq (word_of text) word ≡ true → position_or_len is_blank text ≡ length word
 word_place text word same = sym (word_size text) ∙ ap length (same_text (word_of text) word (sym same))
 
 -- a text that begins with the bytes of a word, and then ends or has a blank
@@ -60,14 +60,6 @@ word_stripped text word plain begins inside end =
 -- the first byte of what is left behind so many
 pub rest_first : (text rest : List ℕ) (size : ℕ) → rest ≡ drop size text → get_or rest 0 0 ≡ get_or text size 0
 rest_first text rest size is = grind (arith, get_or-drop)
-
--- one that begins with other bytes
-pub word_other : (text word : List ℕ) → false ≡ bytes_eq (take (length word) text) word → bytes_eq (word_of text) word ≡ false
-word_other text word other = grind (arith, false_from_ne_true, word_at, word_place)
-
--- one whose word goes on
-pub word_longer : (text word : List ℕ) → length word < length text → is_blank (get_or text (length word) 0) ≡ false → bytes_eq (word_of text) word ≡ false
-word_longer text word inside more = grind (arith, false_from_ne_true, word_place, true≢false, passes_at_first)
 
 -- the number of the digits so far, with one digit more
 pub value_more : (word : List ℕ) (place number : ℕ) → place < length word → IsInRange 48 57 (get_or word place 0) → digits_value 10 (take place word) ≡ number

@@ -1,15 +1,18 @@
-use Rattle.pref_script.proofs.Common.{◌∙◌, sym}
-use Rattle.pref_script.proofs.PartFacts.{found-act, found-blank, found-other, found-refused}
+use Rattle.pref_script.proofs.Common.{arith, accepted_events}
+use Rattle.pref_script.proofs.ClientFacts.{acts-other, acts-own}
+use Rattle.pref_script.proofs.CommandFacts.{events-in}
+use Rattle.pref_script.proofs.PartFacts.{event-named}
 use Rattle.pref_script.proofs.parts.read_line.Goals as goal
 
 pub returns-then-is_blank_line : goal.returns-then-is_blank_line
-returns-then-is_blank_line c = found-blank c.args.schema.now c.args.client c.args.line.now (sym c.is_blank_line.ensures ∙ c.if-is_blank_line.true)
+unfolding accepted_events
+returns-then-is_blank_line c = grind (arith)
 
 pub returns-in-Ok : goal.returns-in-Ok
-returns-in-Ok c = found-other c.args.schema.now c.args.client c.args.line.now c.in-Ok.event c.in-Ok.ensures c.if-read_event-client.true
+returns-in-Ok c = grind (arith, events-in, acts-other, event-named)
 
 pub returns-in-Ok-2 : goal.returns-in-Ok-2
-returns-in-Ok-2 c = found-act c.args.schema.now c.args.client c.args.line.now c.in-Ok.event (sym c.is_blank_line.ensures ∙ c.if-is_blank_line.false) c.in-Ok.ensures c.if-read_event-client.false
+returns-in-Ok-2 c = grind (arith, events-in, acts-own)
 
 pub returns-in-Err-Refused : goal.returns-in-Err-Refused
-returns-in-Err-Refused c = found-refused c.args.schema.now c.args.client c.args.line.now _ (rw c.in-Err-Refused.field-0-is at c.in-Err-Refused.ensures)
+returns-in-Err-Refused c = grind (arith, events-in)
