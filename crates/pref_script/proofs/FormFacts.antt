@@ -14,27 +14,9 @@ digit_number digit range is = grind (arith, value_more, number-is)
 after_one : (rest : List ℕ) → after_blanks (32 ∷ rest) ≡ after_blanks rest
 after_one rest = grind (arith)
 
--- the word `as`, a blank, a digit and a blank, word by word
-module _ (digit : ℕ) (rest : List ℕ) (blank : is_blank digit ≡ false) where
-  as_word : word_of (97 ∷ 115 ∷ 32 ∷ digit ∷ 32 ∷ rest) ≡ 97 ∷ 115 ∷ []
-  unfolding word_of
-  as_word = refl
-
-  as_after : after_word (97 ∷ 115 ∷ 32 ∷ digit ∷ 32 ∷ rest) ≡ digit ∷ 32 ∷ rest
-  unfolding after_word
-  as_after = grind (arith, prefix_len_is, after_one)
-
-  digit_word : word_of (digit ∷ 32 ∷ rest) ≡ digit ∷ []
-  unfolding word_of
-  digit_word = grind (arith)
-
-  digit_after : after_word (digit ∷ 32 ∷ rest) ≡ after_blanks rest
-  unfolding after_word
-  digit_after = grind (arith, after_one)
-
 -- what the line says, and the client that it names
 pub client_at : (line : List ℕ) → 5 ≤ length line → get_or line 0 0 ≡ 97 → get_or line 1 0 ≡ 115 → get_or line 2 0 ≡ 32 → IsInRange 48 57 (get_or line 3 0) → is_ascii_digit (get_or line 3 0) ≡ true → get_or line 4 0 ≡ 32
     → (said_in line ≡ said_by_client (get_or line 3 0 - 48) (after_blanks (drop 5 line))) × (client_named line ≡ Some (get_or line 3 0 - 48))
-unfolding said_in client_named
-client_at (a ∷ s ∷ blank ∷ digit ∷ end ∷ rest) few = λ at0 at1 at2 range is at4. grind (arith, at0, at1, at2, at4, digit_not_blank digit range, as_word digit rest, as_after digit rest, digit_word digit rest, digit_after digit rest, digit_number digit range is)
+unfolding said_in client_named word_of after_word
+client_at (a ∷ s ∷ blank ∷ digit ∷ end ∷ rest) few = λ at0 at1 at2 range is at4. grind (arith, at0, at1, at2, at4, digit_not_blank digit range, after_one (digit ∷ 32 ∷ rest), after_one rest, prefix_len_is is_blank (digit ∷ 32 ∷ rest) 0 0, digit_number digit range is)
 client_at line few = absurd (omega (arith, few))

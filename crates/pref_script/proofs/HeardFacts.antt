@@ -147,9 +147,7 @@ heard_number limits heard live text so_far = grind (arith, cut_of, length-drop)
 -- so many lines were heard that no run hears more
 pub heard_too_many : (limits : Limits) (had left : Option (List ℕ)) (ahead : ReadAhead) (live : LiveTable) (text : List ℕ) → Hears limits had left ahead live text → 2 ^ 63 < next_number live → IfSome had IsTooLong
 heard_too_many limits had left ahead live text so_far many =
-    let number = heard_number limits so_far.heard live text so_far.script in
-    elim so_far.lines [
-      | inl ends ↦ had_all had left (so_far.heard ++ unread ahead) IsTooLong so_far.consumed (λ more.
-          inr (inr (grind (arith, number, many, append_assoc so_far.heard (unread ahead) more, ends (unread ahead ++ more), length-append (raw_lines so_far.heard) (raw_lines (unread ahead ++ more))))))
-      | inr last ↦ Consumes-whole had left so_far.heard IsTooLong (subst (Consumes had left) (ap (λ (t : List ℕ). so_far.heard ++ t) last.1 ∙ append-nil so_far.heard) so_far.consumed) (so_far.at_end last.0) (inr (inr (omega (arith, number, many))))
+    let number = heard_number limits so_far.heard live text so_far.script in elim so_far.lines [
+      | inl ends ↦ had_all had left (so_far.heard ++ unread ahead) IsTooLong so_far.consumed (λ more. inr (inr (grind (arith, number, many, append_assoc so_far.heard (unread ahead) more, ends (unread ahead ++ more), length-append (raw_lines so_far.heard) (raw_lines (unread ahead ++ more))))))
+      | inr last ↦ Consumes-whole had left so_far.heard IsTooLong (grind (arith, so_far.consumed, last, append-nil so_far.heard)) (so_far.at_end last.0) (inr (inr (omega (arith, number, many))))
     ]

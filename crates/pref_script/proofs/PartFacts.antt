@@ -153,10 +153,8 @@ module _ {X : Type 0} (given : Vec X) (names : List (List ℕ)) (text : List ℕ
       let each = λ (client : ℕ). acts_in names client (raw_lines text) in
       let size = length-map-range_with_len each 1 clients in
       map-map (λ (list : Vec Act). list.items) held (range_with_len 1 clients) ∙ same_lists (map each (range_with_len 1 clients)) (map acts_left parts) (omega (arith, size, many, length-map parts acts_left)) (λ place d within.
-      let inside : place < length parts = omega (arith, within, size, many) in
-      let (part, here) = there parts place inside in
-      let own = get_or-map acts_left parts place part d inside ∙ ap acts_left (get_or_from_slice_get parts place part part here) ∙ part-acts names (raw_lines text) (suc place) part (are place part here) in
-      get_or-map-range_with_len each 1 clients place (suc place) d (omega (arith, inside, many)) (omega arith) ∙ sym own)
+      let (part, here) = there parts place (omega (arith, within, size, many)) in
+      grind (arith, within, size, many, get_or-map acts_left parts place part d, get_or_from_slice_get parts place part part here, part-acts names (raw_lines text) (suc place) part (are place part here), get_or-map-range_with_len each 1 clients place (suc place) d))
 
   pub are-acts : (clients first : ℕ) → AreActs clients (accepted_events (commands_of names first (raw_lines text))) (acts_from clients)
   are-acts clients first = record {

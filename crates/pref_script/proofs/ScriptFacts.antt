@@ -46,12 +46,10 @@ pub seen_more : (rest left raw tail : List ℕ) (count : ℕ) → Seen rest left
     → is_end_line raw ≡ false → Seen rest tail (count + 1)
 seen_more rest left raw tail count seen cut parts some other =
     let all = raw_lines rest in
-    let (inside, here, after) = drop_here all count [] raw (raw_lines tail) (sym seen.lines ∙ cut) in
-    let joined = take_more all count [] inside in
-    record {
+    let (inside, here, after) = drop_here all count [] raw (raw_lines tail) (sym seen.lines ∙ cut) in record {
       lines = sym after;
       before = below_more (λ k. is_end_line (get_or all k []) ≡ false) count seen.before (ap is_end_line here ∙ other);
-      text = grind (arith, joined, here, concat-push (take count all) (get_or all count []), append_assoc, seen.text, parts);
+      text = grind (arith, take_more all count [] inside, here, concat-push (take count all) (get_or all count []), append_assoc, seen.text, parts);
       size = omega arith;
       few = omega (arith, seen.few, ap length parts, length-append raw tail);
     }

@@ -79,9 +79,8 @@ module _ (limits : Limits) (says : ℕ → ℕ → Bool → Type 0) (bytes : Lis
       → unowned_lines (length shown) (length r.schema) (commands_of r.schema r.text.first (raw_lines r.text.commands.now)) ≡ []
   prints-none o done shown given ran same whole =
       let run = ran acts listed in
-      let many : limits.clients ≡ length shown = sym (ap length same ∙ run.taken.tasks_done ∙ count) in
-      unowned-none r.schema r.text.commands.now r.text.first parts.items shown run.replies are (subst (λ (l : List Part). AreTaken HasReplied parts.items l run.replies) (sym same) run.taken)
-      (subst (λ (clients : ℕ). AllGiven clients (raw_lines r.text.commands.now)) many given) whole
+      let none = unowned-none r.schema r.text.commands.now r.text.first parts.items done run.replies are run.taken in
+      grind (arith, none, given, same, whole, run.taken.tasks_done, count)
 
   -- the output of a joint run
   pub prints-joint : (rows : List (List ℤ)) (done shown printed : List Part) (unowned text : List ℕ) → rows ≡ r.rows.items → (limits.capacity < length rows → ⊥)

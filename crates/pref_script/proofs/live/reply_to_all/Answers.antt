@@ -17,27 +17,25 @@ pub returns-in_err-take_turn : goal.returns-in_err-take_turn
 returns-in_err-take_turn g c =
     let source = source_of g.R.Read.remaining c.loop-line.reader c.take_turn.new.reader in
     let sink = sink_of g.W.Write.contents c.loop-line.writer c.take_turn.new.writer in
-    let held = g.W.Write.contents c.args.writer.now.inner in
     λ limits had h. rw (exits c.from_residual.result c.from_residual.ensures.1)
-    (turn_failed limits had held source sink c.loop-line.ahead c.take_turn.new.ahead c.loop-line.live c.take_turn.new.live c.in_err-take_turn.field-0.0 (c.loop-line.invariant.replying limits had h) c.in_err-take_turn.ensures)
+    (turn_failed limits had _ source sink _ _ _ _ _ (c.loop-line.invariant.replying limits had h) c.in_err-take_turn.ensures)
 
 pub returns-in-End : goal.returns-in-End
 returns-in-End g c =
     let source = source_of g.R.Read.remaining c.loop-line.reader c.take_turn.new.reader in
     let sink = sink_of g.W.Write.contents c.loop-line.writer c.take_turn.new.writer in
     let all = sink_of g.W.Write.contents c.args.writer.now c.take_turn.new.writer in
-    let turned = subst (λ (t : Turn). Turns source sink c.loop-line.ahead c.take_turn.new.ahead c.loop-line.live c.take_turn.new.live (Ok t)) c.in-End.is c.in_ok-take_turn.ensures in
+    let turned = rw c.in-End.is at c.in_ok-take_turn.ensures in
     λ limits had h.
     let so_far = c.loop-line.invariant.replying limits had h in
-    ran_whole limits had source all c.loop-line.ahead c.take_turn.new.ahead c.loop-line.live so_far.text so_far.hears turned.0 (Appends-kept all.held sink.held sink.holds so_far.text so_far.wrote turned.1)
+    ran_whole limits had source all _ _ _ so_far.text so_far.hears turned.0 (Appends-kept all.held sink.held sink.holds so_far.text so_far.wrote turned.1)
 
 pub returns : goal.returns
 returns g c =
-    let source = source_of g.R.Read.remaining c.loop-line.reader c.loop-line.reader in
     let all = sink_of g.W.Write.contents c.args.writer.now c.loop-line.writer in
     λ limits had h.
     let so_far = c.loop-line.invariant.replying limits had h in
     let number = heard_number limits h.heard c.args.live.now [] h.script in (
-      heard_too_many limits had source.had c.loop-line.ahead c.loop-line.live so_far.text so_far.hears (omega (arith, c.loop-line.invariant.number, number, c.loop-line-test.false)),
-      stops_early limits had source all c.loop-line.ahead c.loop-line.live so_far.text so_far.hears (some_none source.had c.loop-line.ahead 0) so_far.wrote,
+      heard_too_many limits had _ _ _ so_far.text so_far.hears (omega (arith, c.loop-line.invariant.number, number, c.loop-line-test.false)),
+      stops_early limits had (source_of g.R.Read.remaining c.loop-line.reader c.loop-line.reader) all _ _ so_far.text so_far.hears (some_none _ _ 0) so_far.wrote,
     )

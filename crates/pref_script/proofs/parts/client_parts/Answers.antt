@@ -6,27 +6,19 @@ pub loop-left-init : goal.loop-left-init
 loop-left-init c = record { count = c.in_ok-parts.ensures.count; parts = c.in_ok-parts.ensures.parts (raw_lines c.args.lines.now); given = λ all rest. rest }
 
 pub loop-left-preserved-then-not-branch : goal.loop-left-preserved-then-not-branch
-loop-left-preserved-then-not-branch c =
-    let names = c.args.schema.now in
-    let raws = raw_lines c.args.lines.now in
-    let before = subst (λ (lines : List (List ℕ)). ArePartsUpTo names raws lines c.loop-left.parts.items) c.cut_line.ensures.lines c.loop-left.invariant.parts in
-    record {
-      count = c.in_ok-give_line.ensures.count ∙ c.loop-left.invariant.count;
-      parts = c.in_ok-give_line.ensures.parts names raws (raw_lines c.cut_line.result.1.now) before;
-      given = λ all. cc all;
-    }
+loop-left-preserved-then-not-branch c = record {
+  count = c.in_ok-give_line.ensures.count ∙ c.loop-left.invariant.count;
+  parts = c.in_ok-give_line.ensures.parts _ _ _ (rw c.cut_line.ensures.lines at c.loop-left.invariant.parts);
+  given = λ all. cc all;
+}
 
 pub loop-left-preserved : goal.loop-left-preserved
 loop-left-preserved c =
-    let clients = c.args.clients in
-    let names = c.args.schema.now in
-    let raws = raw_lines c.args.lines.now in
-    let before = subst (λ (lines : List (List ℕ)). ArePartsUpTo names raws lines c.loop-left.parts.items) c.cut_line.ensures.lines c.loop-left.invariant.parts in
-    let here = subst (λ (n : ℕ). IsGiven n c.cut_line.result.0.now) c.loop-left.invariant.count (c.in_ok-give_line.ensures.given c.if-not-branch.false) in
+    let here = rw c.loop-left.invariant.count at (c.in_ok-give_line.ensures.given c.if-not-branch.false) in
     record {
       count = c.in_ok-give_line.ensures.count ∙ c.loop-left.invariant.count;
-      parts = c.in_ok-give_line.ensures.parts names raws (raw_lines c.cut_line.result.1.now) before;
-      given = λ all rest. c.loop-left.invariant.given all (subst (AllGiven clients) (sym c.cut_line.ensures.lines) (here, rest));
+      parts = c.in_ok-give_line.ensures.parts _ _ _ (rw c.cut_line.ensures.lines at c.loop-left.invariant.parts);
+      given = λ all rest. c.loop-left.invariant.given all (rw c.cut_line.ensures.lines (here, rest));
     }
 
 pub returns-clause-parts : goal.returns-clause-parts

@@ -14,18 +14,14 @@ loop-seen-init g c =
 
 pub loop-seen-preserved : goal.loop-seen-preserved
 loop-seen-preserved g c =
-    let a = g.R.Read.remaining c.args.reader.now.inner in
-    let b = g.R.Read.remaining c.loop-seen.reader.inner in
-    let d = g.R.Read.remaining c.read_more.new.reader.inner in
-    let now = unread c.read_more.new.self in
     let read = c.in_ok-read_more.ensures.ok in
     let so_far = c.loop-seen.invariant in
-    let found = rw (take_rest now c.loop-seen.seen) at (rw c.as_slice-else-self.ensures at c.memchr-else-self.ensures) in
+    let found = rw (take_rest (unread c.read_more.new.self) c.loop-seen.seen) at (rw c.as_slice-else-self.ensures at c.memchr-else-self.ensures) in
     record {
       all = ap length c.as_slice-seen-in-loop-seen.ensures;
-      behind = behind_more a b d c.args.self.now c.loop-seen.self c.read_more.new.self so_far.behind read;
-      none = none_more c.args.from (unread c.loop-seen.self) read.bytes now read.behind so_far.none (rw so_far.all at (none_found now c.loop-seen.seen c.memchr-else-self.result found (sym c.is_some-else-self.ensures ∙ c.if-is_some-2.false)));
-      little = λ _. little_behind b d c.loop-seen.self c.read_more.new.self c.args.from read so_far.none (grind arith) c.in_ok-read_more.ensures.few;
+      behind = behind_more _ _ _ _ _ _ so_far.behind read;
+      none = none_more c.args.from (unread c.loop-seen.self) read.bytes _ read.behind so_far.none (rw so_far.all at (none_found _ c.loop-seen.seen c.memchr-else-self.result found (sym c.is_some-else-self.ensures ∙ c.if-is_some-2.false)));
+      little = λ _. little_behind _ _ _ _ c.args.from read so_far.none (grind arith) c.in_ok-read_more.ensures.few;
     }
 
 pub returns-in_err-read_more-clause-read : goal.returns-in_err-read_more-clause-read
