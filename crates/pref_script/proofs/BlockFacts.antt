@@ -43,7 +43,7 @@ block_found text line start count block ends one is_last =
 
 -- a text without a line `end`
 block_none : (text : List ℕ) (start count : ℕ) → BlockLines text start count → parts_of (raw_lines text) ≡ Err fault.NoEnd
-block_none text start count block = grind (arith, position_or_len_is is_end_line block.rest (length block.rest) [] (omega arith) block.others (λ h. absurd (omega (arith, h))), block.lines, block.is_first)
+block_none text start count block = grind (arith, position_or_len_is is_end_line block.rest (length block.rest) [] (omega arith) block.others (λ h. absurd (omega (arith, h))))
 
 -- a text without a line `table`
 no_table : (text line : List ℕ) (more : List (List ℕ)) → raw_lines text ≡ line ∷ more → is_table_line line ≡ false → parts_of (raw_lines text) ≡ Err fault.NoTable
@@ -58,13 +58,13 @@ pub record BlockAt (ahead : ReadAhead) (start stop count : ℕ) : Type 0 where
   pub lines : EndsWithLine (take stop (unread ahead)) ⊎ (is_at_end ahead ≡ true) × (stop ≡ length (unread ahead))
 
 pub block_open : (ahead : ReadAhead) (start : ℕ) → 0 < start → start ≤ length (unread ahead) → start ≤ 16777216 → IsLineAt 0 start ahead → is_table_line (take start (unread ahead)) ≡ true → BlockAt ahead start start 0
-block_open ahead start some inside most line is = grind (arith, front_is start (unread ahead), line_at ahead 0 start line some, append-nil, length-take start (unread ahead))
+block_open ahead start some inside most line is = grind (arith, line_at ahead 0 start line some, append-nil, length-take start (unread ahead))
 
 -- the input has no line `table`
 pub table_missing : (ahead : ReadAhead) (start : ℕ) → start ≤ length (unread ahead) → IsLineAt 0 start ahead → is_table_line (take start (unread ahead)) ≡ false → LacksBlock ahead fault.NoTable
 table_missing ahead start inside (inl (some, whole)) other =
     inl (λ more. grind (arith, take-append-drop start (unread ahead), append_assoc (take start (unread ahead)) (drop start (unread ahead)) more, whole (drop start (unread ahead) ++ more), front_is start (unread ahead)))
-table_missing ahead start inside (inr (ended, all, last)) other = grind (arith, cases_lt, take_all, front_is, no_table, script-none)
+table_missing ahead start inside (inr (ended, all, last)) other = grind (arith, take_all, script-none)
 
 pub input_missing : (ahead : ReadAhead) → IsLineAt 0 0 ahead → LacksBlock ahead fault.NoTable
 input_missing ahead h1 = grind (arith, script-none)
@@ -106,18 +106,7 @@ module _ (had left : Option (List ℕ)) (old new : ReadAhead) (start stop count 
 
 -- the first line of a text is longer than this
 long_first : (size : ℕ) (text : List ℕ) → NoLineFeed 0 size text → size < length text → (line : List ℕ) × (rest : List (List ℕ)) × (raw_lines text ≡ line ∷ rest) × (size < length line)
-long_first size text none more =
-    grind (
-      arith,
-      cases_lt (position_or_len (is_byte 10) text) (length text),
-      cases_lt (position_or_len (is_byte 10) text) size,
-      passes_at_first,
-      fails_before_first,
-      eqb-true,
-      lines_at,
-      length-take ((position_or_len (is_byte 10) text) + 1) text,
-      lines_last,
-    )
+long_first size text none more = grind (arith, passes_at_first, fails_before_first, lines_at, length-take ((position_or_len (is_byte 10) text) + 1) text, lines_last)
 
 -- the line that stands behind a place, whatever follows
 long_rest : (stop : ℕ) (text more : List ℕ) → IsLong stop text → stop ≤ 16777216 → (line : List ℕ) × (rest : List (List ℕ)) × (raw_lines (drop stop text ++ more) ≡ line ∷ rest) × (16777216 - stop < length line)
@@ -160,7 +149,7 @@ block_too_long had left old new start stop count so_far read long more =
 
 -- the lines of a table block so far are all of its block
 block_part : (text : List ℕ) (start count : ℕ) → BlockLines text start count → block_lines (raw_lines text) ≡ raw_lines text
-block_part text start count block = grind (arith, position_or_len_is is_end_line block.rest (length block.rest) [] (omega arith) block.others (λ h. absurd (omega (arith, h))), block.lines, block.is_first, take_all (length block.rest + 1) block.rest)
+block_part text start count block = grind (arith, position_or_len_is is_end_line block.rest (length block.rest) [] (omega arith) block.others (λ h. absurd (omega (arith, h))), take_all (length block.rest + 1) block.rest)
 
 pub so_far_part : (had left : Option (List ℕ)) (old new : ReadAhead) (start stop count : ℕ) → BlockAt old start stop count → ReadBehind had left old new → block_lines (raw_lines (take stop (unread new))) ≡ raw_lines (take stop (unread new))
 so_far_part had left old new start stop count so_far read = block_part (take stop (unread new)) start count (block_still had left old new start stop count so_far read)

@@ -11,7 +11,3 @@ acts-own event client e = ap (λ own. map (λ (x : Event). x.act) (cond own (eve
 
 pub acts-other : (event : Event) (client : ℕ) → event.client ≢ client → acts_of client (event ∷ []) ≡ []
 acts-other event client other = ap (λ own. map (λ (x : Event). x.act) (cond own (event ∷ []) [])) (ne_eqb event.client client other)
-
--- a client has no more acts than there are events
-pub acts-few : (client : ℕ) (events : List Event) → length (acts_of client events) ≤ length events
-acts-few client events = grind (arith, length-map, length-filter, count_by-le-length)

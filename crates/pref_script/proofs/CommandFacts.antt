@@ -1,8 +1,7 @@
 -- The commands of a script, one line at a time.
 use Rattle.pref_script.proofs.Common.{◌≡◌, ◌∙◌, ℕ, suc, ◌+◌, ◌<◌, ◌≤◌, Bool, true, false, List, [], ◌∷◌, ◌++◌, length, refl, sym, ap, arith, append_assoc, Result, Ok, Err, nat_le, nat_lt}
 use Rattle.pref_script.proofs.Common.{if◌then◌else◌, inl, inr, list_all, and_from, le-leb, lt-ltb, append-nil, is_blank, Event, Command, refused, runs, accepted_events}
-use Rattle.pref_script.proofs.Common.{commands_in, commands_of, event_of, raw_lines, without_line_end, refused_line, reply_lines, texts, is_client, unowned_line}
-use Rattle.pref_script.proofs.Common.{unowned_lines, Refusal}
+use Rattle.pref_script.proofs.Common.{commands_in, commands_of, event_of, raw_lines, without_line_end, refused_line, reply_lines, texts, is_client, unowned_line, unowned_lines, Refusal}
 use Rattle.std.proofs.lemmas.Bool.{cases_Bool}
 use Rattle.pref_core.specs.declared.event.Reply.TheVariants.{Refused as NotThere}
 use Rattle.pref_core.specs.declared.fault.CoreFault.TheVariants.{NoSuchClient}
@@ -49,12 +48,12 @@ module _ (clients width : ℕ) (names : List (List ℕ)) (number : ℕ) (line : 
   pub unowned-event : (old new : List ℕ) (event : Event) → list_all is_blank line ≡ false → event_of names line ≡ Ok event
       → new ≡ old ++ (if is_client clients event.client then [] else reply_lines width event.client (NotThere NoSuchClient)) → new ≡ old ++ unowned_lines clients width (commands_in names number line)
   unfolding texts
-  unowned-event old new event some said wrote = rw (some, said) (wrote ∙ ap (λ (t : List ℕ). old ++ t) (sym (append-nil (unowned_line clients width (runs event)))))
+  unowned-event old new event some said wrote = grind (arith, append-nil)
 
   pub unowned-refused : (old new : List ℕ) (why : Refusal) → list_all is_blank line ≡ false → event_of names line ≡ Err why → new ≡ old ++ refused_line number why
       → new ≡ old ++ unowned_lines clients width (commands_in names number line)
   unfolding texts
-  unowned-refused old new why some said wrote = rw (some, said) (wrote ∙ ap (λ (t : List ℕ). old ++ t) (sym (append-nil (refused_line number why))))
+  unowned-refused old new why some said wrote = grind (arith, append-nil)
 
   -- an event of one of the clients
   pub unowned-own : (out : List ℕ) (place : ℕ) (event : Event) → event_of names line ≡ Ok event → event.client ≡ suc place → place < clients → out ≡ out ++ unowned_lines clients width (commands_in names number line)

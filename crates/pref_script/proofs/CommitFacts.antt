@@ -57,12 +57,6 @@ pub keeps_fails : (names : List (List ℕ)) (text : List ℕ) (place : ℕ) (kep
 unfolding commit_said
 keeps_fails names text place kept count piece why forms h turn is = grind (arith, all_from-fails_at)
 
--- all pieces were read
-pub keeps_all : (names : List (List ℕ)) (text : List ℕ) (place : ℕ) (kept : List Change) (count : ℕ) → are_changes text ≡ true
-    → KeepsFirst names (pieces_of text) place kept count → length (pieces_of text) ≤ place → commit_said names text ≡ of_changes (commit_of (take count kept))
-unfolding commit_said
-keeps_all names text place kept count forms h end = grind (arith, all_from-all (λ _ part. piece_change names (piece_said part)) 1 (pieces_of text) h.all place end h.read, commit_of-first h.all, forms, h.first)
-
 -- whether each of these pieces has the form of a change
 abbrev all_forms : List (List ℕ) → Bool
 all_forms pieces = list_all (λ piece. is_some (piece_said piece)) pieces
@@ -97,7 +91,7 @@ module _ (names : List (List ℕ)) (text now : List ℕ) (kept : List Change) (c
 
   -- it is read, and kept or not
   pub pieces_kept : (change : Change) → count < 9 → change_of names what ≡ Ok change → ReadsPieces names text rest (set kept count change) (count + 1)
-  pieces_kept change room is = grind (arith, turn, forms_left, keeps_one)
+  pieces_kept change room is = grind (arith, turn, keeps_one)
 
   pub pieces_past : (change : Change) → (count < 9 → ⊥) → change_of names what ≡ Ok change → ReadsPieces names text rest kept count
   pieces_past change full is = record {
@@ -109,4 +103,5 @@ module _ (names : List (List ℕ)) (text now : List ℕ) (kept : List Change) (c
 
 -- no piece is left
 pub pieces_all : (names : List (List ℕ)) (text : List ℕ) (kept : List Change) (count : ℕ) → ReadsPieces names text None kept count → commit_said names text ≡ of_changes (commit_of (take count kept))
-pieces_all names text kept count reads = keeps_all names text reads.place kept count reads.forms reads.keeps (omega (arith, ap length reads.rest, length-drop reads.place (pieces_of text)))
+unfolding commit_said
+pieces_all names text kept count reads = grind (arith, all_from-all (λ _ part. piece_change names (piece_said part)) 1 (pieces_of text) reads.keeps.all reads.place, reads.keeps.read, reads.keeps.first, reads.rest, reads.forms, commit_of-first reads.keeps.all, length-drop reads.place (pieces_of text))

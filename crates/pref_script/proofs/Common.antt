@@ -19,7 +19,9 @@ pub use Rattle.std.specs.Str.Parse.{digits_value}
 pub use Rattle.memchr.specs.Find.{IsFirstByte, Nowhere, Passes, is_byte}
 pub use Rattle.pref_core.specs.Limits.{Limits}
 pub use Rattle.pref_core.specs.Step.{System, opened, replies, step}
+pub use Rattle.pref_core.specs.declared.event.Act.{Act}
 pub use Rattle.pref_core.specs.declared.event.Event.{Event}
+pub use Rattle.pref_core.specs.declared.fault.CoreFault.{CoreFault}
 pub use Rattle.pref_script.proofs.ExitFacts.{exits}
 pub use Rattle.pref_script.specs.ClientParts.{AcceptsLeft, AllAccepted, AllGiven, AreParts, ArePartsUpTo, HasReplied, IsAccepted, IsFound, IsGiven, IsPart, NamesNone, acts_in, acts_left, lines_in, lines_left}
 pub use Rattle.pref_script.specs.Commands.{Command, command_of, commands_in, event_of, of_changes, piece_change, refused, runs}

@@ -8,7 +8,7 @@ use Rattle.pref_script.proofs.WordsFacts.{digit_not_blank, number-is, value_more
 
 -- the number of one digit
 digit_number : (digit : ℕ) → IsInRange 48 57 digit → is_ascii_digit digit ≡ true → word_number 255 (digit ∷ []) ≡ Some (digit - 48)
-digit_number digit range is = grind (arith, value_more, number-is)
+digit_number digit range is = grind (arith, number-is)
 
 -- what follows one blank
 after_one : (rest : List ℕ) → after_blanks (32 ∷ rest) ≡ after_blanks rest

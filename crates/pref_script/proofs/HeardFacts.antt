@@ -23,7 +23,7 @@ parts_more lines more parts h =
 pub commands_more : (names : List (List ℕ)) (number : ℕ) (lines : List (List ℕ)) (line : List ℕ) → commands_of names number (lines ++ line ∷ []) ≡ commands_of names number lines ++ commands_in names (number + length lines) (without_line_end line)
 unfolding commands_of
 commands_more names number [] line = append-nil (commands_in names number (without_line_end line)) ∙ ap (λ (n : ℕ). commands_in names n (without_line_end line)) (sym (add-zero number))
-commands_more names number (x ∷ xs) line = grind (arith, append_assoc, commands_more names (number + 1) xs line)
+commands_more names number (x ∷ xs) line = grind (arith, commands_more names (number + 1) xs line)
 
 -- one line more was replied to
 pub heard_more : (limits : Limits) (heard line : List ℕ) (live after : LiveTable) (text new : List ℕ) → HeardScript limits heard live text → raw_lines (heard ++ line) ≡ raw_lines heard ++ line ∷ []
@@ -52,7 +52,7 @@ heard_output limits heard live text so_far = grind (arith, script-ok limits hear
 
 -- where something is ahead, the lines so far end with a line
 heard_ends : (limits : Limits) (had left : Option (List ℕ)) (mid : Option (List ℕ)) (old new : ReadAhead) (live : LiveTable) (text : List ℕ) (so_far : Hears limits had mid old live text) → ReadBehind mid left old new → 0 < length (unread new) → EndsWithLine so_far.heard
-heard_ends limits had left mid old new live text so_far read some = grind (arith, length-append)
+heard_ends limits had left mid old new live text so_far read some = grind (arith)
 
 -- one line more was heard
 pub record HearsNext (limits : Limits) (had left : Option (List ℕ)) (heard : List ℕ) (ahead : ReadAhead) (live : LiveTable) (text : List ℕ) : Type 0 where
@@ -142,7 +142,7 @@ heard_too_long limits had source old new live text so_far read long =
 
 -- the number of the next line is by one more than the lines that were heard
 pub heard_number : (limits : Limits) (heard : List ℕ) (live : LiveTable) (text : List ℕ) → HeardScript limits heard live text → next_number live ≡ length (raw_lines heard) + 1
-heard_number limits heard live text so_far = grind (arith, cut_of, length-drop)
+heard_number limits heard live text so_far = grind (arith, length-drop)
 
 -- so many lines were heard that no run hears more
 pub heard_too_many : (limits : Limits) (had left : Option (List ℕ)) (ahead : ReadAhead) (live : LiveTable) (text : List ℕ) → Hears limits had left ahead live text → 2 ^ 63 < next_number live → IfSome had IsTooLong

@@ -8,7 +8,7 @@ use Rattle.pref_script.proofs.ScriptFacts.{lines_at, lines_last, lines_none}
 
 -- something was read, and then something more
 pub behind_more : (a b c : Option (List ℕ)) (x y z : ReadAhead) → ReadBehind a b x y → ReadBehind b c y z → ReadBehind a c x z
-behind_more a b c x y z first next = grind (arith, Consumes-trans, append_assoc)
+behind_more a b c x y z first next = grind (arith, append_assoc)
 
 -- a text up to its first line feed is a whole line
 line_first : (text : List ℕ) (place : ℕ) → IsFirstByte (is_byte 10) text (Some place) → IsWhole (take (place + 1) text)
@@ -39,7 +39,7 @@ none_found text from (Some place) none nowhere = absurd (cc)
 
 -- none where it went on, and none before that
 pub none_more : (from : ℕ) (old more new : List ℕ) → new ≡ old ++ more → NoLineFeed from (length old) old → NoLineFeed (length old) (length new) new → NoLineFeed from (length new) new
-none_more from old more new is before after = grind (arith, cases_lt, get_or_append_left)
+none_more from old more new is before after = grind (arith, get_or_append_left)
 
 -- none in a text with others behind it
 pub none_in_front : (from end : ℕ) (text more : List ℕ) → NoLineFeed from end text → end ≤ length text → NoLineFeed from end (text ++ more)
@@ -76,11 +76,11 @@ little_left from text little = grind (arith, length-drop, get_or-drop)
 
 -- the line that was found ends too far away
 pub long_some : (text : List ℕ) (from place : ℕ) → IsFirstByte (is_byte 10) (drop from text) (Some place) → 16777216 < from + place + 1 → IsLong from text
-long_some text from place found long = grind (arith, eq-eqb, at_place, length-drop)
+long_some text from place found long = grind (arith, at_place, length-drop)
 
 -- no line end was found, and more is there than a line has
 pub long_none : (text : List ℕ) (from : ℕ) (ended : Bool) → IsFirstByte (is_byte 10) (drop from text) None → (NoLineFeed from (length text) text → ended ≡ false → 16777216 < length text) → (ended ≡ true → 16777216 < length text) → IsLong from text
-long_none text from ended none before after = grind (arith, none_met text from none, cases_Bool ended)
+long_none text from ended none before after = grind (arith, none_met text from none)
 
 -- a whole line is one line
 pub one_line : (line : List ℕ) → IsWhole line → raw_lines line ≡ line ∷ []
@@ -107,7 +107,7 @@ front_more stop end text inside = grind (arith, take-add stop (end - stop) text)
 
 -- what stands at a line: one line, which is whole or the last
 pub line_at : (a : ReadAhead) (from end : ℕ) → IsLineAt from end a → from < end → (raw_lines (between from end (unread a)) ≡ between from end (unread a) ∷ []) × (EndsWithLine (between from end (unread a)) ⊎ (is_at_end a ≡ true) × (end ≡ length (unread a)))
-line_at a from end h3 inside = grind (arith, one_line, ends_whole)
+line_at a from end h3 inside = grind (arith, one_line)
 
 -- nothing was read
 pub some_none : (a : Option (List ℕ)) (x : ReadAhead) (from : ℕ) → ReadSome a a from x

@@ -13,7 +13,7 @@ use Rattle.pref_script.specs.declared.fault.RunFault.TheVariants as fault
 
 -- the reader has come to its end
 at_end : (had left : Option (List ℕ)) (old new : ReadAhead) → is_at_end old ≡ false → ReadBehind had left old new → is_at_end new ≡ true → IsAtEnd left
-at_end had left old new fresh read ended = read.at_end (λ before. absurd (let both = sym fresh ∙ before in cc)) ended
+at_end had left old new fresh read ended = grind (arith, read.at_end)
 
 -- what was read has no table block
 lacks_block : (limits : Limits) (source : Source) (old new : ReadAhead) (why : RunFault) → unread old ≡ [] → is_at_end old ≡ false → ReadBehind source.had source.left old new → HeardNone source → LacksBlock new why → ShowsFault limits source why
@@ -22,17 +22,18 @@ lacks_block limits source old new why none fresh read heard (inr last) = (heard,
 
 -- no table block was read
 pub refused_block : (limits : Limits) (source : Source) (old new : ReadAhead) (why : RunFault) → unread old ≡ [] → is_at_end old ≡ false → ReadsBlock source old new (Err why) → OpensLive limits source new (Err why)
-refused_block limits source old new why none fresh reads = grind (arith, lacks_block limits source old new why none fresh, had_all source.had source.left (unread new) IsTooLong, all_read source.had source.left old new none)
+refused_block limits source old new why none fresh reads = grind (arith, lacks_block limits source old new why none fresh)
 
 -- the parts of what was read, where lines of their own follow the block
 block_with : (block : TableBlock) (ahead : ReadAhead) (more : List ℕ) → IsBlock block ahead → EndsWithLine (take block.end (unread ahead))
     → parts_of (raw_lines (unread ahead ++ more)) ≡ Ok (record { table = between block.start block.stop (unread ahead); commands = raw_lines (drop block.end (unread ahead) ++ more); first = block.first })
-block_with block ahead more is ends = grind (arith, take-append-drop block.end (unread ahead), append_assoc (take block.end (unread ahead)) (drop block.end (unread ahead)) more, ends (drop block.end (unread ahead) ++ more), parts_more (raw_lines (take block.end (unread ahead))) (raw_lines (drop block.end (unread ahead) ++ more)) _ is.cut)
+block_with block ahead more is ends =
+    grind (arith, take-append-drop block.end (unread ahead), append_assoc (take block.end (unread ahead)) (drop block.end (unread ahead)) more, parts_more (raw_lines (take block.end (unread ahead))) (raw_lines (drop block.end (unread ahead) ++ more)) _ is.cut)
 
 -- the parts of what was read, where the block is all of it
 block_alone : (block : TableBlock) (ahead : ReadAhead) → IsBlock block ahead → block.end ≡ length (unread ahead)
     → parts_of (raw_lines (unread ahead)) ≡ Ok (record { table = between block.start block.stop (unread ahead); commands = []; first = block.first })
-block_alone block ahead is all = ap (λ (t : List ℕ). parts_of (raw_lines t)) (sym (take_all block.end (unread ahead) (omega (arith, all)))) ∙ is.cut
+block_alone block ahead is all = grind (arith, take_all block.end (unread ahead), is.cut)
 
 -- the fault of a script that was read, whatever follows
 opening_refused : (limits : Limits) (source : Source) (new : ReadAhead) (why : RunFault) (bytes : List ℕ) → HeardNone source → Consumes source.had source.left bytes
@@ -58,8 +59,7 @@ refused_table limits source old new block why none fresh read little is refused 
 pub opened_live : (limits : Limits) (had left : Option (List ℕ)) (old mid new : ReadAhead) (block : TableBlock) (live : LiveTable) → unread old ≡ [] → is_at_end old ≡ false → ReadBehind had left old mid → (IsLittle 0 (unread old) → IsLittle block.end (unread mid)) → IsBlock block mid
     → IsOpened limits (between block.start block.stop (unread mid)) block.first live → unread new ≡ drop block.end (unread mid) → is_at_end new ≡ is_at_end mid → Hears limits had left new live [] × (next_number live ≤ 16777219)
 unfolding commands_of
-opened_live limits had left old mid new block live none fresh read little is opens taken ended =
-    grind (arith, take-append-drop block.end (unread mid), all_read had left old mid none read, drop_all, at_end had left old mid fresh read, little_left block.end (unread mid), little_at_first old none)
+opened_live limits had left old mid new block live none fresh read little is opens taken ended = grind (arith, take-append-drop block.end (unread mid), drop_all, little_left block.end (unread mid))
 
 -- a run so far: what it printed was written
 pub record Replying (limits : Limits) (had left held holds : Option (List ℕ)) (ahead : ReadAhead) (live : LiveTable) : Type 0 where

@@ -3,7 +3,8 @@ use Rattle.pref_script.proofs.Common.{◌≡◌, ◌≢◌, ◌∙◌, ℕ, suc,
 use Rattle.pref_script.proofs.Common.{ap, arith, append_assoc, inl, inr, string_bytes, All, list_all, Vec, append-nil, length-append, is_blank, Event, AcceptsLeft, AllAccepted, AreParts, ArePartsUpTo}
 use Rattle.pref_script.proofs.Common.{HasReplied, IsAccepted, IsFound, IsGiven, AllGiven, IsPart, AreActs, acts_in, acts_left, accepted_events, act_of, commands_in, commands_of}
 use Rattle.pref_script.proofs.Common.{event_of, client_named, said_in, raw_lines, without_line_end, reply_lines, texts, clients_lines, unowned_line, unowned_lines, Refusal, Part}
-use Rattle.pref_script.proofs.Common.{◌==◌, NamesNone, cases_lt, drop, drop_all, drop_more, eqb-false, eqb-true, get_or, get_or_append_left, length-set, lines_in, lines_left, map-append, range_with_len, set, vec_len}
+use Rattle.pref_script.proofs.Common.{◌==◌, NamesNone, cases_lt, drop, drop_all, drop_more, eqb-false, eqb-true, get_or, get_or_append_left, length-set, lines_in, lines_left, map-append, range_with_len, set, vec_len, Act}
+use Rattle.std.proofs.lemmas.List.Sums.{count_by-le-length, length-filter}
 use Rattle.std.proofs.lemmas.List.Elements.{filter-append}
 use Rattle.std.proofs.lemmas.Bool.{cases_Bool}
 use Rattle.std.proofs.Common.{Bor}
@@ -12,14 +13,13 @@ use Rattle.std.proofs.lemmas.List.{get_or-map, get_or-set_other, get_or_push, le
 use Rattle.std.proofs.lemmas.List.FromFn.{get_or-map-range_with_len, length-map-range_with_len}
 use Rattle.std.proofs.lemmas.Simd.{map-map}
 use Rattle.std.proofs.lemmas.Option.{get_or_from_slice_get, slice_get-get_or, slice_get_read, slice_get_within}
-use Rattle.pref_core.specs.declared.event.Act.{Act}
 use Rattle.pref_core.specs.declared.event.Reply.{Reply}
 use Rattle.pref_share.specs.Interleavings.{acts_of}
 use Rattle.pref_share.specs.Reports.{AreTaken}
 use Rattle.pref_share.proofs.RunsLaws.{there}
 use Rattle.pref_script.specs.ClientParts.{IsWhole, acts_found}
 use Rattle.pref_script.specs.declared.parts.Found.{Found}
-use Rattle.pref_script.proofs.ClientFacts.{acts-few, acts-other, acts-own}
+use Rattle.pref_script.proofs.ClientFacts.{acts-other, acts-own}
 use Rattle.pref_script.proofs.CommandFacts.{accepted_events-append, events-any_number, events-in, events-of_lines, lines-few, unowned-blank, unowned-own}
 use Rattle.pref_script.proofs.TextFacts.{texts-append}
 use Rattle.pref_script.specs.declared.parts.Found.TheVariants as found
@@ -27,11 +27,11 @@ use Rattle.pref_script.specs.declared.parts.Found.TheVariants as found
 -- the event of a line is of the client that it names
 pub event-named : (names : List (List ℕ)) (line : List ℕ) (event : Event) → event_of names line ≡ Ok event → client_named line ≡ Some event.client
 unfolding act_of said_in client_named
-event-named names line event is = grind (arith, cases_Bool)
+event-named names line event is = grind (arith)
 
 -- a line that does not name the client
 first-unnamed : (names : List (List ℕ)) (client : ℕ) (line : List ℕ) → client_named line ≢ Some client → acts_of client (accepted_events (commands_in names 0 line)) ≡ []
-first-unnamed names client line other = grind (arith, events-in, acts-other, event-named)
+first-unnamed names client line other = grind (arith, events-in, event-named)
 
 -- the act of the first line comes before those of the lines behind it
 acts-line : (names : List (List ℕ)) (client : ℕ) (raw : List ℕ) (more : List (List ℕ))
@@ -73,11 +73,11 @@ pub line-next : (part : Part) (raw : Bor (List ℕ)) → part.read < vec_len par
 line-next part raw some is = grind (arith, drop_more)
 
 pub lines-none : (part : Part) → vec_len part.lines ≤ part.read → lines_left part ≡ []
-lines-none part none = ap (map (λ (r : Bor (List ℕ)). r.now)) (drop_all part.read part.lines.items (omega (arith, none, part.lines.ok.0)))
+lines-none part none = grind (arith, drop_all)
 
 -- a client has no more acts than its lines have bytes
 pub acts-short : (names : List (List ℕ)) (client : ℕ) (text : List ℕ) → length (acts_in names client (raw_lines text)) ≤ length text
-acts-short names client text = omega (arith, acts-few client (accepted_events (commands_of names 0 (raw_lines text))), events-of_lines names 0 (raw_lines text), lines-few text)
+acts-short names client text = grind (arith, length-map, length-filter, count_by-le-length, events-of_lines names 0 (raw_lines text), lines-few text)
 
 -- a reply more
 pub returned-more : (first old new : Part) (replies : List Reply) (reply : Reply) → HasReplied first old replies → new.client ≡ old.client → new.schema.now ≡ old.schema.now → lines_left new ≡ lines_left old → new.refused ≡ old.refused
@@ -134,8 +134,7 @@ pub part-acts : (names raws : List (List ℕ)) (client : ℕ) (part : Part) → 
 part-acts names raws client part is = rw (is.schema, is.number) (ap (acts_in names client) (sym (append-nil (lines_left part))) ∙ is.acts)
 
 pub parts-few : (names : List (List ℕ)) (text : List ℕ) (parts : List Part) → length text < 2 ^ 63 → AreParts names (raw_lines text) parts → All (λ part. length (acts_left part) < 2 ^ 63) parts
-parts-few names text parts short are i d within =
-    grind (arith, part-acts names (raw_lines text) (suc i) (get_or parts i d) (are i (get_or parts i d) (slice_get-get_or parts i d within)), slice_get-get_or parts i d within, acts-short names (suc i) text)
+parts-few names text parts short are i d within = grind (arith, part-acts names (raw_lines text) (suc i) (get_or parts i d) (are i (get_or parts i d) (slice_get-get_or parts i d within)), acts-short names (suc i) text)
 
 -- The acts of clients whose lines are this text, as lists.
 module _ {X : Type 0} (given : Vec X) (names : List (List ℕ)) (text : List ℕ) (short : length text < 2 ^ 63) where
@@ -194,14 +193,14 @@ whole-accepts names text parts done replies are taken all place inside =
 unowned-given : (clients width : ℕ) (names : List (List ℕ)) (number : ℕ) (raw : List ℕ) → IsGiven clients raw → ((place : ℕ) → place < clients → IsAccepted names (suc place) (without_line_end raw))
     → unowned_lines clients width (commands_in names number (without_line_end raw)) ≡ []
 unowned-given clients width names number raw (inl blank) accept = sym (unowned-blank clients width names number (without_line_end raw) [] blank)
-unowned-given clients width names number raw (inr (place, inside, named)) accept = grind (arith, accept place inside named, unowned-blank clients width names number (without_line_end raw) [], unowned-own clients width names number (without_line_end raw) [] place)
+unowned-given clients width names number raw (inr (place, inside, named)) accept = grind (arith, unowned-blank clients width names number (without_line_end raw) [], unowned-own clients width names number (without_line_end raw) [] place)
 
 all-given : (clients width : ℕ) (names : List (List ℕ)) (number : ℕ) (raws : List (List ℕ)) → AllGiven clients raws → ((place : ℕ) → place < clients → AllAccepted names (suc place) raws)
     → unowned_lines clients width (commands_of names number raws) ≡ []
 unfolding commands_of texts
 all-given clients width names number [] given accept = refl
 all-given clients width names number (raw ∷ more) given accept =
-    grind (arith, texts-append (unowned_line clients width) (commands_in names number (without_line_end raw)) (commands_of names (number + 1) more), unowned-given clients width names number raw given.0 (λ place inside. (accept place inside).0), all-given clients width names (number + 1) more given.1 (λ place inside. (accept place inside).1))
+    grind (arith, unowned-given clients width names number raw given.0 (λ place inside. (accept place inside).0), all-given clients width names (number + 1) more given.1 (λ place inside. (accept place inside).1))
 
 -- no line belongs to nobody, where each was given to a part and all parts are whole
 pub unowned-none : (names : List (List ℕ)) (text : List ℕ) (number : ℕ) (parts done : List Part) (replies : List (Vec Reply)) → AreParts names (raw_lines text) parts → AreTaken HasReplied parts done replies

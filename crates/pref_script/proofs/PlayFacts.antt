@@ -1,11 +1,9 @@
 -- Commands that are played one after the other.
 use Rattle.pref_script.proofs.Common.{arith, ◌≡◌, ℕ, ℤ, ◌+◌, List, [], ◌∷◌, ◌++◌, length, Ok, Err, OnOk, Result, on_ok_weaker, sym, refl, subst, append_assoc, Limits, System, opened, replies, Event}
-use Rattle.pref_script.proofs.Common.{Command, refused, runs, commands_in, commands_of, accepted_events, command_lines, raw_lines, without_line_end, refused_line, reply_lines, Refusal}
+use Rattle.pref_script.proofs.Common.{Command, refused, runs, commands_in, commands_of, accepted_events, command_lines, raw_lines, without_line_end, refused_line, reply_lines, Refusal, Act, CoreFault}
 use Rattle.pref_core.proofs.RepliesLaws.{does_replies, replied_refused}
 use Rattle.pref_core.specs.MachineParts.{reply_of}
 use Rattle.pref_core.specs.Systems.{Does, Replies, Running, StandsForSystem}
-use Rattle.pref_core.specs.declared.event.Act.{Act}
-use Rattle.pref_core.specs.declared.fault.CoreFault.{CoreFault}
 use Rattle.pref_core.specs.declared.fault.CoreFault.TheVariants.{OutOfMemory}
 use Rattle.pref_core.specs.declared.event.Reply.{Reply}
 use Rattle.pref_core.specs.declared.event.Reply.TheVariants.{Refused}

@@ -9,19 +9,15 @@ use Rattle.std.proofs.lemmas.List.Splits.{length-slice_split}
 use Rattle.pref_script.specs.declared.fault.RunFault.TheVariants.{NoTable}
 use Rattle.pref_script.proofs.SplitFacts.{drop_here, split_first, split_none}
 
--- the first of several parts, which there are always
-feeds-cons : (part : List ℕ) (rest : List ℕ) → with_line_feeds (part ∷ slice_split is_line_feed rest) ≡ (part ++ 10 ∷ []) ∷ with_line_feeds (slice_split is_line_feed rest)
-feeds-cons part rest = grind (arith, length-slice_split is_line_feed rest)
-
 -- a text cut after its first line feed
 pub lines_at : (text : List ℕ) (place : ℕ) → IsFirstByte (is_byte 10) text (Some place) → raw_lines text ≡ take (place + 1) text ∷ raw_lines (drop (place + 1) text)
 unfolding raw_lines
-lines_at text place found = grind (arith, eqb-true, split_first 10 text place found, take_more text place 0 (found.0.high), feeds-cons (take place text) (drop (place + 1) text))
+lines_at text place found = grind (arith, split_first 10 text place found, take_more text place 0, length-slice_split is_line_feed (drop (place + 1) text))
 
 -- a text with no line feed
 pub lines_last : (text : List ℕ) → 0 < length text → IsFirstByte (is_byte 10) text None → raw_lines text ≡ text ∷ raw_lines []
 unfolding raw_lines
-lines_last text some none = grind (arith, split_none 10 text none, ne_eqb)
+lines_last text some none = grind (arith, split_none 10 text none)
 
 pub lines_none : raw_lines [] ≡ []
 unfolding raw_lines

@@ -1,11 +1,9 @@
 -- What a script prints whose clients run on threads.
 use Rattle.pref_script.proofs.Common.{◌≡◌, ◌∙◌, ℕ, ◌+◌, ◌<◌, ◌≤◌, ◌^◌, arith, map, Bool, List, ◌++◌, length, refl, sym, ap, subst, Result, Ok, Err, IfErr, ◌⊎◌, inl, inr, ℤ, Vec, string_bytes, All, [], Limits}
 use Rattle.pref_script.proofs.Common.{AllGiven, AreParts, HasReplied, acts_left, accepted_events, commands_of, ScriptFault, script_of, script_with, IsOpeningOf, share_fault, raw_lines}
-use Rattle.pref_script.proofs.Common.{texts, Sink, Wrote, AreActs, ClosesOrStops, HoldsNobody, PrintsOnThreads, always_open, opening_of, unowned_lines, RunFault, Part}
+use Rattle.pref_script.proofs.Common.{texts, Sink, Wrote, AreActs, ClosesOrStops, HoldsNobody, PrintsOnThreads, always_open, opening_of, unowned_lines, RunFault, Part, Act, CoreFault}
 use Rattle.pref_script.proofs.OutputFacts.{cut_of, script-core-fault, script-ok}
 use Rattle.std.specs.declared.marker.Brand.{Brand}
-use Rattle.pref_core.specs.declared.event.Act.{Act}
-use Rattle.pref_core.specs.declared.fault.CoreFault.{CoreFault}
 use Rattle.pref_share.specs.Openings.{Opening}
 use Rattle.pref_share.specs.Reports.{AreTaken, RanTasks}
 use Rattle.pref_share.specs.Standing.{newcomers}
@@ -46,7 +44,7 @@ holds-nobody limits bytes sink returned result prints wrote = tt
 
 -- the command lines of a script have fewer bytes than the script
 pub commands-short : (bytes : List ℕ) (r : OpeningRead) → IsOpeningOf bytes r → r.text.first + length r.text.commands.now ≤ length bytes + 3 → length bytes < 2 ^ 63 → length r.text.commands.now < 2 ^ 63
-commands-short bytes r read few short = grind (arith, cut_of)
+commands-short bytes r read few short = grind (arith)
 
 -- A script whose clients have these parts, of which the acts are these lists.
 module _ (limits : Limits) (says : ℕ → ℕ → Bool → Type 0) (bytes : List ℕ) (r : OpeningRead) (read : IsOpeningOf bytes r) (parts : Vec Part) (count : length parts.items ≡ limits.clients)
@@ -58,7 +56,7 @@ module _ (limits : Limits) (says : ℕ → ℕ → Bool → Type 0) (bytes : Lis
   listed = acts-listed parts r.schema r.text.commands.now (commands-short bytes r read few small) limits.clients parts.items count are
 
   owned : AreActs limits.clients (accepted_events (commands_of r.schema read.parts.first read.parts.commands)) acts
-  owned = grind (arith, are-acts parts r.schema r.text.commands.now (commands-short bytes r read few small) limits.clients read.parts.first, commands-short bytes r read few small)
+  owned = grind (arith, are-acts parts r.schema r.text.commands.now (commands-short bytes r read few small) limits.clients read.parts.first)
 
   -- the clients were stopped
   prints-stopped : (limits.capacity < length r.rows.items → ⊥) → (why : ShareFault) → ClosesOrStops Brand (record { limits = limits; rows = r.rows.items }) says acts why → PrintsOnThreads limits says bytes (Err (share_fault why))

@@ -88,4 +88,4 @@ number-empty most word none = number-not most word (and_left (nat_lt 0 (length w
 
 pub number-others : (most : ℕ) (word : List ℕ) (place : ℕ) → place < length word → all_ascii_digits (drop place word) ≡ all_ascii_digits word → is_ascii_digit (get_or word place 0) ≡ false
     → word_number most word ≡ None
-number-others most word place inside rest other = grind (arith, digits_next, and_left, number-not, and_right)
+number-others most word place inside rest other = grind (arith, digits_next, number-not)

@@ -1,9 +1,8 @@
 use Rattle.pref_script.proofs.Common.{◌≡◌, ◌∙◌, ◌++◌, [], append_assoc, arith, ap, sym, List, ℕ, get_or, pos, w64, signed_decimal, string_bytes, row_text}
 use Rattle.std.proofs.lemmas.Int.{to_z-of_z}
 use Rattle.pref_script.proofs.BytesFacts.{pushed-more, row_text-more}
-use Rattle.pref_script.proofs.text.push_row.Goals.{then-col-gt0+in_ok-push, else-col-gt0}
 use Rattle.pref_script.proofs.text.push_row.Goals as goal
 
 pub loop-col-preserved : goal.loop-col-preserved
 unfolding lib.Utf8.encode
-loop-col-preserved c = grind (arith, then-col-gt0+in_ok-push, to_z-of_z, row_text-more, pushed-more, else-col-gt0, append_assoc)
+loop-col-preserved c = grind (arith, to_z-of_z, row_text-more, append_assoc)

@@ -1,10 +1,9 @@
 use Rattle.pref_script.proofs.Common.{◌≡◌, ◌∙◌, ap, arith, length, sym, Some, position_or_len, ne_eqb, is_blank, is_numeral-some, word_of}
 use Rattle.pref_script.proofs.WordsFacts.{after_at, number-empty, number-is, number-over, word_size}
-use Rattle.pref_script.proofs.words.cut_number.Goals.{then-size-eq0-via-then-size-eq0, then-size-eq0-via-else-size-eq0+then-number-most}
 use Rattle.pref_script.proofs.words.cut_number.Goals as goal
 
 pub returns-then-size-eq0-clause-cut : goal.returns-then-size-eq0-clause-cut
-returns-then-size-eq0-clause-cut c = grind (arith, then-size-eq0-via-then-size-eq0, number-empty, then-size-eq0-via-else-size-eq0+then-number-most, number-over)
+returns-then-size-eq0-clause-cut c = grind (arith, number-empty, number-over)
 
 pub returns-clause-cut : goal.returns-clause-cut
 returns-clause-cut c = grind (arith, word_size, number-is, is_numeral-some, ne_eqb, after_at)

@@ -1,7 +1,6 @@
 use Rattle.pref_script.proofs.Common.{passes_at_first, true≢false, ◌≡◌, ◌∙◌, ◌<◌, true, ap, arith, get_or, length, rules, sym, None, eqb-false, eqb-true, after_blanks, is_blank}
 use Rattle.pref_script.proofs.WordsFacts.{rest_first, word_at, word_place, word_stripped}
 use Rattle.std.proofs.lemmas.Bool.{false_from_ne_true}
-use Rattle.pref_script.proofs.words.strip_word.Goals.{else-not-is_empty-via-then-not-is_empty+else-not-is_blank_byte, else-not-is_empty-via-else-not-is_empty}
 use Rattle.pref_script.proofs.words.strip_word.Goals as goal
 
 pub returns-in_err-rest : goal.returns-in_err-rest
@@ -11,4 +10,4 @@ pub returns-then-not-is_blank_byte : goal.returns-then-not-is_blank_byte
 returns-then-not-is_blank_byte c = grind (arith, eqb-false, false_from_ne_true, word_place, true≢false, passes_at_first is_blank c.args.text.now 0, rest_first)
 
 pub returns : goal.returns
-returns c = grind (arith, rest_first, else-not-is_empty-via-then-not-is_empty+else-not-is_blank_byte, else-not-is_empty-via-else-not-is_empty, eqb-true, word_stripped)
+returns c = grind (arith, rest_first, eqb-true, word_stripped)
