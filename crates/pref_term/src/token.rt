@@ -1,6 +1,7 @@
 //! The tokens of a question text.
 
 ghost use Rattle.std.specs.Prelude.{◌≡◌};
+ghost use Rattle.std.specs.Str.{bytes_eq};
 ghost use Rattle.pref_term.specs.Grammar.{base_words, keyword_of, cased_of, outer_words, word_among};
 
 /// A byte that is a token by itself.
@@ -60,17 +61,29 @@ pub(crate) fn word_of_grammar(letters: &[u8]) -> Option<Keyword>
     outer_word(letters).or(base_word(letters))
 }
 
+/// Whether the letters are those of the word.
+fn is_word(letters: &[u8], word: &[u8]) -> bool
+    ensures { result ≡ bytes_eq word.now letters.now }
+{
+    letters == word
+}
+
 /// The word around base terms with these letters.
 fn outer_word(letters: &[u8]) -> Option<Keyword>
     ensures { result ≡ word_among outer_words letters.now }
 {
-    match letters {
-        b"best" => Some(Keyword::Best),
-        b"reverse" => Some(Keyword::Reverse),
-        b"top_level" => Some(Keyword::TopLevel),
-        b"at_least" => Some(Keyword::AtLeast),
-        b"by" => Some(Keyword::By),
-        _ => None,
+    if is_word(letters, b"best") {
+        Some(Keyword::Best)
+    } else if is_word(letters, b"reverse") {
+        Some(Keyword::Reverse)
+    } else if is_word(letters, b"top_level") {
+        Some(Keyword::TopLevel)
+    } else if is_word(letters, b"at_least") {
+        Some(Keyword::AtLeast)
+    } else if is_word(letters, b"by") {
+        Some(Keyword::By)
+    } else {
+        None
     }
 }
 
@@ -78,14 +91,20 @@ fn outer_word(letters: &[u8]) -> Option<Keyword>
 fn base_word(letters: &[u8]) -> Option<Keyword>
     ensures { result ≡ word_among base_words letters.now }
 {
-    match letters {
-        b"low" => Some(Keyword::Low),
-        b"high" => Some(Keyword::High),
-        b"around" => Some(Keyword::Around),
-        b"between" => Some(Keyword::Between),
-        b"pos" => Some(Keyword::Pos),
-        b"layered" => Some(Keyword::Layered),
-        _ => None,
+    if is_word(letters, b"low") {
+        Some(Keyword::Low)
+    } else if is_word(letters, b"high") {
+        Some(Keyword::High)
+    } else if is_word(letters, b"around") {
+        Some(Keyword::Around)
+    } else if is_word(letters, b"between") {
+        Some(Keyword::Between)
+    } else if is_word(letters, b"pos") {
+        Some(Keyword::Pos)
+    } else if is_word(letters, b"layered") {
+        Some(Keyword::Layered)
+    } else {
+        None
     }
 }
 
