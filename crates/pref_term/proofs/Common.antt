@@ -44,7 +44,7 @@ pub use Rattle.pref_term.specs.ReaderResults.{FailsDim, FailsDirection, FailsEnd
 pub use Rattle.pref_term.specs.ReaderResults.{Goes, IsBehindDistinct, IsColumn, IsKnown, IsNoDigits, IsNoWord, IsOther, IsTermOf, NotNext, Passes, PassesOf, ReadsBase, ReadsClause, ReadsColumns}
 pub use Rattle.pref_term.specs.ReaderResults.{ReadsDim, ReadsDims, ReadsEnd, ReadsFactors, ReadsGroup, ReadsGrouping, ReadsNumber, ReadsNumbers, ReadsOpened, ReadsPrior, ReadsProduct, ReadsProducts}
 pub use Rattle.pref_term.specs.ReaderResults.{ReadsReverse, ReadsSets, ReadsSome, ReadsSomeColumns, ReadsSomeSets, ReadsUnary, TakesColumn, TakesCount, TakesDirection, WantsColumn, WantsCount}
-pub use Rattle.pref_term.specs.ReaderResults.{first_place, list_hole, with_order, word_ahead}
+pub use Rattle.pref_term.specs.ReaderResults.{behind_column, first_place, list_hole, with_order, word_ahead}
 pub use Rattle.pref_term.specs.Reading.{BaseKind, BasePart, BaseStep, NumberHole, NumberList, PriorHole, ProductHole, State, UnaryHole, after, around_kind, at_least_named, base_next, before_dim}
 pub use Rattle.pref_term.specs.Reading.{before_prior, before_product, before_unary, begun, between_kind, carried, centre_of, centred, closed, closing, columned, completed, dim_due, dim_named}
 pub use Rattle.pref_term.specs.Reading.{dims_listed, directed, done, end_of, ended, filled, finished, first_factor, first_of, first_product, group_due, group_listed, grouped_by, high_kind}

@@ -4,7 +4,7 @@ use Rattle.pref_term.proofs.Common.{comma, minus, Token, word, digits, sign, Pla
 use Rattle.pref_term.proofs.Common.{between_text, Names, UnlessMemory, own_fault, signed_value, number_value, column_at, number_range, below, empty_range, reported, reported_at, OwnFault, BaseKind}
 use Rattle.pref_term.proofs.Common.{low_kind, high_kind, around_kind, pos_kind, centre_of, first_of, named, opened, columned, number_due, number_signed, centred, listed, filled}
 use Rattle.pref_term.proofs.Common.{NumberHole, UnaryHole, State, reading, completed, run, led, judged, next, between_kind, start_of, end_of, least_of, ranged, range_ended, NumberList, in_pos}
-use Rattle.pref_term.proofs.Common.{closing, list_closed, stepped, seen, ahead, taken, behind_token, Cursor, Lexeme, Digits, Goes, Fails, IsOther, NotNext, Passes, WantsColumn, TakesColumn}
+use Rattle.pref_term.proofs.Common.{behind_column, carried, closing, list_closed, stepped, seen, ahead, taken, behind_token, Cursor, Lexeme, Digits, Goes, Fails, IsOther, NotNext, Passes, WantsColumn, TakesColumn}
 use Rattle.pref_term.proofs.Common.{ReadsOpened, FailsColumn, FailsOpened, ReadsNumber, ReadsSome, ReadsNumbers, ReadsBase, FailsNumber, FailsNumbers, FailsBase, list_hole, ReadsEnd}
 use Rattle.pref_term.proofs.Common.{FailsEnd, first_place, TermFault, Unexpected, OutOfMemory, EmptyRange, NumberRange, All, FitsSigned, ◌≢◌, IsErrAnd, IfErr, unwrap_or, int_lt, Option, scored, low}
 use Rattle.pref_term.proofs.Common.{high, around, one_of, between, all_ascii_digits, map-append, All-append, All-cons, All-nil}
@@ -63,13 +63,18 @@ neither_fails names t v [] f s h k stuck = absurd h
 neither_fails names t v (u ∷ us) f s h k stuck =
     subst (λ (g : TermFault). Fails names s (u ∷ us) g) (sym h.1) (λ p. ap (led names p u.place (run names us u.place)) (stuck u.token h.0 k))
 
-pub opened_read : (names : Names) (ts us vs : List Placed) (col : ℕ) → Passes (sign left) ts us → TakesColumn names us col vs → ReadsOpened names ts col vs
-opened_read names ts us vs col c t =
+-- up to the column of a base term
+opened_goes : (names : Names) (ts us vs : List Placed) (col : ℕ) → Passes (sign left) ts us → (t : TakesColumn names us col vs) → (h : UnaryHole) (k : BaseKind) → Goes names (reading h (named k)) ts (reading h (columned k t.letters)) vs
+opened_goes names ts us vs col c t h k =
+    goes_then names _ (reading h (opened k)) _ ts us vs (passes_goes names (sign left) ts us (reading h (named k)) (reading h (opened k)) (mark left) c refl refl)
+    (passes_goes names (word t.letters) us vs (reading h (opened k)) (reading h (columned k t.letters)) (column_name t.letters) t.passes refl (column_good names t.letters col t.found.place))
+
+pub opened_read : (names : Names) (behind : Sign) (ts us vs ws : List Placed) (col : ℕ) → Passes (sign left) ts us → TakesColumn names us col vs → Passes (sign behind) vs ws → ReadsOpened names behind ts col ws
+opened_read names behind ts us vs ws col c t d =
     record {
       letters = t.letters;
       found = t.found;
-      goes = λ h k. goes_then names _ (reading h (opened k)) _ ts us vs (passes_goes names (sign left) ts us (reading h (named k)) (reading h (opened k)) (mark left) c refl refl)
-          (passes_goes names (word t.letters) us vs (reading h (opened k)) (reading h (columned k t.letters)) (column_name t.letters) t.passes refl (column_good names t.letters col t.found.place));
+      goes = λ h k step e. sign_behind names ts vs ws _ _ (stepped h step) behind (opened_goes names ts us vs col c t h k) d (ap (carried h) e);
     }
 
 wants_opened : (h : UnaryHole) (k : BaseKind) → WantsColumn (reading h (opened k)) (λ letters. reading h (columned k letters))
@@ -78,10 +83,17 @@ wants_opened h k = record { takes = λ letters. refl; only = λ t n. grind arith
 pub named_only : (h : UnaryHole) (k : BaseKind) (u : Token) → u ≢ sign left → next (reading h (named k)) u ≡ None
 named_only h k u ne = grind arith
 
-pub opened_fails : (names : Names) (ts us : List Placed) (f : TermFault) → Passes (sign left) ts us → FailsColumn names us f → FailsOpened names ts f
-opened_fails names ts us f c r h k =
+pub opened_fails : (names : Names) (behind : Sign) (ts us : List Placed) (f : TermFault) → Passes (sign left) ts us → FailsColumn names us f → FailsOpened names behind ts f
+opened_fails names behind ts us f c r h k e =
     goes_fails names _ (reading h (opened k)) ts us f (passes_goes names (sign left) ts us (reading h (named k)) (reading h (opened k)) (mark left) c refl refl)
     (r (reading h (opened k)) (λ letters. reading h (columned k letters)) (wants_opened h k))
+
+column_stuck : (h : UnaryHole) (k : BaseKind) (column : List ℕ) (behind : Sign) → behind_column k ≡ behind → (u : Token) → u ≢ sign behind → next (reading h (columned k column)) u ≡ None
+column_stuck h k column behind e u ne = grind arith
+
+pub column_end_fails : (names : Names) (behind : Sign) (ts us vs : List Placed) (col : ℕ) (f : TermFault) → Passes (sign left) ts us → TakesColumn names us col vs → IsOther (sign behind) vs f → FailsOpened names behind ts f
+column_end_fails names behind ts us vs col f c t o h k e =
+    goes_fails names _ _ ts vs f (opened_goes names ts us vs col c t h k) (other_fails names (sign behind) vs f _ o (column_stuck h k t.letters behind e))
 
 -- what was taken, where the token is known
 pub taken_is : (ts : List Placed) (t : Lexeme) (k : code.Token) → ts ≡ taken t → t.token ≡ k → ts ≡ at_place (seen k) t.at ∷ behind_token k (ahead t.next)
@@ -161,19 +173,7 @@ pub if_err_map : {T : Type 0} {P Q : TermFault → Type 0} (r : Result T TermFau
 if_err_map (Ok x) g h = tt
 if_err_map (Err f) g h = g f h
 
--- ---- the last sign of a base term, and the comma behind its column
-
--- the sign behind the column of a base term
-abbrev pub behind_column : BaseKind → Sign
-behind_column low_kind = right
-behind_column high_kind = right
-behind_column _ = comma
-
-column_stuck : (h : UnaryHole) (k : BaseKind) (column : List ℕ) (u : Token) → u ≢ sign (behind_column k) → next (reading h (columned k column)) u ≡ None
-column_stuck h k column u ne = grind arith
-
-pub column_end_fails : (names : Names) (k : BaseKind) (ts us : List Placed) (col : ℕ) (f : TermFault) → ReadsOpened names ts col us → IsOther (sign (behind_column k)) us f → FailsBase names k ts f
-column_end_fails names k ts us col f r o h = goes_fails names _ _ ts us f (r.goes h k) (other_fails names (sign (behind_column k)) us f _ o (column_stuck h k r.letters))
+-- ---- the last sign of a base term
 
 pub around_closes : (h : UnaryHole) (column : List ℕ) (centre : NumberText) (u : Token) → u ≢ sign right → next (reading h (centred column centre)) u ≡ None
 around_closes h column centre u ne = grind arith
@@ -245,66 +245,67 @@ module _ (close : Sign) (ts us vs : List Placed) (values : List ℤ) (v : ℤ) (
 pub column_is : (names : Names) (letters : List ℕ) (col : ℕ) → column_of names letters ≡ Some col → column_at names letters ≡ col
 column_is names letters col h = ap (λ o. unwrap_or o 0) h
 
-pub low_read : (names : Names) (ts us vs : List Placed) (col : ℕ) → ReadsOpened names ts col us → Passes (sign right) us vs → ReadsBase names low_kind ts (scored (low col)) vs
-low_read names ts us vs col r c =
+pub low_read : (names : Names) (ts us : List Placed) (col : ℕ) → ReadsOpened names right ts col us → ReadsBase names low_kind ts (scored (low col)) us
+low_read names ts us col r =
     record {
       tree = low_text r.letters;
       meaning = ap (λ n. scored (low n)) (column_is names r.letters col r.found.place);
       known = (r.found.known, tt);
-      goes = λ h. sign_behind names ts us vs _ _ (completed h (based (low_text r.letters))) right (r.goes h low_kind) c refl;
+      goes = λ h. r.goes h low_kind _ refl;
     }
 
-pub high_read : (names : Names) (ts us vs : List Placed) (col : ℕ) → ReadsOpened names ts col us → Passes (sign right) us vs → ReadsBase names high_kind ts (scored (high col)) vs
-high_read names ts us vs col r c =
+pub high_read : (names : Names) (ts us : List Placed) (col : ℕ) → ReadsOpened names right ts col us → ReadsBase names high_kind ts (scored (high col)) us
+high_read names ts us col r =
     record {
       tree = high_text r.letters;
       meaning = ap (λ n. scored (high n)) (column_is names r.letters col r.found.place);
       known = (r.found.known, tt);
-      goes = λ h. sign_behind names ts us vs _ _ (completed h (based (high_text r.letters))) right (r.goes h high_kind) c refl;
+      goes = λ h. r.goes h high_kind _ refl;
     }
 
-pub around_read : (names : Names) (ts us vs ws xs : List Placed) (col : ℕ) (centre : ℤ) → ReadsOpened names ts col us → Passes (sign comma) us vs → ReadsNumber vs centre ws → Passes (sign right) ws xs → ReadsBase names around_kind ts (scored (around col centre)) xs
-around_read names ts us vs ws xs col centre r c n d =
+-- up to a centre
+centre_goes : (names : Names) (ts us vs : List Placed) (col : ℕ) (centre : ℤ) (r : ReadsOpened names comma ts col us) (n : ReadsNumber us centre vs) (h : UnaryHole) → Goes names (reading h (named around_kind)) ts (reading h (centred r.letters n.number)) vs
+centre_goes names ts us vs col centre r n h = goes_then names _ _ _ ts us vs (r.goes h around_kind _ refl) (n.goes names h (centre_of r.letters) refl)
+
+pub around_read : (names : Names) (ts us vs ws : List Placed) (col : ℕ) (centre : ℤ) → ReadsOpened names comma ts col us → ReadsNumber us centre vs → Passes (sign right) vs ws → ReadsBase names around_kind ts (scored (around col centre)) ws
+around_read names ts us vs ws col centre r n d =
     record {
       tree = around_text r.letters n.number;
       meaning = ap (λ i. scored (around i (number_value n.number))) (column_is names r.letters col r.found.place) ∙ ap (λ v. scored (around col v)) n.value_is;
       known = (r.found.known, n.fits);
-      goes = λ h. sign_behind names ts ws xs _ _ (completed h (based (around_text r.letters n.number))) right
-          (goes_then names _ _ _ ts vs ws (sign_behind names ts us vs _ _ (reading h (number_due (centre_of r.letters))) comma (r.goes h around_kind) c refl) (n.goes names h (centre_of r.letters) refl)) d refl;
+      goes = λ h. sign_behind names ts vs ws _ _ (completed h (based (around_text r.letters n.number))) right (centre_goes names ts us vs col centre r n h) d refl;
     }
 
 -- up to the left end of a range, and the comma behind it
-range_goes : (names : Names) (ts us vs ws xs : List Placed) (col : ℕ) (l : ℤ) (r : ReadsOpened names ts col us) → Passes (sign comma) us vs → (n : ReadsNumber vs l ws) → Passes (sign comma) ws xs → (h : UnaryHole) → Goes names (reading h (named between_kind)) ts (reading h (number_due (end_of r.letters n.number))) xs
-range_goes names ts us vs ws xs col l r c n d h =
-    sign_behind names ts ws xs _ _ (reading h (number_due (end_of r.letters n.number))) comma
-    (goes_then names _ _ _ ts vs ws (sign_behind names ts us vs _ _ (reading h (number_due (start_of r.letters))) comma (r.goes h between_kind) c refl) (n.goes names h (start_of r.letters) refl)) d refl
+start_goes : (names : Names) (ts us vs : List Placed) (col : ℕ) (l : ℤ) (r : ReadsOpened names comma ts col us) (n : ReadsNumber us l vs) (h : UnaryHole) → Goes names (reading h (named between_kind)) ts (reading h (ranged r.letters n.number)) vs
+start_goes names ts us vs col l r n h = goes_then names _ _ _ ts us vs (r.goes h between_kind _ refl) (n.goes names h (start_of r.letters) refl)
 
-pub between_read : (names : Names) (ts us vs ws xs ys zs : List Placed) (col : ℕ) (l r : ℤ) → ReadsOpened names ts col us → Passes (sign comma) us vs → ReadsNumber vs l ws → Passes (sign comma) ws xs → ReadsEnd l xs r ys → Passes (sign right) ys zs → ReadsBase names between_kind ts (scored (between col l r)) zs
-between_read names ts us vs ws xs ys zs col l r o c n d m e =
+range_goes : (names : Names) (ts us vs ws : List Placed) (col : ℕ) (l : ℤ) (r : ReadsOpened names comma ts col us) (n : ReadsNumber us l vs) → Passes (sign comma) vs ws → (h : UnaryHole) → Goes names (reading h (named between_kind)) ts (reading h (number_due (end_of r.letters n.number))) ws
+range_goes names ts us vs ws col l r n d h = sign_behind names ts vs ws _ _ (reading h (number_due (end_of r.letters n.number))) comma (start_goes names ts us vs col l r n h) d refl
+
+pub between_read : (names : Names) (ts us vs ws xs ys : List Placed) (col : ℕ) (l r : ℤ) → ReadsOpened names comma ts col us → ReadsNumber us l vs → Passes (sign comma) vs ws → ReadsEnd l ws r xs → Passes (sign right) xs ys → ReadsBase names between_kind ts (scored (between col l r)) ys
+between_read names ts us vs ws xs ys col l r o n d m e =
     record {
       tree = between_text o.letters n.number m.number;
       meaning = ap (λ i. scored (between i (number_value n.number) (number_value m.number))) (column_is names o.letters col o.found.place)
           ∙ (ap (λ v. scored (between col v (number_value m.number))) n.value_is ∙ ap (λ v. scored (between col l v)) m.value_is);
       known = (o.found.known, (n.fits, m.fits, m.ordered));
-      goes = λ h. sign_behind names ts ys zs _ _ (completed h (based (between_text o.letters n.number m.number))) right
-          (goes_then names _ _ _ ts xs ys (range_goes names ts us vs ws xs col l o c n d h) (m.goes names h o.letters n.number n.value_is)) e refl;
+      goes = λ h. sign_behind names ts xs ys _ _ (completed h (based (between_text o.letters n.number m.number))) right
+          (goes_then names _ _ _ ts ws xs (range_goes names ts us vs ws col l o n d h) (m.goes names h o.letters n.number n.value_is)) e refl;
     }
 
-pub pos_read : (names : Names) (ts us vs ws : List Placed) (col : ℕ) (set : List ℤ) → ReadsOpened names ts col us → Passes (sign comma) us vs → ReadsNumbers right vs set ws → ReadsBase names pos_kind ts (scored (one_of col set)) ws
-pos_read names ts us vs ws col set r c n =
+pub pos_read : (names : Names) (ts us vs : List Placed) (col : ℕ) (set : List ℤ) → ReadsOpened names comma ts col us → ReadsNumbers right us set vs → ReadsBase names pos_kind ts (scored (one_of col set)) vs
+pos_read names ts us vs col set r n =
     record {
       tree = pos_text r.letters n.first n.others;
       meaning = ap (λ i. scored (one_of i (number_value n.first ∷ map number_value n.others))) (column_is names r.letters col r.found.place) ∙ ap (λ v. scored (one_of col v)) n.values_are;
       known = (r.found.known, (subst (λ (set : List ℤ). set ≢ []) n.values_are cons_not_none, n.fits));
-      goes = λ h. goes_then names _ _ _ ts vs ws (sign_behind names ts us vs _ _ (reading h (number_due (first_of (in_pos r.letters)))) comma (r.goes h pos_kind) c refl) (n.goes names h (in_pos r.letters) refl);
+      goes = λ h. goes_then names _ _ _ ts us vs (r.goes h pos_kind _ refl) (n.goes names h (in_pos r.letters) refl);
     }
 
 -- and their faults
-pub around_end_fails : (names : Names) (ts us vs ws : List Placed) (col : ℕ) (centre : ℤ) (f : TermFault) → ReadsOpened names ts col us → Passes (sign comma) us vs → ReadsNumber vs centre ws → IsOther (sign right) ws f → FailsBase names around_kind ts f
-around_end_fails names ts us vs ws col centre f r c n o h =
-    goes_fails names _ _ ts ws f
-    (goes_then names _ _ _ ts vs ws (sign_behind names ts us vs _ _ (reading h (number_due (centre_of r.letters))) comma (r.goes h around_kind) c refl) (n.goes names h (centre_of r.letters) refl))
-    (other_fails names (sign right) ws f _ o (around_closes h r.letters n.number))
+pub around_end_fails : (names : Names) (ts us vs : List Placed) (col : ℕ) (centre : ℤ) (f : TermFault) → ReadsOpened names comma ts col us → ReadsNumber us centre vs → IsOther (sign right) vs f → FailsBase names around_kind ts f
+around_end_fails names ts us vs col centre f r n o h = goes_fails names _ _ ts vs f (centre_goes names ts us vs col centre r n h) (other_fails names (sign right) vs f _ o (around_closes h r.letters n.number))
 
 pub ranged_goes_on : (h : UnaryHole) (column : List ℕ) (l : NumberText) (u : Token) → u ≢ sign comma → next (reading h (ranged column l)) u ≡ None
 ranged_goes_on h column l u ne = grind arith
@@ -312,17 +313,14 @@ ranged_goes_on h column l u ne = grind arith
 pub range_closes : (h : UnaryHole) (column : List ℕ) (l r : NumberText) (u : Token) → u ≢ sign right → next (reading h (range_ended column l r)) u ≡ None
 range_closes h column l r u ne = grind arith
 
-pub between_comma_fails : (names : Names) (ts us vs ws : List Placed) (col : ℕ) (l : ℤ) (f : TermFault) → ReadsOpened names ts col us → Passes (sign comma) us vs → ReadsNumber vs l ws → IsOther (sign comma) ws f → FailsBase names between_kind ts f
-between_comma_fails names ts us vs ws col l f r c n o h =
-    goes_fails names _ _ ts ws f
-    (goes_then names _ _ _ ts vs ws (sign_behind names ts us vs _ _ (reading h (number_due (start_of r.letters))) comma (r.goes h between_kind) c refl) (n.goes names h (start_of r.letters) refl))
-    (other_fails names (sign comma) ws f _ o (ranged_goes_on h r.letters n.number))
+pub between_comma_fails : (names : Names) (ts us vs : List Placed) (col : ℕ) (l : ℤ) (f : TermFault) → ReadsOpened names comma ts col us → ReadsNumber us l vs → IsOther (sign comma) vs f → FailsBase names between_kind ts f
+between_comma_fails names ts us vs col l f r n o h = goes_fails names _ _ ts vs f (start_goes names ts us vs col l r n h) (other_fails names (sign comma) vs f _ o (ranged_goes_on h r.letters n.number))
 
-pub between_right_fails : (names : Names) (ts us vs ws xs : List Placed) (col : ℕ) (l : ℤ) (f : TermFault) → ReadsOpened names ts col us → Passes (sign comma) us vs → ReadsNumber vs l ws → Passes (sign comma) ws xs → FailsEnd l xs f → FailsBase names between_kind ts f
-between_right_fails names ts us vs ws xs col l f r c n d m h =
-    goes_fails names _ _ ts xs f (range_goes names ts us vs ws xs col l r c n d h) (m names h r.letters n.number n.value_is)
+pub between_right_fails : (names : Names) (ts us vs ws : List Placed) (col : ℕ) (l : ℤ) (f : TermFault) → ReadsOpened names comma ts col us → ReadsNumber us l vs → Passes (sign comma) vs ws → FailsEnd l ws f → FailsBase names between_kind ts f
+between_right_fails names ts us vs ws col l f r n d m h =
+    goes_fails names _ _ ts ws f (range_goes names ts us vs ws col l r n d h) (m names h r.letters n.number n.value_is)
 
-pub between_end_fails : (names : Names) (ts us vs ws xs ys : List Placed) (col : ℕ) (l r : ℤ) (f : TermFault) → ReadsOpened names ts col us → Passes (sign comma) us vs → ReadsNumber vs l ws → Passes (sign comma) ws xs → ReadsEnd l xs r ys → IsOther (sign right) ys f → FailsBase names between_kind ts f
-between_end_fails names ts us vs ws xs ys col l r f o c n d m e h =
-    goes_fails names _ _ ts ys f (goes_then names _ _ _ ts xs ys (range_goes names ts us vs ws xs col l o c n d h) (m.goes names h o.letters n.number n.value_is))
-    (other_fails names (sign right) ys f _ e (range_closes h o.letters n.number m.number))
+pub between_end_fails : (names : Names) (ts us vs ws xs : List Placed) (col : ℕ) (l r : ℤ) (f : TermFault) → ReadsOpened names comma ts col us → ReadsNumber us l vs → Passes (sign comma) vs ws → ReadsEnd l ws r xs → IsOther (sign right) xs f → FailsBase names between_kind ts f
+between_end_fails names ts us vs ws xs col l r f o n d m e h =
+    goes_fails names _ _ ts xs f (goes_then names _ _ _ ts ws xs (range_goes names ts us vs ws col l o n d h) (m.goes names h o.letters n.number n.value_is))
+    (other_fails names (sign right) xs f _ e (range_closes h o.letters n.number m.number))

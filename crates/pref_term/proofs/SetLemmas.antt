@@ -74,11 +74,11 @@ module _ (ts us vs : List Placed) (sets : List (List ℤ)) (r : ReadsSomeSets ts
 
 -- ---- the base term
 
-pub layered_read : (names : Names) (ts us vs ws : List Placed) (col : ℕ) (sets : List (List ℤ)) → ReadsOpened names ts col us → Passes (sign comma) us vs → ReadsSets vs sets ws → ReadsBase names layered_kind ts (scored (layered col sets)) ws
-layered_read names ts us vs ws col sets r c n =
+pub layered_read : (names : Names) (ts us vs : List Placed) (col : ℕ) (sets : List (List ℤ)) → ReadsOpened names comma ts col us → ReadsSets us sets vs → ReadsBase names layered_kind ts (scored (layered col sets)) vs
+layered_read names ts us vs col sets r n =
     record {
       tree = layered_text r.letters n.first n.others;
       meaning = ap (λ i. scored (layered i (set_value n.first ∷ map set_value n.others))) (column_is names r.letters col r.found.place) ∙ ap (λ v. scored (layered col v)) n.values_are;
       known = (r.found.known, (subst (λ (sets : List (List ℤ)). sets ≢ []) n.values_are cons_not_none, n.fits));
-      goes = λ h. goes_then names _ _ _ ts vs ws (sign_behind names ts us vs _ _ (reading h (set_due r.letters [])) comma (r.goes h layered_kind) c refl) (n.goes names h r.letters);
+      goes = λ h. goes_then names _ _ _ ts us vs (r.goes h layered_kind _ refl) (n.goes names h r.letters);
     }

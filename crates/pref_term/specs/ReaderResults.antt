@@ -4,10 +4,10 @@ use Rattle.std.specs.Prelude.{◌≡◌, ◌≢◌, ◌<◌, ◌+◌, ℕ, ℤ, 
 use Rattle.std.specs.Int.{w64}
 use Rattle.std.specs.Str.Parse.{digits_value}
 use Rattle.pref_table.specs.Columns.{column_of}
-use Rattle.pref_term.specs.Token.{star, ampersand, Token, word, digits, sign, Placed, Sign}
-use Rattle.pref_term.specs.Grammar.{based, grouped, reversed, NumberText, BaseText, UnaryText, ProductText, PriorText, HeadText, DimText, Direction, minimal, maximal, different, direction_word, cased_of, of_word, rated, skyline, column_name, count_digits, layered_text, SetText}
+use Rattle.pref_term.specs.Token.{right, comma, star, ampersand, Token, word, digits, sign, Placed, Sign}
+use Rattle.pref_term.specs.Grammar.{mark, based, grouped, reversed, NumberText, BaseText, UnaryText, ProductText, PriorText, HeadText, DimText, Direction, minimal, maximal, different, direction_word, cased_of, of_word, rated, skyline, column_name, count_digits, layered_text, SetText}
 use Rattle.pref_term.specs.Spells.{Names, UnlessMemory, number_value, column_at, base_meaning, unary_meaning, product_meaning, prior_meaning, product_of, orders_of, groups_of, below, empty_range, set_value}
-use Rattle.pref_term.specs.Reading.{BaseKind, named, columned, NumberHole, first_of, next_of, number_due, filled, UnaryHole, ProductHole, PriorHole, whole, in_group, in_reverse, in_whole, first_factor, first_product, unary_depth, product_depth, prior_depth, State, start, operand, reverse_named, reading, after, group_due, skyline_named, dim_due, listed_dim, dim_named, completed, ranked, next, run, least_of, end_of, range_ended, stepped, NumberList, closing, list_closed, set_due}
+use Rattle.pref_term.specs.Reading.{BaseKind, low_kind, high_kind, BaseStep, after_column, named, NumberHole, first_of, next_of, number_due, filled, UnaryHole, ProductHole, PriorHole, whole, in_group, in_reverse, in_whole, first_factor, first_product, unary_depth, product_depth, prior_depth, State, start, operand, reverse_named, reading, after, group_due, skyline_named, dim_due, listed_dim, dim_named, completed, ranked, next, run, least_of, end_of, range_ended, stepped, NumberList, closing, list_closed, set_due}
 use Rattle.pref_term.specs.Asked.{meant}
 use Rattle.pref_term.specs.Distinct.{plain, says_distinct}
 use Rattle.pref_term.specs.Preference.{Base, low, high, Preference, scored, pareto, prior, reverse}
@@ -86,11 +86,17 @@ pub record TakesColumn (names : Names) (ts : List Placed) (col : ℕ) (us : List
 abbrev pub FailsColumn : Names → List Placed → TermFault → Type 0
 FailsColumn names ts f = (s : State) (behind : List ℕ → State) → WantsColumn s behind → Fails names s ts f
 
--- a column behind the word of a base term and its parenthesis
-pub record ReadsOpened (names : Names) (ts : List Placed) (col : ℕ) (us : List Placed) : Type 0 where
+-- the sign behind the column of a base term
+abbrev pub behind_column : BaseKind → Sign
+behind_column low_kind = right
+behind_column high_kind = right
+behind_column _ = comma
+
+-- a column behind the word of a base term and its parenthesis, and the sign behind it
+pub record ReadsOpened (names : Names) (behind : Sign) (ts : List Placed) (col : ℕ) (us : List Placed) : Type 0 where
   pub letters : List ℕ
   pub found : IsColumn names letters col
-  pub goes : (h : UnaryHole) (k : BaseKind) → Goes names (reading h (named k)) ts (reading h (columned k letters)) us
+  pub goes : (h : UnaryHole) (k : BaseKind) (step : BaseStep) → after_column k letters behind ≡ Some (mark behind, step) → Goes names (reading h (named k)) ts (stepped h step) us
 
 -- the place of the first token
 abbrev pub first_place : List Placed → ℕ
@@ -135,8 +141,8 @@ pub record ReadsNumbers (close : Sign) (ts : List Placed) (values : List ℤ) (u
   pub values_are : number_value first ∷ map number_value others ≡ values
   pub goes : (names : Names) (h : UnaryHole) (l : NumberList) → closing l ≡ close → Goes names (reading h (number_due (first_of l))) ts (stepped h (list_closed l first others)) us
 
-abbrev pub FailsOpened : Names → List Placed → TermFault → Type 0
-FailsOpened names ts f = (h : UnaryHole) (k : BaseKind) → Fails names (reading h (named k)) ts f
+abbrev pub FailsOpened : Names → Sign → List Placed → TermFault → Type 0
+FailsOpened names behind ts f = (h : UnaryHole) (k : BaseKind) → behind_column k ≡ behind → Fails names (reading h (named k)) ts f
 
 abbrev pub FailsNumber : List Placed → TermFault → Type 0
 FailsNumber ts f = (names : Names) (h : UnaryHole) (hole : NumberHole) → Fails names (reading h (number_due hole)) ts f

@@ -55,14 +55,16 @@ pub(super) fn column<'a>(schema: &Schema, cursor: Cursor<'a>) -> Parsed<'a, usiz
     }
 }
 
-/// Takes a parenthesis and a column.
-fn opened_column<'a>(schema: &Schema, cursor: Cursor<'a>) -> Parsed<'a, usize>
-    ensures ok { IfOk result (λ x. led.ReadsOpened schema.now (ahead cursor.entry) x.0 (ahead x.1)) }
+/// Takes a parenthesis, a column and the sign behind it.
+fn opened_column<'a>(schema: &Schema, cursor: Cursor<'a>, behind: Sign) -> Parsed<'a, usize>
+    ensures ok { IfOk result (λ x. led.ReadsOpened schema.now behind (ahead cursor.entry) x.0 (ahead x.1)) }
     ensures shorter { IfOk result (λ x. length (ahead x.1) < length (ahead cursor.entry)) }
-    ensures err { IfErr result (λ f. led.FailsOpened schema.now (ahead cursor.entry) f) }
+    ensures err { IfErr result (λ f. led.FailsOpened schema.now behind (ahead cursor.entry) f) }
 {
     let inside = expect(cursor, Sign::Left)?;
-    column(schema, inside)
+    let (col, next) = column(schema, inside)?;
+    let rest = expect(next, behind)?;
+    Ok((col, rest))
 }
 
 /// Takes a number.
@@ -116,8 +118,7 @@ pub(super) fn low<'a>(schema: &Schema, cursor: Cursor<'a>) -> Parsed<'a, Term>
     ensures shorter { IfOk result (λ x. length (ahead x.1) < length (ahead cursor.entry)) }
     ensures err { IfErr result (λ f. led.FailsBase schema.now reading.low_kind (ahead cursor.entry) f) }
 {
-    let (col, next) = opened_column(schema, cursor)?;
-    let rest = expect(next, Sign::Right)?;
+    let (col, rest) = opened_column(schema, cursor, Sign::Right)?;
     Ok((Term::Low { col }, rest))
 }
 
@@ -127,8 +128,7 @@ pub(super) fn high<'a>(schema: &Schema, cursor: Cursor<'a>) -> Parsed<'a, Term>
     ensures shorter { IfOk result (λ x. length (ahead x.1) < length (ahead cursor.entry)) }
     ensures err { IfErr result (λ f. led.FailsBase schema.now reading.high_kind (ahead cursor.entry) f) }
 {
-    let (col, next) = opened_column(schema, cursor)?;
-    let rest = expect(next, Sign::Right)?;
+    let (col, rest) = opened_column(schema, cursor, Sign::Right)?;
     Ok((Term::High { col }, rest))
 }
 
@@ -138,8 +138,7 @@ pub(super) fn around<'a>(schema: &Schema, cursor: Cursor<'a>) -> Parsed<'a, Term
     ensures shorter { IfOk result (λ x. length (ahead x.1) < length (ahead cursor.entry)) }
     ensures err { IfErr result (λ f. led.FailsBase schema.now reading.around_kind (ahead cursor.entry) f) }
 {
-    let (col, next) = opened_column(schema, cursor)?;
-    let inside = expect(next, Sign::Comma)?;
+    let (col, inside) = opened_column(schema, cursor, Sign::Comma)?;
     let (centre, behind) = number(inside)?;
     let rest = expect(behind, Sign::Right)?;
     Ok((Term::Around { col, centre }, rest))
@@ -151,8 +150,7 @@ pub(super) fn between<'a>(schema: &Schema, cursor: Cursor<'a>) -> Parsed<'a, Ter
     ensures shorter { IfOk result (λ x. length (ahead x.1) < length (ahead cursor.entry)) }
     ensures err { IfErr result (λ f. led.FailsBase schema.now reading.between_kind (ahead cursor.entry) f) }
 {
-    let (col, next) = opened_column(schema, cursor)?;
-    let inside = expect(next, Sign::Comma)?;
+    let (col, inside) = opened_column(schema, cursor, Sign::Comma)?;
     let (left, behind) = number(inside)?;
     let beside = expect(behind, Sign::Comma)?;
     let (right, end) = number(beside)?;
@@ -170,8 +168,7 @@ pub(super) fn pos<'a>(alloc: Global, schema: &Schema, cursor: Cursor<'a>) -> Par
     ensures shorter { IfOk result (λ x. length (ahead x.1) < length (ahead cursor.entry)) }
     ensures err { IfErr result (λ f. led.FailsBase schema.now reading.pos_kind (ahead cursor.entry) f) }
 {
-    let (col, next) = opened_column(schema, cursor)?;
-    let inside = expect(next, Sign::Comma)?;
+    let (col, inside) = opened_column(schema, cursor, Sign::Comma)?;
     let (numbers, rest) = numbers(alloc, inside, Sign::Right)?;
     let set = Numbers::of(numbers);
     Ok((Term::Pos { col, set }, rest))
@@ -203,8 +200,7 @@ pub(super) fn layered<'a>(alloc: Global, schema: &Schema, cursor: Cursor<'a>) ->
     ensures shorter { IfOk result (λ x. length (ahead x.1) < length (ahead cursor.entry)) }
     ensures err { IfErr result (λ f. led.FailsBase schema.now reading.layered_kind (ahead cursor.entry) f) }
 {
-    let (col, next) = opened_column(schema, cursor)?;
-    let inside = expect(next, Sign::Comma)?;
+    let (col, inside) = opened_column(schema, cursor, Sign::Comma)?;
     let (sets, rest) = sets(alloc, inside)?;
     let sets = NumberSets::of(sets);
     Ok((Term::Layered { col, sets }, rest))
