@@ -6,6 +6,7 @@ pub use Rattle.std.proofs.Math.Seq.{drop-append_seam, drop-cons, take-append_sea
 pub use Rattle.std.proofs.lemmas.Bool.{and_from, and_parts, and_right, cond_both, false≢true, ltb-false, not-true, or_parts}
 pub use Rattle.std.proofs.lemmas.Bool.Decides.{Decides-int_eq, nat_tests, not_from_Decides}
 pub use Rattle.std.proofs.lemmas.Fmt.{decimal_digit, decimal_nonempty, digits_decimal, digits_value-decimal}
+pub use Rattle.std.proofs.lemmas.Grind.{common_steps}
 pub use Rattle.std.proofs.lemmas.Int.{ints, to_z-of_z}
 pub use Rattle.std.proofs.lemmas.List.{drop-drop, length-append, length-drop, map-append}
 pub use Rattle.std.proofs.lemmas.List.Elements.{All-append, All-cons, All-contains, All-head, All-nil, All-same, All-tail, recursion_from_All}
