@@ -44,7 +44,7 @@ pub use Rattle.pref_term.specs.ReaderResults.{Asks, AsksClause, AsksClauseNothin
 pub use Rattle.pref_term.specs.ReaderResults.{FailsDim, FailsDirection, FailsEnd, FailsGroup, FailsGrouping, FailsNumber, FailsNumbers, FailsOpened, FailsPrior, FailsProduct, FailsSets, FailsUnary}
 pub use Rattle.pref_term.specs.ReaderResults.{Goes, IsBehindDistinct, IsColumn, IsKnown, IsNoDigits, IsNoWord, IsOther, IsTermOf, NotNext, Passes, PassesOf, ReadsBase, ReadsClause, ReadsColumns}
 pub use Rattle.pref_term.specs.ReaderResults.{ReadsDim, ReadsDims, ReadsEnd, ReadsFactors, ReadsGroup, ReadsGrouping, ReadsNumber, ReadsNumbers, ReadsOpened, ReadsPrior, ReadsProduct, ReadsProducts}
-pub use Rattle.pref_term.specs.ReaderResults.{ReadsReverse, ReadsSets, ReadsSome, ReadsSomeColumns, ReadsSomeSets, ReadsUnary, TakesColumn, TakesCount, TakesDirection, WantsColumn, WantsCount}
+pub use Rattle.pref_term.specs.ReaderResults.{ReadsSets, ReadsSome, ReadsSomeColumns, ReadsSomeSets, ReadsUnary, TakesColumn, TakesCount, TakesDirection, WantsColumn, WantsCount}
 pub use Rattle.pref_term.specs.ReaderResults.{behind_column, first_place, list_hole, with_order, word_ahead}
 pub use Rattle.pref_term.specs.Reading.{BaseKind, BasePart, BaseStep, NumberHole, NumberList, PriorHole, ProductHole, State, UnaryHole, after, around_kind, at_least_named, base_next, before_dim}
 pub use Rattle.pref_term.specs.Reading.{before_prior, before_product, before_unary, begun, between_kind, carried, centre_of, centred, closed, closing, columned, completed, dim_due, dim_named}
@@ -70,7 +70,7 @@ pub use Rattle.pref_term.specs.declared.ask.Mode.TheVariants.{AtLeast, Best, Top
 pub use Rattle.pref_term.specs.declared.cursor.Cursor.{Cursor}
 pub use Rattle.pref_term.specs.declared.cursor.Lexeme.{Lexeme}
 pub use Rattle.pref_term.specs.declared.fault.TermFault.{TermFault}
-pub use Rattle.pref_term.specs.declared.fault.TermFault.TheVariants.{EmptyRange, NoMinOrMax, NumberRange, OutOfMemory, TooLong, Unexpected}
+pub use Rattle.pref_term.specs.declared.fault.TermFault.TheVariants.{EmptyRange, NoMinOrMax, NumberRange, OutOfMemory, TooDeep, TooLong, Unexpected}
 pub use Rattle.pref_term.specs.declared.front.Token.TheVariants.{Digits, End, Word}
 pub use Rattle.pref_term.specs.declared.key.Key.{Key}
 pub use Rattle.pref_term.specs.declared.relation.Relation.{Relation}

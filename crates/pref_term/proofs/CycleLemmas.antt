@@ -1,12 +1,12 @@
 -- What the parts of the reader that call each other promise.
 use Rattle.pref_term.proofs.Common.{◌≡◌, ◌<◌, ◌+◌, ℕ, List, [], ◌∷◌, Bor, Result, true, cond, Some, None, nat_lt, refl, sym, ap, subst, ◌∙◌, arith, ◌≢◌, IfOk, IfErr, IfOk-weaker, nat_tests, Sign}
-use Rattle.pref_term.proofs.Common.{left, right, star, ampersand, minus, Token, word, sign, Placed, reverse_word, keyword_of, based, grouped, reversed, negated, then_factor, PriorText}
+use Rattle.pref_term.proofs.Common.{left, right, star, ampersand, minus, Token, word, sign, Placed, reverse_word, keyword_of, based, reversed, negated, then_factor, PriorText}
 use Rattle.pref_term.proofs.Common.{then_product, name, mark, opens, Names, own_fault, too_deep, unary_meaning, product_meaning, BaseKind, kind_word, named, UnaryHole, in_minus}
-use Rattle.pref_term.proofs.Common.{first_factor, next_factor, first_product, next_product, in_group, in_reverse, unary_depth, State, operand, reverse_named, reading, after, ranked, next}
-use Rattle.pref_term.proofs.Common.{operand_word, Goes, Fails, IsOther, Passes, ReadsBase, ReadsUnary, ReadsFactors, ReadsProducts, ReadsProduct, ReadsPrior, ReadsGroup, ReadsReverse, FailsBase}
-use Rattle.pref_term.proofs.Common.{FailsUnary, FailsGroup, FailsProduct, FailsPrior, ahead, taken, Preference, pareto, prior, reverse, preference_of, Cursor, Lexeme, Word, Term, TermFault}
+use Rattle.pref_term.proofs.Common.{first_factor, next_factor, next_product, in_group, in_reverse, unary_depth, State, operand, reverse_named, reading, after, ranked, next}
+use Rattle.pref_term.proofs.Common.{operand_word, Goes, Fails, IsOther, Passes, ReadsBase, ReadsUnary, ReadsFactors, ReadsProducts, ReadsProduct, ReadsPrior, ReadsGroup, FailsBase, NotNext, ahead, taken, behind_token, seen, judged, led, run, false, Unexpected, TooDeep, ◌≤◌}
+use Rattle.pref_term.proofs.Common.{FailsUnary, FailsGroup, FailsProduct, FailsPrior, Preference, pareto, prior, reverse, preference_of, Cursor, Lexeme, Word, Term, TermFault}
 use Rattle.pref_term.proofs.GrammarComplete.{ranked_goes_on, ranked_right}
-use Rattle.pref_term.proofs.LedLemmas.{goes_then, goes_fails, passes_goes, stuck_fails, taken_is, if_err_map}
+use Rattle.pref_term.proofs.LedLemmas.{at_place, goes_then, goes_fails, passes_goes, stuck_fails, taken_is, if_err_map}
 
 -- ---- nestings
 
@@ -17,63 +17,85 @@ depth_good names depth s h = let e : nat_lt depth 64 ≡ true = grind (arith, na
 opens_goes : (names : Names) (depth : ℕ) (g : Sign) (ts us : List Placed) (s m : State) (open_here : ℕ) → open_here ≡ depth → depth < 64 → Passes (sign g) ts us → next s (sign g) ≡ Some (opens open_here g, m) → Goes names s ts m us
 opens_goes names depth g ts us s m here e h c f = passes_goes names (sign g) ts us s m (opens here g) c f (depth_good names here g (subst (λ (d : ℕ). d < 64) (sym e) h))
 
-pub minus_read : (names : Names) (depth : ℕ) (ts us vs : List Placed) (p : Preference) → depth < 64 → Passes (sign minus) ts us → ReadsUnary names (depth + 1) us p vs → ReadsUnary names depth ts (reverse p) vs
-minus_read names depth ts us vs p h c r =
-    record {
-      tree = negated r.tree;
-      meaning = ap reverse r.meaning;
-      known = r.known;
-      goes = λ k e. goes_then names _ _ _ ts us vs (opens_goes names depth minus ts us (operand k) (operand (in_minus k)) (unary_depth k) e h c refl) (r.goes (in_minus k) (ap (λ d. d + 1) e));
-    }
+-- a converse
+module _ (names : Names) (depth inside : ℕ) (ts us : List Placed) (room : (depth < 64) × (inside ≡ depth + 1)) (c : Passes (sign minus) ts us) where
+  minus_goes : (h : UnaryHole) → unary_depth h ≡ depth → Goes names (operand h) ts (operand (in_minus h)) us
+  minus_goes h e = opens_goes names depth minus ts us _ _ (unary_depth h) e room.0 c refl
 
-pub minus_fails : (names : Names) (depth : ℕ) (ts us : List Placed) (f : TermFault) → depth < 64 → Passes (sign minus) ts us → FailsUnary names (depth + 1) us f → FailsUnary names depth ts f
-minus_fails names depth ts us f h c r k e =
-    goes_fails names _ _ ts us f (opens_goes names depth minus ts us (operand k) (operand (in_minus k)) (unary_depth k) e h c refl) (r (in_minus k) (ap (λ d. d + 1) e))
+  pub minus_read : (vs : List Placed) (p : Preference) → ReadsUnary names inside us p vs → ReadsUnary names depth ts (reverse p) vs
+  minus_read vs p r = record { tree = negated r.tree; meaning = ap reverse r.meaning; known = r.known; goes = λ h e. goes_then names _ _ _ ts us vs (minus_goes h e) (r.goes (in_minus h) (ap (λ d. d + 1) e ∙ sym room.1)) }
 
-pub left_read : (names : Names) (depth : ℕ) (ts us vs : List Placed) (p : Preference) → depth < 64 → Passes (sign left) ts us → ReadsGroup names (depth + 1) us p vs → ReadsUnary names depth ts p vs
-left_read names depth ts us vs p h c r =
-    record {
-      tree = grouped r.tree;
-      meaning = r.meaning;
-      known = r.known;
-      goes = λ k e. goes_then names _ _ _ ts us vs (opens_goes names depth left ts us (operand k) (operand (first_factor (first_product (in_group k)))) (unary_depth k) e h c refl) (r.goes k (ap (λ d. d + 1) e));
-    }
-
-pub reverse_read : (names : Names) (depth : ℕ) (ts us vs : List Placed) (p : Preference) → depth < 64 → Passes (sign left) ts us → ReadsGroup names (depth + 1) us p vs → ReadsReverse names depth ts (reverse p) vs
-reverse_read names depth ts us vs p h c r =
-    record {
-      tree = r.tree;
-      meaning = ap reverse r.meaning;
-      known = r.known;
-      goes = λ k e. goes_then names _ _ _ ts us vs (opens_goes names depth left ts us (reverse_named k) (operand (first_factor (first_product (in_reverse k)))) (unary_depth k) e h c refl) (r.goes_reversed k (ap (λ d. d + 1) e));
-    }
+  pub minus_fails : (f : TermFault) → FailsUnary names inside us f → FailsUnary names depth ts f
+  minus_fails f r h e = goes_fails names _ _ ts us f (minus_goes h e) (r (in_minus h) (ap (λ d. d + 1) e ∙ sym room.1))
 
 -- ---- a group
+
+reverse_only : (h : UnaryHole) (u : Token) → u ≢ sign left → next (reverse_named h) u ≡ None
+reverse_only h u ne = grind arith
+
+pub group_not_opened : (names : Names) (depth : ℕ) (ts : List Placed) (t : Lexeme) → ts ≡ taken t → seen t.token ≢ sign left → FailsGroup names depth ts (Unexpected t.at)
+group_not_opened names depth ts t e n =
+    record {
+      alone = λ us c h k. absurd (subst (NotNext (sign left)) (sym e ∙ c.1) n refl);
+      reversed = λ h k. stuck_fails names (seen t.token) t.at (behind_token t.token (ahead t.next)) ts (reverse_named h) e (reverse_only h (seen t.token) n);
+    }
+
+-- a nesting that opens where there is no room
+too_deep_fails : (names : Names) (depth : ℕ) (g : Sign) (ts us : List Placed) (at : ℕ) (s m : State) (here : ℕ) → here ≡ depth → 64 ≤ depth → ts ≡ at_place (sign g) at ∷ us → next s (sign g) ≡ Some (opens here g, m) → Fails names s ts (TooDeep at)
+too_deep_fails names depth g ts us at s m here e h c f =
+    let full : nat_lt here 64 ≡ false = grind (arith, nat_tests) in
+    λ p. ap (λ xs. run names xs p s) c ∙ (ap (led names p at (run names us at)) f ∙ ap (λ b. judged (opens here g) p at (run names us at m) (cond b None (Some too_deep))) full)
+
+pub group_too_deep : (names : Names) (depth : ℕ) (ts us : List Placed) (at : ℕ) (f : TermFault) → (64 ≤ depth) × (f ≡ TooDeep at) → ts ≡ at_place (sign left) at ∷ us → FailsGroup names depth ts f
+group_too_deep names depth ts us at f full c = subst (FailsGroup names depth ts) (sym full.1)
+    (record { alone = λ _ _ h e. too_deep_fails names depth left ts us at (operand h) _ (unary_depth h) e full.0 c refl; reversed = λ h e. too_deep_fails names depth left ts us at (reverse_named h) _ (unary_depth h) e full.0 c refl })
 
 stuck_within : (h : UnaryHole) (r : PriorText) (u : Token) → u ≢ sign right → u ≢ sign star → u ≢ sign ampersand → (next (ranked (in_group h) r) u ≡ None) × (next (ranked (in_reverse h) r) u ≡ None)
 stuck_within h r u a b c = (grind arith, grind arith)
 
-pub group_read : (names : Names) (inside : ℕ) (ts us vs : List Placed) (p : Preference) → ReadsPrior names inside ts p us → Passes (sign right) us vs → ReadsGroup names inside ts p vs
-group_read names inside ts us vs p r c =
-    let q = r.products in
-    record {
-      tree = q.tree;
-      meaning = q.meaning;
-      known = q.known;
-      goes = λ h e. goes_then names _ _ _ ts us vs (q.goes (in_group h) e) (passes_goes names (sign right) us vs _ _ (mark right) c (ranked_right (in_group h) q.tree) refl);
-      goes_reversed = λ h e. goes_then names _ _ _ ts us vs (q.goes (in_reverse h) e) (passes_goes names (sign right) us vs _ _ (mark right) c (ranked_right (in_reverse h) q.tree) refl);
-    }
+-- a token that is none of three
+end_fails : (names : Names) (vs : List Placed) (f : TermFault) (s : State) → IsOther (sign right) vs f → NotNext (sign star) vs → NotNext (sign ampersand) vs → ((u : Token) → u ≢ sign right → u ≢ sign star → u ≢ sign ampersand → next s u ≡ None) → Fails names s vs f
+end_fails names [] f s o a b stuck = absurd o
+end_fails names (v ∷ vs) f s o a b stuck = subst (Fails names s (v ∷ vs)) (sym o.1) (stuck_fails names v.token v.place vs (v ∷ vs) s refl (stuck v.token o.0 a b))
 
-pub group_end_fails : (names : Names) (inside : ℕ) (ts us : List Placed) (p : Preference) (f : TermFault) → ReadsPrior names inside ts p us → IsOther (sign right) us f → FailsGroup names inside ts f
-group_end_fails names inside ts [] p f r o = absurd o
-group_end_fails names inside ts (u ∷ us) p f r o =
-    let q = r.products in
-    record {
-      plain = λ h e. goes_fails names _ _ ts (u ∷ us) f (q.goes (in_group h) e)
-          (subst (Fails names (ranked (in_group h) q.tree) (u ∷ us)) (sym o.1) (stuck_fails names u.token u.place us (u ∷ us) _ refl (stuck_within h q.tree u.token o.0 r.stops r.stops_too).0));
-      reversed = λ h e. goes_fails names _ _ ts (u ∷ us) f (q.goes (in_reverse h) e)
-          (subst (Fails names (ranked (in_reverse h) q.tree) (u ∷ us)) (sym o.1) (stuck_fails names u.token u.place us (u ∷ us) _ refl (stuck_within h q.tree u.token o.0 r.stops r.stops_too).1));
-    }
+-- what is read within
+module _ (names : Names) (depth inside : ℕ) (ts us : List Placed) (room : (depth < 64) × (inside ≡ depth + 1)) (c : Passes (sign left) ts us) where
+  group_opens : (s m : State) (h : UnaryHole) → unary_depth h ≡ depth → next s (sign left) ≡ Some (opens (unary_depth h) left, m) → Goes names s ts m us
+  group_opens s m h e = opens_goes names depth left ts us s m (unary_depth h) e room.0 c
+
+  deeper : (h : UnaryHole) → unary_depth h ≡ depth → unary_depth h + 1 ≡ inside
+  deeper h e = ap (λ d. d + 1) e ∙ sym room.1
+
+  pub group_within_fails : (f : TermFault) → FailsPrior names inside us f → FailsGroup names depth ts f
+  group_within_fails f r =
+      record {
+        alone = λ _ _ h e. goes_fails names _ _ ts us f (group_opens (operand h) _ h e refl) (r (in_group h) (deeper h e));
+        reversed = λ h e. goes_fails names _ _ ts us f (group_opens (reverse_named h) _ h e refl) (r (in_reverse h) (deeper h e));
+      }
+
+  module _ (vs : List Placed) (p : Preference) (r : ReadsPrior names inside us p vs) where
+    group_goes : (h : UnaryHole) → unary_depth h ≡ depth → Goes names (operand h) ts (ranked (in_group h) r.products.tree) vs
+    group_goes h e = goes_then names _ _ _ ts us vs (group_opens (operand h) _ h e refl) (r.products.goes (in_group h) (deeper h e))
+
+    reverse_goes : (h : UnaryHole) → unary_depth h ≡ depth → Goes names (reverse_named h) ts (ranked (in_reverse h) r.products.tree) vs
+    reverse_goes h e = goes_then names _ _ _ ts us vs (group_opens (reverse_named h) _ h e refl) (r.products.goes (in_reverse h) (deeper h e))
+
+    pub group_read : (ws : List Placed) → Passes (sign right) vs ws → ReadsGroup names depth ts p ws
+    group_read ws d =
+        record {
+          tree = r.products.tree;
+          meaning = r.products.meaning;
+          known = r.products.known;
+          goes = λ h e. goes_then names _ _ _ ts vs ws (group_goes h e) (passes_goes names (sign right) vs ws _ _ (mark right) d (ranked_right (in_group h) r.products.tree) refl);
+          goes_reversed = λ h e. goes_then names _ _ _ ts vs ws (reverse_goes h e) (passes_goes names (sign right) vs ws _ _ (mark right) d (ranked_right (in_reverse h) r.products.tree) refl);
+        }
+
+    pub group_end_fails : (f : TermFault) → IsOther (sign right) vs f → FailsGroup names depth ts f
+    group_end_fails f o =
+        record {
+          alone = λ _ _ h e. goes_fails names _ _ ts vs f (group_goes h e) (end_fails names vs f (ranked (in_group h) r.products.tree) o r.stops r.stops_too (λ u a b c. (stuck_within h r.products.tree u a b c).0));
+          reversed = λ h e. goes_fails names _ _ ts vs f (reverse_goes h e) (end_fails names vs f (ranked (in_reverse h) r.products.tree) o r.stops r.stops_too (λ u a b c. (stuck_within h r.products.tree u a b c).1));
+        }
 
 -- ---- words
 
@@ -95,14 +117,16 @@ module _ (names : Names) (depth : ℕ) (k : BaseKind) (ts : List Placed) (t : Le
   pub taken_base_fails : IfErr r (FailsBase names k (ahead t.next)) → IfErr r (FailsUnary names depth ts)
   taken_base_fails fails = if_err_map r (λ fault b h _. goes_fails names _ _ ts (ahead t.next) fault (word_goes h) (b h)) fails
 
-pub word_reverse_read : (names : Names) (depth : ℕ) (letters : List ℕ) (ts us vs : List Placed) (p : Preference) → Passes (word letters) ts us → keyword_of letters ≡ Some reverse_word → ReadsReverse names depth us p vs → ReadsUnary names depth ts p vs
-word_reverse_read names depth letters ts us vs p c e r =
-    record {
-      tree = reversed r.tree;
-      meaning = r.meaning;
-      known = r.known;
-      goes = λ h d. goes_then names _ _ _ ts us vs (passes_goes names (word letters) ts us (operand h) (reverse_named h) (name reverse_word) c (ap (operand_word h) e) refl) (r.goes h d);
-    }
+-- a group behind the word `reverse`
+module _ (names : Names) (depth : ℕ) (letters : List ℕ) (ts us : List Placed) (c : Passes (word letters) ts us) (e : keyword_of letters ≡ Some reverse_word) where
+  reverse_named_goes : (h : UnaryHole) → Goes names (operand h) ts (reverse_named h) us
+  reverse_named_goes h = passes_goes names (word letters) ts us (operand h) (reverse_named h) (name reverse_word) c (ap (operand_word h) e) refl
+
+  pub word_reverse_read : (vs : List Placed) (p : Preference) → ReadsGroup names depth us p vs → ReadsUnary names depth ts (reverse p) vs
+  word_reverse_read vs p r = record { tree = reversed r.tree; meaning = ap reverse r.meaning; known = r.known; goes = λ h d. goes_then names _ _ _ ts us vs (reverse_named_goes h) (r.goes_reversed h d) }
+
+  pub word_reverse_fails : (f : TermFault) → FailsGroup names depth us f → FailsUnary names depth ts f
+  word_reverse_fails f r h d = goes_fails names _ _ ts us f (reverse_named_goes h) (r.reversed h d)
 
 -- ---- products and priors
 

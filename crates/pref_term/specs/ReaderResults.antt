@@ -1,13 +1,13 @@
 -- No public contract cites this.
 -- What each part of the reader promises: where reading comes to, or the fault that it reports. (this project)
-use Rattle.std.specs.Prelude.{◌≡◌, ◌≢◌, ◌<◌, ◌+◌, ℕ, ℤ, List, [], ◌∷◌, length, All, FitsSigned, IfSome, Bool, true, false, map, Ok, Err, Option, Some, None, int_lt}
+use Rattle.std.specs.Prelude.{◌≡◌, ◌≢◌, ◌<◌, ℕ, ℤ, List, [], ◌∷◌, length, All, FitsSigned, IfSome, Bool, true, false, map, Ok, Err, Option, Some, None, int_lt}
 use Rattle.std.specs.Int.{w64}
 use Rattle.std.specs.Str.Parse.{digits_value}
 use Rattle.pref_table.specs.Columns.{column_of}
-use Rattle.pref_term.specs.Token.{right, comma, star, ampersand, Token, word, digits, sign, Placed, Sign}
+use Rattle.pref_term.specs.Token.{left, right, comma, star, ampersand, Token, word, digits, sign, Placed, Sign}
 use Rattle.pref_term.specs.Grammar.{mark, based, grouped, reversed, NumberText, BaseText, UnaryText, ProductText, PriorText, HeadText, DimText, Direction, minimal, maximal, different, direction_word, cased_of, of_word, rated, skyline, column_name, count_digits, layered_text, SetText}
 use Rattle.pref_term.specs.Spells.{Names, UnlessMemory, number_value, column_at, base_meaning, unary_meaning, product_meaning, prior_meaning, product_of, orders_of, groups_of, below, empty_range, set_value}
-use Rattle.pref_term.specs.Reading.{BaseKind, low_kind, high_kind, BaseStep, after_column, named, NumberHole, first_of, next_of, number_due, filled, UnaryHole, ProductHole, PriorHole, whole, in_group, in_reverse, in_whole, first_factor, first_product, unary_depth, product_depth, prior_depth, State, start, operand, reverse_named, reading, after, group_due, skyline_named, dim_due, listed_dim, dim_named, completed, ranked, next, run, least_of, end_of, range_ended, stepped, NumberList, closing, list_closed, set_due}
+use Rattle.pref_term.specs.Reading.{BaseKind, low_kind, high_kind, BaseStep, after_column, named, NumberHole, first_of, next_of, number_due, filled, UnaryHole, ProductHole, PriorHole, whole, in_whole, first_factor, first_product, unary_depth, product_depth, prior_depth, State, start, operand, reverse_named, reading, after, group_due, skyline_named, dim_due, listed_dim, dim_named, completed, ranked, next, run, least_of, end_of, range_ended, stepped, NumberList, closing, list_closed, set_due}
 use Rattle.pref_term.specs.Asked.{meant}
 use Rattle.pref_term.specs.Distinct.{plain, says_distinct}
 use Rattle.pref_term.specs.Preference.{Base, low, high, Preference, scored, pareto, prior, reverse}
@@ -205,20 +205,13 @@ pub record ReadsPrior (names : Names) (depth : ℕ) (ts : List Placed) (p : Pref
   pub stops : NotNext (sign star) us
   pub stops_too : NotNext (sign ampersand) us
 
--- a prior and the parenthesis behind it
-pub record ReadsGroup (names : Names) (inside : ℕ) (ts : List Placed) (p : Preference) (us : List Placed) : Type 0 where
+-- a prior in its parentheses, alone or behind `reverse`
+pub record ReadsGroup (names : Names) (depth : ℕ) (ts : List Placed) (p : Preference) (us : List Placed) : Type 0 where
   pub tree : PriorText
   pub meaning : prior_meaning tree names ≡ p
   pub known : IsTermOf names p
-  pub goes : (h : UnaryHole) → unary_depth h + 1 ≡ inside → Goes names (operand (first_factor (first_product (in_group h)))) ts (completed h (grouped tree)) us
-  pub goes_reversed : (h : UnaryHole) → unary_depth h + 1 ≡ inside → Goes names (operand (first_factor (first_product (in_reverse h)))) ts (completed h (reversed tree)) us
-
--- what follows `reverse`
-pub record ReadsReverse (names : Names) (depth : ℕ) (ts : List Placed) (p : Preference) (us : List Placed) : Type 0 where
-  pub tree : PriorText
-  pub meaning : reverse (prior_meaning tree names) ≡ p
-  pub known : IsTermOf names p
-  pub goes : (h : UnaryHole) → unary_depth h ≡ depth → Goes names (reverse_named h) ts (completed h (reversed tree)) us
+  pub goes : (h : UnaryHole) → unary_depth h ≡ depth → Goes names (operand h) ts (completed h (grouped tree)) us
+  pub goes_reversed : (h : UnaryHole) → unary_depth h ≡ depth → Goes names (reverse_named h) ts (completed h (reversed tree)) us
 
 abbrev pub FailsBase : Names → BaseKind → List Placed → TermFault → Type 0
 FailsBase names k ts f = (h : UnaryHole) → Fails names (reading h (named k)) ts f
@@ -226,12 +219,10 @@ FailsBase names k ts f = (h : UnaryHole) → Fails names (reading h (named k)) t
 abbrev pub FailsUnary : Names → ℕ → List Placed → TermFault → Type 0
 FailsUnary names depth ts f = (h : UnaryHole) → unary_depth h ≡ depth → Fails names (operand h) ts f
 
-abbrev pub FailsReverse : Names → ℕ → List Placed → TermFault → Type 0
-FailsReverse names depth ts f = (h : UnaryHole) → unary_depth h ≡ depth → Fails names (reverse_named h) ts f
-
-pub record FailsGroup (names : Names) (inside : ℕ) (ts : List Placed) (f : TermFault) : Type 0 where
-  pub plain : (h : UnaryHole) → unary_depth h + 1 ≡ inside → Fails names (operand (first_factor (first_product (in_group h)))) ts f
-  pub reversed : (h : UnaryHole) → unary_depth h + 1 ≡ inside → Fails names (operand (first_factor (first_product (in_reverse h)))) ts f
+-- its fault; alone it begins with a parenthesis
+pub record FailsGroup (names : Names) (depth : ℕ) (ts : List Placed) (f : TermFault) : Type 0 where
+  pub alone : (us : List Placed) → Passes (sign left) ts us → (h : UnaryHole) → unary_depth h ≡ depth → Fails names (operand h) ts f
+  pub reversed : (h : UnaryHole) → unary_depth h ≡ depth → Fails names (reverse_named h) ts f
 
 abbrev pub FailsProduct : Names → ℕ → List Placed → TermFault → Type 0
 FailsProduct names depth ts f = (h : ProductHole) → product_depth h ≡ depth → Fails names (operand (first_factor h)) ts f

@@ -45,14 +45,16 @@ fn unary<'a>(alloc: Global, schema: &Schema, depth: usize, cursor: Cursor<'a>) -
         return Ok((reverse_of(alloc, part)?, next));
     }
     if taken.is(Sign::Left) {
-        let inside = deeper(depth, taken.at)?;
-        return group(alloc, schema, inside, taken.next);
+        return group(alloc, schema, depth, cursor);
     }
     let Token::Word(letters) = taken.token else {
         return Err(taken.unexpected());
     };
     match word_of_grammar(letters) {
-        Some(Keyword::Reverse) => reverse(alloc, schema, depth, taken.next),
+        Some(Keyword::Reverse) => {
+            let (part, next) = group(alloc, schema, depth, taken.next)?;
+            Ok((reverse_of(alloc, part)?, next))
+        }
         Some(Keyword::Low) => low(schema, taken.next),
         Some(Keyword::High) => high(schema, taken.next),
         Some(Keyword::Around) => around(schema, taken.next),
@@ -63,32 +65,20 @@ fn unary<'a>(alloc: Global, schema: &Schema, depth: usize, cursor: Cursor<'a>) -
     }
 }
 
-/// Takes what follows `reverse`.
+/// Takes a prior in its parentheses, where this many nestings are open.
 #[cycle(term)]
-fn reverse<'a>(alloc: Global, schema: &Schema, depth: usize, cursor: Cursor<'a>) -> Parsed<'a, Term>
+fn group<'a>(alloc: Global, schema: &Schema, depth: usize, cursor: Cursor<'a>) -> Parsed<'a, Term>
     requires { depth ≤ 64 }
-    ensures ok { IfOk result (λ x. led.ReadsReverse schema.now depth (ahead cursor.entry) (preference_of x.0) (ahead x.1)) }
+    ensures ok { IfOk result (λ x. led.ReadsGroup schema.now depth (ahead cursor.entry) (preference_of x.0) (ahead x.1)) }
     ensures shorter { IfOk result (λ x. length (ahead x.1) < length (ahead cursor.entry)) }
-    ensures err { IfErr result (λ f. led.FailsReverse schema.now depth (ahead cursor.entry) f) }
+    ensures err { IfErr result (λ f. led.FailsGroup schema.now depth (ahead cursor.entry) f) }
 {
     let taken = cursor.take();
     if !taken.is(Sign::Left) {
         return Err(taken.unexpected());
     }
     let inside = deeper(depth, taken.at)?;
-    let (part, next) = group(alloc, schema, inside, taken.next)?;
-    Ok((reverse_of(alloc, part)?, next))
-}
-
-/// Takes a prior and the parenthesis behind it, where this many nestings are open within.
-#[cycle(term)]
-fn group<'a>(alloc: Global, schema: &Schema, inside: usize, cursor: Cursor<'a>) -> Parsed<'a, Term>
-    requires { inside ≤ 64 }
-    ensures ok { IfOk result (λ x. led.ReadsGroup schema.now inside (ahead cursor.entry) (preference_of x.0) (ahead x.1)) }
-    ensures shorter { IfOk result (λ x. length (ahead x.1) < length (ahead cursor.entry)) }
-    ensures err { IfErr result (λ f. led.FailsGroup schema.now inside (ahead cursor.entry) f) }
-{
-    let (term, next) = prior(alloc, schema, inside, cursor)?;
+    let (term, next) = prior(alloc, schema, inside, taken.next)?;
     let rest = expect(next, Sign::Right)?;
     Ok((term, rest))
 }

@@ -1,16 +1,24 @@
-use Rattle.pref_term.proofs.Common.{ℕ, List, Some, arith, sym, ap, subst, ◌∙◌, length, IfOk-weaker, Placed, low_kind, high_kind, around_kind, between_kind, pos_kind, layered_kind, ahead, FailsUnary}
-use Rattle.pref_term.proofs.Common.{ReadsReverse, ReadsUnary, ReadsGroup, ReadsFactors, ReadsProducts, Preference, preference_of, one_product, one_factor, first_product, first_factor}
-use Rattle.pref_term.proofs.LedLemmas.{err_exit, taken_is}
-use Rattle.pref_term.proofs.CycleLemmas.{group_read, group_end_fails, more_factors, more_factors_fail, more_products, more_products_fail, minus_read, minus_fails, left_read, reverse_read}
-use Rattle.pref_term.proofs.CycleLemmas.{taken_base_read, taken_base_fails, word_reverse_read}
+use Rattle.pref_term.proofs.Common.{List, Some, arith, sym, ap, subst, ◌∙◌, length, IfOk-weaker, Placed, low_kind, high_kind, around_kind, between_kind, pos_kind, layered_kind, ahead, FailsGroup, grouped}
+use Rattle.pref_term.proofs.Common.{ReadsUnary, ReadsFactors, ReadsProducts, Preference, preference_of, one_product, one_factor, first_product, first_factor}
+use Rattle.pref_term.proofs.LedLemmas.{err_exit, if_err_map, taken_is}
+use Rattle.pref_term.proofs.CycleLemmas.{group_read, group_end_fails, group_not_opened, group_too_deep, group_within_fails, more_factors, more_factors_fail, more_products, more_products_fail, minus_read, minus_fails}
+use Rattle.pref_term.proofs.CycleLemmas.{taken_base_read, taken_base_fails, word_reverse_read, word_reverse_fails}
 use Rattle.pref_term.proofs.read.term.+term.Goals as goal
 
+pub group-returns-then-not-is-clause-err : goal.group-returns-then-not-is-clause-err
+group-returns-then-not-is-clause-err t c = subst (FailsGroup c.args.schema.now c.args.depth (ahead c.args.cursor)) (sym c.unexpected.ensures) (group_not_opened c.args.schema.now c.args.depth _ c.take-taken.result c.take-taken.ensures c.if-not-is.ensures.no)
+
+pub group-returns-in_err-inside-clause-err : goal.group-returns-in_err-inside-clause-err
+group-returns-in_err-inside-clause-err t c = err_exit _ _ c.from_residual.ensures.1 (group_too_deep c.args.schema.now c.args.depth _ (ahead c.take-taken.result.next) _ _ c.in_err-inside.ensures.err (c.take-taken.ensures ∙ c.if-not-is.ensures.yes))
+
+pub group-returns-in_err-term-clause-err : goal.group-returns-in_err-term-clause-err
+group-returns-in_err-term-clause-err t c = err_exit _ _ c.from_residual-in_err-term.ensures.1 (group_within_fails c.args.schema.now c.args.depth _ _ (ahead c.take-taken.result.next) c.in_ok-inside.ensures.ok (c.take-taken.result.at, c.take-taken.ensures ∙ c.if-not-is.ensures.yes) _ c.in_err-term.ensures.err)
+
 pub group-returns-in_err-rest-clause-err : goal.group-returns-in_err-rest-clause-err
-group-returns-in_err-rest-clause-err t c = err_exit _ _ c.from_residual-in_err-rest.ensures.1 (group_end_fails c.args.schema.now c.args.inside _ (ahead c.in_ok-term.next) (preference_of c.in_ok-term.term) _ c.in_ok-term.ensures.ok c.in_err-rest.ensures.err)
+group-returns-in_err-rest-clause-err t c = err_exit _ _ c.from_residual-in_err-rest.ensures.1 (group_end_fails c.args.schema.now c.args.depth _ _ (ahead c.take-taken.result.next) c.in_ok-inside.ensures.ok (c.take-taken.result.at, c.take-taken.ensures ∙ c.if-not-is.ensures.yes) _ _ c.in_ok-term.ensures.ok _ c.in_err-rest.ensures.err)
 
 pub group-returns-clause-ok : goal.group-returns-clause-ok
-group-returns-clause-ok t c =
-    group_read c.args.schema.now c.args.inside _ (ahead c.in_ok-term.next) (ahead c.in_ok-rest.rest) (preference_of c.in_ok-term.term) c.in_ok-term.ensures.ok c.in_ok-rest.ensures.ok
+group-returns-clause-ok t c = group_read c.args.schema.now c.args.depth _ _ (ahead c.take-taken.result.next) c.in_ok-inside.ensures.ok (c.take-taken.result.at, c.take-taken.ensures ∙ c.if-not-is.ensures.yes) _ _ c.in_ok-term.ensures.ok (ahead c.in_ok-rest.rest) c.in_ok-rest.ensures.ok
 
 pub prior-loop-taken-init : goal.prior-loop-taken-init
 prior-loop-taken-init t c =
@@ -60,35 +68,19 @@ product-loop-taken-preserved t c =
       shorter = omega (arith, v.ensures.shorter, c.loop-taken.invariant.shorter, k);
     }
 
-pub reverse-returns-clause-ok : goal.reverse-returns-clause-ok
-reverse-returns-clause-ok t c =
-    let u = c.take-taken.result in
-    let i = c.in_ok-inside.ensures.ok in
-    let v = c.in_ok-part in
-    let r = subst (λ (n : ℕ). ReadsGroup c.args.schema.now n (ahead u.next) (preference_of v.part) (ahead v.next)) i.1 v.ensures.ok in
-    subst (λ (p : Preference). ReadsReverse c.args.schema.now c.args.depth (ahead c.args.cursor) p (ahead v.next)) (sym c.in_ok-reverse_of.ensures.ok)
-    (reverse_read c.args.schema.now c.args.depth (ahead c.args.cursor) (ahead u.next) (ahead v.next) (preference_of v.part) i.0 (u.at, c.take-taken.ensures ∙ c.if-not-is.ensures.yes) r)
-
 pub unary-returns-in_err-part-clause-err : goal.unary-returns-in_err-part-clause-err
-unary-returns-in_err-part-clause-err t c = err_exit _ _ c.from_residual-in_err-part.ensures.1 (minus_fails c.args.schema.now c.args.depth _ (ahead c.take-taken.result.next) _ c.in_ok-inside.ensures.ok.0 (c.take-taken.result.at, c.take-taken.ensures ∙ c.if-is.ensures.yes) (subst (λ (n : ℕ). FailsUnary c.args.schema.now n (ahead c.take-taken.result.next) c.in_err-part.field-0.0) c.in_ok-inside.ensures.ok.1 c.in_err-part.ensures.err))
+unary-returns-in_err-part-clause-err t c = err_exit _ _ c.from_residual-in_err-part.ensures.1 (minus_fails c.args.schema.now c.args.depth _ _ (ahead c.take-taken.result.next) c.in_ok-inside.ensures.ok (c.take-taken.result.at, c.take-taken.ensures ∙ c.if-is.ensures.yes) _ c.in_err-part.ensures.err)
 
 pub unary-returns-then-is-clause-ok : goal.unary-returns-then-is-clause-ok
 unary-returns-then-is-clause-ok t c =
-    let u = c.take-taken.result in
-    let i = c.in_ok-inside.ensures.ok in
-    let v = c.in_ok-part in
-    let r = subst (λ (n : ℕ). ReadsUnary c.args.schema.now n (ahead u.next) (preference_of v.part) (ahead v.next)) i.1 v.ensures.ok in
-    subst (λ (p : Preference). ReadsUnary c.args.schema.now c.args.depth (ahead c.args.cursor) p (ahead v.next)) (sym c.in_ok-reverse_of.ensures.ok)
-    (minus_read c.args.schema.now c.args.depth (ahead c.args.cursor) (ahead u.next) (ahead v.next) (preference_of v.part) i.0 (u.at, c.take-taken.ensures ∙ c.if-is.ensures.yes) r)
+    subst (λ (p : Preference). ReadsUnary c.args.schema.now c.args.depth (ahead c.args.cursor) p (ahead c.in_ok-part.next)) (sym c.in_ok-reverse_of.ensures.ok)
+    (minus_read c.args.schema.now c.args.depth _ _ (ahead c.take-taken.result.next) c.in_ok-inside.ensures.ok (c.take-taken.result.at, c.take-taken.ensures ∙ c.if-is.ensures.yes) _ _ c.in_ok-part.ensures.ok)
 
 pub unary-returns-then-is-2-clause-ok : goal.unary-returns-then-is-2-clause-ok
-unary-returns-then-is-2-clause-ok t c =
-    let u = c.take-taken.result in
-    let i = c.in_ok-inside-2.ensures.ok in
-    IfOk-weaker c.group.result _ _
-    (λ x h. left_read c.args.schema.now c.args.depth (ahead c.args.cursor) (ahead u.next) (ahead x.1) (preference_of x.0) i.0 (u.at, c.take-taken.ensures ∙ c.if-is-2.ensures.yes)
-    (subst (λ (n : ℕ). ReadsGroup c.args.schema.now n (ahead u.next) (preference_of x.0) (ahead x.1)) i.1 h))
-    c.group.ensures.ok
+unary-returns-then-is-2-clause-ok t c = IfOk-weaker c.group.result _ _ (λ x g. record { tree = grouped g.tree; meaning = g.meaning; known = g.known; goes = g.goes }) c.group.ensures.ok
+
+pub unary-returns-then-is-2-clause-err : goal.unary-returns-then-is-2-clause-err
+unary-returns-then-is-2-clause-err t c = if_err_map c.group.result (λ f g. g.alone (ahead c.take-taken.result.next) (c.take-taken.result.at, c.take-taken.ensures ∙ c.if-is-2.ensures.yes)) c.group.ensures.err
 
 pub unary-returns-in-Some-Low-clause-ok : goal.unary-returns-in-Some-Low-clause-ok
 unary-returns-in-Some-Low-clause-ok t c = taken_base_read c.args.schema.now _ low_kind _ c.take-taken.result _ c.take-taken.ensures c.in-Word.is (sym c.in-Some-Low.ensures ∙ ap Some c.in-Some-Low.field-0-is) _ c.low.ensures.ok
@@ -126,9 +118,14 @@ unary-returns-in-Some-Layered-clause-ok t c = taken_base_read c.args.schema.now 
 pub unary-returns-in-Some-Layered-clause-err : goal.unary-returns-in-Some-Layered-clause-err
 unary-returns-in-Some-Layered-clause-err t c = taken_base_fails c.args.schema.now _ layered_kind _ c.take-taken.result _ c.take-taken.ensures c.in-Word.is (sym c.in-Some-Layered.ensures ∙ ap Some c.in-Some-Layered.field-0-is) _ c.layered.ensures.err
 
-pub unary-returns-in-Some-Reverse-clause-ok : goal.unary-returns-in-Some-Reverse-clause-ok
-unary-returns-in-Some-Reverse-clause-ok t c =
+pub unary-returns-in_err-part-in-Some-Reverse-clause-err : goal.unary-returns-in_err-part-in-Some-Reverse-clause-err
+unary-returns-in_err-part-in-Some-Reverse-clause-err t c =
     let u = c.take-taken.result in
-    IfOk-weaker c.reverse.result _ _
-    (λ x h. word_reverse_read c.args.schema.now c.args.depth c.in-Word.letters.now (ahead c.args.cursor) (ahead u.next) (ahead x.1) (preference_of x.0) (u.at, taken_is _ u _ c.take-taken.ensures c.in-Word.is) (sym c.in-Some-Reverse.ensures ∙ ap Some c.in-Some-Reverse.field-0-is) h)
-    c.reverse.ensures.ok
+    err_exit _ _ c.from_residual-in_err-part-in-Some-Reverse.ensures.1 (word_reverse_fails c.args.schema.now c.args.depth c.in-Word.letters.now (ahead c.args.cursor) (ahead u.next) (u.at, taken_is _ u _ c.take-taken.ensures c.in-Word.is) (sym c.in-Some-Reverse.ensures ∙ ap Some c.in-Some-Reverse.field-0-is) _ c.in_err-part-in-Some-Reverse.ensures.err)
+
+pub unary-returns-in_ok-reverse_of-in-Some-Reverse-clause-ok : goal.unary-returns-in_ok-reverse_of-in-Some-Reverse-clause-ok
+unary-returns-in_ok-reverse_of-in-Some-Reverse-clause-ok t c =
+    let u = c.take-taken.result in
+    let v = c.in_ok-part-in-Some-Reverse in
+    subst (λ (p : Preference). ReadsUnary c.args.schema.now c.args.depth (ahead c.args.cursor) p (ahead v.next)) (sym c.in_ok-reverse_of-in-Some-Reverse.ensures.ok)
+    (word_reverse_read c.args.schema.now c.args.depth c.in-Word.letters.now (ahead c.args.cursor) (ahead u.next) (u.at, taken_is _ u _ c.take-taken.ensures c.in-Word.is) (sym c.in-Some-Reverse.ensures ∙ ap Some c.in-Some-Reverse.field-0-is) (ahead v.next) (preference_of v.part) v.ensures.ok)

@@ -3,19 +3,16 @@ use Rattle.pref_term.proofs.read.term.+term.Given as goal
 
 -- a call goes down to a part of the grammar, or into a nesting
 abbrev pub decreases-group : goal.decreases-group
-decreases-group l = 5 * (64 - l.inside) + 4
+decreases-group l = 4 * (64 - l.depth)
 
 abbrev pub decreases-prior : goal.decreases-prior
-decreases-prior l = 5 * (64 - l.depth) + 3
+decreases-prior l = 4 * (64 - l.depth) + 3
 
 abbrev pub decreases-product : goal.decreases-product
-decreases-product l = 5 * (64 - l.depth) + 2
+decreases-product l = 4 * (64 - l.depth) + 2
 
 abbrev pub decreases-unary : goal.decreases-unary
-decreases-unary l = 5 * (64 - l.depth) + 1
-
-abbrev pub decreases-reverse : goal.decreases-reverse
-decreases-reverse l = 5 * (64 - l.depth)
+decreases-unary l = 4 * (64 - l.depth) + 1
 
 -- the products so far
 abbrev pub invariant-prior-loop-taken : goal.invariant-prior-loop-taken
