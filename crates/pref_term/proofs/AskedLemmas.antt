@@ -1,6 +1,6 @@
 -- The ask that is computed is the one that the text spells, and the fault the one that it has.
 use Rattle.pref_term.proofs.Common.{◌≡◌, ◌≤◌, ◌<◌, ◌+◌, ℕ, zero, suc, List, [], ◌∷◌, Bool, true, false, cond, length, nat_lt, Option, Some, None, Result, Ok, Err, refl, sym, ap, subst, ◌∙◌, ◌⊎◌, inl}
-use Rattle.pref_term.proofs.Common.{inr, arith, MatchResult, IfOk, IfErr, nat_tests, is_blank, Placed, more_bytes, token_from, tokens_from, tokens_of, plain, says_distinct}
+use Rattle.pref_term.proofs.Common.{inr, arith, MatchResult, IfOk, IfErr, nat_tests, Placed, more_bytes, tokens_from, tokens_of, plain, says_distinct}
 use Rattle.pref_term.proofs.Common.{without_third, AskText, rated, skyline, Names, Spells, Faults, LacksOrder, FirstFault, UnlessMemory}
 use Rattle.pref_term.proofs.Common.{question, Question, FitsWidth, start, run, ordered, meant, asked, TermFault, TooLong, NoMinOrMax, AsksWhole, AsksWholeNothing}
 use Rattle.pref_term.proofs.LedLemmas.{unless_map}
@@ -15,11 +15,7 @@ finishes_more t (u ∷ us) h = h
 pub tokens_finish : (reported p : ℕ) (bs : List ℕ) → Finishes (tokens_from reported p bs)
 tokens_finish reported p [] = refl
 tokens_finish (suc k) p (b ∷ bs) = tokens_finish k (p + 1) bs
-tokens_finish zero p (b ∷ bs) = go (is_blank b) (tokens_finish 0 (p + 1) bs) (tokens_finish (more_bytes b bs) (p + 1) bs)
-  where
-    go : (t : Bool) → Finishes (tokens_from 0 (p + 1) bs) → Finishes (tokens_from (more_bytes b bs) (p + 1) bs) → Finishes (cond t (tokens_from 0 (p + 1) bs) (record { token = token_from b bs; place = p } ∷ tokens_from (more_bytes b bs) (p + 1) bs))
-    go true h k = h
-    go false h k = finishes_more (record { token = token_from b bs; place = p }) (tokens_from (more_bytes b bs) (p + 1) bs) k
+tokens_finish zero p (b ∷ bs) = grind (arith, tokens_finish 0 (p + 1) bs, tokens_finish (more_bytes b bs) (p + 1) bs)
 
 -- also without the word `distinct`
 finishes_plain : (ts : List Placed) → Finishes ts → Finishes (plain ts)

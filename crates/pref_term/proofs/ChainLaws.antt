@@ -24,8 +24,7 @@ product_itself r = grind arith
 
 chain-append : (xs ys : List Key) (a b : List ℤ) → by_chain (xs ++ ys) a b ≡ in_priority (by_chain xs a b) (by_chain ys a b)
 chain-append [] ys a b = refl
-chain-append (x ∷ xs) ys a b =
-    ap (in_priority (by_key x a b)) (chain-append xs ys a b) ∙ sym (priority-assoc (by_key x a b) (by_chain xs a b) (by_chain ys a b))
+chain-append (x ∷ xs) ys a b = grind (arith, chain-append xs ys a b)
 
 -- of a plain chain both are the same
 pub one_chain : (p : Preference) (s : Bool) → is_chain p ≡ true → chain_keys p First s ≡ chain_keys p Second s
@@ -110,9 +109,7 @@ unfolding by_lists
 chains_law p chains a b h = (λ i. by_lists (h.first i) (h.second i) (h.tie i) a b) ∙ paired_law p false a b h.paired
 
 behind_in_row : (role : Role) (keys : List Key) → AreInRow keys → AreInRow (keys_behind role keys)
-behind_in_row First keys h = All-nil (λ key. key.col < 16)
-behind_in_row Second keys h = All-nil (λ key. key.col < 16)
-behind_in_row Tie keys h = h
+behind_in_row role keys h = grind arith
 
 -- they read the columns of the preference
 keys_in_row : (p : Preference) (role : Role) (s : Bool) → ReadsBelow 16 p → AreInRow (chain_keys p role s)

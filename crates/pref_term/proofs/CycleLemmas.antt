@@ -3,7 +3,7 @@ use Rattle.pref_term.proofs.Common.{◌≡◌, ◌<◌, ◌+◌, ℕ, List, [], 
 use Rattle.pref_term.proofs.Common.{left, right, star, ampersand, minus, Token, word, sign, Placed, reverse_word, keyword_of, based, reversed, negated, then_factor, PriorText}
 use Rattle.pref_term.proofs.Common.{then_product, name, mark, opens, Names, own_fault, too_deep, unary_meaning, product_meaning, BaseKind, kind_word, named, UnaryHole, in_minus}
 use Rattle.pref_term.proofs.Common.{first_factor, next_factor, next_product, in_group, in_reverse, unary_depth, State, operand, reverse_named, reading, after, ranked, next}
-use Rattle.pref_term.proofs.Common.{operand_word, Goes, Fails, IsOther, Passes, ReadsBase, ReadsUnary, ReadsFactors, ReadsProducts, ReadsProduct, ReadsPrior, ReadsGroup, FailsBase, NotNext, ahead, taken, behind_token, seen, judged, led, run, false, Unexpected, TooDeep, ◌≤◌}
+use Rattle.pref_term.proofs.Common.{operand_word, Goes, Fails, IsOther, Passes, ReadsBase, ReadsUnary, ReadsFactors, ReadsProducts, ReadsProduct, ReadsPrior, ReadsGroup, FailsBase, NotNext, ahead, taken, seen, Unexpected, TooDeep, ◌≤◌}
 use Rattle.pref_term.proofs.Common.{FailsUnary, FailsGroup, FailsProduct, FailsPrior, Preference, pareto, prior, reverse, preference_of, Cursor, Lexeme, Word, Term, TermFault}
 use Rattle.pref_term.proofs.GrammarComplete.{ranked_goes_on, ranked_right}
 use Rattle.pref_term.proofs.LedLemmas.{at_place, goes_then, goes_fails, passes_goes, stuck_fails, taken_is, if_err_map}
@@ -34,17 +34,11 @@ reverse_only : (h : UnaryHole) (u : Token) → u ≢ sign left → next (reverse
 reverse_only h u ne = grind arith
 
 pub group_not_opened : (names : Names) (depth : ℕ) (ts : List Placed) (t : Lexeme) → ts ≡ taken t → seen t.token ≢ sign left → FailsGroup names depth ts (Unexpected t.at)
-group_not_opened names depth ts t e n =
-    record {
-      alone = λ us c h k. absurd (subst (NotNext (sign left)) (sym e ∙ c.1) n refl);
-      reversed = λ h k. stuck_fails names (seen t.token) t.at (behind_token t.token (ahead t.next)) ts (reverse_named h) e (reverse_only h (seen t.token) n);
-    }
+group_not_opened names depth ts t e n = grind arith
 
 -- a nesting that opens where there is no room
 too_deep_fails : (names : Names) (depth : ℕ) (g : Sign) (ts us : List Placed) (at : ℕ) (s m : State) (here : ℕ) → here ≡ depth → 64 ≤ depth → ts ≡ at_place (sign g) at ∷ us → next s (sign g) ≡ Some (opens here g, m) → Fails names s ts (TooDeep at)
-too_deep_fails names depth g ts us at s m here e h c f =
-    let full : nat_lt here 64 ≡ false = grind (arith, nat_tests) in
-    λ p. ap (λ xs. run names xs p s) c ∙ (ap (led names p at (run names us at)) f ∙ ap (λ b. judged (opens here g) p at (run names us at m) (cond b None (Some too_deep))) full)
+too_deep_fails names depth g ts us at s m here e h c f = grind arith
 
 pub group_too_deep : (names : Names) (depth : ℕ) (ts us : List Placed) (at : ℕ) (f : TermFault) → (64 ≤ depth) × (f ≡ TooDeep at) → ts ≡ at_place (sign left) at ∷ us → FailsGroup names depth ts f
 group_too_deep names depth ts us at f full c = subst (FailsGroup names depth ts) (sym full.1)

@@ -1,9 +1,9 @@
 -- What the word `distinct` of a clause leaves of a text, and what a clause behind it asks.
-use Rattle.pref_term.proofs.Common.{◌≡◌, arith, ℕ, List, [], ◌∷◌, ◌++◌, Bool, true, false, cond, Some, None, Ok, refl, sym, ap, subst, ◌∙◌, ◌≤◌, length, ◌≢◌, fold, codes, AllByRecursion, option_map}
+use Rattle.pref_term.proofs.Common.{◌≡◌, arith, ℕ, List, [], ◌∷◌, Bool, true, false, cond, Some, None, refl, sym, ap, subst, ◌∙◌, ◌≤◌, length, ◌≢◌, fold, codes, AllByRecursion}
 use Rattle.pref_term.proofs.Common.{bytes_eq, str_to_ascii_lowercase, bytes_eq-Decides, Token, word, finish, Placed, tokens_of, seen, behind_token, CasedWord, skyline_word, of_word}
-use Rattle.pref_term.proofs.Common.{cased_letters, cased_of, cased, IsWritten, Direction, minimal, maximal, different, DimText, HeadText, PriorText, AskText, rated, skyline, best_head, top_level_head}
-use Rattle.pref_term.proofs.Common.{at_least_head, ask_leaves, IsText, is_in_any_case, is_distinct_ahead, says_distinct, without_third, plain, is_word, Names, column_at, order_by, orders_of}
-use Rattle.pref_term.proofs.Common.{groups_of, product_of, tokens_in, tokens_on, IsGood, Spells, question, meant, ordered, start, skyline_named, dim_due, begun, of_named, run, word_ahead}
+use Rattle.pref_term.proofs.Common.{cased_letters, cased_of, cased, IsWritten, DimText, HeadText, PriorText, AskText, rated, skyline}
+use Rattle.pref_term.proofs.Common.{ask_leaves, IsText, is_in_any_case, is_distinct_ahead, says_distinct, without_third, plain, is_word, Names, orders_of}
+use Rattle.pref_term.proofs.Common.{product_of, tokens_in, tokens_on, IsGood, Spells, question, meant, start, skyline_named, dim_due, begun, of_named, run, word_ahead}
 use Rattle.pref_term.proofs.Common.{AsksWholeNothing, AsksClause, AsksClauseNothing, IsBehindDistinct, ReadsClause, Preference, scored, pareto, Question, IsClause, IsDimension, Best, TermFault}
 use Rattle.pref_term.proofs.Common.{NoMinOrMax, and_from, and_right}
 use Rattle.pref_term.proofs.GrammarComplete.{cased_found, no_keyword}
@@ -54,15 +54,10 @@ whole_clause_nothing names ts us f b h =
 -- ---- a clause
 
 pub clause_asks : (names : Names) (distinct : Bool) (ts : List Placed) (p : Preference) (group : List ℕ) → ReadsClause names ts (Some p) group → AsksClause names distinct ts (record { preference = p; group = group; mode = Best; distinct = distinct })
-clause_asks names distinct ts p group r s o k =
-    ap (meant names distinct) (r.goes s o k)
-    ∙ (ap (λ x. ordered (option_map (λ p. record { preference = p; group = groups_of names (r.first ∷ r.others); mode = Best; distinct = distinct }) x)) r.product_is
-    ∙ ap (λ g. Ok (record { preference = p; group = g; mode = Best; distinct = distinct })) r.group_is)
+clause_asks names distinct ts p group r s o k = grind arith
 
 pub clause_asks_nothing : (names : Names) (distinct : Bool) (ts : List Placed) (group : List ℕ) → ReadsClause names ts None group → AsksClauseNothing names distinct ts NoMinOrMax
-clause_asks_nothing names distinct ts group r s o k =
-    ap (meant names distinct) (r.goes s o k)
-    ∙ ap (λ x. ordered (option_map (λ p. record { preference = p; group = groups_of names (r.first ∷ r.others); mode = Best; distinct = distinct }) x)) r.product_is
+clause_asks_nothing names distinct ts group r s o k = grind arith
 
 -- the product of MIN and MAX columns is that of a clause
 clause_on : (p : Preference) (ps : List Preference) → IsClause p → AllByRecursion IsDimension ps → IsClause (fold pareto p ps)
@@ -72,12 +67,7 @@ clause_on p (_ ∷ ps) h k = absurd k.0
 
 orders_fine : (names : Names) (ds : List DimText) → AllByRecursion IsDimension (orders_of names ds)
 orders_fine names [] = tt
-orders_fine names (d ∷ ds) = go d.direction (orders_fine names ds)
-  where
-    go : (w : Direction) → AllByRecursion IsDimension (orders_of names ds) → AllByRecursion IsDimension (order_by w (column_at names d.column) ++ orders_of names ds)
-    go minimal h = (tt, h)
-    go maximal h = (tt, h)
-    go different h = h
+orders_fine names (d ∷ ds) = grind (arith, orders_fine names ds)
 
 pub product_is_clause : (names : Names) (ds : List DimText) (p : Preference) → product_of (orders_of names ds) ≡ Some p → IsClause p
 product_is_clause names ds p e = go (orders_of names ds) (orders_fine names ds) e
@@ -91,14 +81,10 @@ product_is_clause names ds p e = go (orders_of names ds) (orders_fine names ds) 
 
 -- a text that begins with another word than `skyline` does not say `distinct`
 not_said : (ts : List Placed) (letters : List ℕ) (rest : List Token) → tokens_in ts ≡ word letters ∷ rest → bytes_eq (codes "skyline") (str_to_ascii_lowercase letters) ≡ false → says_distinct ts ≡ false
-not_said [] letters rest e h = refl
-not_said (t ∷ []) letters rest e h = refl
-not_said (t ∷ u ∷ us) letters rest e h = search
+not_said ts letters rest e h = grind arith
 
 pub head_said : (head : HeadText) (r : PriorText) (group : List (List ℕ)) (ts : List Placed) → tokens_in ts ≡ tokens_on (ask_leaves (rated head r group)) → says_distinct ts ≡ false
-head_said best_head r group ts e = not_said ts _ _ e refl
-head_said (top_level_head count) r group ts e = not_said ts _ _ e refl
-head_said (at_least_head count) r group ts e = not_said ts _ _ e refl
+head_said head r group ts e = grind arith
 
 pub plain_tokens : (ts : List Placed) (tokens : List Token) → tokens_in ts ≡ tokens → says_distinct ts ≡ false → tokens_in (plain ts) ≡ tokens
 plain_tokens ts tokens e f = ap (λ b. tokens_in (cond b (without_third ts) ts)) f ∙ e

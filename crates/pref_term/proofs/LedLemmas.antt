@@ -1,10 +1,10 @@
 -- What the parts of the reader promise, from the tokens that they take.
 use Rattle.pref_term.proofs.Common.{◌≡◌, arith, ℕ, ℤ, Bor, List, [], ◌∷◌, ◌++◌, map, Bool, true, false, cond, Some, None, Result, Ok, Err, refl, sym, ap, subst, ◌∙◌, fits_cell, Sign, left, right}
-use Rattle.pref_term.proofs.Common.{comma, minus, Token, word, digits, sign, Placed, based, NumberText, low_text, high_text, around_text, pos_text, Leaf, mark, column_name, number_digits}
+use Rattle.pref_term.proofs.Common.{comma, minus, Token, digits, sign, Placed, based, NumberText, low_text, high_text, around_text, pos_text, Leaf, mark, column_name, number_digits}
 use Rattle.pref_term.proofs.Common.{between_text, Names, UnlessMemory, own_fault, signed_value, number_value, column_at, number_range, below, empty_range, reported, reported_at, OwnFault, BaseKind}
-use Rattle.pref_term.proofs.Common.{low_kind, high_kind, around_kind, pos_kind, centre_of, first_of, named, opened, columned, number_due, number_signed, centred, listed, filled}
+use Rattle.pref_term.proofs.Common.{low_kind, high_kind, around_kind, pos_kind, centre_of, first_of, named, opened, columned, number_due, centred, listed, filled}
 use Rattle.pref_term.proofs.Common.{NumberHole, UnaryHole, State, reading, completed, run, led, judged, next, between_kind, start_of, end_of, least_of, ranged, range_ended, NumberList, in_pos}
-use Rattle.pref_term.proofs.Common.{behind_column, carried, closing, list_closed, stepped, seen, ahead, taken, behind_token, Cursor, Lexeme, Digits, Goes, Fails, IsOther, NotNext, Passes, WantsColumn, TakesColumn}
+use Rattle.pref_term.proofs.Common.{behind_column, closing, list_closed, stepped, seen, ahead, taken, behind_token, Cursor, Lexeme, Digits, Goes, Fails, IsOther, NotNext, Passes, WantsColumn, TakesColumn}
 use Rattle.pref_term.proofs.Common.{ReadsOpened, FailsColumn, FailsOpened, ReadsNumber, ReadsSome, ReadsNumbers, ReadsBase, FailsNumber, FailsNumbers, FailsBase, list_hole, ReadsEnd}
 use Rattle.pref_term.proofs.Common.{FailsEnd, first_place, TermFault, Unexpected, OutOfMemory, EmptyRange, NumberRange, All, FitsSigned, ◌≢◌, IsErrAnd, IfErr, unwrap_or, int_lt, Option, scored, low}
 use Rattle.pref_term.proofs.Common.{high, around, one_of, between, all_ascii_digits, map-append, All-append, All-cons, All-nil}
@@ -53,29 +53,18 @@ pub stuck_fails : (names : Names) (t : Token) (at : ℕ) (us ts : List Placed) (
 stuck_fails names t at us ts s e stuck = λ p. ap (λ xs. run names xs p s) e ∙ ap (led names p at (run names us at)) stuck
 
 pub other_fails : (names : Names) (t : Token) (ts : List Placed) (f : TermFault) (s : State) → IsOther t ts f → ((u : Token) → u ≢ t → next s u ≡ None) → Fails names s ts f
-other_fails names t [] f s h stuck = absurd h
-other_fails names t (u ∷ us) f s h stuck =
-    subst (λ (g : TermFault). Fails names s (u ∷ us) g) (sym h.1) (λ p. ap (led names p u.place (run names us u.place)) (stuck u.token h.0))
+other_fails names t ts f s h stuck = grind arith
 
 -- a token that is neither of two
 pub neither_fails : (names : Names) (t v : Token) (ts : List Placed) (f : TermFault) (s : State) → IsOther t ts f → NotNext v ts → ((u : Token) → u ≢ t → u ≢ v → next s u ≡ None) → Fails names s ts f
-neither_fails names t v [] f s h k stuck = absurd h
-neither_fails names t v (u ∷ us) f s h k stuck =
-    subst (λ (g : TermFault). Fails names s (u ∷ us) g) (sym h.1) (λ p. ap (led names p u.place (run names us u.place)) (stuck u.token h.0 k))
+neither_fails names t v ts f s h k stuck = grind arith
 
 -- up to the column of a base term
 opened_goes : (names : Names) (ts us vs : List Placed) (col : ℕ) → Passes (sign left) ts us → (t : TakesColumn names us col vs) → (h : UnaryHole) (k : BaseKind) → Goes names (reading h (named k)) ts (reading h (columned k t.letters)) vs
-opened_goes names ts us vs col c t h k =
-    goes_then names _ (reading h (opened k)) _ ts us vs (passes_goes names (sign left) ts us (reading h (named k)) (reading h (opened k)) (mark left) c refl refl)
-    (passes_goes names (word t.letters) us vs (reading h (opened k)) (reading h (columned k t.letters)) (column_name t.letters) t.passes refl (column_good names t.letters col t.found.place))
+opened_goes names ts us vs col c t h k = grind arith
 
 pub opened_read : (names : Names) (behind : Sign) (ts us vs ws : List Placed) (col : ℕ) → Passes (sign left) ts us → TakesColumn names us col vs → Passes (sign behind) vs ws → ReadsOpened names behind ts col ws
-opened_read names behind ts us vs ws col c t d =
-    record {
-      letters = t.letters;
-      found = t.found;
-      goes = λ h k step e. sign_behind names ts vs ws _ _ (stepped h step) behind (opened_goes names ts us vs col c t h k) d (ap (carried h) e);
-    }
+opened_read names behind ts us vs ws col c t d = grind arith
 
 wants_opened : (h : UnaryHole) (k : BaseKind) → WantsColumn (reading h (opened k)) (λ letters. reading h (columned k letters))
 wants_opened h k = record { takes = λ letters. refl; only = λ t n. grind arith }
@@ -115,11 +104,7 @@ signed_ahead c t u false ds n m e d = cc
 
 number_goes : (negative : Bool) (ts us : List Placed) (ds : List ℕ) → NumberAhead negative ts ds us → (names : Names) (h : UnaryHole) (hole : NumberHole) → own_fault names (number_digits (least_of hole) negative ds) ≡ None
     → Goes names (reading h (number_due hole)) ts (reading h (filled hole (record { negative = negative; digits = ds }))) us
-number_goes false ts us ds c names h hole own = passes_goes names (digits ds) ts us (reading h (number_due hole)) _ (number_digits (least_of hole) false ds) c refl own
-number_goes true ts us ds c names h hole own =
-    goes_then names (reading h (number_due hole)) (reading h (number_signed hole)) _ ts c.0 us
-    (passes_goes names (sign minus) ts c.0 (reading h (number_due hole)) (reading h (number_signed hole)) (mark minus) c.1 refl refl)
-    (passes_goes names (digits ds) c.0 us (reading h (number_signed hole)) _ (number_digits (least_of hole) true ds) c.2 refl own)
+number_goes negative ts us ds c names h hole own = grind arith
 
 digits_refused : (names : Names) (ts us : List Placed) (ds : List ℕ) (leaf : Leaf) (s m : State) (c : Passes (digits ds) ts us) (kind : OwnFault) → next s (digits ds) ≡ Some (leaf, m) → own_fault names leaf ≡ Some kind → (p : ℕ) → run names ts p s ≡ Err (reported kind (reported_at leaf p c.0))
 digits_refused names ts us ds leaf s m c kind e own p = ap (λ xs. run names xs p s) c.1 ∙ (ap (led names p c.0 (run names us c.0)) e ∙ ap (judged leaf p c.0 (run names us c.0 m)) own)
@@ -127,11 +112,7 @@ digits_refused names ts us ds leaf s m c kind e own p = ap (λ xs. run names xs 
 -- a number with a fault of its own, which is reported at its first token
 number_refused : (negative : Bool) (ts us : List Placed) (ds : List ℕ) → NumberAhead negative ts ds us → (names : Names) (h : UnaryHole) (hole : NumberHole) (kind : OwnFault) → own_fault names (number_digits (least_of hole) negative ds) ≡ Some kind
     → (p : ℕ) → run names ts p (reading h (number_due hole)) ≡ Err (reported kind (first_place ts))
-number_refused false ts us ds c names h hole kind own p =
-    digits_refused names ts us ds (number_digits (least_of hole) false ds) (reading h (number_due hole)) _ c kind refl own p ∙ ap (λ at. Err (reported kind at)) (sym (ap first_place c.1))
-number_refused true ts us ds c names h hole kind own p =
-    ap (λ xs. run names xs p (reading h (number_due hole))) c.1.1
-    ∙ (digits_refused names c.0 us ds (number_digits (least_of hole) true ds) (reading h (number_signed hole)) _ c.2 kind refl own c.1.0 ∙ ap (λ at. Err (reported kind at)) (sym (ap first_place c.1.1)))
+number_refused negative ts us ds c names h hole kind own p = grind arith
 
 pub number_read : (negative : Bool) (ts us : List Placed) (ds : List ℕ) (value : ℤ) → NumberAhead negative ts ds us → fits_cell (signed_value negative ds) ≡ true → value ≡ signed_value negative ds → FitsSigned w64 value → ReadsNumber ts value us
 number_read negative ts us ds value c fits v held =
@@ -152,14 +133,7 @@ below_of : (l : NumberText) (value least : ℤ) (test : Bool) → number_value l
 below_of l value least test e f = ap (λ x. cond (int_lt value x) (Some empty_range) None) e ∙ ap (λ b. cond b (Some empty_range) None) f
 
 pub end_read : (ts us : List Placed) (least value : ℤ) → ReadsNumber ts value us → int_lt value least ≡ false → ReadsEnd least ts value us
-end_read ts us least value n above =
-    record {
-      number = n.number;
-      fits = n.fits;
-      value_is = n.value_is;
-      ordered = above;
-      goes = λ names h column l e. n.goes names h (end_of column l) (ap (below (Some l)) n.value_is ∙ below_of l value least false e above);
-    }
+end_read ts us least value n above = grind arith
 
 pub end_refused : (ts us : List Placed) (least value : ℤ) → ReadsNumber ts value us → int_lt value least ≡ true → FailsEnd least ts (EmptyRange (first_place ts))
 end_refused ts us least value n under names h column l e = n.refused names h (end_of column l) (ap (below (Some l)) n.value_is ∙ below_of l value least true e under)

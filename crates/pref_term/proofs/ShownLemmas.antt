@@ -172,12 +172,8 @@ base_same names (layered col (s ∷ ss)) h w =
 -- the tree has the meaning of what is shown
 pub meaning_same : (names : Names) (p : Preference) → CanShow names p → shape_meaning (shape_of names p) names ≡ p
 meaning_same names (scored b) h = ap scored (base_same names b h.0 h.1)
-meaning_same names (pareto p q) h =
-    ap (λ x. pareto x (unary_meaning (as_factor (shape_of names q)) names)) (product_same (shape_of names p) names ∙ meaning_same names p h.0)
-    ∙ ap (pareto p) (factor_same (shape_of names q) names ∙ meaning_same names q h.1)
-meaning_same names (prior p q) h =
-    ap (λ x. prior x (product_meaning (as_product (shape_of names q)) names)) (prior_same (shape_of names p) names ∙ meaning_same names p h.0)
-    ∙ ap (prior p) (product_same (shape_of names q) names ∙ meaning_same names q h.1)
+meaning_same names (pareto p q) h = grind (arith, meaning_same names p h.0, meaning_same names q h.1)
+meaning_same names (prior p q) h = grind (arith, meaning_same names p h.0, meaning_same names q h.1)
 meaning_same names (reverse p) h = ap reverse (factor_same (shape_of names p) names ∙ meaning_same names p h)
 
 -- ---- its text
@@ -197,10 +193,7 @@ end_shown l (negsuc n) = simp append-nil
 
 values_shown : (vs : List ℤ) → leaves_text (others_leaves (map number_text vs)) ≡ shown_values vs
 values_shown [] = refl
-values_shown (v ∷ vs) =
-    ap (λ xs. codes ", " ++ xs) (leaves_text-append (number_leaves (number_text v)) (others_leaves (map number_text vs)))
-    ∙ (ap (λ xs. codes ", " ++ (xs ++ leaves_text (others_leaves (map number_text vs)))) (number_shown v)
-    ∙ ap (λ xs. codes ", " ++ (signed_decimal v ++ xs)) (values_shown vs))
+values_shown (v ∷ vs) = grind (arith, values_shown vs)
 
 -- numbers and the sign that closes their list
 list_shown : (v : ℤ) (vs : List ℤ) (closing : Sign) → leaves_text (list_leaves (number_text v) (map number_text vs) closing) ≡ signed_decimal v ++ (shown_values vs ++ sign_text closing)

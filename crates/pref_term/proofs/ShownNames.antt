@@ -21,10 +21,7 @@ all_word [] h = tt
 all_word (b ∷ bs) h = let k = and_parts (is_name_byte b) (list_all is_name_byte bs) h in (k.0, all_word bs k.1)
 
 last_parts : (a b c d : Bool) → (a && b && c && d) ≡ true → (c ≡ true) × (d ≡ true)
-last_parts true true true d h = (refl, h)
-last_parts true true false d h = cc
-last_parts true false c d h = cc
-last_parts false b c d h = cc
+last_parts a b c d h = grind arith
 
 name_is_word : (name : List ℕ) → is_name name ≡ true → IsWordText name
 name_is_word [] h = cc

@@ -13,12 +13,7 @@ use Rattle.pref_term.proofs.ShownLemmas.{leaf_text, leaves_text, sign_text, word
 pub place_free : (k p q : ℕ) (bs : List ℕ) → tokens_in (tokens_from k p bs) ≡ tokens_in (tokens_from k q bs)
 place_free k p q [] = refl
 place_free (suc k) p q (b ∷ bs) = place_free k (p + 1) (q + 1) bs
-place_free zero p q (b ∷ bs) = go (is_blank b) (place_free 0 (p + 1) (q + 1) bs) (place_free (more_bytes b bs) (p + 1) (q + 1) bs)
-  where
-    go : (t : Bool) → tokens_in (tokens_from 0 (p + 1) bs) ≡ tokens_in (tokens_from 0 (q + 1) bs) → tokens_in (tokens_from (more_bytes b bs) (p + 1) bs) ≡ tokens_in (tokens_from (more_bytes b bs) (q + 1) bs)
-        → tokens_in (cond t (tokens_from 0 (p + 1) bs) (record { token = token_from b bs; place = p } ∷ tokens_from (more_bytes b bs) (p + 1) bs)) ≡ tokens_in (cond t (tokens_from 0 (q + 1) bs) (record { token = token_from b bs; place = q } ∷ tokens_from (more_bytes b bs) (q + 1) bs))
-    go true h k = h
-    go false h k = ap (λ ts. token_from b bs ∷ ts) k
+place_free zero p q (b ∷ bs) = grind (arith, place_free 0 (p + 1) (q + 1) bs, place_free (more_bytes b bs) (p + 1) (q + 1) bs)
 
 -- the tokens of bytes
 abbrev pub lexed : List ℕ → List Token
@@ -41,9 +36,7 @@ run_none test (c ∷ cs) h = ap (λ t. cond t (1 + prefix_len test cs) 0) h
 
 run_length : (test : ℕ → Bool) (bs rest : List ℕ) → AllByRecursion (λ b. test b ≡ true) bs → Ends test rest → prefix_len test (bs ++ rest) ≡ length bs
 run_length test [] rest h e = run_none test rest e
-run_length test (b ∷ bs) rest h e =
-    let one : 1 + length bs ≡ suc (length bs) = omega arith in
-    ap (λ t. cond t (1 + prefix_len test (bs ++ rest)) 0) h.0 ∙ (ap (λ n. 1 + n) (run_length test bs rest h.1 e) ∙ one)
+run_length test (b ∷ bs) rest h e = grind (arith, run_length test bs rest h.1 e)
 
 letter_plain : (b : ℕ) → is_ascii_alphabetic b ≡ true → is_blank b ≡ false
 letter_plain b h = grind (arith, nat_tests)

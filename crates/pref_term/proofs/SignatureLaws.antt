@@ -1,8 +1,8 @@
 -- Of two rows of which the first is over the second, or its twin, the first reaches no mark that the second does not reach.
 use Rattle.std.specs.Prelude.{◌||◌}
-use Rattle.pref_term.proofs.Common.{◌≡◌, ℕ, ℤ, pos, List, [], ◌∷◌, Bool, true, false, map, not, inl, inr, sym, ap, ◌∙◌, subst, arith, All, bit_and, int_lt, ◌==◌}
-use Rattle.pref_term.proofs.Common.{flat_map, int_eq, Decides-int_eq, ints, All-append, All-cons, All-contains, All-nil, order_of, better, in_same_group, cell, same, from_zero, key_for}
-use Rattle.pref_term.proofs.Common.{keyed, leading, opposed, is_better, is_same, and_parts, Preference, scored, pareto, prior, reverse, Question, Suit, bits_by, is_within, hash_with, scale_column}
+use Rattle.pref_term.proofs.Common.{◌≡◌, ℕ, ℤ, pos, List, [], ◌∷◌, Bool, true, false, map, not, inl, inr, sym, ap, ◌∙◌, subst, arith, All, int_lt}
+use Rattle.pref_term.proofs.Common.{int_eq, Decides-int_eq, ints, All-append, All-cons, All-contains, All-nil, order_of, better, in_same_group, cell, same, key_for}
+use Rattle.pref_term.proofs.Common.{keyed, leading, is_better, is_same, and_parts, Preference, scored, pareto, prior, reverse, Question, Suit, bits_by, is_within, scale_column}
 use Rattle.pref_term.proofs.Common.{signature, twins_alike, by_scores, in_priority, in_product, walked, Key, Relation}
 use Rattle.pref_term.specs.RelationLaws.{priority-better, priority-same, product-better, product-same, scores-better, scores-same}
 use Rattle.pref_term.specs.Leading.{Suits}
@@ -49,9 +49,7 @@ group_cells (col ∷ cols) a b h =
     All-cons (λ c. cell a c ≡ cell b c) col cols ((Decides-int_eq (cell a col) (cell b col)).0 both.0) (group_cells cols a b both.1)
 
 bits_as : (scale : Scale) (a b : List ℤ) → cell a (scale_column scale) ≡ cell b (scale_column scale) → bits_by scale a ≡ bits_by scale b
-bits_as (Marks k marks) a b e = ap (λ x. map (λ mark. not (int_lt (opposed k.turned (from_zero k.score x)) (pos mark))) marks.items) e
-bits_as (Hashes c masks) a b e =
-    ap (λ x. flat_map (λ mask. (bit_and (hash_with 0 x) mask == mask) ∷ (bit_and (hash_with 0 x) mask == 0) ∷ []) masks.items) e
+bits_as scale a b e = grind arith
 
 -- ---- a scale
 

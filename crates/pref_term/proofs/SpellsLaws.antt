@@ -1,8 +1,8 @@
 -- Reading answers as the grammar says: the ask that is spelled, or the first fault.
 use Rattle.pref_term.proofs.Common.{◌≡◌, arith, ℕ, List, [], ◌∷◌, ◌++◌, Option, Some, None, Result, Ok, Err, refl, sym, ap, subst, ◌∙◌, append_assoc, append-nil, ◌⊎◌, inl, inr, IfSome, MatchResult}
-use Rattle.pref_term.proofs.Common.{AllByRecursion, map-append, Token, finish, Placed, PriorText, AskText, rated, skyline, IsText, IsWritten, Leaf, token_of, ask_leaves, Names, tokens_in, tokens_on}
-use Rattle.pref_term.proofs.Common.{IsGood, own_fault, OwnFault, Starts, reported, reported_at, last_place, IsUnexpected, HasOwnFault, FirstFault, State, start, reading, after, group_listed}
-use Rattle.pref_term.proofs.Common.{dims_listed, done, read_of, next, run, led, judged, ended, PriorHole, whole, finished, BasePart, base_next, outer, closed, TermFault, Unexpected}
+use Rattle.pref_term.proofs.Common.{AllByRecursion, map-append, Token, finish, Placed, PriorText, AskText, rated, IsText, IsWritten, Leaf, token_of, ask_leaves, Names, tokens_in, tokens_on}
+use Rattle.pref_term.proofs.Common.{IsGood, own_fault, OwnFault, Starts, reported, reported_at, last_place, IsUnexpected, HasOwnFault, FirstFault, State, start}
+use Rattle.pref_term.proofs.Common.{done, read_of, next, run, led, judged, ended, PriorHole, whole, finished, BasePart, base_next, TermFault, Unexpected}
 use Rattle.std.proofs.lemmas.Option.{none-some, same_Some}
 use Rattle.pref_term.proofs.GrammarSound.{next_grows, Grows}
 use Rattle.pref_term.proofs.GrammarComplete.{Reads, reads_on, reads_ask, can_end}
@@ -54,9 +54,7 @@ pub record Halfway (s : State) (a b : List Leaf) (n : State) : Type 0 where
 
 pub reads_cut : (s : State) (a b : List Leaf) (n : State) → Reads s (a ++ b) n → Halfway s a b n
 reads_cut s [] b n h = record { mid = s; front = refl; back = h }
-reads_cut s (leaf ∷ a) b n h =
-    let k = reads_cut h.0 a b n h.2 in
-    record { mid = k.mid; front = (h.0, h.1, k.front); back = k.back }
+reads_cut s (leaf ∷ a) b n h = grind (arith, reads_cut h.0 a b n h.2)
 
 -- the same tokens lead to the same state
 pub reads_one : (s : State) (a b : List Leaf) (m n : State) → tokens_on a ≡ tokens_on b → Reads s a m → Reads s b n → m ≡ n
@@ -141,17 +139,10 @@ base_unfinished : (b : BasePart) → base_next b finish ≡ None
 base_unfinished b = grind arith
 
 finish_done : (s : State) → IfSome (next s finish) (λ x. IsDone x.1)
-finish_done (after h p) = finished_done (outer h) (closed h p)
-finish_done (reading h b) = rw (base_unfinished b) tt
-finish_done (group_listed head r first others) = (rated head r (first ∷ others), refl)
-finish_done (dims_listed s o first others) = (skyline s o first others, refl)
-finish_done _ = tt
+finish_done s = grind arith
 
 due_more : (t : Placed) (ts : List Placed) (s : State) (leaf : Leaf) (m : State) → Finishes (t ∷ ts) → next s t.token ≡ Some (leaf, m) → Due ts m
-due_more t [] s leaf m f e =
-    let g = subst (λ (x : Token). IfSome (next s x) (λ y. IsDone y.1)) (sym f) (finish_done s) in
-    subst (λ (o : Option (Leaf × State)). IfSome o (λ y. IsDone y.1)) e g
-due_more t (u ∷ ts) s leaf m f e = f
+due_more t ts s leaf m f e = grind arith
 
 last_more : (p : ℕ) (before : List Placed) (t : Placed) → last_place p (before ++ t ∷ []) ≡ t.place
 last_more p [] t = refl
