@@ -83,9 +83,6 @@ ranked_by_word : (head : HeadText) (r : PriorText) (letters : List ℕ) → keyw
 ranked_by_word head (one_product p) letters e = ap (grouped_by (whole head) (one_product p)) e
 ranked_by_word head (then_product r p) letters e = ap (grouped_by (whole head) (then_product r p)) e
 
-pub grouping_read : (names : Names) (letters : List ℕ) (ts us : List Placed) (columns : List ℕ) → Passes (word letters) ts us → keyword_of letters ≡ Some by_word → ReadsColumns names us columns → ReadsGrouping names ts columns
-grouping_read names letters ts us columns c e r = grind arith
-
 pub grouping_fails : (names : Names) (letters : List ℕ) (ts us : List Placed) (f : TermFault) → Passes (word letters) ts us → keyword_of letters ≡ Some by_word → FailsColumns names us f → FailsGrouping names ts f
 grouping_fails names letters ts us f c e r ns na head p =
     goes_fails names _ _ ts us f (passes_goes names (word letters) ts us (ranked (whole head) p) (group_due head p []) (name by_word) c (ranked_by_word head p letters e) refl) (r head p)

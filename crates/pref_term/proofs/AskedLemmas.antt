@@ -8,10 +8,6 @@ use Rattle.pref_term.proofs.SpellsLaws.{Finishes, Due, Spelt, Answers, run_answe
 
 -- ---- the tokens of a text end with its end
 
-finishes_more : (t : Placed) (ts : List Placed) → Finishes ts → Finishes (t ∷ ts)
-finishes_more t [] h = absurd h
-finishes_more t (u ∷ us) h = h
-
 pub tokens_finish : (reported p : ℕ) (bs : List ℕ) → Finishes (tokens_from reported p bs)
 tokens_finish reported p [] = refl
 tokens_finish (suc k) p (b ∷ bs) = tokens_finish k (p + 1) bs

@@ -30,9 +30,6 @@ module _ (names : Names) (depth inside : ℕ) (ts us : List Placed) (room : (dep
 
 -- ---- a group
 
-reverse_only : (h : UnaryHole) (u : Token) → u ≢ sign left → next (reverse_named h) u ≡ None
-reverse_only h u ne = grind arith
-
 pub group_not_opened : (names : Names) (depth : ℕ) (ts : List Placed) (t : Lexeme) → ts ≡ taken t → seen t.token ≢ sign left → FailsGroup names depth ts (Unexpected t.at)
 group_not_opened names depth ts t e n = grind arith
 

@@ -1,11 +1,11 @@
 -- What the word `distinct` of a clause leaves of a text, and what a clause behind it asks.
-use Rattle.pref_term.proofs.Common.{◌≡◌, arith, ℕ, List, [], ◌∷◌, Bool, true, false, cond, Some, None, refl, sym, ap, subst, ◌∙◌, ◌≤◌, length, ◌≢◌, fold, codes, AllByRecursion}
+use Rattle.pref_term.proofs.Common.{◌≡◌, arith, ℕ, List, [], ◌∷◌, true, false, cond, Some, None, refl, ap, subst, ◌∙◌, ◌≤◌, length, ◌≢◌, fold, codes, AllByRecursion}
 use Rattle.pref_term.proofs.Common.{bytes_eq, str_to_ascii_lowercase, bytes_eq-Decides, Token, word, finish, Placed, tokens_of, seen, behind_token, CasedWord, skyline_word, of_word}
 use Rattle.pref_term.proofs.Common.{cased_letters, cased_of, cased, IsWritten, DimText, HeadText, PriorText, AskText, rated, skyline}
 use Rattle.pref_term.proofs.Common.{ask_leaves, IsText, is_in_any_case, is_distinct_ahead, says_distinct, without_third, plain, is_word, Names, orders_of}
 use Rattle.pref_term.proofs.Common.{product_of, tokens_in, tokens_on, IsGood, Spells, question, meant, start, skyline_named, dim_due, begun, of_named, run, word_ahead}
-use Rattle.pref_term.proofs.Common.{AsksWholeNothing, AsksClause, AsksClauseNothing, IsBehindDistinct, ReadsClause, Preference, scored, pareto, Question, IsClause, IsDimension, Best, TermFault}
-use Rattle.pref_term.proofs.Common.{NoMinOrMax, and_from, and_right}
+use Rattle.pref_term.proofs.Common.{AsksWholeNothing, AsksClauseNothing, IsBehindDistinct, Preference, scored, pareto, Question, IsClause, IsDimension, TermFault}
+use Rattle.pref_term.proofs.Common.{and_from, and_right}
 use Rattle.pref_term.proofs.GrammarComplete.{cased_found, no_keyword}
 use Rattle.pref_term.proofs.LedLemmas.{run_step, unless_map}
 use Rattle.pref_term.specs.declared.front.Token as code
@@ -40,11 +40,6 @@ behind_more k ts h = grind arith
 pub behind_said : (k : code.Token) (at : ℕ) (ts : List Placed) → is_distinct_ahead (record { token = seen k; place = at } ∷ behind_token k ts) ≡ true → behind_token k ts ≡ ts
 behind_said k at ts h = grind arith
 
--- three tokens ahead
-pub ahead_distinct : (ts us vs ws : List Placed) (d w : List ℕ) (t : Token) (pd pt pw : ℕ) → ts ≡ word_ahead d pd us → us ≡ record { token = t; place = pt } ∷ vs → vs ≡ word_ahead w pw ws → bytes_eq (codes "distinct") (str_to_ascii_lowercase d) ≡ true → true ≡ is_distinct_ahead ts
-ahead_distinct ts us vs ws d w t pd pt pw e f g h =
-    sym (ap is_distinct_ahead (e ∙ ap (word_ahead d pd) (f ∙ ap (λ xs. record { token = t; place = pt } ∷ xs) g)) ∙ and_from (bytes_eq (codes "distinct") (str_to_ascii_lowercase d)) true h refl)
-
 -- ---- whole questions
 
 pub whole_clause_nothing : (names : Names) (ts us : List Placed) (f : TermFault) → IsBehindDistinct ts us → AsksClauseNothing names true us f → AsksWholeNothing names ts f
@@ -52,12 +47,6 @@ whole_clause_nothing names ts us f b h =
     unless_map f (λ k. ap (λ d. meant names d (run names (plain ts) 0 start)) b.said ∙ (ap (meant names true) (b.leads names) ∙ k b.place)) (h b.skyline_is b.of_is)
 
 -- ---- a clause
-
-pub clause_asks : (names : Names) (distinct : Bool) (ts : List Placed) (p : Preference) (group : List ℕ) → ReadsClause names ts (Some p) group → AsksClause names distinct ts (record { preference = p; group = group; mode = Best; distinct = distinct })
-clause_asks names distinct ts p group r s o k = grind arith
-
-pub clause_asks_nothing : (names : Names) (distinct : Bool) (ts : List Placed) (group : List ℕ) → ReadsClause names ts None group → AsksClauseNothing names distinct ts NoMinOrMax
-clause_asks_nothing names distinct ts group r s o k = grind arith
 
 -- the product of MIN and MAX columns is that of a clause
 clause_on : (p : Preference) (ps : List Preference) → IsClause p → AllByRecursion IsDimension ps → IsClause (fold pareto p ps)
@@ -78,10 +67,6 @@ product_is_clause names ds p e = go (orders_of names ds) (orders_fine names ds) 
     go (_ ∷ ps) k e = absurd k.0
 
 -- ---- texts without the word
-
--- a text that begins with another word than `skyline` does not say `distinct`
-not_said : (ts : List Placed) (letters : List ℕ) (rest : List Token) → tokens_in ts ≡ word letters ∷ rest → bytes_eq (codes "skyline") (str_to_ascii_lowercase letters) ≡ false → says_distinct ts ≡ false
-not_said ts letters rest e h = grind arith
 
 pub head_said : (head : HeadText) (r : PriorText) (group : List (List ℕ)) (ts : List Placed) → tokens_in ts ≡ tokens_on (ask_leaves (rated head r group)) → says_distinct ts ≡ false
 head_said head r group ts e = grind arith

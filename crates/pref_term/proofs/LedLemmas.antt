@@ -1,7 +1,7 @@
 -- What the parts of the reader promise, from the tokens that they take.
 use Rattle.pref_term.proofs.Common.{◌≡◌, arith, ℕ, ℤ, Bor, List, [], ◌∷◌, ◌++◌, map, Bool, true, false, cond, Some, None, Result, Ok, Err, refl, sym, ap, subst, ◌∙◌, fits_cell, Sign, left, right}
 use Rattle.pref_term.proofs.Common.{comma, minus, Token, digits, sign, Placed, based, NumberText, low_text, high_text, around_text, pos_text, Leaf, mark, column_name, number_digits}
-use Rattle.pref_term.proofs.Common.{between_text, Names, UnlessMemory, own_fault, signed_value, number_value, column_at, number_range, below, empty_range, reported, reported_at, OwnFault, BaseKind}
+use Rattle.pref_term.proofs.Common.{between_text, Names, UnlessMemory, own_fault, signed_value, number_value, column_at, number_range, below, empty_range, reported, OwnFault, BaseKind}
 use Rattle.pref_term.proofs.Common.{low_kind, high_kind, around_kind, pos_kind, centre_of, first_of, named, opened, columned, number_due, centred, listed, filled}
 use Rattle.pref_term.proofs.Common.{NumberHole, UnaryHole, State, reading, completed, run, led, judged, next, between_kind, start_of, end_of, least_of, ranged, range_ended, NumberList, in_pos}
 use Rattle.pref_term.proofs.Common.{behind_column, closing, list_closed, stepped, seen, ahead, taken, behind_token, Cursor, Lexeme, Digits, Goes, Fails, IsOther, NotNext, Passes, WantsColumn, TakesColumn}
@@ -69,9 +69,6 @@ opened_read names behind ts us vs ws col c t d = grind arith
 wants_opened : (h : UnaryHole) (k : BaseKind) → WantsColumn (reading h (opened k)) (λ letters. reading h (columned k letters))
 wants_opened h k = record { takes = λ letters. refl; only = λ t n. grind arith }
 
-pub named_only : (h : UnaryHole) (k : BaseKind) (u : Token) → u ≢ sign left → next (reading h (named k)) u ≡ None
-named_only h k u ne = grind arith
-
 pub opened_fails : (names : Names) (behind : Sign) (ts us : List Placed) (f : TermFault) → Passes (sign left) ts us → FailsColumn names us f → FailsOpened names behind ts f
 opened_fails names behind ts us f c r h k e =
     goes_fails names _ (reading h (opened k)) ts us f (passes_goes names (sign left) ts us (reading h (named k)) (reading h (opened k)) (mark left) c refl refl)
@@ -105,9 +102,6 @@ signed_ahead c t u false ds n m e d = cc
 number_goes : (negative : Bool) (ts us : List Placed) (ds : List ℕ) → NumberAhead negative ts ds us → (names : Names) (h : UnaryHole) (hole : NumberHole) → own_fault names (number_digits (least_of hole) negative ds) ≡ None
     → Goes names (reading h (number_due hole)) ts (reading h (filled hole (record { negative = negative; digits = ds }))) us
 number_goes negative ts us ds c names h hole own = grind arith
-
-digits_refused : (names : Names) (ts us : List Placed) (ds : List ℕ) (leaf : Leaf) (s m : State) (c : Passes (digits ds) ts us) (kind : OwnFault) → next s (digits ds) ≡ Some (leaf, m) → own_fault names leaf ≡ Some kind → (p : ℕ) → run names ts p s ≡ Err (reported kind (reported_at leaf p c.0))
-digits_refused names ts us ds leaf s m c kind e own p = ap (λ xs. run names xs p s) c.1 ∙ (ap (led names p c.0 (run names us c.0)) e ∙ ap (judged leaf p c.0 (run names us c.0 m)) own)
 
 -- a number with a fault of its own, which is reported at its first token
 number_refused : (negative : Bool) (ts us : List Placed) (ds : List ℕ) → NumberAhead negative ts ds us → (names : Names) (h : UnaryHole) (hole : NumberHole) (kind : OwnFault) → own_fault names (number_digits (least_of hole) negative ds) ≡ Some kind

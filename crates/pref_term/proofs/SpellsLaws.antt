@@ -1,8 +1,8 @@
 -- Reading answers as the grammar says: the ask that is spelled, or the first fault.
 use Rattle.pref_term.proofs.Common.{◌≡◌, arith, ℕ, List, [], ◌∷◌, ◌++◌, Option, Some, None, Result, Ok, Err, refl, sym, ap, subst, ◌∙◌, append_assoc, append-nil, ◌⊎◌, inl, inr, IfSome, MatchResult}
-use Rattle.pref_term.proofs.Common.{AllByRecursion, map-append, Token, finish, Placed, PriorText, AskText, rated, IsText, IsWritten, Leaf, token_of, ask_leaves, Names, tokens_in, tokens_on}
+use Rattle.pref_term.proofs.Common.{AllByRecursion, map-append, Token, finish, Placed, AskText, IsText, IsWritten, Leaf, token_of, ask_leaves, Names, tokens_in, tokens_on}
 use Rattle.pref_term.proofs.Common.{IsGood, own_fault, OwnFault, Starts, reported, reported_at, last_place, IsUnexpected, HasOwnFault, FirstFault, State, start}
-use Rattle.pref_term.proofs.Common.{done, read_of, next, run, led, judged, ended, PriorHole, whole, finished, BasePart, base_next, TermFault, Unexpected}
+use Rattle.pref_term.proofs.Common.{done, read_of, next, run, led, judged, ended, TermFault, Unexpected}
 use Rattle.std.proofs.lemmas.Option.{none-some, same_Some}
 use Rattle.pref_term.proofs.GrammarSound.{next_grows, Grows}
 use Rattle.pref_term.proofs.GrammarComplete.{Reads, reads_on, reads_ask, can_end}
@@ -130,16 +130,6 @@ IsDone s = (a : AskText) × (s ≡ done a)
 abbrev pub Due : List Placed → State → Type 0
 Due [] s = IsDone s
 Due (t ∷ ts) s = Finishes (t ∷ ts)
-
-finished_done : (h : PriorHole) (r : PriorText) → IfSome (finished h r) (λ x. IsDone x.1)
-finished_done (whole head) r = (rated head r [], refl)
-finished_done _ r = tt
-
-base_unfinished : (b : BasePart) → base_next b finish ≡ None
-base_unfinished b = grind arith
-
-finish_done : (s : State) → IfSome (next s finish) (λ x. IsDone x.1)
-finish_done s = grind arith
 
 due_more : (t : Placed) (ts : List Placed) (s : State) (leaf : Leaf) (m : State) → Finishes (t ∷ ts) → next s t.token ≡ Some (leaf, m) → Due ts m
 due_more t ts s leaf m f e = grind arith
