@@ -1,13 +1,13 @@
 -- What the parts of the reader promise that read what stands around a term, and skyline clauses.
 use Rattle.pref_term.proofs.Common.{◌≡◌, arith, ℕ, List, [], ◌∷◌, ◌++◌, length, map, Bool, true, false, Option, Some, None, Ok, refl, sym, ap, subst, ◌∙◌, append-nil, ◌≢◌, All, IfSome, cond, unwrap_or}
 use Rattle.pref_term.proofs.Common.{All-append, comma, Token, word, digits, sign, finish, Placed, Keyword, best_word, top_level_word, at_least_word, by_word, keyword_of, skyline_word, of_word}
-use Rattle.pref_term.proofs.Common.{cased_of, Direction, minimal, maximal, different, direction_word, DimText, HeadText, best_head, top_level_head, at_least_head, PriorText, one_product, then_product}
+use Rattle.pref_term.proofs.Common.{cased_of, Direction, minimal, maximal, different, direction_word, DimText, HeadText, best_head, top_level_head, at_least_head, PriorText}
 use Rattle.pref_term.proofs.Common.{AskText, rated, name, mark, column_name, count_digits, cased, last, Names, column_at, mode_of, order_by, group_by, orders_of, groups_of, product_of, bad_count}
-use Rattle.pref_term.proofs.Common.{State, start, operand, whole, in_whole, ranked, top_level_named, at_least_named, group_due, skyline_named, dim_due, dim_named, group_listed, dims_listed, run, done}
-use Rattle.pref_term.proofs.Common.{listed_column, listed_dim, directed, begun, of_named, grouped_by, next, meant, Goes, Fails, Passes, IsKnown, IsTermOf, IsColumn, NotNext, IsOther}
+use Rattle.pref_term.proofs.Common.{State, start, operand, whole, in_whole, ranked, top_level_named, at_least_named, group_due, skyline_named, dim_due, dim_named, run, done}
+use Rattle.pref_term.proofs.Common.{listed_column, listed_dim, directed, begun, of_named, next, meant, Goes, Fails, Passes, IsKnown, IsTermOf, IsColumn, NotNext, IsOther}
 use Rattle.pref_term.proofs.Common.{WantsColumn, TakesColumn, ReadsPrior, Asks, AsksNothing, WantsCount, TakesCount, FailsCount, ReadsSomeColumns, ReadsColumns, FailsColumns}
 use Rattle.pref_term.proofs.Common.{ReadsGrouping, FailsGrouping, TakesDirection, FailsDirection, ReadsDim, FailsDim, with_order, ReadsDims, ReadsClause, FailsClause, PassesOf, AsksClauseNothing}
-use Rattle.pref_term.proofs.Common.{Preference, scored, low, high, pareto, prior, reverse, ReadsBelow, IsWritable, Question, FitsWidth, IsAsk, IsSkyline, IsCount, cut_of, Mode, Best, TopLevel}
+use Rattle.pref_term.proofs.Common.{Preference, scored, pareto, prior, reverse, ReadsBelow, IsWritable, Question, FitsWidth, IsAsk, IsSkyline, IsCount, cut_of, Mode, Best, TopLevel}
 use Rattle.pref_term.proofs.Common.{AtLeast, TermFault}
 use Rattle.std.specs.Str.Parse.{digits_value}
 use Rattle.std.proofs.lemmas.List.Sums.{fold-append}
@@ -33,12 +33,8 @@ group_comma head r some letters = grind arith
 group_finish : (head : HeadText) (r : PriorText) (some : List (List ℕ)) (letters : List ℕ) → next (listed_column head r some letters) finish ≡ Some (last, done (rated head r (some ++ letters ∷ [])))
 group_finish head r some letters = grind arith
 
-group_listed_stuck : (head : HeadText) (r : PriorText) (first : List ℕ) (others : List (List ℕ)) (u : Token) → u ≢ sign comma → u ≢ finish → next (group_listed head r first others) u ≡ None
-group_listed_stuck head r first others u nc nf = grind arith
-
 group_stuck : (head : HeadText) (r : PriorText) (some : List (List ℕ)) (letters : List ℕ) (u : Token) → u ≢ sign comma → u ≢ finish → next (listed_column head r some letters) u ≡ None
-group_stuck head r [] letters = group_listed_stuck head r letters []
-group_stuck head r (c ∷ cs) letters = group_listed_stuck head r c (cs ++ letters ∷ [])
+group_stuck head r some letters = grind (arith)
 
 -- ---- the columns of a group
 
@@ -80,12 +76,10 @@ module _ (names : Names) (ts us vs : List Placed) (columns : List ℕ) (col : �
 -- ---- the group
 
 ranked_by_word : (head : HeadText) (r : PriorText) (letters : List ℕ) → keyword_of letters ≡ Some by_word → next (ranked (whole head) r) (word letters) ≡ Some (name by_word, group_due head r [])
-ranked_by_word head (one_product p) letters e = ap (grouped_by (whole head) (one_product p)) e
-ranked_by_word head (then_product r p) letters e = ap (grouped_by (whole head) (then_product r p)) e
+ranked_by_word head r letters e = grind (arith)
 
 pub grouping_fails : (names : Names) (letters : List ℕ) (ts us : List Placed) (f : TermFault) → Passes (word letters) ts us → keyword_of letters ≡ Some by_word → FailsColumns names us f → FailsGrouping names ts f
-grouping_fails names letters ts us f c e r ns na head p =
-    goes_fails names _ _ ts us f (passes_goes names (word letters) ts us (ranked (whole head) p) (group_due head p []) (name by_word) c (ranked_by_word head p letters e) refl) (r head p)
+grouping_fails names letters ts us f c e r ns na head p = grind (arith, goes_fails names _ _ ts us f (passes_goes names (word letters) ts us (ranked (whole head) p) (group_due head p []) (name by_word) c (ranked_by_word head p letters e) refl) (r head p), passes_goes names (word letters) ts us (ranked (whole head) p) (group_due head p []) (name by_word) c (ranked_by_word head p letters e) refl, ranked_by_word head p letters e)
 
 -- ---- what stands behind a head
 
@@ -118,12 +112,8 @@ wants_dim s o some = record { takes = λ letters. refl; only = λ t n. grind ari
 dim_comma : (s o : List ℕ) (some : List DimText) (d : DimText) → next (listed_dim s o some d) (sign comma) ≡ Some (mark comma, dim_due s o (some ++ d ∷ []))
 dim_comma s o some d = grind arith
 
-dims_listed_stuck : (s o : List ℕ) (first : DimText) (others : List DimText) (u : Token) → u ≢ sign comma → u ≢ finish → next (dims_listed s o first others) u ≡ None
-dims_listed_stuck s o first others u nc nf = grind arith
-
 dim_stuck : (s o : List ℕ) (some : List DimText) (d : DimText) (u : Token) → u ≢ sign comma → u ≢ finish → next (listed_dim s o some d) u ≡ None
-dim_stuck s o [] d = dims_listed_stuck s o d []
-dim_stuck s o (e ∷ es) d = dims_listed_stuck s o e (es ++ d ∷ [])
+dim_stuck s o some d = grind (arith)
 
 pub dim_read : (names : Names) (ts us vs : List Placed) (col : ℕ) (d : Direction) → TakesColumn names ts col us → TakesDirection us d vs → ReadsDim names ts col d vs
 dim_read names ts us vs col d t g =
@@ -142,20 +132,10 @@ dim_direction_fails names ts us col f t h s o some =
 -- ---- some dimensions
 
 product_more : (orders : List Preference) (d : Direction) (col : ℕ) → product_of (orders ++ order_by d col) ≡ with_order (product_of orders) d col
-product_more [] minimal col = refl
-product_more [] maximal col = refl
-product_more [] different col = refl
-product_more (p ∷ ps) minimal col = ap Some (fold-append pareto p ps (scored (low col) ∷ []))
-product_more (p ∷ ps) maximal col = ap Some (fold-append pareto p ps (scored (high col) ∷ []))
-product_more (p ∷ ps) different col = ap product_of (append-nil (p ∷ ps))
+product_more orders d col = grind (arith, fold-append)
 
 product_known_more : (names : Names) (product : Option Preference) (d : Direction) (col : ℕ) → IsKnown names col → IfSome product (IsTermOf names) → IfSome (with_order product d col) (IsTermOf names)
-product_known_more names None minimal col k h = (k, tt)
-product_known_more names None maximal col k h = (k, tt)
-product_known_more names None different col k h = h
-product_known_more names (Some p) minimal col k h = (h, (k, tt))
-product_known_more names (Some p) maximal col k h = (h, (k, tt))
-product_known_more names (Some p) different col k h = h
+product_known_more names product d col k h = grind (arith)
 
 group_known_more : (names : Names) (group : List ℕ) (d : Direction) (col : ℕ) → IsKnown names col → All (IsKnown names) group → All (IsKnown names) (group ++ group_by d col)
 group_known_more names group minimal col k h = subst (All (IsKnown names)) (sym (append-nil group)) h
@@ -163,15 +143,10 @@ group_known_more names group maximal col k h = subst (All (IsKnown names)) (sym 
 group_known_more names group different col k h = All-append (IsKnown names) group (col ∷ []) h (all_one (IsKnown names) col k)
 
 orders_more : (names : Names) (dims : List DimText) (dim : DimText) (product : Option Preference) (d : Direction) (col : ℕ) → product_of (orders_of names dims) ≡ product → dim.direction ≡ d → column_at names dim.column ≡ col → product_of (orders_of names (dims ++ dim ∷ [])) ≡ with_order product d col
-orders_more names dims dim product d col e f g =
-    ap product_of (flat_map-append (λ x. order_by x.direction (column_at names x.column)) dims (dim ∷ []) ∙ ap (λ xs. orders_of names dims ++ xs) (append-nil (order_by dim.direction (column_at names dim.column))))
-    ∙ (product_more (orders_of names dims) dim.direction (column_at names dim.column)
-    ∙ (ap (λ x. with_order x dim.direction (column_at names dim.column)) e ∙ (ap (λ x. with_order product x (column_at names dim.column)) f ∙ ap (with_order product d) g)))
+orders_more names dims dim product d col e f g = grind (arith, flat_map-append, product_more)
 
 groups_more : (names : Names) (dims : List DimText) (dim : DimText) (group : List ℕ) (d : Direction) (col : ℕ) → groups_of names dims ≡ group → dim.direction ≡ d → column_at names dim.column ≡ col → groups_of names (dims ++ dim ∷ []) ≡ group ++ group_by d col
-groups_more names dims dim group d col e f g =
-    flat_map-append (λ x. group_by x.direction (column_at names x.column)) dims (dim ∷ []) ∙ (ap (λ xs. groups_of names dims ++ xs) (append-nil (group_by dim.direction (column_at names dim.column)))
-    ∙ (ap (λ x. x ++ group_by dim.direction (column_at names dim.column)) e ∙ (ap (λ x. group ++ group_by x (column_at names dim.column)) f ∙ ap (λ x. group ++ group_by d x) g)))
+groups_more names dims dim group d col e f g = grind (arith, flat_map-append)
 
 -- one dimension more, and what is behind it
 module _ (names : Names) (ts us vs : List Placed) (product : Option Preference) (group : List ℕ) (col : ℕ) (d : Direction) (r : ReadsDims names ts product group us) (l : ReadsDim names us col d vs) where
@@ -216,8 +191,7 @@ clause_faults names ts us f c h s = goes_asks_nothing names _ _ ts us f (of_goes
 -- ---- the first word
 
 skyline_goes : (names : Names) (letters : List ℕ) (ts us : List Placed) → Passes (word letters) ts us → keyword_of letters ≡ None → cased_of letters ≡ Some skyline_word → Goes names start ts (skyline_named letters) us
-skyline_goes names letters ts us c e f =
-    passes_goes names (word letters) ts us start (skyline_named letters) (cased skyline_word letters) c (ap (λ k. begun letters k (cased_of letters)) e ∙ ap (begun letters None) f) refl
+skyline_goes names letters ts us c e f = grind (arith)
 
 pub skyline_fails : (names : Names) (letters : List ℕ) (ts us : List Placed) (g : TermFault) → Passes (word letters) ts us → keyword_of letters ≡ None → cased_of letters ≡ Some skyline_word → ((s : List ℕ) → AsksNothing names (skyline_named s) us g) → AsksNothing names start ts g
 skyline_fails names letters ts us g c e f h = goes_asks_nothing names start (skyline_named letters) ts us g (skyline_goes names letters ts us c e f) (h letters)
@@ -249,13 +223,11 @@ count_named rows = at_least_named
 
 wants_count : (k : CountKind) → WantsCount (count_named k) (count_head k)
 unfolding count_named
-wants_count levels = record { takes = λ ds. refl; only = λ t n. grind arith }
-wants_count rows = record { takes = λ ds. refl; only = λ t n. grind arith }
+wants_count k = grind (arith)
 
 count_word_goes : (names : Names) (k : CountKind) (letters : List ℕ) (ts us : List Placed) → Passes (word letters) ts us → keyword_of letters ≡ Some (count_word k) → Goes names start ts (count_named k) us
 unfolding count_named
-count_word_goes names levels letters ts us c e = passes_goes names (word letters) ts us start top_level_named (name top_level_word) c (ap (λ k. begun letters k (cased_of letters)) e) refl
-count_word_goes names rows letters ts us c e = passes_goes names (word letters) ts us start at_least_named (name at_least_word) c (ap (λ k. begun letters k (cased_of letters)) e) refl
+count_word_goes names k letters ts us c e = grind (arith)
 
 count_goes : (names : Names) (k : CountKind) (letters : List ℕ) (ts us vs : List Placed) (n : ℕ) → Passes (word letters) ts us → keyword_of letters ≡ Some (count_word k) → (t : TakesCount us n vs) → Goes names start ts (operand (in_whole (count_head k t.digits_are))) vs
 count_goes names k letters ts us vs n c e t =
@@ -263,8 +235,7 @@ count_goes names k letters ts us vs n c e t =
     (passes_goes names (digits t.digits_are) us vs (count_named k) _ (count_digits t.digits_are) t.passes ((wants_count k).takes t.digits_are) (ap (λ b. cond b None (Some bad_count)) t.good))
 
 mode_said : (k : CountKind) (ds : List ℕ) (n : ℕ) → digits_value 10 ds ≡ n → mode_of (count_head k ds) ≡ count_mode k n
-mode_said levels ds n e = ap TopLevel e
-mode_said rows ds n e = ap AtLeast e
+mode_said k ds n e = grind (arith)
 
 pub count_behind_fails : (names : Names) (k : CountKind) (letters : List ℕ) (ts us vs : List Placed) (n : ℕ) (f : TermFault) → Passes (word letters) ts us → keyword_of letters ≡ Some (count_word k) → TakesCount us n vs → ((head : HeadText) → mode_of head ≡ count_mode k n → AsksNothing names (operand (in_whole head)) vs f) → AsksNothing names start ts f
 count_behind_fails names k letters ts us vs n f c e t h = goes_asks_nothing names start _ ts vs f (count_goes names k letters ts us vs n c e t) (h (count_head k t.digits_are) (mode_said k t.digits_are n t.value))
@@ -283,14 +254,7 @@ term_is names (prior p q) h = let l = term_is names p h.0 in let r = term_is nam
 term_is names (reverse p) h = term_is names p h
 
 pub is_ask : (names : Names) (p : Preference) (group : List ℕ) (mode : Mode) → IsTermOf names p → All (IsKnown names) group → IsCount (cut_of mode) → (distinct : Bool) → (distinct ≡ true → IsSkyline (record { preference = p; group = group; mode = mode; distinct = distinct })) → IsAsk (record { preference = p; group = group; mode = mode; distinct = distinct })
-is_ask names p group mode h g k distinct clause =
-    let term = term_is names p h in
-    record {
-      columns = record { preference = term.0; group = λ i d b. let a = g i d b in a.0 };
-      writable = term.2;
-      count = k;
-      clause = clause;
-    }
+is_ask names p group mode h g k distinct clause = grind (arith, term_is)
 
 pub fits_width : (names : Names) (p : Preference) (group : List ℕ) (mode : Mode) → IsTermOf names p → All (IsKnown names) group → (distinct : Bool) → FitsWidth (length names) (record { preference = p; group = group; mode = mode; distinct = distinct })
 fits_width names p group mode h g distinct = let term = term_is names p h in record { preference = term.1; group = λ i d b. let a = g i d b in a.1 }

@@ -1,10 +1,11 @@
 -- The ask that is computed is the one that the text spells, and the fault the one that it has.
-use Rattle.pref_term.proofs.Common.{◌≡◌, ◌≤◌, ◌<◌, ◌+◌, ℕ, zero, suc, List, [], ◌∷◌, Bool, true, false, cond, length, nat_lt, Option, Some, None, Result, Ok, Err, refl, sym, ap, subst, ◌∙◌, ◌⊎◌, inl}
+use Rattle.pref_term.proofs.Common.{◌≡◌, ◌≤◌, ◌<◌, ◌+◌, ℕ, zero, suc, List, [], ◌∷◌, Bool, false, length, None, Result, Ok, Err, refl, sym, ap, subst, ◌∙◌, ◌⊎◌, inl}
 use Rattle.pref_term.proofs.Common.{inr, arith, MatchResult, IfOk, IfErr, nat_tests, Placed, more_bytes, tokens_from, tokens_of, plain, says_distinct}
-use Rattle.pref_term.proofs.Common.{without_third, AskText, rated, skyline, Names, Spells, Faults, LacksOrder, FirstFault, UnlessMemory}
+use Rattle.pref_term.proofs.Common.{AskText, Names, Spells, Faults, LacksOrder, FirstFault, UnlessMemory}
 use Rattle.pref_term.proofs.Common.{question, Question, FitsWidth, start, run, ordered, meant, asked, TermFault, TooLong, NoMinOrMax, AsksWhole, AsksWholeNothing}
 use Rattle.pref_term.proofs.LedLemmas.{unless_map}
 use Rattle.pref_term.proofs.SpellsLaws.{Finishes, Due, Spelt, Answers, run_answers, spelt_run, fault_run}
+use Rattle.std.proofs.Common.{rules}
 
 -- ---- the tokens of a text end with its end
 
@@ -15,25 +16,13 @@ tokens_finish zero p (b ∷ bs) = grind (arith, tokens_finish 0 (p + 1) bs, toke
 
 -- also without the word `distinct`
 finishes_plain : (ts : List Placed) → Finishes ts → Finishes (plain ts)
-finishes_plain ts h = go (says_distinct ts) refl
-  where
-    third : (ts : List Placed) → says_distinct ts ≡ true → Finishes ts → Finishes (without_third ts)
-    third [] e h = h
-    third (s ∷ []) e h = h
-    third (s ∷ o ∷ []) e h = h
-    third (s ∷ o ∷ d ∷ []) e h = absurd (grind arith)
-    third (s ∷ o ∷ d ∷ t ∷ ts) e h = h
-
-    go : (b : Bool) → says_distinct ts ≡ b → Finishes (cond b (without_third ts) ts)
-    go true e = third ts e h
-    go false e = h
+finishes_plain ts h = search (rules)
 
 text_answers : (names : Names) (text : List ℕ) → Answers names (plain (tokens_of text)) (run names (plain (tokens_of text)) 0 start)
 text_answers names text = run_answers names (plain (tokens_of text)) [] start (record { leaves = []; reads = refl; played = refl; good = tt }) (go (plain (tokens_of text)) (finishes_plain (tokens_of text) (tokens_finish 0 0 text)))
   where
     go : (ts : List Placed) → Finishes ts → Due ts start
-    go [] h = absurd h
-    go (t ∷ ts) h = h
+    go ts h = grind (arith)
 
 -- ---- what is computed
 
@@ -52,33 +41,19 @@ IsAnswer names text r = MatchResult r (Spells names text) (Faults names text)
 
 -- whether of equal rows one is kept has no part in whether a tree asks something
 none_anyway : (names : Names) (d e : Bool) (tree : AskText) → question names d tree ≡ None → question names e tree ≡ None
-none_anyway names d e (rated head r group) h = cc
-none_anyway names d e (skyline s o first others) h = grind (arith)
+none_anyway names d e tree h = grind (arith)
 
 tree_answer : (names : Names) (text : List ℕ) (tree : AskText) → length text ≤ 4096 → Spelt names (plain (tokens_of text)) tree → IsAnswer names text (meant names (says_distinct (tokens_of text)) (Ok tree))
-tree_answer names text tree short s = go (question names (says_distinct (tokens_of text)) tree) refl
-  where
-    go : (o : Option Question) → question names (says_distinct (tokens_of text)) tree ≡ o → IsAnswer names text (ordered o)
-    go (Some q) e = record { tree = tree; written = s.written; short = short; tokens = s.tokens_are; good = s.good; meaning = e }
-    go None e = inr (short, inr (record { tree = tree; written = s.written; played = s.tokens_are; good = s.good; none = none_anyway names (says_distinct (tokens_of text)) false tree e }, refl))
+tree_answer names text tree short s = grind (arith, nat_tests, none_anyway)
 
 short_answer : (names : Names) (text : List ℕ) → length text ≤ 4096 → IsAnswer names text (meant names (says_distinct (tokens_of text)) (run names (plain (tokens_of text)) 0 start))
 short_answer names text short = go (run names (plain (tokens_of text)) 0 start) (text_answers names text)
   where
     go : (r : Result AskText TermFault) → Answers names (plain (tokens_of text)) r → IsAnswer names text (meant names (says_distinct (tokens_of text)) r)
-    go (Ok tree) s = tree_answer names text tree short s
-    go (Err f) h = inr (short, inl h)
+    go r s = grind (arith, tree_answer)
 
 pub asked_answer : (names : Names) (text : List ℕ) → MatchResult (asked names text) (Spells names text) (Faults names text)
-asked_answer names text = go (nat_lt 4096 (length text)) refl
-  where
-    go : (b : Bool) → nat_lt 4096 (length text) ≡ b → IsAnswer names text (asked names text)
-    go true e =
-        let long : 4096 < length text = grind (arith, nat_tests) in
-        subst (IsAnswer names text) (sym (asked_long names text long)) (inl (long, refl))
-    go false e =
-        let short : length text ≤ 4096 = grind (arith, nat_tests) in
-        subst (IsAnswer names text) (sym (asked_short names text short)) (short_answer names text short)
+asked_answer names text = grind (arith, nat_tests, asked_long, asked_short, short_answer)
 
 -- what is spelled is computed, and what is wrong
 pub spelled_asked : (names : Names) (text : List ℕ) (q : Question) → Spells names text q → asked names text ≡ Ok q
@@ -111,8 +86,7 @@ one_fault names text f g s t = let a = fault_asked names text f s in let b = fau
 
 module _ (names : Names) (text : List ℕ) (ts : List Placed) (e : ts ≡ tokens_of text) (short : length text ≤ 4096) where
   pub read_exact : (r : Result Question TermFault) → IfOk r (AsksWhole names ts) → IfErr r (AsksWholeNothing names ts) → MatchResult r (λ a. asked names text ≡ Ok a) (λ f. UnlessMemory f (asked names text ≡ Err f))
-  read_exact (Ok a) h k = asked_short names text short ∙ subst (λ (us : List Placed). AsksWhole names us a) e h
-  read_exact (Err f) h k = unless_map f (λ is. asked_short names text short ∙ is) (subst (λ (us : List Placed). AsksWholeNothing names us f) e k)
+  read_exact r h k = grind (arith, asked_short, unless_map)
 
   pub read_ok : (r : Result Question TermFault) → IfOk r (AsksWhole names ts) → IfErr r (AsksWholeNothing names ts) → IfOk r (FitsWidth (length names)) → IfOk r (λ a. Spells names text a × FitsWidth (length names) a)
   read_ok (Ok a) h k known = (subst (IsAnswer names text) (read_exact (Ok a) h k) (asked_answer names text), known)

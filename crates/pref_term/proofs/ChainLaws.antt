@@ -1,12 +1,12 @@
 -- A preference that is a product of two chains, perhaps with a tie, is that of its keys in these.
-use Rattle.pref_term.proofs.Common.{◌≡◌, arith, ◌<◌, ℤ, Bool, true, false, not, if◌then◌else◌, List, [], ◌∷◌, ◌++◌, refl, sym, ap, ◌∙◌, ◌&&◌, false≢true, append-nil, All-append, All-nil, All-same}
+use Rattle.pref_term.proofs.Common.{◌≡◌, arith, ◌<◌, ℤ, Bool, true, false, not, List, [], ◌∷◌, ◌++◌, refl, sym, ap, ◌∙◌, ◌&&◌, false≢true, All-append, All-same}
 use Rattle.pref_term.proofs.Common.{in_same_group, AreChainsOf, AreInRow, IsProductOf, by_chain, by_chains, chain_keys, is_chain, is_paired, keys_behind, ReadsBelow, order_of}
-use Rattle.pref_term.proofs.Common.{order_of_twins_are_alike, by_key, key_for, is_better, is_same, and_parts, Preference, scored, pareto, prior, reverse, Question, IsAsk, alike, in_priority}
+use Rattle.pref_term.proofs.Common.{order_of_twins_are_alike, key_for, is_better, is_same, and_parts, Preference, scored, pareto, prior, reverse, Question, IsAsk, alike, in_priority}
 use Rattle.pref_term.proofs.Common.{in_product, walked, Key, Relation, Same, cond_both}
 use Rattle.pref_term.specs.declared.chains.Chains.{Chains}
 use Rattle.pref_term.specs.declared.chains.Role.{Role}
 use Rattle.pref_term.specs.declared.chains.Role.TheVariants.{First, Second, Tie}
-use Rattle.pref_term.proofs.KeyLaws.{directed, directed_priority, directed_product, directed_reverse, key_law, leading_in_row}
+use Rattle.pref_term.proofs.KeyLaws.{directed, directed_priority, directed_product, directed_reverse, key_law}
 use Rattle.pref_term.proofs.WalkLaws.{walked_better, walked_same}
 
 priority_same : (r : Relation) → in_priority r Same ≡ r
@@ -28,31 +28,28 @@ chain-append (x ∷ xs) ys a b = grind (arith, chain-append xs ys a b)
 
 -- of a plain chain both are the same
 pub one_chain : (p : Preference) (s : Bool) → is_chain p ≡ true → chain_keys p First s ≡ chain_keys p Second s
-one_chain (scored t) s h = refl
-one_chain (pareto p q) s h = absurd (false≢true h)
 one_chain (prior p q) s h =
     let both = and_parts (is_chain p) (is_chain q) h in
     rw both.0 (λ i. one_chain p s both.0 i ++ one_chain q s both.1 i)
 one_chain (reverse p) s h = one_chain p (not s) h
+one_chain p s h = grind (arith)
 
 -- and there is no tie
 pub no_tie : (p : Preference) (s : Bool) → is_chain p ≡ true → chain_keys p Tie s ≡ []
-no_tie (scored t) s h = refl
-no_tie (pareto p q) s h = absurd (false≢true h)
 no_tie (prior p q) s h =
     let both = and_parts (is_chain p) (is_chain q) h in
     rw both.0 (λ i. no_tie p s both.0 i ++ no_tie q s both.1 i)
 no_tie (reverse p) s h = no_tie p (not s) h
+no_tie p s h = grind (arith)
 
 -- a chain is its keys
 chain_law : (p : Preference) (s : Bool) (a b : List ℤ) → is_chain p ≡ true → by_chain (chain_keys p First s) a b ≡ directed s p a b
-chain_law (scored t) s a b h = priority_same (by_key (key_for t s) a b) ∙ key_law t s a b
-chain_law (pareto p q) s a b h = absurd (false≢true h)
 chain_law (prior p q) s a b h =
     let both = and_parts (is_chain p) (is_chain q) h in
     rw both.0 (chain-append (chain_keys p First s) (chain_keys q First s) a b
     ∙ ((λ i. in_priority (chain_law p s a b both.0 i) (chain_law q s a b both.1 i)) ∙ sym (directed_priority s p q a b)))
 chain_law (reverse p) s a b h = chain_law p (not s) a b h ∙ directed_reverse s p a b
+chain_law p s a b h = grind (arith, priority_same, key_law, false≢true, chain-append, directed_priority, directed_reverse)
 
 second_law : (p : Preference) (s : Bool) (a b : List ℤ) → is_chain p ≡ true → by_chain (chain_keys p Second s) a b ≡ directed s p a b
 second_law p s a b h = ap (λ keys. by_chain keys a b) (sym (one_chain p s h)) ∙ chain_law p s a b h
@@ -64,17 +61,12 @@ by_lists first second tie a b = in_priority (in_product (by_chain first a b) (by
 chain_before_lists : (first_before second_before first second tie : List Key) (r : Relation) (a b : List ℤ) → by_chain first_before a b ≡ r → by_chain second_before a b ≡ r
     → by_lists (first_before ++ first) (second_before ++ second) tie a b ≡ in_priority r (by_lists first second tie a b)
 unfolding by_lists
-chain_before_lists first_before second_before first second tie r a b h k =
-    (λ i. in_priority (in_product (chain-append first_before first a b i) (chain-append second_before second a b i)) (by_chain tie a b))
-    ∙ ((λ i. in_priority (in_product (in_priority (h i) (by_chain first a b)) (in_priority (k i) (by_chain second a b))) (by_chain tie a b))
-    ∙ chain_before r (by_chain first a b) (by_chain second a b) (by_chain tie a b))
+chain_before_lists first_before second_before first second tie r a b h k = grind (arith, chain-append, chain_before)
 
 chain_behind_lists : (first second tie behind : List Key) (a b : List ℤ)
     → by_lists (first ++ []) (second ++ []) (tie ++ behind) a b ≡ in_priority (by_lists first second tie a b) (by_chain behind a b)
 unfolding by_lists
-chain_behind_lists first second tie behind a b =
-    (λ i. in_priority (in_product (by_chain (append-nil first i) a b) (by_chain (append-nil second i) a b)) (chain-append tie behind a b i))
-    ∙ sym (priority-assoc (in_product (by_chain first a b) (by_chain second a b)) (by_chain tie a b) (by_chain behind a b))
+chain_behind_lists first second tie behind a b = grind (arith, chain-append, priority-assoc)
 
 -- a preference, or its converse, compares two rows by its keys, where it is a product of two chains
 abbrev HasKeys : Preference → Bool → List ℤ → List ℤ → Type 0
@@ -83,25 +75,8 @@ HasKeys p s a b = is_paired p ≡ true → by_lists (chain_keys p First s) (chai
 paired_law : (p : Preference) (s : Bool) (a b : List ℤ) → HasKeys p s a b
 unfolding by_lists
 paired_law (scored t) s a b h = priority_same _ ∙ (product_itself (by_chain (key_for t s ∷ []) a b) ∙ chain_law (scored t) s a b refl)
-paired_law (pareto p q) s a b h =
-    let both = and_parts (is_chain p) (is_chain q) h in
-    priority_same _ ∙ ((λ i. in_product (chain_law p s a b both.0 i) (second_law q s a b both.1 i)) ∙ sym (directed_product s p q a b))
-paired_law (prior p q) s a b h = go (is_chain p) refl h (paired_law p s a b) (paired_law q s a b)
-  where
-    go : (chain : Bool) → is_chain p ≡ chain → (if chain then is_paired q else (is_paired p && is_chain q)) ≡ true → HasKeys p s a b → HasKeys q s a b
-        → by_lists
-        (chain_keys p First s ++ (if chain then chain_keys q First s else []))
-        (chain_keys p Second s ++ (if chain then chain_keys q Second s else []))
-        (chain_keys p Tie s ++ (if chain then chain_keys q Tie s else chain_keys q First s)) a b ≡ directed s (prior p q) a b
-    go true e k before behind =
-        ap (λ keys. by_lists (chain_keys p First s ++ chain_keys q First s) (chain_keys p Second s ++ chain_keys q Second s) (keys ++ chain_keys q Tie s) a b) (no_tie p s e)
-        ∙ (chain_before_lists (chain_keys p First s) (chain_keys p Second s) (chain_keys q First s) (chain_keys q Second s) (chain_keys q Tie s) (directed s p a b) a b
-        (chain_law p s a b e) (second_law p s a b e)
-        ∙ (ap (in_priority (directed s p a b)) (behind k) ∙ sym (directed_priority s p q a b)))
-    go false e k before behind =
-        let both = and_parts (is_paired p) (is_chain q) k in
-        chain_behind_lists (chain_keys p First s) (chain_keys p Second s) (chain_keys p Tie s) (chain_keys q First s) a b
-        ∙ ((λ i. in_priority (before both.0 i) (chain_law q s a b both.1 i)) ∙ sym (directed_priority s p q a b))
+paired_law (pareto p q) s a b h = grind (arith, priority_same, chain_law, second_law, directed_product)
+paired_law (prior p q) s a b h = grind (arith, paired_law p s a b, paired_law q s a b, by_lists, directed, no_tie, chain_before_lists, chain_law, second_law, directed_priority, chain_behind_lists)
 paired_law (reverse p) s a b h = paired_law p (not s) a b h ∙ directed_reverse s p a b
 
 chains_law : (p : Preference) (chains : Chains) (a b : List ℤ) → AreChainsOf p chains → by_chains chains a b ≡ walked p a b
@@ -113,16 +88,13 @@ behind_in_row role keys h = grind arith
 
 -- they read the columns of the preference
 keys_in_row : (p : Preference) (role : Role) (s : Bool) → ReadsBelow 16 p → AreInRow (chain_keys p role s)
-keys_in_row (scored t) First s h = leading_in_row (scored t) s h
-keys_in_row (scored t) Second s h = leading_in_row (scored t) s h
-keys_in_row (scored t) Tie s h = All-nil (λ key. key.col < 16)
 keys_in_row (pareto p q) First s h = keys_in_row p First s h.0
 keys_in_row (pareto p q) Second s h = keys_in_row q Second s h.1
-keys_in_row (pareto p q) Tie s h = All-nil (λ key. key.col < 16)
 keys_in_row (prior p q) role s h =
     All-append (λ key. key.col < 16) (chain_keys p role s) _ (keys_in_row p role s h.0)
     (cond_both (is_chain p) (chain_keys q role s) (keys_behind role (chain_keys q First s)) AreInRow (λ _. keys_in_row q role s h.1) (λ _. behind_in_row role (chain_keys q First s) (keys_in_row q First s h.1)))
 keys_in_row (reverse p) role s h = keys_in_row p role (not s) h
+keys_in_row p role s h = grind (arith)
 
 -- ---- the law
 

@@ -1,12 +1,12 @@
 -- What the parts of the reader that call each other promise.
-use Rattle.pref_term.proofs.Common.{◌≡◌, ◌<◌, ◌+◌, ℕ, List, [], ◌∷◌, Bor, Result, true, cond, Some, None, nat_lt, refl, sym, ap, subst, ◌∙◌, arith, ◌≢◌, IfOk, IfErr, IfOk-weaker, nat_tests, Sign}
+use Rattle.pref_term.proofs.Common.{◌≡◌, ◌<◌, ◌+◌, ℕ, List, ◌∷◌, Bor, Result, true, cond, Some, None, nat_lt, refl, sym, ap, subst, ◌∙◌, arith, ◌≢◌, IfOk, IfErr, IfOk-weaker, nat_tests, Sign}
 use Rattle.pref_term.proofs.Common.{left, right, star, ampersand, minus, Token, word, sign, Placed, reverse_word, keyword_of, based, reversed, negated, then_factor, PriorText}
 use Rattle.pref_term.proofs.Common.{then_product, name, mark, opens, Names, own_fault, too_deep, unary_meaning, product_meaning, BaseKind, kind_word, named, UnaryHole, in_minus}
 use Rattle.pref_term.proofs.Common.{first_factor, next_factor, next_product, in_group, in_reverse, unary_depth, State, operand, reverse_named, reading, after, ranked, next}
 use Rattle.pref_term.proofs.Common.{operand_word, Goes, Fails, IsOther, Passes, ReadsBase, ReadsUnary, ReadsFactors, ReadsProducts, ReadsProduct, ReadsPrior, ReadsGroup, FailsBase, NotNext, ahead, taken, seen, Unexpected, TooDeep, ◌≤◌}
 use Rattle.pref_term.proofs.Common.{FailsUnary, FailsGroup, FailsProduct, FailsPrior, Preference, pareto, prior, reverse, preference_of, Cursor, Lexeme, Word, Term, TermFault}
 use Rattle.pref_term.proofs.GrammarComplete.{ranked_goes_on, ranked_right}
-use Rattle.pref_term.proofs.LedLemmas.{at_place, goes_then, goes_fails, passes_goes, stuck_fails, taken_is, if_err_map}
+use Rattle.pref_term.proofs.LedLemmas.{at_place, goes_then, goes_fails, passes_goes, taken_is, if_err_map}
 
 -- ---- nestings
 
@@ -34,20 +34,15 @@ pub group_not_opened : (names : Names) (depth : ℕ) (ts : List Placed) (t : Lex
 group_not_opened names depth ts t e n = grind arith
 
 -- a nesting that opens where there is no room
-too_deep_fails : (names : Names) (depth : ℕ) (g : Sign) (ts us : List Placed) (at : ℕ) (s m : State) (here : ℕ) → here ≡ depth → 64 ≤ depth → ts ≡ at_place (sign g) at ∷ us → next s (sign g) ≡ Some (opens here g, m) → Fails names s ts (TooDeep at)
-too_deep_fails names depth g ts us at s m here e h c f = grind arith
-
 pub group_too_deep : (names : Names) (depth : ℕ) (ts us : List Placed) (at : ℕ) (f : TermFault) → (64 ≤ depth) × (f ≡ TooDeep at) → ts ≡ at_place (sign left) at ∷ us → FailsGroup names depth ts f
-group_too_deep names depth ts us at f full c = subst (FailsGroup names depth ts) (sym full.1)
-    (record { alone = λ _ _ h e. too_deep_fails names depth left ts us at (operand h) _ (unary_depth h) e full.0 c refl; reversed = λ h e. too_deep_fails names depth left ts us at (reverse_named h) _ (unary_depth h) e full.0 c refl })
+group_too_deep names depth ts us at f full c = grind (arith)
 
 stuck_within : (h : UnaryHole) (r : PriorText) (u : Token) → u ≢ sign right → u ≢ sign star → u ≢ sign ampersand → (next (ranked (in_group h) r) u ≡ None) × (next (ranked (in_reverse h) r) u ≡ None)
 stuck_within h r u a b c = (grind arith, grind arith)
 
 -- a token that is none of three
 end_fails : (names : Names) (vs : List Placed) (f : TermFault) (s : State) → IsOther (sign right) vs f → NotNext (sign star) vs → NotNext (sign ampersand) vs → ((u : Token) → u ≢ sign right → u ≢ sign star → u ≢ sign ampersand → next s u ≡ None) → Fails names s vs f
-end_fails names [] f s o a b stuck = absurd o
-end_fails names (v ∷ vs) f s o a b stuck = subst (Fails names s (v ∷ vs)) (sym o.1) (stuck_fails names v.token v.place vs (v ∷ vs) s refl (stuck v.token o.0 a b))
+end_fails names vs f s o a b stuck = grind (arith)
 
 -- what is read within
 module _ (names : Names) (depth inside : ℕ) (ts us : List Placed) (room : (depth < 64) × (inside ≡ depth + 1)) (c : Passes (sign left) ts us) where

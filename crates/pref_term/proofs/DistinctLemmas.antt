@@ -1,23 +1,22 @@
 -- What the word `distinct` of a clause leaves of a text, and what a clause behind it asks.
-use Rattle.pref_term.proofs.Common.{◌≡◌, arith, ℕ, List, [], ◌∷◌, true, false, cond, Some, None, refl, ap, subst, ◌∙◌, ◌≤◌, length, ◌≢◌, fold, codes, AllByRecursion}
-use Rattle.pref_term.proofs.Common.{bytes_eq, str_to_ascii_lowercase, bytes_eq-Decides, Token, word, finish, Placed, tokens_of, seen, behind_token, CasedWord, skyline_word, of_word}
-use Rattle.pref_term.proofs.Common.{cased_letters, cased_of, cased, IsWritten, DimText, HeadText, PriorText, AskText, rated, skyline}
-use Rattle.pref_term.proofs.Common.{ask_leaves, IsText, is_in_any_case, is_distinct_ahead, says_distinct, without_third, plain, is_word, Names, orders_of}
-use Rattle.pref_term.proofs.Common.{product_of, tokens_in, tokens_on, IsGood, Spells, question, meant, start, skyline_named, dim_due, begun, of_named, run, word_ahead}
+use Rattle.pref_term.proofs.Common.{◌≡◌, arith, ℕ, List, [], ◌∷◌, true, false, cond, Some, refl, ap, ◌∙◌, ◌≤◌, length, ◌≢◌, fold, codes, AllByRecursion}
+use Rattle.pref_term.proofs.Common.{bytes_eq, str_to_ascii_lowercase, bytes_eq-Decides, Token, finish, Placed, tokens_of, seen, behind_token, CasedWord, skyline_word, of_word}
+use Rattle.pref_term.proofs.Common.{cased_letters, cased, IsWritten, DimText, HeadText, PriorText, AskText, rated, skyline}
+use Rattle.pref_term.proofs.Common.{ask_leaves, IsText, is_distinct_ahead, says_distinct, without_third, plain, is_word, Names, orders_of}
+use Rattle.pref_term.proofs.Common.{product_of, tokens_in, tokens_on, IsGood, Spells, question, meant, start, dim_due, run, word_ahead}
 use Rattle.pref_term.proofs.Common.{AsksWholeNothing, AsksClauseNothing, IsBehindDistinct, Preference, scored, pareto, Question, IsClause, IsDimension, TermFault}
-use Rattle.pref_term.proofs.Common.{and_from, and_right}
+use Rattle.pref_term.proofs.Common.{and_from}
 use Rattle.pref_term.proofs.GrammarComplete.{cased_found, no_keyword}
 use Rattle.pref_term.proofs.LedLemmas.{run_step, unless_map}
 use Rattle.pref_term.specs.declared.front.Token as code
+use Rattle.std.proofs.lemmas.Bool.Decides.{nat_tests}
 
 spelled : (k : CasedWord) (letters : List ℕ) → bytes_eq (cased_letters k) (str_to_ascii_lowercase letters) ≡ true → IsWritten (cased k letters)
 spelled k letters h = (bytes_eq-Decides (cased_letters k) (str_to_ascii_lowercase letters)).0 h
 
 -- the two words lead to a column of the clause
 words_lead : (names : Names) (s o : List ℕ) (ps po : ℕ) (us : List Placed) → IsWritten (cased skyline_word s) → IsWritten (cased of_word o) → run names (word_ahead s ps (word_ahead o po us)) 0 start ≡ run names us po (dim_due s o [])
-words_lead names s o ps po us ws wo =
-    run_step names (word s) ps (word_ahead o po us) 0 start (cased skyline_word s) (skyline_named s) (ap (λ k. begun s k (cased_of s)) (no_keyword s ws) ∙ ap (begun s None) (cased_found skyline_word s ws)) refl
-    ∙ run_step names (word o) po us ps (skyline_named s) (cased of_word o) (dim_due s o []) (ap (of_named s o) (cased_found of_word o wo)) refl
+words_lead names s o ps po us ws wo = grind (arith, run_step, no_keyword, cased_found)
 
 pub behind_distinct : (s o : List ℕ) (ps po : ℕ) (d : Placed) (us : List Placed) → bytes_eq (codes "skyline") (str_to_ascii_lowercase s) ≡ true → bytes_eq (codes "of") (str_to_ascii_lowercase o) ≡ true → is_distinct_ahead (d ∷ us) ≡ true
     → IsBehindDistinct (word_ahead s ps (word_ahead o po (d ∷ us))) us
@@ -50,21 +49,15 @@ whole_clause_nothing names ts us f b h =
 
 -- the product of MIN and MAX columns is that of a clause
 clause_on : (p : Preference) (ps : List Preference) → IsClause p → AllByRecursion IsDimension ps → IsClause (fold pareto p ps)
-clause_on p [] h k = h
 clause_on p (scored t ∷ ps) h k = clause_on (pareto p (scored t)) ps (h, k.0) k.1
-clause_on p (_ ∷ ps) h k = absurd k.0
+clause_on p ps h k = grind (arith)
 
 orders_fine : (names : Names) (ds : List DimText) → AllByRecursion IsDimension (orders_of names ds)
 orders_fine names [] = tt
 orders_fine names (d ∷ ds) = grind (arith, orders_fine names ds)
 
 pub product_is_clause : (names : Names) (ds : List DimText) (p : Preference) → product_of (orders_of names ds) ≡ Some p → IsClause p
-product_is_clause names ds p e = go (orders_of names ds) (orders_fine names ds) e
-  where
-    go : (ps : List Preference) → AllByRecursion IsDimension ps → product_of ps ≡ Some p → IsClause p
-    go [] k e = cc
-    go (scored t ∷ ps) k e = let f : fold pareto (scored t) ps ≡ p = cc in subst IsClause f (clause_on (scored t) ps k.0 k.1)
-    go (_ ∷ ps) k e = absurd k.0
+product_is_clause names ds p e = grind (arith, orders_fine, clause_on)
 
 -- ---- texts without the word
 
@@ -76,12 +69,7 @@ plain_tokens ts tokens e f = ap (λ b. tokens_in (cond b (without_third ts) ts))
 
 -- nor does a text whose fifth token is no word
 fifth_said : (ts : List Placed) (a b c d e : Token) (rest : List Token) → tokens_in ts ≡ a ∷ b ∷ c ∷ d ∷ e ∷ rest → is_word e ≡ false → says_distinct ts ≡ false
-fifth_said (s ∷ o ∷ t ∷ u ∷ v ∷ ts) a b c d e rest h ends =
-    let same : v.token ≡ e = cc in
-    and_right (is_in_any_case (codes "skyline") s.token) _
-    (and_right (is_in_any_case (codes "of") o.token) _
-    (and_right (is_in_any_case (codes "distinct") t.token) (is_word v.token) (ap is_word same ∙ ends)))
-fifth_said _ a b c d e rest h ends = cc
+fifth_said ts a b c d e rest h ends = grind (arith, nat_tests)
 
 -- so a text of the grammar does not
 tree_said : (tree : AskText) (ts : List Placed) → tokens_in ts ≡ tokens_on (ask_leaves tree) → says_distinct ts ≡ false
@@ -91,13 +79,4 @@ tree_said (skyline s o first (d ∷ ds)) ts e = fifth_said ts _ _ _ _ _ _ e refl
 
 -- and it spells what its tree asks
 pub tree_spells : (names : Names) (text : List ℕ) (tree : AskText) (q : Question) → IsText tree → length text ≤ 4096 → tokens_in (tokens_of text) ≡ tokens_on (ask_leaves tree) → AllByRecursion (IsGood names) (ask_leaves tree) → question names false tree ≡ Some q → Spells names text q
-tree_spells names text tree q written short tokens good meaning =
-    let said = tree_said tree (tokens_of text) tokens in
-    record {
-      tree = tree;
-      written = written;
-      short = short;
-      tokens = plain_tokens (tokens_of text) (tokens_on (ask_leaves tree)) tokens said;
-      good = good;
-      meaning = ap (λ d. question names d tree) said ∙ meaning;
-    }
+tree_spells names text tree q written short tokens good meaning = grind (arith, tree_said tree (tokens_of text) tokens, plain_tokens (tokens_of text) (tokens_on (ask_leaves tree)) tokens (tree_said tree (tokens_of text) tokens))

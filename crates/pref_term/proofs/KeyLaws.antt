@@ -1,7 +1,7 @@
 -- The key law: keys compare rows as scores do; and the product of the keys that lead a preference without a priority is its order.
 use Rattle.pref_term.proofs.Common.{◌≡◌, ◌<◌, ℤ, pos, Bool, true, false, not, List, [], ◌∷◌, ◌++◌, refl, sym, ap, subst, ◌∙◌, arith, ◌^◌, ◌-ℤ◌, ◌+ℤ◌, neg_ℤ, unsigned_abs}
-use Rattle.pref_term.proofs.Common.{All, false≢true, ints, All-append, All-cons, All-nil, cell, missed, outside, score, sets_before, ReadsBelow, column, by_key, by_keys, is_number}
-use Rattle.pref_term.proofs.Common.{is_product, key_for, leading, opposed, and_parts, Base, low, high, around, between, one_of, layered, Preference, scored, pareto, prior, reverse, by_scores}
+use Rattle.pref_term.proofs.Common.{All, false≢true, ints, All-append, All-cons, All-nil, missed, outside, score, sets_before, ReadsBelow, column, by_key, by_keys, is_number}
+use Rattle.pref_term.proofs.Common.{is_product, key_for, leading, opposed, and_parts, Base, Preference, scored, pareto, prior, reverse, by_scores}
 use Rattle.pref_term.proofs.Common.{in_priority, in_product, walked, Key, Relation, Same}
 
 -- how a preference, or its converse, compares two rows
@@ -29,20 +29,11 @@ one_missed set v = grind (arith, ints)
 -- where the keys of a base term compare rows as its scores do, those of its converse do so too
 both_ways : (t : Base) (x y : ℤ) (a b : List ℤ) → by_scores x y ≡ by_scores (score t a) (score t b) → by_scores y x ≡ by_scores (score t b) (score t a)
     → (s : Bool) → by_scores (opposed s x) (opposed s y) ≡ directed s (scored t) a b
-both_ways t x y a b h k false = h
-both_ways t x y a b h k true = turned x y ∙ k
+both_ways t x y a b h k s = grind (arith, turned)
 
 -- the key law
 pub key_law : (t : Base) (s : Bool) (a b : List ℤ) → by_key (key_for t s) a b ≡ directed s (scored t) a b
-key_law (low col) s a b = both_ways (low col) (cell a col +ℤ pos (2 ^ 63)) (cell b col +ℤ pos (2 ^ 63)) a b (raised (cell a col) (cell b col)) (raised (cell b col) (cell a col)) s
-key_law (high col) false a b = turned (cell a col +ℤ pos (2 ^ 63)) (cell b col +ℤ pos (2 ^ 63)) ∙ (raised (cell b col) (cell a col) ∙ sym (negated (cell a col) (cell b col)))
-key_law (high col) true a b = raised (cell a col) (cell b col) ∙ sym (negated (cell b col) (cell a col))
-key_law (around col c) s a b =
-    both_ways (around col c) (outside c c (cell a col)) (outside c c (cell b col)) a b (λ i. by_scores (centred c (cell a col) i) (centred c (cell b col) i)) (λ i. by_scores (centred c (cell b col) i) (centred c (cell a col) i)) s
-key_law (between col left right) s a b = both_ways (between col left right) (outside left right (cell a col)) (outside left right (cell b col)) a b refl refl s
-key_law (one_of col set) s a b =
-    both_ways (one_of col set) (pos (sets_before (set ∷ []) (cell a col))) (pos (sets_before (set ∷ []) (cell b col))) a b (λ i. by_scores (one_missed set (cell a col) i) (one_missed set (cell b col) i)) (λ i. by_scores (one_missed set (cell b col) i) (one_missed set (cell a col) i)) s
-key_law (layered col sets) s a b = both_ways (layered col sets) (pos (sets_before sets (cell a col))) (pos (sets_before sets (cell b col))) a b refl refl s
+key_law t s a b = grind (arith, both_ways, raised, turned, negated, centred, one_missed)
 
 -- ---- converses
 
@@ -67,13 +58,9 @@ leading_in_row (pareto p q) s h = All-append (λ key. key.col < 16) (leading p s
 leading_in_row (prior p q) s h = leading_in_row p s h.0
 leading_in_row (reverse p) s h = leading_in_row p (not s) h
 
-key_score : (t : Base) (s : Bool) → (key_for t s).score ≡ (key_for t false).score
-key_score t s = grind arith
-
 -- those of a product have no sets
 pub leading_numbers : (p : Preference) (s : Bool) → is_product p ≡ true → All (λ key. is_number key.score ≡ true) (leading p s)
-leading_numbers (scored t) s h =
-    All-cons (λ key. is_number key.score ≡ true) (key_for t s) [] (ap is_number (key_score t s) ∙ h) (All-nil (λ key. is_number key.score ≡ true))
+leading_numbers (scored t) s h = grind (arith)
 leading_numbers (pareto p q) s h =
     let both = and_parts (is_product p) (is_product q) h in
     All-append (λ key. is_number key.score ≡ true) (leading p s) (leading q s) (leading_numbers p s both.0) (leading_numbers q s both.1)
@@ -92,10 +79,9 @@ keys-append (x ∷ xs) ys a b = ap (in_product (by_key x a b)) (keys-append xs y
 
 -- of a product they are the whole order
 pub leading_law : (p : Preference) (s : Bool) (a b : List ℤ) → is_product p ≡ true → by_keys (leading p s) a b ≡ directed s p a b
-leading_law (scored t) s a b h = product_same (by_key (key_for t s) a b) ∙ key_law t s a b
 leading_law (pareto p q) s a b h =
     let both = and_parts (is_product p) (is_product q) h in
     keys-append (leading p s) (leading q s) a b
     ∙ ((λ i. in_product (leading_law p s a b both.0 i) (leading_law q s a b both.1 i)) ∙ sym (directed_product s p q a b))
-leading_law (prior p q) s a b h = absurd (false≢true h)
 leading_law (reverse p) s a b h = leading_law p (not s) a b h ∙ directed_reverse s p a b
+leading_law p s a b h = grind (arith, product_same, key_law, keys-append, directed_product, false≢true, directed_reverse)

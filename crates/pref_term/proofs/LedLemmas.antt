@@ -1,12 +1,12 @@
 -- What the parts of the reader promise, from the tokens that they take.
-use Rattle.pref_term.proofs.Common.{◌≡◌, arith, ℕ, ℤ, Bor, List, [], ◌∷◌, ◌++◌, map, Bool, true, false, cond, Some, None, Result, Ok, Err, refl, sym, ap, subst, ◌∙◌, fits_cell, Sign, left, right}
+use Rattle.pref_term.proofs.Common.{◌≡◌, arith, ℕ, ℤ, Bor, List, [], ◌∷◌, ◌++◌, map, Bool, true, false, cond, Some, None, Result, Err, refl, sym, ap, subst, ◌∙◌, fits_cell, Sign, left, right}
 use Rattle.pref_term.proofs.Common.{comma, minus, Token, digits, sign, Placed, based, NumberText, low_text, high_text, around_text, pos_text, Leaf, mark, column_name, number_digits}
 use Rattle.pref_term.proofs.Common.{between_text, Names, UnlessMemory, own_fault, signed_value, number_value, column_at, number_range, below, empty_range, reported, OwnFault, BaseKind}
 use Rattle.pref_term.proofs.Common.{low_kind, high_kind, around_kind, pos_kind, centre_of, first_of, named, opened, columned, number_due, centred, listed, filled}
-use Rattle.pref_term.proofs.Common.{NumberHole, UnaryHole, State, reading, completed, run, led, judged, next, between_kind, start_of, end_of, least_of, ranged, range_ended, NumberList, in_pos}
-use Rattle.pref_term.proofs.Common.{behind_column, closing, list_closed, stepped, seen, ahead, taken, behind_token, Cursor, Lexeme, Digits, Goes, Fails, IsOther, NotNext, Passes, WantsColumn, TakesColumn}
+use Rattle.pref_term.proofs.Common.{NumberHole, UnaryHole, State, reading, completed, run, next, between_kind, start_of, end_of, least_of, ranged, range_ended, NumberList, in_pos}
+use Rattle.pref_term.proofs.Common.{closing, list_closed, stepped, seen, ahead, taken, behind_token, Cursor, Lexeme, Digits, Goes, Fails, IsOther, NotNext, Passes, WantsColumn, TakesColumn}
 use Rattle.pref_term.proofs.Common.{ReadsOpened, FailsColumn, FailsOpened, ReadsNumber, ReadsSome, ReadsNumbers, ReadsBase, FailsNumber, FailsNumbers, FailsBase, list_hole, ReadsEnd}
-use Rattle.pref_term.proofs.Common.{FailsEnd, first_place, TermFault, Unexpected, OutOfMemory, EmptyRange, NumberRange, All, FitsSigned, ◌≢◌, IsErrAnd, IfErr, unwrap_or, int_lt, Option, scored, low}
+use Rattle.pref_term.proofs.Common.{FailsEnd, first_place, TermFault, EmptyRange, NumberRange, All, FitsSigned, ◌≢◌, IsErrAnd, IfErr, unwrap_or, int_lt, Option, scored, low}
 use Rattle.pref_term.proofs.Common.{high, around, one_of, between, all_ascii_digits, map-append, All-append, All-cons, All-nil}
 use Rattle.pref_table.specs.Columns.{column_of}
 use Rattle.pref_term.proofs.GrammarComplete.{list_ends}
@@ -20,8 +20,7 @@ at_place t p = record { token = t; place = p }
 
 -- one token on
 pub run_step : (names : Names) (t : Token) (at : ℕ) (ts : List Placed) (p : ℕ) (s : State) (leaf : Leaf) (m : State) → next s t ≡ Some (leaf, m) → own_fault names leaf ≡ None → run names (at_place t at ∷ ts) p s ≡ run names ts at m
-run_step names t at ts p s leaf m e own =
-    ap (led names p at (run names ts at)) e ∙ ap (judged leaf p at (run names ts at m)) own
+run_step names t at ts p s leaf m e own = grind (arith)
 
 pub column_good : (names : Names) (letters : List ℕ) (col : ℕ) → column_of names letters ≡ Some col → own_fault names (column_name letters) ≡ None
 column_good names letters col h = rw h
@@ -35,8 +34,7 @@ pub goes_then : (names : Names) (s m n : State) (ts us vs : List Placed) → Goe
 goes_then names s m n ts us vs h k = λ p. let a = h p in let b = k a.0 in (b.0, a.1 ∙ b.1)
 
 pub unless_map : {P Q : Type 0} (f : TermFault) → (P → Q) → UnlessMemory f P → UnlessMemory f Q
-unless_map OutOfMemory g h = tt
-unless_map _ g h = g h
+unless_map f g h = grind (arith)
 
 pub goes_fails : (names : Names) (s m : State) (ts us : List Placed) (f : TermFault) → Goes names s ts m us → Fails names m us f → Fails names s ts f
 goes_fails names s m ts us f h k = unless_map f (λ k p. let a = h p in a.1 ∙ k a.0) k
@@ -49,19 +47,12 @@ pub sign_behind : (names : Names) (ts us vs : List Placed) (s m n : State) (g : 
 sign_behind names ts us vs s m n g h c e = goes_then names s m n ts us vs h (passes_goes names (sign g) us vs m n (mark g) c e refl)
 
 -- a token that can't follow
-pub stuck_fails : (names : Names) (t : Token) (at : ℕ) (us ts : List Placed) (s : State) → ts ≡ at_place t at ∷ us → next s t ≡ None → Fails names s ts (Unexpected at)
-stuck_fails names t at us ts s e stuck = λ p. ap (λ xs. run names xs p s) e ∙ ap (led names p at (run names us at)) stuck
-
 pub other_fails : (names : Names) (t : Token) (ts : List Placed) (f : TermFault) (s : State) → IsOther t ts f → ((u : Token) → u ≢ t → next s u ≡ None) → Fails names s ts f
 other_fails names t ts f s h stuck = grind arith
 
 -- a token that is neither of two
 pub neither_fails : (names : Names) (t v : Token) (ts : List Placed) (f : TermFault) (s : State) → IsOther t ts f → NotNext v ts → ((u : Token) → u ≢ t → u ≢ v → next s u ≡ None) → Fails names s ts f
 neither_fails names t v ts f s h k stuck = grind arith
-
--- up to the column of a base term
-opened_goes : (names : Names) (ts us vs : List Placed) (col : ℕ) → Passes (sign left) ts us → (t : TakesColumn names us col vs) → (h : UnaryHole) (k : BaseKind) → Goes names (reading h (named k)) ts (reading h (columned k t.letters)) vs
-opened_goes names ts us vs col c t h k = grind arith
 
 pub opened_read : (names : Names) (behind : Sign) (ts us vs ws : List Placed) (col : ℕ) → Passes (sign left) ts us → TakesColumn names us col vs → Passes (sign behind) vs ws → ReadsOpened names behind ts col ws
 opened_read names behind ts us vs ws col c t d = grind arith
@@ -70,16 +61,10 @@ wants_opened : (h : UnaryHole) (k : BaseKind) → WantsColumn (reading h (opened
 wants_opened h k = record { takes = λ letters. refl; only = λ t n. grind arith }
 
 pub opened_fails : (names : Names) (behind : Sign) (ts us : List Placed) (f : TermFault) → Passes (sign left) ts us → FailsColumn names us f → FailsOpened names behind ts f
-opened_fails names behind ts us f c r h k e =
-    goes_fails names _ (reading h (opened k)) ts us f (passes_goes names (sign left) ts us (reading h (named k)) (reading h (opened k)) (mark left) c refl refl)
-    (r (reading h (opened k)) (λ letters. reading h (columned k letters)) (wants_opened h k))
-
-column_stuck : (h : UnaryHole) (k : BaseKind) (column : List ℕ) (behind : Sign) → behind_column k ≡ behind → (u : Token) → u ≢ sign behind → next (reading h (columned k column)) u ≡ None
-column_stuck h k column behind e u ne = grind arith
+opened_fails names behind ts us f c r h k e = grind (arith, goes_fails, passes_goes names (sign left) ts us (reading h (named k)) (reading h (opened k)) (mark left) c refl refl, wants_opened h k)
 
 pub column_end_fails : (names : Names) (behind : Sign) (ts us vs : List Placed) (col : ℕ) (f : TermFault) → Passes (sign left) ts us → TakesColumn names us col vs → IsOther (sign behind) vs f → FailsOpened names behind ts f
-column_end_fails names behind ts us vs col f c t o h k e =
-    goes_fails names _ _ ts vs f (opened_goes names ts us vs col c t h k) (other_fails names (sign behind) vs f _ o (column_stuck h k t.letters behind e))
+column_end_fails names behind ts us vs col f c t o h k e = grind (arith)
 
 -- what was taken, where the token is known
 pub taken_is : (ts : List Placed) (t : Lexeme) (k : code.Token) → ts ≡ taken t → t.token ≡ k → ts ≡ at_place (seen k) t.at ∷ behind_token k (ahead t.next)
@@ -92,12 +77,10 @@ NumberAhead true ts ds us = (behind : List Placed) × Passes (sign minus) ts beh
 
 -- its digits were taken
 pub plain_ahead : (c : Cursor) (u : Lexeme) (negative : Bool) (ds : Bor (List ℕ)) → negative ≡ false → ahead c ≡ taken u → u.token ≡ Digits ds → NumberAhead negative (ahead c) ds.now (ahead u.next) × (all_ascii_digits ds.now ≡ true)
-plain_ahead c u false ds n e d = ((u.at, taken_is _ u _ e d), digits_taken c u ds e d)
-plain_ahead c u true ds n e d = cc
+plain_ahead c u negative ds n e d = grind (arith, taken_is, digits_taken)
 
 pub signed_ahead : (c : Cursor) (t u : Lexeme) (negative : Bool) (ds : Bor (List ℕ)) → negative ≡ true → ahead c ≡ at_place (sign minus) t.at ∷ ahead t.next → ahead t.next ≡ taken u → u.token ≡ Digits ds → NumberAhead negative (ahead c) ds.now (ahead u.next) × (all_ascii_digits ds.now ≡ true)
-signed_ahead c t u true ds n m e d = ((ahead t.next, (t.at, m), (u.at, taken_is _ u _ e d)), digits_taken t.next u ds e d)
-signed_ahead c t u false ds n m e d = cc
+signed_ahead c t u negative ds n m e d = grind (arith, taken_is, digits_taken)
 
 number_goes : (negative : Bool) (ts us : List Placed) (ds : List ℕ) → NumberAhead negative ts ds us → (names : Names) (h : UnaryHole) (hole : NumberHole) → own_fault names (number_digits (least_of hole) negative ds) ≡ None
     → Goes names (reading h (number_due hole)) ts (reading h (filled hole (record { negative = negative; digits = ds }))) us
@@ -119,8 +102,7 @@ number_read negative ts us ds value c fits v held =
     }
 
 pub number_out_of_range : (negative : Bool) (ts us : List Placed) (ds : List ℕ) → NumberAhead negative ts ds us → fits_cell (signed_value negative ds) ≡ false → FailsNumber ts (NumberRange (first_place ts))
-number_out_of_range negative ts us ds c fits names h hole =
-    number_refused negative ts us ds c names h hole number_range (ap (λ b. cond b (below (least_of hole) (signed_value negative ds)) (Some number_range)) fits)
+number_out_of_range negative ts us ds c fits names h hole = grind (arith)
 
 -- the right end of a range
 below_of : (l : NumberText) (value least : ℤ) (test : Bool) → number_value l ≡ least → int_lt value least ≡ test → below (Some l) value ≡ cond test (Some empty_range) None
@@ -134,20 +116,15 @@ end_refused ts us least value n under names h column l e = n.refused names h (en
 
 -- what a `?` hands on
 pub err_exit : {T : Type 0} {f : TermFault} (r : Result T TermFault) (P : TermFault → Type 0) → IsErrAnd r (λ g. g ≡ f) → P f → IfErr r P
-err_exit (Ok x) P h k = absurd h
-err_exit (Err g) P h k = subst P (sym h) k
+err_exit r P h k = grind (arith)
 
 pub if_err_map : {T : Type 0} {P Q : TermFault → Type 0} (r : Result T TermFault) → ((f : TermFault) → P f → Q f) → IfErr r P → IfErr r Q
-if_err_map (Ok x) g h = tt
-if_err_map (Err f) g h = g f h
+if_err_map r g h = grind (arith)
 
 -- ---- the last sign of a base term
 
 pub around_closes : (h : UnaryHole) (column : List ℕ) (centre : NumberText) (u : Token) → u ≢ sign right → next (reading h (centred column centre)) u ≡ None
 around_closes h column centre u ne = grind arith
-
-pub listed_stuck : (h : UnaryHole) (l : NumberList) (first : NumberText) (others : List NumberText) (u : Token) → u ≢ sign comma → u ≢ sign (closing l) → next (reading h (listed l first others)) u ≡ None
-listed_stuck h l first others u nc nr = grind arith
 
 -- ---- the numbers of a list
 
@@ -165,8 +142,7 @@ list_closes : (h : UnaryHole) (l : NumberList) (first : NumberText) (others : Li
 list_closes h l first others close e = subst (λ (s : Sign). next (reading h (listed l first others)) (sign s) ≡ Some (mark s, stepped h (list_closed l first others))) e (list_ends h l first others)
 
 list_stuck : (h : UnaryHole) (l : NumberList) (some : List NumberText) (n : NumberText) (close : Sign) → closing l ≡ close → (u : Token) → u ≢ sign comma → u ≢ sign close → next (reading h (filled (list_hole l some) n)) u ≡ None
-list_stuck h l [] n close e u nc nr = listed_stuck h l n [] u nc (λ k. nr (k ∙ ap sign e))
-list_stuck h l (f ∷ os) n close e u nc nr = listed_stuck h l f (os ++ n ∷ []) u nc (λ k. nr (k ∙ ap sign e))
+list_stuck h l some n close e u nc nr = grind (arith)
 
 -- a number of a list may be any
 list_plain : (l : NumberList) (some : List NumberText) (n : NumberText) → below (least_of (list_hole l some)) (number_value n) ≡ None

@@ -1,6 +1,6 @@
 -- What the parts of the reader of `layered` promise, from the tokens that they take.
 use Rattle.pref_term.proofs.Common.{◌≡◌, arith, ℕ, ℤ, List, [], ◌∷◌, ◌++◌, map, Some, None, refl, ap, subst, ◌∙◌, All, ◌≢◌, All-append, All-nil, left_brace, right, right_brace, comma, Token, sign, Placed}
-use Rattle.pref_term.proofs.Common.{layered_text, SetText, mark, Names, set_value, layered_kind, in_set, first_of, number_due, set_due, sets_listed, with_set, UnaryHole, reading, next, Goes, IsOther}
+use Rattle.pref_term.proofs.Common.{layered_text, SetText, mark, Names, set_value, layered_kind, in_set, first_of, number_due, set_due, with_set, UnaryHole, reading, next, Goes, IsOther}
 use Rattle.pref_term.proofs.Common.{NotNext, Passes, ReadsOpened, ReadsNumbers, FailsNumbers, ReadsSomeSets, ReadsSets, FailsSets, ReadsBase, scored, layered, IsWritableSet, TermFault}
 use Rattle.pref_term.proofs.LedLemmas.{all_one, column_is, cons_not_none, goes_then, goes_fails, mapped_more, neither_fails, other_fails, sign_behind}
 
@@ -12,12 +12,8 @@ set_opens h column sets u ne = grind arith
 set_goes_on : (h : UnaryHole) (column : List ℕ) (some : List SetText) (s : SetText) → next (reading h (with_set column some s)) (sign comma) ≡ Some (mark comma, reading h (set_due column (some ++ s ∷ [])))
 set_goes_on h column some s = grind arith
 
-sets_stuck : (h : UnaryHole) (column : List ℕ) (first : SetText) (others : List SetText) (u : Token) → u ≢ sign comma → u ≢ sign right → next (reading h (sets_listed column first others)) u ≡ None
-sets_stuck h column first others u nc nr = grind arith
-
 set_stuck : (h : UnaryHole) (column : List ℕ) (some : List SetText) (s : SetText) (u : Token) → u ≢ sign comma → u ≢ sign right → next (reading h (with_set column some s)) u ≡ None
-set_stuck h column [] s u nc nr = sets_stuck h column s [] u nc nr
-set_stuck h column (f ∷ os) s u nc nr = sets_stuck h column f (os ++ s ∷ []) u nc nr
+set_stuck h column some s u nc nr = grind (arith)
 
 -- ---- one set behind another
 

@@ -1,6 +1,6 @@
 -- What is shown is a text of the grammar with the meaning of what was shown.
-use Rattle.pref_term.proofs.Common.{[], ◌≡◌, ◌<◌, ◌^◌, ◌+◌, ℕ, ℤ, pos, negsuc, suc, List, ◌∷◌, ◌++◌, map, true, false, refl, sym, ap, ◌∙◌, append_assoc, append-nil, arith, codes, unwrap_or}
-use Rattle.pref_term.proofs.Common.{FitsSigned, neg_ℤ, decimal, AllByRecursion, all_ascii_digits, digits_value-decimal, Sign, left, right, comma, star, ampersand, minus, left_brace, right_brace}
+use Rattle.pref_term.proofs.Common.{[], ◌≡◌, ◌+◌, ℕ, ℤ, pos, negsuc, suc, List, ◌∷◌, ◌++◌, map, true, false, refl, sym, ap, ◌∙◌, append_assoc, append-nil, arith, codes, unwrap_or}
+use Rattle.pref_term.proofs.Common.{FitsSigned, decimal, AllByRecursion, all_ascii_digits, digits_value-decimal, Sign, left, right, comma, star, ampersand, minus, left_brace, right_brace}
 use Rattle.pref_term.proofs.Common.{Keyword, best_word, low_word, high_word, around_word, pos_word, reverse_word, top_level_word, at_least_word, by_word, NumberText, BaseText, low_text, high_text}
 use Rattle.pref_term.proofs.Common.{around_text, pos_text, PriorText, one_product, then_product, ProductText, one_factor, then_factor, UnaryText, negated, grouped, based, HeadText, best_head}
 use Rattle.pref_term.proofs.Common.{top_level_head, at_least_head, Leaf, name, mark, opens, column_name, number_digits, count_digits, cased, last, number_leaves, others_leaves, base_leaves}
@@ -13,6 +13,7 @@ use Rattle.std.specs.Int.{w64}
 use Rattle.std.specs.Str.Parse.{digits_value}
 use Rattle.std.proofs.lemmas.Str.Parse.{IsNumeralModel, numerals_by_value, tells_all_ascii_digits}
 use Rattle.pref_term.proofs.ShownNames.{IsNamed}
+use Rattle.std.proofs.Common.{rules}
 
 -- ---- what can be shown
 
@@ -138,8 +139,7 @@ pub own_numerals : IsNumeralModel (λ ds. all_ascii_digits ds ≡ true) (digits_
 own_numerals = numerals_by_value (λ ds. all_ascii_digits ds ≡ true) tells_all_ascii_digits
 
 pub number_same : (v : ℤ) → FitsSigned w64 v → number_value (number_text v) ≡ v
-number_same (pos n) h = let small : n < 2 ^ 64 = omega (arith, h.sfits) in ap pos (digits_value-decimal own_numerals n small)
-number_same (negsuc n) h = let small : suc n < 2 ^ 64 = omega (arith, h.sfits) in ap (λ m. neg_ℤ (pos m)) (digits_value-decimal own_numerals (suc n) small)
+number_same v h = grind (arith, digits_value-decimal, own_numerals)
 
 pub column_same : (names : Names) (col : ℕ) → IsNamed names col → column_at names (name_at names col) ≡ col
 column_same names col h = ap (λ o. unwrap_or o 0) h.1
@@ -160,14 +160,11 @@ base_same : (names : Names) (b : Base) → IsNamed names (column b) → IsWritab
 base_same names (low col) h w = ap low (column_same names col h)
 base_same names (high col) h w = ap high (column_same names col h)
 base_same names (around col centre) h w = ap (λ c. around c (number_value (number_text centre))) (column_same names col h) ∙ ap (around col) (number_same centre w)
-base_same names (between col l r) h w =
-    ap (λ c. between c (number_value (number_text l)) (number_value (number_text r))) (column_same names col h)
-    ∙ (ap (λ v. between col v (number_value (number_text r))) (number_same l w.0) ∙ ap (between col l) (number_same r w.1))
+base_same names (between col l r) h w = grind (arith, column_same, number_same)
 base_same names (one_of col []) h w = absurd (w.0 refl)
 base_same names (one_of col (v ∷ vs)) h w = ap (λ c. one_of c (set_value (set_text (v ∷ vs)))) (column_same names col h) ∙ ap (one_of col) (set_same (v ∷ vs) w)
 base_same names (layered col []) h w = absurd (w.0 refl)
-base_same names (layered col (s ∷ ss)) h w =
-    ap (λ c. layered c (map set_value (map set_text (s ∷ ss)))) (column_same names col h) ∙ ap (layered col) (sets_same (s ∷ ss) (recursion_from_All IsWritableSet (s ∷ ss) w.1))
+base_same names (layered col (s ∷ ss)) h w = grind (arith, column_same names col h, sets_same (s ∷ ss) (recursion_from_All IsWritableSet (s ∷ ss) w.1), recursion_from_All IsWritableSet (s ∷ ss) w.1)
 
 -- the tree has the meaning of what is shown
 pub meaning_same : (names : Names) (p : Preference) → CanShow names p → shape_meaning (shape_of names p) names ≡ p
@@ -197,11 +194,7 @@ values_shown (v ∷ vs) = grind (arith, values_shown vs)
 
 -- numbers and the sign that closes their list
 list_shown : (v : ℤ) (vs : List ℤ) (closing : Sign) → leaves_text (list_leaves (number_text v) (map number_text vs) closing) ≡ signed_decimal v ++ (shown_values vs ++ sign_text closing)
-list_shown v vs closing =
-    leaves_text-append (number_leaves (number_text v)) (others_leaves (map number_text vs) ++ mark closing ∷ [])
-    ∙ (ap (λ ys. ys ++ leaves_text (others_leaves (map number_text vs) ++ mark closing ∷ [])) (number_shown v)
-    ∙ ap (λ ys. signed_decimal v ++ ys)
-    (leaves_text-append (others_leaves (map number_text vs)) (mark closing ∷ []) ∙ (ap (λ ys. ys ++ (sign_text closing ++ [])) (values_shown vs) ∙ ap (λ ys. shown_values vs ++ ys) (append-nil (sign_text closing)))))
+list_shown v vs closing = grind (arith, leaves_text-append, number_shown, values_shown)
 
 set_shown : (set : List ℤ) → IsWritableSet set → leaves_text (set_leaves (set_text set)) ≡ shown_set set
 set_shown [] h = absurd (h.0 refl)
@@ -209,27 +202,15 @@ set_shown (v ∷ vs) h = ap (λ xs. codes "{" ++ xs) (list_shown v vs right_brac
 
 sets_shown : (sets : List (List ℤ)) → AllByRecursion IsWritableSet sets → leaves_text (more_sets (map set_text sets)) ≡ shown_sets sets
 sets_shown [] h = refl
-sets_shown (s ∷ ss) h =
-    ap (λ xs. codes ", " ++ xs) (leaves_text-append (set_leaves (set_text s)) (more_sets (map set_text ss)))
-    ∙ (ap (λ xs. codes ", " ++ (xs ++ leaves_text (more_sets (map set_text ss)))) (set_shown s h.0)
-    ∙ ap (λ xs. codes ", " ++ (shown_set s ++ xs)) (sets_shown ss h.1))
+sets_shown (s ∷ ss) h = grind (arith, sets_shown ss h.1, leaves_text-append, set_shown)
 
 base_shown : (names : Names) (b : Base) → IsWritableBase b → leaves_text (base_leaves (base_text names b)) ≡ shown_base names b
 base_shown names (low col) h = simp append_assoc
 base_shown names (high col) h = simp append_assoc
-base_shown names (around col centre) h =
-    ap (λ xs. codes "around(" ++ (name_at names col ++ (codes ", " ++ xs)))
-    (leaves_text-append (number_leaves (number_text centre)) (mark right ∷ []) ∙ ap (λ ys. ys ++ codes ")") (number_shown centre))
-    ∙ simp append_assoc
-base_shown names (between col l r) h =
-    ap (λ xs. codes "between(" ++ (name_at names col ++ (codes ", " ++ xs)))
-    (leaves_text-append (number_leaves (number_text l)) (mark comma ∷ end_leaves (number_text l) (number_text r) ++ mark right ∷ [])
-    ∙ (ap (λ ys. ys ++ leaves_text (mark comma ∷ end_leaves (number_text l) (number_text r) ++ mark right ∷ [])) (number_shown l)
-    ∙ ap (λ ys. signed_decimal l ++ (codes ", " ++ ys)) (leaves_text-append (end_leaves (number_text l) (number_text r)) (mark right ∷ []) ∙ ap (λ ys. ys ++ codes ")") (end_shown l r))))
-    ∙ simp append_assoc
+base_shown names (around col centre) h = grind (arith, leaves_text-append, number_shown, append_assoc)
+base_shown names (between col l r) h = grind (arith, leaves_text-append, number_shown, end_shown, append_assoc)
 base_shown names (one_of col []) h = absurd (h.0 refl)
-base_shown names (one_of col (v ∷ vs)) h =
-    ap (λ xs. codes "pos(" ++ (name_at names col ++ (codes ", " ++ xs))) (list_shown v vs right) ∙ simp append_assoc
+base_shown names (one_of col (v ∷ vs)) h = grind (arith, list_shown, append_assoc)
 base_shown names (layered col []) h = absurd (h.0 refl)
 base_shown names (layered col (s ∷ ss)) h =
     let each = recursion_from_All IsWritableSet (s ∷ ss) h.1 in
@@ -260,16 +241,8 @@ factor_text names _ h depth = h depth
 -- the text of the tree is what is shown
 pub text_shown : (names : Names) (p : Preference) → CanShow names p → Shows names p
 text_shown names (scored b) h depth = base_shown names b h.1
-text_shown names (pareto p q) h depth =
-    leaves_text-append (product_leaves (as_product (shape_of names p)) depth) (mark star ∷ unary_leaves (as_factor (shape_of names q)) depth)
-    ∙ (ap (λ xs. xs ++ (codes " * " ++ leaves_text (unary_leaves (as_factor (shape_of names q)) depth))) (product_text names p (text_shown names p h.0) depth)
-    ∙ (ap (λ xs. held (is_prior p) (shown_term names p) ++ (codes " * " ++ xs)) (factor_text names q (text_shown names q h.1) depth)
-    ∙ sym (append_assoc (held (is_prior p) (shown_term names p)) (codes " * ") (held (is_composed q) (shown_term names q)))))
-text_shown names (prior p q) h depth =
-    leaves_text-append (prior_leaves (as_prior (shape_of names p)) depth) (mark ampersand ∷ product_leaves (as_product (shape_of names q)) depth)
-    ∙ (ap (λ xs. xs ++ (codes " & " ++ leaves_text (product_leaves (as_product (shape_of names q)) depth))) (prior_text (shape_of names p) depth ∙ text_shown names p h.0 depth)
-    ∙ (ap (λ xs. shown_term names p ++ (codes " & " ++ xs)) (product_text names q (text_shown names q h.1) depth)
-    ∙ sym (append_assoc (shown_term names p) (codes " & ") (held (is_prior q) (shown_term names q)))))
+text_shown names (pareto p q) h depth = grind (arith, text_shown names p h.0, text_shown names q h.1, leaves_text-append, product_text, factor_text, append_assoc)
+text_shown names (prior p q) h depth = grind (arith, text_shown names p h.0 depth, text_shown names q h.1, leaves_text-append, prior_text, product_text, append_assoc)
 text_shown names (reverse p) h depth = ap (λ xs. codes "-" ++ xs) (factor_text names p (text_shown names p h) (depth + 1))
 
 -- ---- the head and the group
@@ -281,17 +254,14 @@ head_text (TopLevel k) = top_level_head (decimal k)
 head_text (AtLeast k) = at_least_head (decimal k)
 
 pub head_shown : (m : Mode) → leaves_text (head_leaves (head_text m)) ≡ shown_mode m
-head_shown Best = refl
-head_shown (TopLevel k) = simp (append_assoc, append-nil)
-head_shown (AtLeast k) = simp (append_assoc, append-nil)
+head_shown m = search (rules)
 
 pub columns_shown : (names : Names) (cs : List ℕ) → leaves_text (more_columns (map (name_at names) cs)) ≡ more_names names cs
 columns_shown names [] = refl
 columns_shown names (c ∷ cs) = ap (λ xs. codes ", " ++ (name_at names c ++ xs)) (columns_shown names cs)
 
 pub group_shown : (names : Names) (cs : List ℕ) → leaves_text (group_leaves (map (name_at names) cs)) ≡ shown_group names cs
-group_shown names [] = refl
-group_shown names (c ∷ cs) = ap (λ xs. codes " by " ++ (name_at names c ++ xs)) (columns_shown names cs) ∙ sym (append_assoc (codes " by ") (name_at names c) (more_names names cs))
+group_shown names cs = grind (arith, columns_shown)
 
 pub columns_same : (names : Names) (cs : List ℕ) → AllByRecursion (IsNamed names) cs → map (column_at names) (map (name_at names) cs) ≡ cs
 columns_same names [] h = refl

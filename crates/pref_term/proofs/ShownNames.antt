@@ -1,7 +1,7 @@
 -- Each name of a schema is a word, and its first column is its own.
-use Rattle.pref_term.proofs.Common.{or_parts, ◌≡◌, ◌<◌, ◌+◌, ◌-◌, ℕ, zero, suc, List, [], ◌∷◌, length, take, get_or, Bool, true, false, cond, not, ◌&&◌, nat_lt, nat_le, Some, Result, Ok}
-use Rattle.pref_term.proofs.Common.{refl, sym, ap, subst, ◌∙◌, arith, position, is_ascii_alphabetic, AllByRecursion, list_any, list_all, position_or_len, bytes_eq, bytes_eq-Decides}
-use Rattle.pref_term.proofs.Common.{is_name, is_name_byte, name_after, name_in, schema_of, and_parts, Names, name_at}
+use Rattle.pref_term.proofs.Common.{or_parts, ◌≡◌, ◌<◌, ◌+◌, ℕ, zero, suc, List, [], ◌∷◌, length, take, get_or, Bool, true, false, cond, not, ◌&&◌, Some, Result, Ok}
+use Rattle.pref_term.proofs.Common.{sym, ap, ◌∙◌, arith, position, is_ascii_alphabetic, AllByRecursion, list_any, list_all, position_or_len, bytes_eq, bytes_eq-Decides}
+use Rattle.pref_term.proofs.Common.{is_name, is_name_byte, name_after, schema_of, and_parts, Names, name_at}
 use Rattle.pref_table.specs.Columns.{column_of}
 use Rattle.pref_table.specs.Numbered.{all_from}
 use Rattle.pref_table.proofs.NumberedFacts.{all_from-parts}
@@ -24,10 +24,7 @@ last_parts : (a b c d : Bool) → (a && b && c && d) ≡ true → (c ≡ true) �
 last_parts a b c d h = grind arith
 
 name_is_word : (name : List ℕ) → is_name name ≡ true → IsWordText name
-name_is_word [] h = cc
-name_is_word (b ∷ bs) h =
-    let says = last_parts (nat_lt 0 (length (b ∷ bs))) (nat_le (length (b ∷ bs)) 32) (is_ascii_alphabetic b) (list_all is_name_byte (b ∷ bs)) h in
-    (says.0, (all_word (b ∷ bs) says.1).1)
+name_is_word name h = grind (arith, last_parts, all_word)
 
 -- what the check of a name says
 after_says : (earlier : Names) (col : ℕ) (name : List ℕ) → name_after earlier col name ≡ Ok name → (is_name name ≡ true) × (list_any (λ other. bytes_eq other name) earlier ≡ false)
@@ -36,10 +33,7 @@ after_says earlier col name h = grind (arith)
 -- the checks of a list, one by one
 all_from-at : {A E : Type 0} (f : ℕ → A → Result A E) (n : ℕ) (xs ys : List A) (i : ℕ) (d : A) → all_from f n xs ≡ Ok ys → i < length xs → f (n + i) (get_or xs i d) ≡ Ok (get_or ys i d)
 all_from-at f n [] ys i d h k = absurd (omega arith)
-all_from-at f n (x ∷ xs) ys zero d h k =
-    let (w, ws, at_x, at_xs, whole) = all_from-parts f n x xs ys h in
-    let here : n + 0 ≡ n = omega arith in
-    ap (λ m. f m x) here ∙ (at_x ∙ ap (λ zs. Ok (get_or zs 0 d)) (sym whole))
+all_from-at f n (x ∷ xs) ys zero d h k = grind (arith, all_from-parts)
 all_from-at f n (x ∷ xs) ys (suc i) d h k =
     let (w, ws, at_x, at_xs, whole) = all_from-parts f n x xs ys h in
     let here : n + suc i ≡ n + 1 + i = omega arith in
@@ -48,26 +42,16 @@ all_from-at f n (x ∷ xs) ys (suc i) d h k =
 
 -- the first place at which a test passes
 first_place : {A : Type 0} (p : A → Bool) (xs : List A) (i : ℕ) (d : A) → i < length xs → p (get_or xs i d) ≡ true → list_any p (take i xs) ≡ false → position_or_len p xs ≡ i
-first_place p [] i d k here before = absurd (omega arith)
-first_place p (x ∷ xs) zero d k here before = ap (λ b. cond (not b) (1 + position_or_len p xs) 0) here
 first_place p (x ∷ xs) (suc i) d k here before =
     let inside : i < length xs = omega arith in
     let one : 1 + i ≡ suc i = omega arith in
     let parts = or_parts (p x) (list_any p (take i xs)) before in
     ap (λ c. cond (not c) (1 + position_or_len p xs) 0) parts.0 ∙ (ap (λ n. 1 + n) (first_place p xs i d inside here parts.1) ∙ one)
+first_place p xs i d k here before = grind (arith)
 
 first_position : {A : Type 0} (p : A → Bool) (xs : List A) (i : ℕ) → i < length xs → position_or_len p xs ≡ i → position p xs ≡ Some i
 first_position p xs i k e = grind (arith)
 
 -- each column of a schema has a name of its own
 pub is_named : (names : Names) → schema_of names ≡ Ok names → (col : ℕ) → col < length names → IsNamed names col
-is_named names h col inside =
-    let size = schema-size names names h in
-    let each = sym (schema_of-some names size.0 size.1) ∙ h in
-    let checked = all_from-at (name_in names) 1 names names col [] each inside in
-    let before : 1 + col - 1 ≡ col = omega arith in
-    let says = after_says (take (1 + col - 1) names) (1 + col) (name_at names col) checked in
-    let same : bytes_eq (name_at names col) (name_at names col) ≡ true = (bytes_eq-Decides (name_at names col) (name_at names col)).1 refl in
-    let fresh = subst (λ n. list_any (λ other. bytes_eq other (name_at names col)) (take n names) ≡ false) before says.1 in
-    let place = first_place (λ known. bytes_eq known (name_at names col)) names col [] inside same fresh in
-    (name_is_word (name_at names col) says.0, first_position (λ known. bytes_eq known (name_at names col)) names col inside place)
+is_named names h col inside = grind (arith, schema-size, schema_of-some, all_from-at, after_says, bytes_eq-Decides, first_place, name_is_word, first_position)

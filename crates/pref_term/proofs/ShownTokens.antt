@@ -1,13 +1,14 @@
 -- The text of leaves has their tokens again.
-use Rattle.pref_term.proofs.Common.{[], ◌≡◌, ◌≤◌, ◌+◌, ℕ, zero, suc, List, ◌∷◌, ◌++◌, Bool, true, false, cond, length, take, drop, refl, sym, ap, subst, ◌∙◌, append_assoc, append-nil, arith, codes}
+use Rattle.pref_term.proofs.Common.{[], ◌≡◌, ◌≤◌, ◌+◌, ℕ, zero, suc, List, ◌∷◌, ◌++◌, Bool, true, false, length, drop, refl, sym, ap, subst, ◌∙◌, append_assoc, arith, codes}
 use Rattle.pref_term.proofs.Common.{is_ascii_alphabetic, is_ascii_digit, prefix_len, AllByRecursion, take-append_seam, drop-append_seam, length-append, map-append, nat_tests, is_name_byte, is_blank}
-use Rattle.pref_term.proofs.Common.{Sign, comma, star, ampersand, Token, word, digits, sign, sign_or_other, more_bytes, token_from, tokens_from, Keyword, best_word, low_word, high_word, around_word}
-use Rattle.pref_term.proofs.Common.{pos_word, reverse_word, top_level_word, at_least_word, by_word, letters_of, PriorText, HeadText, rated, Leaf, name, mark, opens, column_name, number_digits}
+use Rattle.pref_term.proofs.Common.{Sign, Token, word, digits, sign, more_bytes, token_from, tokens_from, Keyword, best_word, low_word, high_word, around_word}
+use Rattle.pref_term.proofs.Common.{pos_word, reverse_word, top_level_word, at_least_word, by_word, letters_of, PriorText, HeadText, rated, Leaf, name, column_name, number_digits}
 use Rattle.pref_term.proofs.Common.{count_digits, cased, last, IsWritten, prior_leaves, head_leaves, group_leaves, ask_leaves, token_of, between_word, layered_word, tokens_in, tokens_on, IsGood}
 use Rattle.pref_term.proofs.Common.{Names}
 use Rattle.pref_term.proofs.ShownNames.{IsWordText}
 use Rattle.pref_term.proofs.TokenLemmas.{told_passed}
 use Rattle.pref_term.proofs.ShownLemmas.{leaf_text, leaves_text, sign_text, word_text, leaves_text-append}
+use Rattle.std.proofs.Common.{rules}
 
 -- the tokens don't depend on where they stand
 pub place_free : (k p q : ℕ) (bs : List ℕ) → tokens_in (tokens_from k p bs) ≡ tokens_in (tokens_from k q bs)
@@ -21,9 +22,7 @@ lexed bs = tokens_in (tokens_from 0 0 bs)
 
 -- a byte that is no blank, and its token
 lexed_head : (b : ℕ) (bs : List ℕ) → is_blank b ≡ false → more_bytes b bs ≤ length bs → lexed (b ∷ bs) ≡ token_from b bs ∷ lexed (drop (more_bytes b bs) bs)
-lexed_head b bs plain room =
-    ap (λ t. tokens_in (cond t (tokens_from 0 (0 + 1) bs) (record { token = token_from b bs; place = 0 } ∷ tokens_from (more_bytes b bs) (0 + 1) bs))) plain
-    ∙ ap (λ ts. token_from b bs ∷ ts) (ap tokens_in (told_passed (more_bytes b bs) (0 + 1) bs room) ∙ place_free 0 (0 + 1 + more_bytes b bs) 0 (drop (more_bytes b bs) bs))
+lexed_head b bs plain room = grind (arith, told_passed, place_free)
 
 -- what follows doesn't go on
 abbrev pub Ends : (ℕ → Bool) → List ℕ → Type 0
@@ -31,8 +30,7 @@ Ends test [] = Unit {0}
 Ends test (c ∷ cs) = test c ≡ false
 
 run_none : (test : ℕ → Bool) (rest : List ℕ) → Ends test rest → prefix_len test rest ≡ 0
-run_none test [] h = refl
-run_none test (c ∷ cs) h = ap (λ t. cond t (1 + prefix_len test cs) 0) h
+run_none test rest h = grind (arith)
 
 run_length : (test : ℕ → Bool) (bs rest : List ℕ) → AllByRecursion (λ b. test b ≡ true) bs → Ends test rest → prefix_len test (bs ++ rest) ≡ length bs
 run_length test [] rest h e = run_none test rest e
@@ -53,36 +51,16 @@ IsDigitsText (b ∷ bs) = AllByRecursion (λ c. is_ascii_digit c ≡ true) (b �
 
 -- the rest behind a run of n bytes
 run_lexed : (b : ℕ) (bs rest : List ℕ) (t : Token) → is_blank b ≡ false → more_bytes b (bs ++ rest) ≡ length bs → token_from b (bs ++ rest) ≡ t → lexed ((b ∷ bs) ++ rest) ≡ t ∷ lexed rest
-run_lexed b bs rest t plain run e =
-    let room : more_bytes b (bs ++ rest) ≤ length (bs ++ rest) = omega (arith, run, length-append bs rest) in
-    lexed_head b (bs ++ rest) plain room
-    ∙ (ap (λ u. u ∷ lexed (drop (more_bytes b (bs ++ rest)) (bs ++ rest))) e
-    ∙ ap (λ xs. t ∷ lexed xs) (ap (λ n. drop n (bs ++ rest)) run ∙ drop-append_seam bs rest))
+run_lexed b bs rest t plain run e = grind (arith, length-append, lexed_head, drop-append_seam)
 
 pub word_lexed : (b : ℕ) (bs rest : List ℕ) → IsWordText (b ∷ bs) → Ends is_name_byte rest → lexed ((b ∷ bs) ++ rest) ≡ word (b ∷ bs) ∷ lexed rest
-word_lexed b bs rest h e =
-    let run = ap (λ t. cond t (prefix_len is_name_byte (bs ++ rest)) (cond (is_ascii_digit b) (prefix_len is_ascii_digit (bs ++ rest)) 0)) h.0 ∙ run_length is_name_byte bs rest h.1 e in
-    let xs = bs ++ rest in
-    let e = ap (λ t. cond t (word (b ∷ take (more_bytes b xs) xs)) (cond (is_ascii_digit b) (digits (b ∷ take (more_bytes b xs) xs)) (sign_or_other b))) h.0
-    ∙ (ap (λ n. word (b ∷ take n xs)) run ∙ ap (λ ys. word (b ∷ ys)) (take-append_seam bs rest)) in
-    run_lexed b bs rest (word (b ∷ bs)) (letter_plain b h.0) run e
+word_lexed b bs rest h e = grind (arith, run_length, take-append_seam, run_lexed, letter_plain)
 
 digits_lexed : (b : ℕ) (bs rest : List ℕ) → IsDigitsText (b ∷ bs) → Ends is_ascii_digit rest → lexed ((b ∷ bs) ++ rest) ≡ digits (b ∷ bs) ∷ lexed rest
-digits_lexed b bs rest h f =
-    let xs = bs ++ rest in
-    let no = digit_no_letter b h.0 in
-    let run = ap (λ t. cond t (prefix_len is_name_byte xs) (cond (is_ascii_digit b) (prefix_len is_ascii_digit xs) 0)) no
-    ∙ (ap (λ t. cond t (prefix_len is_ascii_digit xs) 0) h.0 ∙ run_length is_ascii_digit bs rest h.1 f) in
-    let e = ap (λ t. cond t (word (b ∷ take (more_bytes b xs) xs)) (cond (is_ascii_digit b) (digits (b ∷ take (more_bytes b xs) xs)) (sign_or_other b))) no
-    ∙ (ap (λ t. cond t (digits (b ∷ take (more_bytes b xs) xs)) (sign_or_other b)) h.0
-    ∙ (ap (λ n. digits (b ∷ take n xs)) run ∙ ap (λ ys. digits (b ∷ ys)) (take-append_seam bs rest))) in
-    run_lexed b bs rest (digits (b ∷ bs)) (digit_plain b h.0) run e
+digits_lexed b bs rest h f = grind (arith, digit_no_letter, run_length, take-append_seam, run_lexed, digit_plain)
 
 pub sign_lexed : (s : Sign) (rest : List ℕ) → lexed (sign_text s ++ rest) ≡ sign s ∷ lexed rest
-sign_lexed comma rest = ap (λ ts. sign comma ∷ ts) (place_free 0 2 0 rest)
-sign_lexed star rest = ap (λ ts. sign star ∷ ts) (place_free 0 3 0 rest)
-sign_lexed ampersand rest = ap (λ ts. sign ampersand ∷ ts) (place_free 0 3 0 rest)
-sign_lexed s rest = ap (λ ts. sign s ∷ ts) (place_free 0 1 0 rest)
+sign_lexed s rest = grind (arith, place_free)
 
 -- ---- leaves that are words, digits and signs, have no fault of their own, and stand apart
 
@@ -120,37 +98,19 @@ keyword_lexed layered_word rest h = word_lexed 108 (97 ∷ 121 ∷ 101 ∷ 114 �
 keyword_lexed reverse_word rest h = word_lexed 114 (101 ∷ 118 ∷ 101 ∷ 114 ∷ 115 ∷ 101 ∷ []) rest (refl, (refl, (refl, (refl, (refl, (refl, (refl, tt))))))) h
 keyword_lexed top_level_word rest h = word_lexed 116 (111 ∷ 112 ∷ 95 ∷ 108 ∷ 101 ∷ 118 ∷ 101 ∷ 108 ∷ []) (32 ∷ rest) (refl, (refl, (refl, (refl, (refl, (refl, (refl, (refl, (refl, tt))))))))) refl ∙ ap (λ ts. word (codes "top_level") ∷ ts) (place_free 0 1 0 rest)
 keyword_lexed at_least_word rest h = word_lexed 97 (116 ∷ 95 ∷ 108 ∷ 101 ∷ 97 ∷ 115 ∷ 116 ∷ []) (32 ∷ rest) (refl, (refl, (refl, (refl, (refl, (refl, (refl, (refl, tt)))))))) refl ∙ ap (λ ts. word (codes "at_least") ∷ ts) (place_free 0 1 0 rest)
-keyword_lexed by_word rest h =
-    place_free 0 1 0 (98 ∷ 121 ∷ 32 ∷ rest)
-    ∙ (word_lexed 98 (121 ∷ []) (32 ∷ rest) (refl, (refl, tt)) refl ∙ ap (λ ts. word (codes "by") ∷ ts) (place_free 0 1 0 rest))
+keyword_lexed by_word rest h = grind (arith, place_free, word_lexed)
 
 leaf_lexed : (leaf : Leaf) (rest : List ℕ) → IsSpelled leaf → Follows leaf rest → lexed (leaf_text leaf ++ rest) ≡ token_of leaf ∷ lexed rest
-leaf_lexed (name k) rest h f = keyword_lexed k rest f
-leaf_lexed (mark s) rest h f = sign_lexed s rest
-leaf_lexed (opens depth s) rest h f = sign_lexed s rest
-leaf_lexed (column_name []) rest h f = absurd h
-leaf_lexed (column_name (b ∷ bs)) rest h f = word_lexed b bs rest h f
-leaf_lexed (number_digits least negative []) rest h f = absurd h
-leaf_lexed (number_digits least negative (b ∷ bs)) rest h f = digits_lexed b bs rest h f
-leaf_lexed (count_digits []) rest h f = absurd h
-leaf_lexed (count_digits (b ∷ bs)) rest h f =
-    ap lexed (append_assoc (b ∷ bs) (codes " ") rest)
-    ∙ (digits_lexed b bs (32 ∷ rest) h refl ∙ ap (λ ts. digits (b ∷ bs) ∷ ts) (place_free 0 1 0 rest))
-leaf_lexed (cased k letters) rest h f = absurd h
-leaf_lexed last rest h f = absurd h
+leaf_lexed leaf rest h f = grind (arith, keyword_lexed, sign_lexed, word_lexed, digits_lexed, place_free, append_assoc)
 
 -- the text of leaves that stand apart has their tokens
 leaves_lexed : (names : Names) (leaves : List Leaf) (rest : List ℕ) → Apart names leaves rest → lexed (leaves_text leaves ++ rest) ≡ tokens_on leaves ++ lexed rest
 leaves_lexed names [] rest h = refl
-leaves_lexed names (leaf ∷ leaves) rest h =
-    ap lexed (append_assoc (leaf_text leaf) (leaves_text leaves) rest)
-    ∙ (leaf_lexed leaf (leaves_text leaves ++ rest) h.0 h.2 ∙ ap (λ ts. token_of leaf ∷ ts) (leaves_lexed names leaves rest h.3))
+leaves_lexed names (leaf ∷ leaves) rest h = grind (arith, leaves_lexed names leaves rest h.3, leaf_text, leaves_text, leaf_lexed, append_assoc)
 
 pub apart_both : (names : Names) (a b : List Leaf) (rest : List ℕ) → Apart names a (leaves_text b ++ rest) → Apart names b rest → Apart names (a ++ b) rest
 apart_both names [] b rest h k = k
-apart_both names (leaf ∷ a) b rest h k =
-    let e : leaves_text a ++ (leaves_text b ++ rest) ≡ leaves_text (a ++ b) ++ rest = sym (append_assoc (leaves_text a) (leaves_text b) rest) ∙ ap (λ xs. xs ++ rest) (sym (leaves_text-append a b)) in
-    (h.0, h.1, subst (Follows leaf) e h.2, apart_both names a b rest h.3 k)
+apart_both names (leaf ∷ a) b rest h k = grind (arith, apart_both names a b rest h.3 k, leaves_text, leaves_text-append, append_assoc)
 
 -- ---- a rated text
 
@@ -159,17 +119,12 @@ abbrev pub said : HeadText → PriorText → List (List ℕ) → List Leaf
 said head r group = head_leaves head ++ (prior_leaves r 0 ++ group_leaves group)
 
 said_leaves : (head : HeadText) (r : PriorText) (group : List (List ℕ)) → ask_leaves (rated head r group) ≡ said head r group ++ last ∷ []
-said_leaves head r group =
-    ap (λ ls. head_leaves head ++ ls) (sym (append_assoc (prior_leaves r 0) (group_leaves group) (last ∷ [])))
-    ∙ sym (append_assoc (head_leaves head) (prior_leaves r 0 ++ group_leaves group) (last ∷ []))
+said_leaves head r group = grind (arith, append_assoc)
 
 module _ (names : Names) (head : HeadText) (r : PriorText) (group : List (List ℕ)) (apart : Apart names (said head r group) []) where
   -- its text has the tokens of its tree
   pub rated_lexed : lexed (leaves_text (said head r group)) ≡ tokens_on (ask_leaves (rated head r group))
-  rated_lexed =
-      let leaves = said head r group in
-      ap lexed (sym (append-nil (leaves_text leaves)))
-      ∙ (leaves_lexed names leaves [] apart ∙ (sym (map-append token_of leaves (last ∷ [])) ∙ ap tokens_on (sym (said_leaves head r group))))
+  rated_lexed = search (rules, leaves_text, leaves_lexed, map-append, said_leaves)
 
   -- what is so of the end and of such leaves is so of each of its leaves
   pub rated_all : (P : Leaf → Type 0) → ((leaf : Leaf) → IsSpelled leaf → IsGood names leaf → P leaf) → P last → AllByRecursion P (ask_leaves (rated head r group))
@@ -181,5 +136,4 @@ module _ (names : Names) (head : HeadText) (r : PriorText) (group : List (List �
 
 -- no word of it stands in another case
 pub spelled_written : (leaf : Leaf) → IsSpelled leaf → IsWritten leaf
-spelled_written (cased k letters) h = absurd h
-spelled_written _ h = tt
+spelled_written leaf h = grind (arith)

@@ -1,16 +1,16 @@
 -- Of two rows of which the first is over the second, or its twin, the first reaches no mark that the second does not reach.
 use Rattle.std.specs.Prelude.{◌||◌}
-use Rattle.pref_term.proofs.Common.{◌≡◌, ℕ, ℤ, pos, List, [], ◌∷◌, Bool, true, false, map, not, inl, inr, sym, ap, ◌∙◌, subst, arith, All, int_lt}
-use Rattle.pref_term.proofs.Common.{int_eq, Decides-int_eq, ints, All-append, All-cons, All-contains, All-nil, order_of, better, in_same_group, cell, same, key_for}
+use Rattle.pref_term.proofs.Common.{◌≡◌, ℕ, ℤ, pos, List, [], ◌∷◌, Bool, true, false, map, not, sym, ap, ◌∙◌, arith, All, int_lt}
+use Rattle.pref_term.proofs.Common.{ints, All-append, All-cons, All-contains, All-nil, order_of, better, in_same_group, cell, same}
 use Rattle.pref_term.proofs.Common.{keyed, leading, is_better, is_same, and_parts, Preference, scored, pareto, prior, reverse, Question, Suit, bits_by, is_within, scale_column}
 use Rattle.pref_term.proofs.Common.{signature, twins_alike, by_scores, in_priority, in_product, walked, Key, Relation}
 use Rattle.pref_term.specs.RelationLaws.{priority-better, priority-same, product-better, product-same, scores-better, scores-same}
 use Rattle.pref_term.specs.Leading.{Suits}
 use Rattle.pref_term.specs.declared.signature.scale.Scale.{Scale}
-use Rattle.pref_term.specs.declared.signature.scale.Scale.TheVariants.{Marks, Hashes}
 use Rattle.pref_term.proofs.KeyLaws.{directed, directed_priority, directed_product, directed_reverse, key_law}
 use Rattle.pref_term.proofs.SignatureWords.{Implied, implied_flat, implied_itself, implied_map, signed_within}
 use Rattle.pref_term.proofs.WalkLaws.{walked_better, walked_same}
+use Rattle.std.proofs.Common.{rules}
 
 -- ---- rows of which the first is better, or the same
 
@@ -32,8 +32,7 @@ Keeps a b k = int_lt (keyed k b) (keyed k a) ≡ false
 
 keep : (p : Preference) (s : Bool) (a b : List ℤ) → fits (directed s p a b) ≡ true → All (Keeps a b) (leading p s)
 unfolding Keeps
-keep (scored t) s a b h =
-    All-cons (Keeps a b) (key_for t s) [] (scores_fit (keyed (key_for t s) a) (keyed (key_for t s) b) (ap fits (key_law t s a b) ∙ h)) (All-nil (Keeps a b))
+keep (scored t) s a b h = grind (arith, All-cons, Keeps, scores_fit, key_law, All-nil)
 keep (pareto p q) s a b h =
     let parts = product_fits (directed s p a b) (directed s q a b) (sym (ap fits (directed_product s p q a b)) ∙ h) in
     All-append (Keeps a b) (leading p s) (leading q s) (keep p s a b parts.0) (keep q s a b parts.1)
@@ -43,10 +42,8 @@ keep (reverse p) s a b h = keep p (not s) a b (ap fits (directed_reverse s p a b
 -- ---- a group
 
 group_cells : (group : List ℕ) (a b : List ℤ) → in_same_group group a b ≡ true → All (λ c. cell a c ≡ cell b c) group
-group_cells [] a b h = All-nil (λ c. cell a c ≡ cell b c)
-group_cells (col ∷ cols) a b h =
-    let both = and_parts (int_eq (cell a col) (cell b col)) (in_same_group cols a b) h in
-    All-cons (λ c. cell a c ≡ cell b c) col cols ((Decides-int_eq (cell a col) (cell b col)).0 both.0) (group_cells cols a b both.1)
+group_cells [] a b h = grind (arith)
+group_cells (col ∷ cols) a b h = grind (arith, group_cells cols a b)
 
 bits_as : (scale : Scale) (a b : List ℤ) → cell a (scale_column scale) ≡ cell b (scale_column scale) → bits_by scale a ≡ bits_by scale b
 bits_as scale a b e = grind arith
@@ -57,17 +54,11 @@ bits_as scale a b e = grind arith
 reached : (k : Key) (marks : List ℕ) (a b : List ℤ) → Keeps a b k
     → Implied (map (λ mark. not (int_lt (keyed k a) (pos mark))) marks) (map (λ mark. not (int_lt (keyed k b) (pos mark))) marks)
 unfolding Keeps
-reached k marks a b keeps =
-    implied_map (λ mark. not (int_lt (keyed k a) (pos mark))) (λ mark. not (int_lt (keyed k b) (pos mark)))
-    (λ mark h. grind (arith, ints)) marks
+reached k marks a b keeps = grind (arith, implied_map, ints)
 
 suiting : (keys : List Key) (group : List ℕ) (scale : Scale) (a b : List ℤ) → All (Keeps a b) keys → in_same_group group a b ≡ true
     → Suits keys group scale → Implied (bits_by scale a) (bits_by scale b)
-suiting keys group scale a b keeps near (inl in_group) =
-    subst (λ bits. Implied (bits_by scale a) bits) (bits_as scale a b (All-contains (λ c. cell a c ≡ cell b c) group (scale_column scale) (group_cells group a b near) in_group))
-    (implied_itself (bits_by scale a))
-suiting keys group (Marks k marks) a b keeps near (inr led) = reached k marks.items a b (All-contains (Keeps a b) keys k keeps led)
-suiting keys group (Hashes c masks) a b keeps near (inr led) = absurd led
+suiting keys group scale a b keeps near suits = grind (arith, bits_as, All-contains, group_cells, implied_itself, reached, Keeps)
 
 -- ---- the law
 
@@ -82,6 +73,4 @@ suiting_cuts q scales suit = record {
 }
   where
     within : (a b : List ℤ) → fits (walked q.preference a b) ≡ true → in_same_group q.group a b ≡ true → is_within (signature scales a) (signature scales b) ≡ true
-    within a b h near =
-        signed_within _ _ (implied_flat (Suits (leading q.preference false) q.group) (λ scale. bits_by scale a) (λ scale. bits_by scale b)
-        (λ scale. suiting (leading q.preference false) q.group scale a b (keep q.preference false a b h) near) scales suit)
+    within a b h near = search (rules, signed_within, implied_flat, suiting, keep)

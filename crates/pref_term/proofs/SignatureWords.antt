@@ -1,5 +1,5 @@
 -- Words of bits: where each bit of a word is one of another, the first is within the second.
-use Rattle.pref_term.proofs.Common.{◌≡◌, ◌<◌, ◌≤◌, ◌+◌, ◌*◌, ◌^◌, ◌%◌, ◌/◌, ℕ, zero, suc, List, [], ◌∷◌, ◌++◌, map, Bool, true, false, refl, sym, ap, ◌∙◌, arith, eq-eqb, w64, All, bit_and, min}
+use Rattle.pref_term.proofs.Common.{◌≡◌, ◌<◌, ◌≤◌, ◌*◌, ◌^◌, ◌%◌, ◌/◌, ℕ, zero, suc, List, [], ◌∷◌, ◌++◌, map, Bool, true, refl, ap, ◌∙◌, arith, eq-eqb, w64, All, bit_and, min}
 use Rattle.pref_term.proofs.Common.{flat_map, All-head, All-tail, bit_at, bit_not, from_bool, is_within, signed_onto, with_bit}
 use Rattle.std.proofs.lemmas.Nat.{and_le_l}
 use lib.Bits.{or_lt}
@@ -10,24 +10,19 @@ Covered : ℕ → ℕ → Type 0
 Covered x y = (i : ℕ) → i < 64 → bit_at x i ≤ bit_at y i
 
 bit_of_rest : (n i : ℕ) → i < 64 → bit_at (n % 2 ^ 64) i ≡ bit_at n i
-bit_of_rest n i inside =
-    let whole : n / 2 ^ 64 * 2 ^ 64 + n % 2 ^ 64 ≡ n = omega arith in
-    sym (bit_at_cat_low (n / 2 ^ 64) 64 (n % 2 ^ 64) i inside) ∙ ap (λ m. bit_at m i) whole
+bit_of_rest n i inside = grind (arith, bit_at_cat_low (n / 2 ^ 64) 64 (n % 2 ^ 64) i inside)
 
 pushed_low : (n : ℕ) → bit_at (n * 2 ^ 1 % 2 ^ 64) 0 ≡ 0
 pushed_low n = bit_of_rest (n * 2 ^ 1) 0 (omega arith) ∙ (bit_at_lowest (n * 2 ^ 1) ∙ omega arith)
 
 pushed_high : (n i : ℕ) → suc i < 64 → bit_at (n * 2 ^ 1 % 2 ^ 64) (suc i) ≡ bit_at n i
-pushed_high n i inside =
-    let half : n * 2 ^ 1 / 2 ≡ n = omega arith in
-    bit_of_rest (n * 2 ^ 1) (suc i) inside ∙ (bit_at-suc (n * 2 ^ 1) i ∙ ap (λ m. bit_at m i) half)
+pushed_high n i inside = grind (arith, bit_of_rest, bit_at-suc)
 
 bit_low : (b : Bool) → bit_at (from_bool b) 0 ≡ from_bool b
 bit_low b = grind arith
 
 bit_high : (b : Bool) (i : ℕ) → bit_at (from_bool b) (suc i) ≡ 0
-bit_high true i = bit_at-suc 1 i ∙ bit_at-zero i
-bit_high false i = bit_at-zero (suc i)
+bit_high b i = grind (arith)
 
 bool_le : (b c : Bool) → (b ≡ true → c ≡ true) → from_bool b ≤ from_bool c
 bool_le b c h = grind arith
@@ -35,10 +30,8 @@ bool_le b c h = grind arith
 -- one more bit on each
 pushed_covered : (x y : ℕ) (b c : Bool) → Covered x y → (b ≡ true → c ≡ true) → Covered (with_bit x b) (with_bit y c)
 unfolding Covered
-pushed_covered x y b c covered step zero inside =
-    omega (arith, bit_at_or (x * 2 ^ 1 % 2 ^ 64) (from_bool b) 0, bit_at_or (y * 2 ^ 1 % 2 ^ 64) (from_bool c) 0, pushed_low x, pushed_low y, bit_low b, bit_low c, bool_le b c step)
-pushed_covered x y b c covered step (suc i) inside =
-    omega (arith, bit_at_or (x * 2 ^ 1 % 2 ^ 64) (from_bool b) (suc i), bit_at_or (y * 2 ^ 1 % 2 ^ 64) (from_bool c) (suc i), pushed_high x i inside, pushed_high y i inside, bit_high b i, bit_high c i, covered i (omega arith))
+pushed_covered x y b c covered step zero inside = grind (arith, bit_at_or (x * 2 ^ 1 % 2 ^ 64) (from_bool b) 0, bit_at_or (y * 2 ^ 1 % 2 ^ 64) (from_bool c) 0, pushed_low x, pushed_low y, bit_low b, bit_low c, bool_le b c step)
+pushed_covered x y b c covered step (suc i) inside = grind (arith, bit_at_or, pushed_high, bit_high)
 
 -- ---- lists of bits
 
@@ -61,23 +54,18 @@ implied_map f g each (x ∷ xs) = (each x, implied_map f g each xs)
 
 implied_append : (xs bs ys cs : List Bool) → Implied xs bs → Implied ys cs → Implied (xs ++ ys) (bs ++ cs)
 unfolding Implied
-implied_append [] [] ys cs h k = k
-implied_append [] (b ∷ bs) ys cs h k = absurd h
-implied_append (x ∷ xs) [] ys cs h k = absurd h
 implied_append (x ∷ xs) (b ∷ bs) ys cs h k = (h.0, implied_append xs bs ys cs h.1 k)
+implied_append xs bs ys cs h k = grind (arith)
 
 pub implied_flat : {E : Type 0} (P : E → Type 0) (f g : E → List Bool) → ((x : E) → P x → Implied (f x) (g x)) → (xs : List E) → All P xs → Implied (flat_map f xs) (flat_map g xs)
 unfolding Implied
 implied_flat P f g each [] all_pass = tt
-implied_flat P f g each (x ∷ xs) all_pass =
-    implied_append (f x) (g x) (flat_map f xs) (flat_map g xs) (each x (All-head P x xs all_pass)) (implied_flat P f g each xs (All-tail P x xs all_pass))
+implied_flat P f g each (x ∷ xs) all_pass = grind (arith, implied_flat P f g each xs (All-tail P x xs all_pass), implied_append, All-head, All-tail)
 
 signed_covered : (bs cs : List Bool) → Implied bs cs → (x y : ℕ) → Covered x y → Covered (signed_onto x bs) (signed_onto y cs)
 unfolding Implied
-signed_covered [] [] h x y covered = covered
-signed_covered [] (c ∷ cs) h x y covered = absurd h
-signed_covered (b ∷ bs) [] h x y covered = absurd h
 signed_covered (b ∷ bs) (c ∷ cs) h x y covered = signed_covered bs cs h.1 (with_bit x b) (with_bit y c) (pushed_covered x y b c covered h.0)
+signed_covered bs cs h x y covered = grind (arith)
 
 -- a signature has 64 bits
 one_below : (b : Bool) → from_bool b < 2 ^ 64
@@ -101,8 +89,7 @@ within_if_covered x y small_x small_y covered =
 -- where each bit of a list is set in another, the word of the first is within that of the second
 pub signed_within : (bs cs : List Bool) → Implied bs cs → is_within (signed_onto 0 bs) (signed_onto 0 cs) ≡ true
 unfolding Covered
-signed_within bs cs h =
-    within_if_covered (signed_onto 0 bs) (signed_onto 0 cs) (signed_below bs 0 (omega arith)) (signed_below cs 0 (omega arith)) (signed_covered bs cs h 0 0 (λ i inside. omega arith))
+signed_within bs cs h = grind (arith, within_if_covered, signed_below, signed_covered)
 
 -- bits are put behind a word one list after the other
 pub signed_onto_append : (word : ℕ) (bs cs : List Bool) → signed_onto word (bs ++ cs) ≡ signed_onto (signed_onto word bs) cs

@@ -3,7 +3,7 @@ use Rattle.pref_term.proofs.Common.{◌≡◌, arith, ℕ, List, [], ◌∷◌, 
 use Rattle.pref_term.proofs.Common.{AllByRecursion, map-append, Token, finish, Placed, AskText, IsText, IsWritten, Leaf, token_of, ask_leaves, Names, tokens_in, tokens_on}
 use Rattle.pref_term.proofs.Common.{IsGood, own_fault, OwnFault, Starts, reported, reported_at, last_place, IsUnexpected, HasOwnFault, FirstFault, State, start}
 use Rattle.pref_term.proofs.Common.{done, read_of, next, run, led, judged, ended, TermFault, Unexpected}
-use Rattle.std.proofs.lemmas.Option.{none-some, same_Some}
+use Rattle.std.proofs.lemmas.Option.{same_Some}
 use Rattle.pref_term.proofs.GrammarSound.{next_grows, Grows}
 use Rattle.pref_term.proofs.GrammarComplete.{Reads, reads_on, reads_ask, can_end}
 
@@ -111,9 +111,7 @@ reached_stuck names before s t r e leaves b plays =
   where
     go : (back : List Leaf) (mid : State) → mid ≡ s → tokens_on back ≡ t ∷ [] → Reads mid (back ++ b.rest) (done b.tree) → ⊥
     go [] mid same plays h = cc
-    go (leaf ∷ back) mid same plays h =
-        let u : token_of leaf ≡ t = cc in
-        none-some (leaf, h.0) (sym (ap (λ z. next z t) same ∙ e) ∙ (sym (ap (next mid) u) ∙ h.1))
+    go (leaf ∷ back) mid same plays h = grind (arith)
 
 -- ---- the run
 
@@ -148,10 +146,7 @@ abbrev pub Answers : Names → List Placed → Result AskText TermFault → Type
 Answers names tokens result = MatchResult result (Spelt names tokens) (FirstFault names tokens)
 
 run_ended : (names : Names) (before : List Placed) (p : ℕ) (s : State) → Reached names before s → IsDone s → Answers names before (ended s p)
-run_ended names before p s r d =
-    let e : ask_leaves d.0 ≡ r.leaves = ap read_of (sym d.1) ∙ reads_grow start r.leaves s r.reads in
-    subst (λ (x : State). Answers names before (ended x p)) (sym d.1)
-    (record { written = subst (AllByRecursion IsWritten) (sym e) (reads_written start r.leaves s r.reads); tokens_are = sym r.played ∙ ap tokens_on (sym e); good = subst (AllByRecursion (IsGood names)) (sym e) r.good })
+run_ended names before p s r d = grind (arith, reads_grow, reads_written)
 
 pub run_answers : (names : Names) (ts before : List Placed) (s : State) → Reached names before s → Due ts s → Answers names (before ++ ts) (run names ts (last_place 0 before) s)
 run_answers names [] before s r due = subst (λ (b : List Placed). Answers names b (ended s (last_place 0 before))) (sym (append-nil before)) (run_ended names before (last_place 0 before) s r due)

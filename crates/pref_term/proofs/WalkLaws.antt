@@ -1,7 +1,7 @@
 -- What one walk tells of both directions of a pair.
 use Rattle.pref_term.proofs.Common.{◌≡◌, ℤ, List, ◌∙◌, arith, better, same, score, is_better, is_same, is_worse, Preference, scored, pareto, prior, reverse, walked}
 use Rattle.pref_term.specs.OrderLaws.{same_is}
-use Rattle.pref_term.specs.RelationLaws.{priority-better, priority-same, priority-worse, product-better, product-same, product-worse, scores-better, scores-same, scores-worse}
+use Rattle.pref_term.specs.RelationLaws.{priority-better, priority-same, priority-worse, product-better, product-same, scores-better, scores-same, scores-worse}
 
 same_back : (p : Preference) (a b : List ℤ) → same p b a ≡ same p a b
 same_back p a b = grind (arith, same_is p a b, same_is p b a)
@@ -20,8 +20,6 @@ walked_better (reverse p) a b = walked_better p b a
 
 pub walked_worse : (p : Preference) (a b : List ℤ) → is_worse (walked p a b) ≡ better p b a
 walked_worse (scored t) a b = scores-worse (score t a) (score t b)
-walked_worse (pareto p q) a b =
-    product-worse (walked p a b) (walked q a b)
-    ∙ cc (walked_worse p a b, walked_worse q a b, walked_same p a b, walked_same q a b, same_back p a b, same_back q a b)
+walked_worse (pareto p q) a b = grind (arith, walked_worse p a b, walked_worse q a b, walked_same p a b, walked_same q a b, same_back p a b, same_back q a b)
 walked_worse (prior p q) a b = priority-worse (walked p a b) (walked q a b) ∙ cc (walked_worse p a b, walked_worse q a b, walked_same p a b, same_back p a b)
 walked_worse (reverse p) a b = walked_worse p b a
