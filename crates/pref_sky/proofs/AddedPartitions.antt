@@ -1,7 +1,7 @@
 -- What an addition makes of partitions: each holds the levels of what it held and of what came to it.
 use Rattle.pref_sky.proofs.Common.{◌≡◌, ℕ, zero, suc, ◌≤◌, ◌+◌, ◌-◌, Bool, true, not, inl, inr, ◌⊎◌, List, [], ◌∷◌, ◌++◌, length, take, drop, filter, map, eqb, refl, sym, ◌∙◌, ap, subst, arith}
 use Rattle.pref_sky.proofs.Common.{append-nil, Vec, Global, All, cases_Bool, length-map, map-append, take-map, drop-map, All-append, All-drop, All-take, filter-append, IsStrictOrder, Arrival, Entry}
-use Rattle.pref_sky.proofs.Common.{Made, KeepsUpper, arrived, coming_to, best, is_beaten, rest, AreAllItems, AreInPool, AreItems, levels_at, items_at, partitions_at, Item, HaveDifferentIds}
+use Rattle.pref_sky.proofs.Common.{Made, KeepsUpper, arrived, coming_to, best, is_beaten, rest, AreAllItems, AreInPool, AreItems, items_at, partitions_at, Item, HaveDifferentIds}
 use Rattle.pref_sky.proofs.Common.{entry_of, levels, ArePartitionsMade, ArePut, IsPartitionMade, LeaveAlone, new_levels, IsBehind, IsMade, held_at, replaced, ArePartitionedBy, depth, is_in, ranked_partitions}
 use Rattle.pref_sky.proofs.Common.{ranked_upto, Among, both_ways, eq-eqb, eqb-true, list_any, AreComing, HaveArrived, IsArrival, partition_of, partitions_by}
 use Rattle.pref_sky.specs.Additions.{FitIn}
@@ -10,7 +10,7 @@ use Rattle.pref_sky.proofs.ListLaws.{all_among, among_all, any_from, any_gives, 
 use Rattle.pref_sky.proofs.Merges.{different_filter, beaten_by_rest, comes_after}
 use Rattle.pref_sky.proofs.PoolLaws.{Partition, all_held, in_pool_if, levels_of_at}
 use Rattle.pref_sky.proofs.PartitionsLaws.{IsWithin, depth_within, differ_after, hold_apart, hold_together, level_in_partition, partition_below, parted_after, within_depth}
-use Rattle.pref_sky.proofs.Ranks.{held_there, held_upto, levels_upto_is, within_if_same}
+use Rattle.pref_sky.proofs.Ranks.{held_there, held_upto, within_if_same}
 use Rattle.pref_sky.proofs.MadeLevels.{taken_long}
 use Rattle.pref_sky.proofs.SortedLevels.{different_by_count, kept_levels}
 
@@ -43,7 +43,7 @@ module _ {over : Entry → Entry → Bool} {cut : ℕ} {rule : Entry → ℕ} {p
   pub partition_after : (partition : ℕ) → IsMade over cut (held_at partition (partitions_at pool partitions)) (held_at partition (partitions_at pool new)) (map (arrived pool) (coming_to partition arrivals))
   partition_after partition =
       let was = held_at partition (partitions_at pool partitions) in
-      grind (arith, made_or_not partition all, levels_of_at pool, is_put, replaced_map, is_made, levels_of_at pool partition new, put.others partition, levels_of_at pool partition partitions, are.others partition, nothing_comes over cut was)
+      grind (arith, made_or_not partition all, levels_of_at pool, is_put, replaced_map, is_made, nothing_comes over cut was)
 
   pub in_pool_after : AreInPool rule pool partitions → AreInPool rule pool new
   in_pool_after in_pool =
@@ -66,7 +66,7 @@ module _ {over : Entry → Entry → Bool} {cut : ℕ} {rule : Entry → ℕ} {p
       ])
 
   pub depth_after : (most : ℕ) → cut ≤ most → depth (partitions_at pool partitions) ≤ most → depth (partitions_at pool new) ≤ most
-  depth_after most cut_fits shallow = grind (arith, levels_of_at pool, length-map, within_depth (partitions_at pool partitions), depth_within (partitions_at pool new) most, made_or_not, is_made, is_put, taken_long, put.others)
+  depth_after most cut_fits shallow = grind (arith, levels_of_at pool, length-map, within_depth (partitions_at pool partitions), depth_within (partitions_at pool new) most, taken_long)
 
 -- those that come to a partition are those of its number
 filter_mapped : {E F : Type 0} (f : E → F) (q : F → Bool) (xs : List E) → filter q (map f xs) ≡ map f (filter (λ x. q (f x)) xs)
@@ -104,7 +104,7 @@ late over number within (suc c) old before different apart parted is x n low beh
     let mine = is_in number partition in
     let some : ℕ → List Entry = λ j. best over (rest over (filter mine before) j) in
     let k = n - 1 in
-    let same : ranked_upto (λ j. held_at j held) (length held) ≡ ranked_upto some (suc c) = grind (arith, held_upto held, hold_apart over number within (suc c) old before different apart parted is partition, within, apart, levels_upto_is over (filter mine before) (suc c)) in
+    let same : ranked_upto (λ j. held_at j held) (length held) ≡ ranked_upto some (suc c) = grind (arith, held_upto held, hold_apart over number within (suc c) old before different apart parted is partition) in
     let next : suc k ≡ n = omega (arith, low) in
     let w = any_gives (λ y. over y x) (held_at k held) (behind k next) in
     let v = within_if_same (λ j. held_at j held) some (length held) (suc c) same k w.0 (held_there k held w.0 w.1) w.1 in
@@ -116,7 +116,7 @@ late over number within (suc c) old before different apart parted is x n low beh
 -- of what comes, what is below the cut may be left out
 module _ (over : Entry → Entry → Bool) (number : Entry → ℕ) (cut : ℕ) (old : List (List (List Entry))) (entries kept : List Entry) (upper : KeepsUpper over cut number old entries kept) where
   pub some_differ : (held : List Entry) → HaveDifferentIds (held ++ entries) → HaveDifferentIds (held ++ kept)
-  some_differ held different = grind (arith, different_by_count held entries (held ++ kept) different, upper.counts, count_append)
+  some_differ held different = grind (arith, different_by_count held entries (held ++ kept) different, count_append)
 
   pub upper_levels : IsStrictOrder over → IsWithin over number → (before : List Entry) → HaveDifferentIds (before ++ entries) → HaveDifferentIds (map entry_of (ranked_partitions old) ++ entries) → ArePartitionedBy number old
       → ranked_partitions old ≡ levels over before cut → levels over (before ++ kept) cut ≡ levels over (before ++ entries) cut
@@ -139,7 +139,7 @@ module _ {over : Entry → Entry → Bool} {rule : Entry → ℕ} {cut : ℕ} {c
 
   -- to partitions that there are, and to their levels
   pub to_coming : length partitions ≡ partitions_by columns → AreComing over rule pool partitions arrivals
-  to_coming long = grind (arith, here.dealt, among_all, long, partition_below columns, all_among, of_partition, levels_of_at pool, all_among (IsArrival over rule (partition_of columns) pool (partitions_at pool partitions)) arrivals here.are)
+  to_coming long = grind (arith, partition_below columns, levels_of_at pool)
 
   -- and the partitions once they are made and put in their places
   module _ {given : List Arrival} {all : List Made} {new : List Partition} {old : List (List (List Entry))} (came : given ≡ arrivals) (are : ArePartitionsMade over cut rule pool partitions given all) (put : ArePut all partitions new) (same : partitions_at pool partitions ≡ old)
@@ -157,7 +157,7 @@ module _ {over : Entry → Entry → Bool} {rule : Entry → ℕ} {cut : ℕ} {c
     coming = map (arrived pool) arrivals
 
     after : (partition : ℕ) → IsMade over cut (held_at partition was) (held_at partition now) (filter (is_in number partition) coming)
-    after partition = grind (arith, coming_of number pool arrivals of_partition partition, of_partition, partition_after are put partition)
+    after partition = grind (arith, coming_of number pool arrivals of_partition partition, partition_after are put partition)
 
     apart : HaveDifferentIds (map entry_of (ranked_partitions was) ++ entries)
     apart = subst (λ l. HaveDifferentIds (map entry_of (ranked_partitions l) ++ entries)) (sym same) different

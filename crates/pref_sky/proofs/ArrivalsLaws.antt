@@ -9,13 +9,13 @@ use Rattle.pref_sky.proofs.PoolLaws.{entry_grown, item_grown, levels_grown, part
 
 pub partition_stays : (a b : Pool) → HasGrown a b → (partitions : List (Vec (Vec Item Global) Global)) (n : ℕ) (partition : Vec (Vec Item Global) Global) → AreInPool (signature_by a.scales) a.entries.items partitions → n < length partitions → partition ≡ get_or partitions n partition
     → levels_at b.entries.items partition.items ≡ held_at n (partitions_at a.entries.items partitions)
-partition_stays a b grown partitions n partition are inside is = grind (arith, inside, levels_grown a b grown partition.items, partition_here a.entries.items partitions n partition inside is)
+partition_stays a b grown partitions n partition are inside is = grind (arith, levels_grown a b grown partition.items, partition_here a.entries.items partitions n partition inside is)
 
 module _ (over : Entry → Entry → Bool) (number : Entry → ℕ) (partitions : List (List (List Entry))) where
   -- an entry that was put into the pool for a partition
   pub arrival_here : (rule : Entry → ℕ) (pool : List Entry) (e : Entry) (levels : List (List Entry)) (x : Arrival) → levels ≡ held_at x.partition partitions → number e ≡ x.partition → IsItem rule pool x.item → arrived pool x ≡ e
       → x.start ≤ length levels → IsBehind over levels x.start e → IsArrival over rule number pool partitions x
-  arrival_here rule pool e levels x here numbered is same within behind = grind (arith, x.start, within, behind)
+  arrival_here rule pool e levels x here numbered is same within behind = grind (arith)
 
   module _ (a b : Pool) (grown : HasGrown a b) (arrivals : List Arrival) (are : All (IsArrival over (signature_by a.scales) number a.entries.items partitions) arrivals) where
     arrived_grown : (x : Arrival) → IsArrival over (signature_by a.scales) number a.entries.items partitions x → arrived b.entries.items x ≡ arrived a.entries.items x
@@ -46,7 +46,7 @@ module _ {below : Entry → Type 0} (entries kept : List Entry) (keeps : KeepsAl
       }
 
   pub drops_one : (e : Entry) → below e → KeepsAllBut below (entries ++ e ∷ []) kept
-  drops_one e low = grind (arith, in_left entries (e ∷ []), keeps.within, in_either entries (e ∷ []), keeps.covers, keeps.counts, count_append)
+  drops_one e low = grind (arith, in_left entries (e ∷ []), in_either entries (e ∷ []), count_append)
 
   pub keeps_moved : (moved : List Entry) → IsPermutation kept moved → KeepsAllBut below entries moved
-  keeps_moved moved permuted = grind (arith, same_if_permuted kept moved permuted, keeps.within, keeps.covers, keeps.counts, sum_by-IsPermutation)
+  keeps_moved moved permuted = grind (arith, same_if_permuted kept moved permuted, sum_by-IsPermutation)

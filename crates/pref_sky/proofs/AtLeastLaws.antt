@@ -96,7 +96,7 @@ past_all over strict all (suc m) le =
 
 -- k levels hold enough
 pub enough : (over : Entry → Entry → Bool) → IsStrictOrder over → (same : Row → Row → Bool) → StaysInGroups over same → (all : List Entry) (k : ℕ) → at_least same k (levels over all (length all)) ≡ at_least same k (levels over all k)
-enough over strict same within all k = grind (arith, past_all over strict all k, past_k over strict same within all k (length all), within)
+enough over strict same within all k = grind (arith, past_all over strict all k, past_k over strict same within all k (length all))
 
 filter_front : {E : Type 0} (p : E → Bool) (xs : List E) (n : ℕ) → IsPartitionPoint (λ x. p x ≡ true) (λ x. p x ≡ false) xs n → filter p xs ≡ take n xs
 filter_front p xs n point = filter_parted p xs n (passes_before p xs n point) (fails_behind p xs n point)
@@ -153,7 +153,7 @@ module _ (xs : List Ranked) (sorted : IsNonDecreasingBy (λ (r : Ranked). r.leve
 
 -- all are told where they are fewer, and none where none is asked for
 pub all_ranked : (least : ℕ) (xs : List Ranked) → length xs < least → xs ≡ at_least (in_same_group []) least xs
-all_ranked least xs few = grind (arith, all_pass, lt-ltb, count_by-le-length)
+all_ranked least xs few = grind (arith, all_pass, count_by-le-length)
 
 pub none_ranked : (xs : List Ranked) → [] ≡ at_least (in_same_group []) 0 xs
 none_ranked xs = sym (none_pass (λ r. ltb (count_before (in_same_group []) xs r) 0) xs (λ r m. le-ltb (count_before (in_same_group []) xs r) 0 (omega arith)))

@@ -6,13 +6,13 @@ use Rattle.pref_sky.proofs.Common.{length, get_or, Called, IsSortedByClosure, is
 use Rattle.pref_sky.proofs.Common.{entry_at, IsInOrder, comes_first, ChainOrder}
 use Rattle.std.proofs.lemmas.Int.{ints}
 use Rattle.pref_term.specs.Keys.{keyed}
-use Rattle.pref_term.specs.Walk.{by_scores, by_sides, in_product, in_priority}
+use Rattle.pref_term.specs.Walk.{by_scores, by_sides, in_priority}
 use Rattle.pref_term.specs.declared.chains.Chains.{Chains}
 use Rattle.pref_term.specs.declared.key.Key.{Key}
 use Rattle.pref_term.specs.declared.relation.Relation.{Relation}
 use Rattle.std.specs.Cmp.{IsStrictWeakOrder}
 use Rattle.pref_term.specs.ChainOrder.{chain_order_is_product}
-use Rattle.pref_sky.proofs.StairLaws.{chain_in_turn, line_of_one, serves_groups, strict_stairs}
+use Rattle.pref_sky.proofs.StairLaws.{chain_in_turn, line_of_one, strict_stairs}
 use Rattle.pref_sky.proofs.ListLaws.{place_of, in_order_at}
 
 -- ---- chains
@@ -59,7 +59,7 @@ sides [] a b = refl
 sides (key ∷ keys) a b = scores_sides (keyed key a) (keyed key b) (by_chain keys a b) (by_chain keys b a) (sides keys a b)
 
 pub worse_in : (keys : List Key) (a b : List ℤ) → is_worse (by_chain keys a b) ≡ better_in keys b a
-worse_in keys a b = grind (arith, keys_chain keys, sides keys a b)
+worse_in keys a b = grind (arith, sides keys a b)
 
 pub same_in : (keys : List Key) (a b : List ℤ) → is_same (by_chain keys a b) ≡ are_level (better_in keys) a b
 same_in keys a b = grind (arith, sides keys a b)
@@ -71,10 +71,6 @@ pub columns_order_groups : (columns : List ℕ) → OrderGroups columns
 columns_order_groups columns = record { chain = earlier_chain columns; same_group = same_group columns }
 
 -- ---- the product of two chains
-
-product_better : (r s t : Relation) (p q : Bool) → is_worse r ≡ p → is_worse s ≡ q → is_same r ≡ (not (is_better r) && not p) → is_same s ≡ (not (is_better s) && not q)
-    → is_better (in_priority (in_product r s) t) ≡ ((not p && not q) && (is_better r || (is_better s || is_better t)))
-product_better r s t p q h k l m = grind (arith, h, k, l, m)
 
 -- twins, of which the one with the smaller id dominates, are a tie behind that of the rows
 twins_tie : (over twin lower same fab fba sab sba tab tba distinct : Bool) → over ≡ ((not fba && not sba) && (fab || (sab || tab)))
@@ -92,12 +88,12 @@ module _ (order : RowOrder) (columns : List ℕ) (chains : Chains) (distinct : B
     first_is_chain = keys_chain (first_chain chains);
     second_is_chain = keys_chain (second_chain chains);
     tie_is_chain = keys_chain (tie_chain chains);
-    is = grind (arith, product_better, worse_in (first_chain chains), worse_in (second_chain chains), same_in (first_chain chains), same_in (second_chain chains));
+    is = grind (arith, worse_in (first_chain chains), worse_in (second_chain chains), same_in (first_chain chains), same_in (second_chain chains));
   }
 
   -- rows
   rows_are_stairs : AreStairs order.over (first_within columns chains) (second_within columns chains) (better_in (tie_chain chains))
-  rows_are_stairs = grind (arith, serves_groups, without_groups, earlier_chain columns, of.over, same_group columns)
+  rows_are_stairs = grind (arith, without_groups, earlier_chain columns, same_group columns)
 
   -- rows of a group that are the same are level in both chains and in the tie
   level_in_all : (a b : List ℤ)

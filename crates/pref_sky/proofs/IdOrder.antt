@@ -1,7 +1,7 @@
 -- Entries in order of id: one list for each set of entries with different ids.
 use Rattle.pref_sky.proofs.Common.{◌≡◌, ℕ, suc, ◌≤◌, ◌<◌, Bool, true, cond, inl, List, [], ◌∷◌, refl, sym, ◌∙◌, ap, arith, ltb, eqb, eq-eqb, count_by, IsNonDecreasingBy, IsPermutation, cond_both}
-use Rattle.pref_sky.proofs.Common.{ltb-false, sum_by-IsPermutation, Entry, HaveDifferentIds, put_by_id, in_order_of_id, Among, IsPermutation-cons, IsPermutation-middle, IsPermutation-trans}
-use Rattle.pref_sky.proofs.Common.{IsPermutation-refl, nat_tests, length, get_or, IsInOrder, lt-ltb, false}
+use Rattle.pref_sky.proofs.Common.{sum_by-IsPermutation, Entry, HaveDifferentIds, put_by_id, in_order_of_id, Among, IsPermutation-cons, IsPermutation-middle, IsPermutation-trans}
+use Rattle.pref_sky.proofs.Common.{IsPermutation-refl, nat_tests, length, get_or, IsInOrder, false}
 use Rattle.pref_sky.proofs.ListLaws.{place_of, one_passes, same_if_permuted, SameMembers, count_cons}
 
 -- each id is below all later ones
@@ -42,7 +42,7 @@ count_in_order p xs = sum_by-IsPermutation (λ e. cond (p e) 1 0) xs (in_order_o
 
 rises_put : (e : Entry) (others : List Entry) → Rises others → ((x : Entry) → Among x others → x.id ≡ e.id → ⊥) → Rises (put_by_id e others)
 rises_put e [] rises other = (λ x m. absurd m, tt)
-rises_put e (f ∷ others) rises other = grind (arith, rises.0, same_if_permuted (e ∷ others) (put_by_id e others) (put_moves e others), put_moves e others, lt-ltb f.id e.id, ltb-false e.id f.id, rises_put e others rises.1)
+rises_put e (f ∷ others) rises other = grind (arith, same_if_permuted (e ∷ others) (put_by_id e others) (put_moves e others), rises_put e others rises.1)
 
 pub rises_in_order : (xs : List Entry) → HaveDifferentIds xs → Rises (in_order_of_id xs)
 rises_in_order [] different = tt
@@ -55,13 +55,13 @@ pub same_if_in_order : {E : Type 0} (before : E → E → Bool) → ((x y : E) �
 same_if_in_order before one_way [] [] rx ry same = refl
 same_if_in_order before one_way [] (y ∷ ys) rx ry same = absurd (same.back y (inl refl))
 same_if_in_order before one_way (x ∷ xs) [] rx ry same = absurd (same.there x (inl refl))
-same_if_in_order {E = E} before one_way (x ∷ xs) (y ∷ ys) rx ry same = grind (arith, same.there x (inl refl), same.back y (inl refl), rx.0 y, ry.0 x, same_if_in_order before one_way xs ys rx.1 ry.1, same.there, rx.0, same.back, ry.0)
+same_if_in_order {E = E} before one_way (x ∷ xs) (y ∷ ys) rx ry same = grind (arith, same.there x (inl refl), same.back y (inl refl), same_if_in_order before one_way xs ys rx.1 ry.1)
 
 ids_one_way : (x y : Entry) → ltb x.id y.id ≡ true → ltb y.id x.id ≡ false
 ids_one_way x y below = grind (arith, nat_tests, below)
 
 pub same_in_order : (xs ys : List Entry) → HaveDifferentIds xs → HaveDifferentIds ys → SameMembers xs ys → in_order_of_id xs ≡ in_order_of_id ys
-same_in_order xs ys dx dy same = grind (arith, same_if_in_order, ids_one_way, rises_in_order xs dx, rises_in_order ys dy, among_in_order ys, same.there, from_in_order xs, among_in_order xs, same.back, from_in_order ys)
+same_in_order xs ys dx dy same = grind (arith, same_if_in_order, rises_in_order xs dx, rises_in_order ys dy, among_in_order ys, from_in_order xs, among_in_order xs, from_in_order ys)
 
 -- a list that is sorted, of which no two have the same number, is in order
 pub in_order_if_sorted : {E : Type 0} (number : E → ℕ) (before : E → E → Bool) → ((a b : E) → before b a ≡ false → (number b ≡ number a → ⊥) → before a b ≡ true) → (xs : List E) → Differ number xs

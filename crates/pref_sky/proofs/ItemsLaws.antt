@@ -1,20 +1,20 @@
 -- The order of items is strict, whatever their signatures are, and lists are parted into their best and the others by what their items stand for.
-use Rattle.pref_sky.proofs.Common.{◌≡◌, Bool, cond, inl, inr, List, ◌++◌, sym, ◌∙◌, ap, subst, arith, map, count_by, both_ways, not-true, map-append, IsAntichain, best, is_beaten, without_best}
-use Rattle.pref_sky.proofs.Common.{Parted, Among, ◌+◌, ◌<◌, ◌≤◌, ◌^◌, ℕ, true, ◌&&◌, eq-eqb, w64, ltb-true, eqb-true, bit_and, min, IsStrictOrder, RowOrder, is_within}
-use Rattle.pref_sky.proofs.Common.{Entry, Item, IsItem, entry_at, item_order, place_order, entry_order, AreItems, Suit, entries_at, signature}
+use Rattle.pref_sky.proofs.Common.{◌≡◌, Bool, cond, inl, inr, List, ◌++◌, sym, ◌∙◌, ap, subst, arith, map, count_by, map-append, IsAntichain, best, is_beaten, without_best}
+use Rattle.pref_sky.proofs.Common.{Parted, Among, ◌+◌, ◌<◌, ◌≤◌, ◌^◌, ℕ, true, w64, ltb-true, eqb-true, bit_and, IsStrictOrder, RowOrder, is_within}
+use Rattle.pref_sky.proofs.Common.{Entry, Item, IsItem, entry_at, item_order, entry_order, AreItems, Suit, entries_at, signature}
 use Rattle.std.proofs.lemmas.List.Folds.{fold-map}
 use Rattle.pref_term.specs.declared.signature.scale.Scale.{Scale}
 use Rattle.std.specs.Int.{bit_at, bit_not}
 use Rattle.std.proofs.lemmas.Nat.{and_le_l}
-use Rattle.std.proofs.lemmas.Nat.Bits.{bit_at_and, bit_at_not, bit_at-zero, bit_at-lt, same_from_bits_below}
-use Rattle.pref_sky.proofs.ListLaws.{any_from, any_gives, in_filter, from_filter, from_map, in_left, in_map, SameMembers, same_answer, all_among, among_all}
+use Rattle.std.proofs.lemmas.Nat.Bits.{bit_at_and, bit_at_not, same_from_bits_below}
+use Rattle.pref_sky.proofs.ListLaws.{any_from, any_gives, in_filter, from_filter, from_map, in_left, in_map, SameMembers, all_among, among_all}
 
 pub count_map : {E F : Type 0} (f : E → F) (p : F → Bool) (xs : List E) → count_by p (map f xs) ≡ count_by (λ x. p (f x)) xs
 count_map f p xs = fold-map (λ n y. n + cond (p y) 1 0) f 0 xs
 
 -- items by whose order what they stand for is ordered
 pub beaten_map : {E F : Type 0} (f : E → F) (below : E → E → Bool) (over : F → F → Bool) (all : List E) → ((x y : E) → Among x all → Among y all → below x y ≡ over (f x) (f y)) → (x : E) → Among x all → is_beaten over (map f all) (f x) ≡ is_beaten below all x
-beaten_map f below over all agree x m = grind (arith, same_answer, any_gives, from_map, any_from, in_map)
+beaten_map f below over all agree x m = grind (arith, any_gives, from_map, any_from, in_map)
 
 pub parted_map : {E F : Type 0} (f : E → F) (below : E → E → Bool) (over : F → F → Bool) (held items top others : List E) → ((x y : E) → Among x (held ++ items) → Among y (held ++ items) → below x y ≡ over (f x) (f y))
     → Parted below held items top others → Parted over (map f held) (map f items) (map f top) (map f others)
@@ -43,7 +43,7 @@ parted_map f below over held items top others agree p =
 -- where none of the held ones dominates another, the two lists are the best and what is left without them
 module _ {E : Type 0} (over : E → E → Bool) (held items top others : List E) (p : Parted over held items top others) (apart : IsAntichain over held) where
   pub best_are : SameMembers top (best over (held ++ items))
-  best_are = grind (arith, in_filter, p.within, p.unbeaten apart, from_filter, p.covers, not-true, p.beaten apart)
+  best_are = grind (arith, in_filter, from_filter)
 
   pub others_are : SameMembers others (without_best over (held ++ items))
   others_are =
@@ -52,30 +52,19 @@ module _ {E : Type 0} (over : E → E → Bool) (held items top others : List E)
         back = grind (arith, from_filter);
       }
 
--- tests of each of two, and of both, that hold of the first and the third where they hold of the first and the second, and of the second and the third
-tests_chain : (a b c first second whole ab bc ac : Bool) → (a ≡ true → b ≡ true → c ≡ true → first ≡ true → second ≡ true → whole ≡ true) → (ab ≡ true → bc ≡ true → ac ≡ true)
-    → (a && (b && (first && ab))) ≡ true → (b && (c && (second && bc))) ≡ true → (a && (c && (whole && ac))) ≡ true
-tests_chain a b c first second whole ab bc ac then over h k = grind (arith, then, over, h, k)
-
-pub place_order_is_strict : (order : RowOrder) (pool : List Entry) → IsStrictOrder (entry_order order) → IsStrictOrder (place_order order pool)
-place_order_is_strict order pool strict = grind (arith)
-
 covered_if_within : (x y : ℕ) → y < 2 ^ 64 → is_within x y ≡ true → (i : ℕ) → i < 64 → bit_at x i ≤ bit_at y i
-covered_if_within x y small within i inside = grind (arith, eqb-true (bit_and x (bit_not w64 y)) 0 within, within, bit_at_and x (bit_not w64 y) i, bit_at_not w64 y i small inside, inside, bit_at-zero i, bit_at-lt x i, bit_at-lt y i)
+covered_if_within x y small within i inside = grind (arith, eqb-true (bit_and x (bit_not w64 y)) 0 within, bit_at_and x (bit_not w64 y) i, bit_at_not w64 y i small inside)
 
 within_if_covered : (x y : ℕ) → x < 2 ^ 64 → y < 2 ^ 64 → ((i : ℕ) → i < 64 → bit_at x i ≤ bit_at y i) → is_within x y ≡ true
 within_if_covered x y small_x small_y covered =
     let left : ℕ = bit_and x (bit_not w64 y) in
-    grind (arith, eq-eqb left 0, same_from_bits_below 64 left 0, and_le_l x (bit_not w64 y), bit_at_and x (bit_not w64 y), bit_at_not w64 y, bit_at-lt y, bit_at-zero)
+    grind (arith, same_from_bits_below 64 left 0, and_le_l x (bit_not w64 y), bit_at_and x (bit_not w64 y), bit_at_not w64 y)
 
 within_then : (x y z : ℕ) → x < 2 ^ 64 → y < 2 ^ 64 → z < 2 ^ 64 → is_within x y ≡ true → is_within y z ≡ true → is_within x z ≡ true
 within_then x y z small_x small_y small_z first second = grind (arith, within_if_covered x z small_x small_z, covered_if_within x y small_y first, covered_if_within y z small_z second)
 
 pub item_order_is_strict : (order : RowOrder) (pool : List Entry) → IsStrictOrder (entry_order order) → IsStrictOrder (item_order order pool)
-item_order_is_strict order pool entries_strict = grind (arith, place_order_is_strict order pool entries_strict, is_within, tests_chain, within_then, ltb-true)
-
-tests_pass : (a b both first second ab : Bool) → a ≡ true → b ≡ true → first ≡ true → second ≡ true → (ab ≡ true → both ≡ true) → (a && (b && (both && (first && (second && ab))))) ≡ ab
-tests_pass a b both first second ab h k l m then = grind (arith, h, k, l, m, then)
+item_order_is_strict order pool entries_strict = grind (arith, within_then, ltb-true)
 
 -- items that are signed by a rule which tells of the order are ordered as their entries are
 pub item_agrees : (order : RowOrder) (rule : Entry → ℕ) (pool : List Entry) → ((a b : Entry) → entry_order order a b ≡ true → is_within (rule a) (rule b) ≡ true) → (x y : Item) → IsItem rule pool x → IsItem rule pool y

@@ -1,7 +1,7 @@
 -- The levels of a list in the order of stairs, by one pass: the last entry of a level stands for all of it. The entries of the levels up to a cut, each with its level: sorted by level and id they are the levels.
 use Rattle.pref_sky.proofs.Common.{◌≡◌, ℕ, suc, zero, ◌<◌, ◌≤◌, ◌+◌, Bool, true, false, not, ◌&&◌, ◌⊎◌, inl, inr, List, [], ◌∷◌, ◌++◌, refl, sym, ◌∙◌, ap, subst, arith, length, get_or}
 use Rattle.pref_sky.proofs.Common.{get_or-set_same, get_or-set_other, both_ways, and_parts, and_from, cases_eq, cases_lt, cond-true, cond-false, false_from_ne_true, ltb-true}
-use Rattle.pref_sky.proofs.Common.{ltb-false, not-true, get_or_append_left, get_or_push, length-set, length_push, Entry, entry_at, StandsBehind, count_above, with_last, AreStairs, comes_first, Among}
+use Rattle.pref_sky.proofs.Common.{get_or_append_left, get_or_push, length-set, length_push, Entry, entry_at, StandsBehind, count_above, with_last, AreStairs, comes_first, Among}
 use Rattle.pref_sky.proofs.Common.{map, filter, take, count_by, IsPermutation, IsSortedBy, All, cond, nat_tests}
 use Rattle.pref_sky.proofs.Common.{get_or-map, length-map, map-append, sorted_far, sum_by-IsPermutation, IsStrictOrder, ChainOrder, Ranked, best, rest, AreInOrder}
 use Rattle.pref_sky.proofs.Common.{own_levels, own_order, with_levels, with_level, HaveDifferentIds, at_level, entry_of, levels, ranked_upto, AreLeveled, AreLowest, eqb}
@@ -52,7 +52,7 @@ record IsNoted (n i : ℕ) (last new : List ℕ) : Type 0 where
   others : (k : ℕ) → k < length last → (k ≡ n → ⊥) → get_or new k 0 ≡ get_or last k 0
 
 noted : (n i : ℕ) (last : List ℕ) → n ≤ length last → IsNoted n i last (with_last n i last)
-noted n i last le = grind (arith, ltb-true n (length last), length-set last n i, get_or-set_same last n i 0, get_or-set_other last n, ltb-false n (length last), length_push last i, get_or_push last i 0 n, get_or_append_left last (i ∷ []) 0)
+noted n i last le = grind (arith, ltb-true n (length last), length-set last n i, get_or-set_same last n i 0, get_or-set_other last n, length_push last i, get_or_push last i 0 n, get_or_append_left last (i ∷ []) 0)
 
 module _ (over f s t : Entry → Entry → Bool) (stairs : AreStairs over f s t) (cut : ℕ) (all : List Entry)
     (in_order : (j p : ℕ) → j ≤ p → p < length all → comes_first f s t (entry_at all p) (entry_at all j) ≡ false) where
@@ -63,7 +63,7 @@ module _ (over f s t : Entry → Entry → Bool) (stairs : AreStairs over f s t)
   over_stands : (i : ℕ) (x : Entry) → i < length all → Among x all → over x (entry_at all i) ≡ true → (j : ℕ) × (j < i) × (entry_at all j ≡ x)
   over_stands i x inside m above =
       let w = place_of all x (record { id = 0; row = [] }) m in
-      grind (arith, w.0, w.2, later over f s t stairs (entry_at all i) (entry_at all w.0))
+      grind (arith)
 
   module _ (i : ℕ) (last : List ℕ) (lasts : AreLasts over cut all i last) (inside : i < length all) where
     abbrev pub e : Entry
@@ -71,7 +71,7 @@ module _ (over f s t : Entry → Entry → Bool) (stairs : AreStairs over f s t)
 
     -- where a chain of k + 1 stands over the next entry, one of level k does
     level_over : (k : ℕ) → comes_after over all (suc k) e ≡ true → (j : ℕ) × (j < i) × (is_at over all k (entry_at all j) ≡ true) × (over (entry_at all j) e ≡ true)
-    level_over k h = grind (arith, unbeaten_over over (strict_stairs over f s t stairs) (comes_after over all k) all e h, strict_stairs over f s t stairs, comes_after over all k, over_stands i, is_at over all k, comes_after over all (suc k))
+    level_over k h = grind (arith, unbeaten_over over (strict_stairs over f s t stairs) (comes_after over all k) all e h, over_stands i)
 
     -- and then the last of that level does
     last_over : (k : ℕ) → k < length last → comes_after over all (suc k) e ≡ over (entry_at all (get_or last k 0)) e
@@ -100,12 +100,12 @@ module _ (over f s t : Entry → Entry → Bool) (stairs : AreStairs over f s t)
 
     chain_of : (n : ℕ) → StandsBehind over all last e n → comes_after over all n e ≡ true
     chain_of zero stands = refl
-    chain_of (suc k) stands = grind (arith, last_over k, stands.within, stands.above)
+    chain_of (suc k) stands = grind (arith, last_over k)
 
     module _ (n : ℕ) (stands : StandsBehind over all last e n) where
       -- so the last ones tell how many levels are above the next entry
       pub next_chain : HasChain over cut all e n
-      next_chain = grind (arith, stands.within, lasts.within, chain_of n stands, last_over n, stands.next, comes_after over all (suc n) e, level_over n, lasts.known)
+      next_chain = grind (arith, chain_of n stands, last_over n, level_over n)
 
       -- of which level it is
       level_is : (j k : ℕ) → j ≡ i → k < cut → is_at over all k (entry_at all j) ≡ true → k ≡ n
@@ -118,7 +118,7 @@ module _ (over f s t : Entry → Entry → Bool) (stairs : AreStairs over f s t)
           let note = noted n i last stands.within in
           let at : is_at over all n e ≡ true = and_from (comes_after over all n e) (not (comes_after over all (suc n) e)) next_chain.after (ap not (next_chain.no_more early)) in
           record {
-            within = grind (arith, note.no_longer cut, lasts.within);
+            within = grind (arith, note.no_longer cut);
             there = λ k l. elim (cases_eq k n) [
               | inl same ↦ subst (λ m. (get_or new m 0 < i + 1) × (is_at over all m (entry_at all (get_or new m 0)) ≡ true)) (sym same) (omega (arith, note.here), ap (λ p. is_at over all n (entry_at all p)) note.here ∙ at)
               | inr other ↦
@@ -126,12 +126,12 @@ module _ (over f s t : Entry → Entry → Bool) (stairs : AreStairs over f s t)
                   let is = lasts.there k known in
                   (omega (arith, is.0, note.others k known other), ap (λ p. is_at over all k (entry_at all p)) (note.others k known other) ∙ is.1)
             ];
-            known = grind (arith, lasts.known, note.longer, note.here, note.others, level_is, note.has);
+            known = grind (arith, level_is);
           }
 
       -- or below the cut
       pub lasts_stay : cut ≤ n → AreLasts over cut all (i + 1) last
-      lasts_stay past = grind (arith, lasts.within, lasts.there, lasts.known, level_is)
+      lasts_stay past = grind (arith, level_is)
 
 -- ---- a list of them
 
@@ -145,10 +145,10 @@ module _ (over : Entry → Entry → Bool) (all : List Entry) (cut i n : ℕ) (i
   listed_more early =
       let e = entry_at all i in
       let test : Entry → Bool = λ x. not (comes_after over all cut x) in
-      grind (arith, stays test all i, early_stays over all (suc n) cut e early (chain.no_more early), chain.no_more early, map-append (with_level over all cut) (filter test (take i all)) (e ∷ []), count_is over cut all e n chain)
+      grind (arith, stays test all i, map-append (with_level over all cut) (filter test (take i all)) (e ∷ []), count_is over cut all e n chain)
 
   pub listed_as_it_was : cut ≤ n → with_levels over all cut (take (i + 1) all) ≡ with_levels over all cut (take i all)
-  listed_as_it_was past = grind (arith, comes_after over all cut, chain.within, leaves, comes_after over all)
+  listed_as_it_was past = grind (arith, leaves)
 
 -- ---- which they are
 
@@ -166,10 +166,10 @@ module _ (over : Entry → Entry → Bool) (strict : IsStrictOrder over) (all : 
   of_level : (r : Ranked) → Among r (levels over all cut) → OfLevel r
   of_level r m =
       let w = from_upto (λ k. best over (rest over all k)) cut r (subst (Among r) (levels_upto_is over all cut) m) in
-      grind (arith, on_level over all w.place w.entry w.there, w.below, w.is)
+      grind (arith, on_level over all w.place w.entry w.there)
 
   level_of : (e : Entry) → Among e upper → (r : Ranked) × Among r (levels over all cut) × (e ≡ entry_of r)
-  level_of e m = grind (arith, from_filter, comes_after over all cut, from_map entry_of (levels over all cut) e, held_all over all cut e, not-true (comes_after over all cut e), comes_after over all cut e)
+  level_of e m = grind (arith, from_filter, from_map entry_of (levels over all cut) e, held_all over all cut e)
 
   with_level_is : (r : Ranked) → Among r (levels over all cut) → with_level over all cut (entry_of r) ≡ r
   with_level_is r m = let w = of_level r m in ap (λ n. at_level (suc n) (entry_of r)) (count_is over cut all (entry_of r) w.number w.chain) ∙ sym w.is
@@ -209,11 +209,11 @@ module _ (over : Entry → Entry → Bool) (strict : IsStrictOrder over) (all : 
       ∙ sym (levels_upto_is over all cut)
 
   upper_holds : HoldsLevels over upper all cut
-  upper_holds = grind (arith, from_filter, comes_after over all cut, in_filter)
+  upper_holds = grind (arith, from_filter, in_filter)
 
   -- their entries have the same levels
   pub listed_levels : (found : List Ranked) → found ≡ with_levels over all cut all → levels over (map entry_of found) cut ≡ levels over all cut
-  listed_levels found is = grind (arith, entries_again over all cut upper, some_levels over strict upper all cut upper_holds, upper_holds, count_filter, comes_after over all cut)
+  listed_levels found is = grind (arith, entries_again over all cut upper, some_levels over strict upper all cut upper_holds, count_filter)
 
   -- and what one of the last level is over is below the cut
   pub lowest_are_over : (found : List Ranked) (places : List ℕ) → found ≡ with_levels over all cut all → All (λ place. (place < length found) × ((d : Ranked) → (get_or found place d).level ≡ cut)) places

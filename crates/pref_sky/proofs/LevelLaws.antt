@@ -1,8 +1,8 @@
 -- Laws of the levels, for the crates above: no entries have no levels, the order in which entries stand does not matter, what is held has different ids, and of twins the first is best.
-use Rattle.pref_sky.proofs.Common.{not, ◌≡◌, List, arith, not-true, not_from_false, RowOrder, Entry, best, entry_order, Among, ℕ}
-use Rattle.pref_sky.proofs.Common.{zero, suc, ◌<◌, Bool, [], ◌∷◌, ◌++◌, map, append_assoc, subst, refl, sym, ◌∙◌, ap, append-nil, ◌==◌, flat_map, ltb-true, lt-ltb, IsStrictOrder, Row, Best}
+use Rattle.pref_sky.proofs.Common.{not, ◌≡◌, List, arith, RowOrder, Entry, best, entry_order, Among, ℕ}
+use Rattle.pref_sky.proofs.Common.{zero, suc, ◌<◌, Bool, [], ◌∷◌, ◌++◌, map, append_assoc, refl, sym, ◌∙◌, ap, append-nil, ◌==◌, flat_map, IsStrictOrder, Row, Best}
 use Rattle.pref_sky.proofs.Common.{TopLevel, AtLeast, Question, Ranked, rest, without_best, order_of, order_of_is_row_order, HaveDifferentIds, entry_of}
-use Rattle.pref_sky.proofs.Common.{held_after, levels, count_before, count_upto, selected, answer_of, at_least}
+use Rattle.pref_sky.proofs.Common.{held_after, levels, count_upto, selected, answer_of, at_least}
 use Rattle.pref_sky.specs.Twins.{IsFirstOfTwins}
 use Rattle.pref_term.specs.declared.ask.Mode.{Mode}
 use Rattle.pref_sky.proofs.ListLaws.{SameMembers, any_from, any_gives, count_and, count_within, from_filter, in_filter, count_append}
@@ -11,10 +11,10 @@ use Rattle.pref_sky.proofs.SortedLevels.{different_by_count, count_levels, merge
 use Rattle.pref_sky.proofs.AtLeastLaws.{StaysInGroups, enough}
 
 pub best_is_first : (order : RowOrder) (all : List Entry) (e : Entry) → Among e (best (entry_order order) all) → IsFirstOfTwins order all e
-best_is_first order all e m other there = grind (arith, from_filter, not-true, any_from)
+best_is_first order all e m other there = grind (arith, from_filter, any_from)
 
 pub first_is_best : (order : RowOrder) (all : List Entry) (e : Entry) → Among e all → IsFirstOfTwins order all e → Among e (best (entry_order order) all)
-first_is_best order all e m first = grind (arith, in_filter, not_from_false, any_gives)
+first_is_best order all e m first = grind (arith, in_filter, any_gives)
 
 -- nothing is left of nothing
 rest_of_none : (over : Entry → Entry → Bool) (n : ℕ) → rest over [] n ≡ []
@@ -23,16 +23,16 @@ rest_of_none over (suc n) = ap (without_best over) (rest_of_none over n)
 
 pub levels_of_none : (over : Entry → Entry → Bool) (n : ℕ) → [] ≡ levels over [] n
 levels_of_none over zero = refl
-levels_of_none over (suc n) = grind (arith, levels_of_none over n, append-nil (levels over [] n), rest_of_none over n)
+levels_of_none over (suc n) = grind (arith, levels_of_none over n, rest_of_none over n)
 
 selected_of_same : (over : Entry → Entry → Bool) → IsStrictOrder over → (same : Row → Row → Bool) → StaysInGroups over same → (mode : Mode) (xs ys : List Entry) → ((n : ℕ) → levels over xs n ≡ levels over ys n) → selected over same mode xs ≡ selected over same mode ys
 selected_of_same over strict same within Best xs ys levels_same = levels_same 1
 selected_of_same over strict same within (TopLevel k) xs ys levels_same = levels_same k
-selected_of_same over strict same within (AtLeast k) xs ys levels_same = grind (arith, enough over strict same within xs k, within, enough over strict same within ys k)
+selected_of_same over strict same within (AtLeast k) xs ys levels_same = grind (arith, enough over strict same within xs k, enough over strict same within ys k)
 
 -- the order in which the entries stand does not matter
 pub answer_of_same : (ask : Question) (xs ys : List Entry) → HaveDifferentIds xs → HaveDifferentIds ys → SameMembers xs ys → answer_of ask xs ≡ answer_of ask ys
-answer_of_same ask xs ys dx dy same = grind (arith, entry_order_is_strict (order_of ask) (order_of_is_row_order ask), selected_of_same, entry_order_stays_in_groups ask, same_by_level, different_best, same.there, same.back)
+answer_of_same ask xs ys dx dy same = grind (arith, entry_order_is_strict (order_of ask) (order_of_is_row_order ask), selected_of_same, entry_order_stays_in_groups ask, same_by_level, different_best)
 
 -- what is held of entries has different ids
 pub held_differ : (over : Entry → Entry → Bool) (before new : List Entry) (n : ℕ) → HaveDifferentIds (before ++ new) → HaveDifferentIds (map entry_of (levels over before n) ++ new)
@@ -68,7 +68,7 @@ held_after_pieces over strict cut pieces different = cut_into over strict cut []
 
 -- an entry is kept just where no number of levels below its own holds k of its group
 pub kept_before_k : (same : Row → Row → Bool) (k : ℕ) (all : List Ranked) (r : Ranked) → Among r (at_least same k all) → (m : ℕ) → m < r.level → count_upto same all r.row m < k
-kept_before_k same k all r kept m below = grind (arith, ltb-true (count_before same all r) k, from_filter, kept, count_within, below)
+kept_before_k same k all r kept m below = grind (arith, from_filter, count_within)
 
 pub kept_if_before_k : (same : Row → Row → Bool) (k : ℕ) (all : List Ranked) (r : Ranked) → Among r all → 0 < r.level → ((m : ℕ) → m < r.level → count_upto same all r.row m < k) → Among r (at_least same k all)
-kept_if_before_k same k all r m some before = grind (arith, r.level, count_within, in_filter, lt-ltb (count_before same all r) k)
+kept_if_before_k same k all r m some before = grind (arith, count_within, in_filter)

@@ -2,16 +2,16 @@
 use Rattle.pref_sky.proofs.Common.{◌≡◌, ℕ, zero, suc, ◌≤◌, ◌+◌, Bool, true, false, cond, ◌&&◌, inl, inr, List, [], ◌∷◌, ◌++◌, length, refl, sym, ◌∙◌, arith, count_by, cases_lt}
 use Rattle.pref_sky.proofs.Common.{both_ways, and_parts, and_from, false_from_ne_true, StandAlike, best, rest, LevelsHoldAlike, LineHasLevels, AreClassesOf, AreStairs, IsInOrder, IsLine, are_level}
 use Rattle.pref_sky.proofs.Common.{comes_first, in_turn, Among}
-use Rattle.pref_sky.proofs.ListLaws.{count_both, any_from, any_gives, in_filter, from_filter, in_right, one_passes, same_answer, count_cons}
+use Rattle.pref_sky.proofs.ListLaws.{count_both, any_from, any_gives, in_filter, from_filter, in_right, one_passes, count_cons}
 use Rattle.pref_sky.proofs.Merges.{comes_after, comes_after_among_more, best_of_rest_is}
-use Rattle.pref_sky.proofs.StairLaws.{level_above, level_below}
+use Rattle.pref_sky.proofs.StairLaws.{level_above}
 
 -- the entries of one level
 pub on_level : {E : Type 0} (over : E → E → Bool) (all : List E) (n : ℕ) (x : E) → Among x (best over (rest over all n)) → (comes_after over all n x ≡ true) × (comes_after over all (suc n) x ≡ false)
-on_level over all n x m = grind (arith, from_filter, comes_after over all n, comes_after over all (suc n), best_of_rest_is over all n)
+on_level over all n x m = grind (arith, from_filter, best_of_rest_is over all n)
 
 pub to_level : {E : Type 0} (over : E → E → Bool) (all : List E) (n : ℕ) (x : E) → Among x all → comes_after over all n x ≡ true → comes_after over all (suc n) x ≡ false → Among x (best over (rest over all n))
-to_level over all n x m there behind = grind (arith, best_of_rest_is over all n, in_filter, comes_after over all n, comes_after over all (suc n), behind)
+to_level over all n x m there behind = grind (arith, best_of_rest_is over all n, in_filter)
 
 -- alike entries have the same chains over them, and so are of one level
 alike_come_after : {E : Type 0} (over : E → E → Bool) (all : List E) (a b : E) → StandAlike over a b → (n : ℕ) → comes_after over all n a ≡ true → comes_after over all n b ≡ true
@@ -37,15 +37,15 @@ from_all over classes all are (suc n) x h =
     any_from (λ z. comes_after over classes n z && over z x) classes r.0 r.1 (and_from (comes_after over classes n r.0) (over r.0 x) there (r.2.below x ∙ both.1))
 
 chains_of_classes : {E : Type 0} (over : E → E → Bool) (classes all : List E) → AreClassesOf over classes all → (n : ℕ) (x : E) → comes_after over classes n x ≡ comes_after over all n x
-chains_of_classes over classes all are n x = grind (arith, same_answer, comes_after, comes_after_among_more, from_all)
+chains_of_classes over classes all are n x = grind (arith, comes_after_among_more, from_all)
 
 -- which are alike
 stairs_alike : {E : Type 0} (over f s t : E → E → Bool) → AreStairs over f s t → (a b : E) → are_level (comes_first f s t) a b ≡ true → StandAlike over a b
-stairs_alike over f s t stairs a b level = grind (arith, level_above f, level_below f, level_above s, level_below s, level_above t stairs.tie_is_chain a b, level_below t stairs.tie_is_chain a b)
+stairs_alike over f s t stairs a b level = grind (arith, level_above f)
 
 module _ {E : Type 0} (over earlier better : E → E → Bool) (line : IsLine over earlier better) where
   line_alike : (a b : E) → are_level (in_turn earlier better) a b ≡ true → StandAlike over a b
-  line_alike a b level = grind (arith, line.is, level_above earlier line.groups a b, level_below earlier line.groups a b, level_above better line.chain a b, line.is a, line.is b, level_below better line.chain a b)
+  line_alike a b level = grind (arith)
 
   -- of classes in order, the last that dominates x has before it all others that do
   last_over : (classes : List E) (x : E) → IsInOrder (in_turn earlier better) classes → 1 ≤ count_by (λ r. over r x) classes
@@ -79,7 +79,7 @@ module _ {E : Type 0} (over earlier better : E → E → Bool) (line : IsLine ov
     classes_above (suc n) x h =
         let w = any_gives (λ z. comes_after over classes n z && over z x) classes h in
         let both = and_parts (comes_after over classes n w.0) (over w.0 x) w.2 in
-        let each : (s : E) → cond {A = ℕ} (over s w.0) 1 0 + cond {A = ℕ} (are_level (in_turn earlier better) s w.0) 1 0 ≤ cond {A = ℕ} (over s x) 1 0 = grind (arith, both.1, strict_line, level_over, line.is) in
+        let each : (s : E) → cond {A = ℕ} (over s w.0) 1 0 + cond {A = ℕ} (are_level (in_turn earlier better) s w.0) 1 0 ≤ cond {A = ℕ} (over s x) 1 0 = grind (arith) in
         let itself : are_level (in_turn earlier better) w.0 w.0 ≡ true = grind (arith, line.groups.strict.irreflexive w.0, line.chain.strict.irreflexive w.0) in
         omega (
           arith,
@@ -90,19 +90,19 @@ module _ {E : Type 0} (over earlier better : E → E → Bool) (line : IsLine ov
 
     chain_above : (n : ℕ) (x : E) → n ≤ count_by (λ r. over r x) classes → comes_after over classes n x ≡ true
     chain_above zero x h = refl
-    chain_above (suc n) x h = grind (arith, last_over classes x rises, any_from, comes_after over classes n, chain_above n)
+    chain_above (suc n) x h = grind (arith, last_over classes x rises, any_from, chain_above n)
 
     -- the levels: those behind as many classes
     classes_of_level : (n : ℕ) (x : E) → Among x (best over (rest over all n)) → count_by (λ r. over r x) classes ≡ n
-    classes_of_level n x m = grind (arith, on_level over all n x m, comes_after over classes (suc n) x, chains_of_classes over classes all are (suc n) x, chain_above (suc n) x, classes_above n x, chains_of_classes over classes all are n x)
+    classes_of_level n x m = grind (arith, on_level over all n x m, chains_of_classes over classes all are (suc n) x, chain_above (suc n) x, classes_above n x, chains_of_classes over classes all are n x)
 
     level_of_classes : (n : ℕ) (x : E) → Among x all → count_by (λ r. over r x) classes ≡ n → Among x (best over (rest over all n))
-    level_of_classes n x m count = grind (arith, to_level over all n x m, chains_of_classes over classes all are n x, chain_above n x, chains_of_classes over classes all are (suc n) x, comes_after over classes (suc n) x, classes_above (suc n) x)
+    level_of_classes n x m count = grind (arith, to_level over all n x m, chains_of_classes over classes all are n x, chain_above n x, chains_of_classes over classes all are (suc n) x, classes_above (suc n) x)
 
   -- what is alike to a class of which all before it are of its group is behind as many as there are
   behind_front : (front : List E) (r : E) (back : List E) (x : E) → IsInOrder (in_turn earlier better) (front ++ r ∷ back) → ((z : E) → Among z front → are_level earlier z r ≡ true)
       → StandAlike over r x → count_by (λ s. over s x) (front ++ r ∷ back) ≡ length front
-  behind_front [] r back x rises group alike = grind (arith, last_over (r ∷ back) x rises, alike.above, line.chain.strict.irreflexive r, line.is r r, rises.0, line.is, line.chain.strict.transitive r)
+  behind_front [] r back x rises group alike = grind (arith, last_over (r ∷ back) x rises)
   behind_front (e ∷ front) r back x rises group alike =
       let dominates : over e r ≡ true = grind (arith, (rises.0 r (in_right front (r ∷ back) r (inl refl))), group e (inl refl), line.is e r) in
       grind (arith, behind_front front r back x rises.1 (λ z m. group z (inr m)) alike, dominates, alike.above e, count_cons (λ s. over s x) e (front ++ r ∷ back))

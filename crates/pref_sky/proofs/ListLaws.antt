@@ -1,6 +1,6 @@
 -- What is among a list, what tests keep and count of it, where it is cut, and lists in an order.
 use Rattle.pref_sky.proofs.Common.{◌≡◌, ℕ, suc, zero, ◌<◌, Bool, true, false, cond, ◌⊎◌, inl, inr, List, [], ◌∷◌, ◌++◌, refl, sym, ◌∙◌, ap, subst, arith, filter, get_or, length, map, list_any, All}
-use Rattle.pref_sky.proofs.Common.{false≢true, ◌≤◌, ◌+◌, ◌&&◌, count_by, and_parts, filter_agree, length-filter, sum_by-cons, sum_by-le-sum_by, eqb, eq-eqb}
+use Rattle.pref_sky.proofs.Common.{false≢true, ◌≤◌, ◌+◌, ◌&&◌, count_by, and_parts, length-filter, sum_by-cons, sum_by-le-sum_by, eqb, eq-eqb}
 use Rattle.pref_sky.proofs.Common.{sum_by, and_from, Item, Among, nil_from_length, take, take_more, drop, take-append_seam, drop-append_seam, append-nil, get_or-drop, filter_more}
 use Rattle.pref_sky.proofs.Common.{IsPermutation-sym, Contains-permutation, IsPermutation, IsPartitionPoint, length-take, length-drop, get_or-take, take-append-drop, filter-append, get_or_default}
 use Rattle.pref_sky.proofs.Common.{IsNonDecreasingBy, sum_by-append, not, append_assoc, IsPartitionedBy, cases_lt, IsPermutation-cons, IsPermutation-middle, IsPermutation-to_front}
@@ -134,10 +134,10 @@ pub same_then : {E : Type 0} {xs ys zs : List E} → SameMembers xs ys → SameM
 same_then a b = record { there = λ x m. b.there x (a.there x m); back = λ x m. a.back x (b.back x m) }
 
 pub same_beside : {E : Type 0} (xs ys zs : List E) → SameMembers xs ys → SameMembers (xs ++ zs) (ys ++ zs)
-same_beside xs ys zs same = grind (arith, in_either xs zs, in_left ys zs, same.there, in_right ys zs, in_either ys zs, in_left xs zs, same.back, in_right xs zs)
+same_beside xs ys zs same = grind (arith, in_either xs zs, in_left ys zs, in_right ys zs, in_either ys zs, in_left xs zs, in_right xs zs)
 
 pub same_behind : {E : Type 0} (xs ys zs : List E) → SameMembers ys zs → SameMembers (xs ++ ys) (xs ++ zs)
-same_behind xs ys zs same = grind (arith, in_either xs ys, in_left xs zs, in_right xs zs, same.there, in_either xs zs, in_left xs ys, in_right xs ys, same.back)
+same_behind xs ys zs same = grind (arith, in_either xs ys, in_left xs zs, in_right xs zs, in_either xs zs, in_left xs ys, in_right xs ys)
 
 -- where each that passes p passes q, no more pass p
 pub count_within : {E : Type 0} (p q : E → Bool) (xs : List E) → ((x : E) → p x ≡ true → q x ≡ true) → count_by p xs ≤ count_by q xs
@@ -147,7 +147,7 @@ pub count_and : {E : Type 0} (p q : E → Bool) (xs : List E) → count_by (λ x
 count_and p q xs = count_within (λ x. p x && q x) p xs (λ x h. (and_parts (p x) (q x) h).0)
 
 pub count_filtered : {E : Type 0} (p q : E → Bool) (xs : List E) → count_by p (filter q xs) ≡ count_by (λ x. p x && q x) xs
-count_filtered p q xs = grind (arith, length-filter p (filter q xs), filter_filter q p xs, filter_agree, length-filter)
+count_filtered p q xs = grind (arith, length-filter p (filter q xs), filter_filter q p xs, length-filter)
 
 pub count_filter : {E : Type 0} (p q : E → Bool) (xs : List E) → count_by p (filter q xs) ≤ count_by p xs
 count_filter p q xs = omega (arith, count_filtered p q xs, count_and p q xs)
@@ -155,12 +155,12 @@ count_filter p q xs = omega (arith, count_filtered p q xs, count_and p q xs)
 -- two tests of which an entry passes one at most, and then a third
 pub count_both : {E : Type 0} (p q r : E → Bool) (xs : List E) → ((x : E) → cond (p x) 1 0 + cond (q x) 1 0 ≤ cond (r x) 1 0) → count_by p xs + count_by q xs ≤ count_by r xs
 count_both p q r [] each = omega arith
-count_both p q r (x ∷ xs) each = grind (arith, each x, count_both p q r xs each, count_cons p x xs, count_cons q x xs, count_cons r x xs)
+count_both p q r (x ∷ xs) each = grind (arith, count_both p q r xs each, count_cons p x xs, count_cons q x xs, count_cons r x xs)
 
 -- and just where it passes the third
 pub count_split : {E : Type 0} (p q r : E → Bool) (xs : List E) → ((x : E) → cond {A = ℕ} (p x) 1 0 + cond (q x) 1 0 ≡ cond (r x) 1 0) → count_by p xs + count_by q xs ≡ count_by r xs
 count_split p q r [] each = omega arith
-count_split p q r (x ∷ xs) each = grind (arith, each x, count_split p q r xs each, count_cons p x xs, count_cons q x xs, count_cons r x xs)
+count_split p q r (x ∷ xs) each = grind (arith, count_split p q r xs each, count_cons p x xs, count_cons q x xs, count_cons r x xs)
 
 abbrev same_item : Item → Item → Bool
 same_item x y = eqb x.signature y.signature && eqb x.place y.place
@@ -194,7 +194,7 @@ pub front_more : {E : Type 0} (xs : List E) (i : ℕ) (x : E) → i < length xs 
 front_more xs i x within is = take_more xs i x within ∙ ap (λ y. take i xs ++ y ∷ []) (sym is)
 
 pub cut_at : {E : Type 0} (zs front back : List E) (n : ℕ) → zs ≡ front ++ back → n ≡ length front → (take n zs ≡ front) × (drop n zs ≡ back)
-cut_at zs front back n whole long = grind (arith, long, take-append_seam front back, drop-append_seam front back)
+cut_at zs front back n whole long = grind (arith, take-append_seam front back, drop-append_seam front back)
 
 -- lists that are the same from a place on have the same element there
 pub same_there : {E : Type 0} (xs ys : List E) (i : ℕ) (d : E) → drop i ys ≡ drop i xs → get_or ys i d ≡ get_or xs i d
@@ -209,10 +209,10 @@ module _ {E : Type 0} (p : E → Bool) (xs : List E) (i : ℕ) (d : E) (inside :
 
 -- what stands before a place where a test changes, and behind it
 pub passes_before : {E : Type 0} (p : E → Bool) (xs : List E) (n : ℕ) → IsPartitionPoint (λ x. p x ≡ true) (λ x. p x ≡ false) xs n → (x : E) → Among x (take n xs) → p x ≡ true
-passes_before p xs n point x m = grind (arith, place_of (take n xs) x x m, length-take n xs, get_or-take n xs, point.0)
+passes_before p xs n point x m = grind (arith, place_of (take n xs) x x m, length-take n xs, get_or-take n xs)
 
 pub fails_behind : {E : Type 0} (p : E → Bool) (xs : List E) (n : ℕ) → IsPartitionPoint (λ x. p x ≡ true) (λ x. p x ≡ false) xs n → (x : E) → Among x (drop n xs) → p x ≡ false
-fails_behind p xs n point x m = grind (arith, place_of (drop n xs) x x m, length-drop n xs, get_or-drop n xs, point.1)
+fails_behind p xs n point x m = grind (arith, place_of (drop n xs) x x m, length-drop n xs, get_or-drop n xs)
 
 -- where what passes a test stands in front of a place, and what fails it behind, that is what passes
 pub filter_parted : {E : Type 0} (p : E → Bool) (xs : List E) (n : ℕ) → ((x : E) → Among x (take n xs) → p x ≡ true) → ((x : E) → Among x (drop n xs) → p x ≡ false) → filter p xs ≡ take n xs
@@ -223,13 +223,13 @@ filter_parted p xs n passes fails =
 -- where a list is in order of a number, and one has another than the least, all from there on are above that
 pub later_behind : {E : Type 0} (number : E → ℕ) (xs : List E) (n least : ℕ) (none : E) → n < length xs → (number (get_or xs n none) ≡ least → ⊥) → IsNonDecreasingBy number xs → All (λ x. least ≤ number x) xs
     → All (λ x. least < number x) (drop n xs)
-later_behind number xs n least none within other in_order from k d inside = grind (arith, get_or_default xs n d none within, within, get_or-drop n xs k d, from n d within, in_order n (n + k) d, length-drop n xs)
+later_behind number xs n least none within other in_order from k d inside = grind (arith, get_or_default xs n d none within, get_or-drop n xs k d, length-drop n xs)
 
 -- ---- lists in an order, one behind the other
 
 pub in_order_joined : {E : Type 0} (le : E → E → Bool) (xs ys : List E) → IsInOrder le xs → IsInOrder le ys → ((a b : E) → Among a xs → Among b ys → le a b ≡ true) → IsInOrder le (xs ++ ys)
 in_order_joined le [] ys first second across = second
-in_order_joined le (x ∷ xs) ys first second across = grind (arith, in_either xs ys, first.0, in_order_joined le xs ys first.1 second)
+in_order_joined le (x ∷ xs) ys first second across = grind (arith, in_either xs ys, in_order_joined le xs ys first.1 second)
 
 -- one entry more in its place
 pub in_order_with : {E : Type 0} (le : E → E → Bool) (xs ys : List E) (e : E) → IsInOrder le (xs ++ ys) → ((a : E) → Among a xs → le a e ≡ true) → ((b : E) → Among b ys → le e b ≡ true) → IsInOrder le (xs ++ e ∷ ys)
@@ -283,7 +283,7 @@ module _ {E : Type 0} (before : E → E → Bool) (chain : IsChain before) where
 
     -- and the others come no earlier
     pub below_later : (a b : E) → Among a ((all ++ front) ++ e ∷ []) → Among b later → before b a ≡ false
-    below_later a b m k = grind (arith, coming.0 b k, in_either (all ++ front) (e ∷ []) a m, in_either all front a, chain.strict.transitive b a e)
+    below_later a b m k = grind (arith, in_either (all ++ front) (e ∷ []) a m, in_either all front a)
 
 -- and no entry is lost
 pub moved_more : {E : Type 0} (before all front back : List E) (e : E) → IsPermutation before (all ++ (front ++ back)) → IsPermutation (before ++ e ∷ []) ((all ++ front) ++ e ∷ back)

@@ -82,7 +82,7 @@ module _ (over : Entry → Entry → Bool) (strict : IsStrictOrder over) (before
   late e m = let s = starts e m in comes_after_upto over before first s.0 e s.1 (behind_chain over strict before cut old holds s.0 e s.2).1
 
   first_holds : HoldsLevels over before (before ++ coming) first
-  first_holds = grind (arith, in_left before coming, in_either before coming, comes_after over (before ++ coming) first, comes_after_among_more over before (before ++ coming) (in_left before coming) first, late)
+  first_holds = grind (arith, in_left before coming, in_either before coming, comes_after_among_more over before (before ++ coming) (in_left before coming) first, late)
 
   -- so they stay as they are
   front_stays : (k : ℕ) → k < first → k < cut → SameMembers (held_at k old) (best over (rest over (before ++ coming) k))
@@ -218,7 +218,7 @@ making_more over strict cut n old made coming down here later top others below s
     let long = making.long in
     record {
       long = omega (arith, long, length-append made (top ∷ []));
-      counts = grind (arith, making.counts, parted.bag, count_append, count_behind, sum_by_push);
+      counts = grind (arith, count_append, count_behind, sum_by_push);
       merging = λ before holds. merging_more over strict before coming cut n old made down here later top others below long holds starts parted (making.merging before holds);
     }
 
@@ -226,7 +226,7 @@ making_ends : (over : Entry → Entry → Bool) → IsStrictOrder over → (cut 
     → IsMade over cut old (made ++ drop n old) coming
 making_ends over strict cut n old made coming down later ended making =
     let new = made ++ drop n old in
-    let counts : (p : Entry → Bool) → count_by p (map entry_of (ranked_from 1 new)) ≤ count_by p (map entry_of (ranked_from 1 old)) + count_by p coming = grind (arith, making.counts, count_held, sum_by-append) in
+    let counts : (p : Entry → Bool) → count_by p (map entry_of (ranked_from 1 new)) ≤ count_by p (map entry_of (ranked_from 1 old)) + count_by p coming = grind (arith, count_held, sum_by-append) in
     record {
       counts = counts;
       merged = λ before different is.
@@ -305,7 +305,7 @@ module _ {order : RowOrder} {scales : List Scale} {pool : List Entry} {cut first
       let held = items_at n levels in
       let here = take count rest in
       let behind = drop count rest in
-      let now_items : AreItems rule pool now = grind (arith, All-append (IsItem rule pool) down, arrival_items over rule pool old here (All-take (StartsAt over rule pool old) count rest so_far.starts), All-take (StartsAt over rule pool old) count rest so_far.starts) in
+      let now_items : AreItems rule pool now = grind (arith, All-append (IsItem rule pool) down, arrival_items over rule pool old here (All-take (StartsAt over rule pool old) count rest so_far.starts)) in
       let both = All-append (IsItem rule pool) held now (all_held (IsItem rule pool) levels are n) now_items in
       let each = parted_items order rule pool held now top.items others parted both in
       let entry : Item → Entry = λ item. entry_at pool item.place in
@@ -345,4 +345,4 @@ module _ {order : RowOrder} {scales : List Scale} {pool : List Entry} {cut first
 
 -- a list with those of another from a place on in the place of its own
 pub taken_long : {E : Type 0} (first : ℕ) (new old : List E) → first ≤ length old → first ≤ length new → length (replaced first (drop first new) old) ≡ max (length new) (length old)
-taken_long first new old inside from = grind (arith, length-append, length-append (take first old), length-take-le first old inside, length-drop, length-drop first new, from)
+taken_long first new old inside from = grind (arith, length-append, length-take-le first old inside, length-drop)

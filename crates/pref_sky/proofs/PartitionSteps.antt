@@ -1,7 +1,7 @@
 -- The levels of partitions are made anew, partition by partition, of the arrivals that come to each, and put into the partitions.
 use Rattle.pref_sky.proofs.Common.{◌≡◌, ℕ, ◌≤◌, ◌<◌, ◌+◌, Bool, false, nat_tests, deals_before, eqb, eq-eqb, inl, inr, List, ◌++◌, length, get_or, take, drop, filter, sym, ◌∙◌, ap, subst, arith}
 use Rattle.pref_sky.proofs.Common.{length-take, length-drop, get_or-drop, All, IsNonDecreasingBy, eqb-true, false_from_ne_true, get_or-take, get_or_default, take-append-drop, filter-append}
-use Rattle.pref_sky.proofs.Common.{IsNonDecreasingBy-from_all_adjacent, Arrival, AreDealt, AreInOrderOfStart, coming_to, Among, [], ◌∷◌, set, ltb, refl, lt-ltb, ltb-true, length-set, All-drop}
+use Rattle.pref_sky.proofs.Common.{IsNonDecreasingBy-from_all_adjacent, Arrival, AreDealt, AreInOrderOfStart, coming_to, Among, [], ◌∷◌, set, ltb, refl, ltb-true, length-set, All-drop}
 use Rattle.pref_sky.proofs.Common.{All-push, append_assoc, get_or-set_same, Fits, Entry, Made, AreComing, StartsAt, levels_at, items_at, AreInOrderOfPartition, AreLevelsMade, ArePut, IsPartitionMade, LeaveAlone, new_levels, replaced}
 use Rattle.pref_sky.proofs.ListLaws.{all_among, filter_parted, from_filter, none_pass, among_all, in_left, in_right, in_either, in_order_across, in_order_joined}
 use Rattle.pref_sky.specs.Additions.{FitIn}
@@ -20,10 +20,10 @@ dealt_by_partition arrivals dealt =
 
 -- the first is of the first partition
 pub first_partition : (arrivals : List Arrival) (d : Arrival) → AreDealt arrivals → All (λ a. (get_or arrivals 0 d).partition ≤ a.partition) arrivals
-first_partition arrivals d dealt k e inside = grind (arith, inside, dealt_by_partition arrivals dealt 0 k e, get_or_default arrivals 0 d e)
+first_partition arrivals d dealt k e inside = grind (arith, dealt_by_partition arrivals dealt 0 k e, get_or_default arrivals 0 d e)
 
 pub dealt_behind : (arrivals : List Arrival) (n : ℕ) → AreDealt arrivals → AreDealt (drop n arrivals)
-dealt_behind arrivals n dealt k d from inside = grind (arith, inside, length-drop n arrivals, get_or-drop n arrivals (k + 1) d, get_or-drop n arrivals k d)
+dealt_behind arrivals n dealt k d from inside = grind (arith, length-drop n arrivals, get_or-drop n arrivals (k + 1) d, get_or-drop n arrivals k d)
 
 -- those of the first partition are in front
 pub coming_in_front : (partition : ℕ) (arrivals : List Arrival) (n : ℕ) → All (λ a. a.partition ≡ partition) (take n arrivals) → All (λ a. partition < a.partition) (drop n arrivals) → take n arrivals ≡ coming_to partition arrivals
@@ -51,7 +51,7 @@ by_start partition arrivals n dealt coming =
     let this = get_or arrivals k d in
     let next_is : get_or (take n arrivals) (k + 1) d ≡ next = get_or-take n arrivals (k + 1) d short in
     let this_is : get_or (take n arrivals) k d ≡ this = get_or-take n arrivals k d (omega (arith, short)) in
-    let same : next.partition ≡ this.partition = grind (arith, inside) in
+    let same : next.partition ≡ this.partition = grind (arith) in
     let stays : this.start ≤ next.start = starts_stay this next (dealt k d (omega arith) there) same in
     omega (arith, ap (λ (a : Arrival). a.start) next_is, ap (λ (a : Arrival). a.start) this_is, stays))
 
@@ -103,7 +103,7 @@ module _ {over : Entry → Entry → Bool} {cut : ℕ} {rule : Entry → ℕ} {p
     making_more left grew =
         let more : MakingPartitions over cut rule pool partitions arrivals (drop n rest) (all ++ made ∷ []) = record {
           each = All-push (IsPartitionMade over cut rule pool partitions arrivals) all made making.each partition_made;
-          once = grind (arith, in_order_joined, lt-ltb, earlier);
+          once = grind (arith, in_order_joined);
           later = λ m a of_all of_rest.
               elim (in_either all (made ∷ []) m of_all) [
                 | inl old ↦ making.later m a old (subst (Among a) (take-append-drop n rest) (in_right (take n rest) (drop n rest) a of_rest))

@@ -1,6 +1,6 @@
 -- Entries in partitions: where an order compares within partitions alone, each partition holds the levels of its own entries.
-use Rattle.pref_sky.proofs.Common.{◌≡◌, ℕ, zero, suc, ◌≤◌, ◌<◌, ◌+◌, ◌^◌, Bool, true, false, cond, not, ◌&&◌, ltb, inl, inr, List, ℤ, [], ◌∷◌, ◌++◌, length, map, refl, sym, ◌∙◌, ap, subst, arith}
-use Rattle.pref_sky.proofs.Common.{filter, eqb, eq-eqb, max, count_by, cases_Bool, eqb-true, not_from_false, and_parts, Decides-int_eq, nat_tests, filter_agree, length-filter, cell, in_same_group}
+use Rattle.pref_sky.proofs.Common.{◌≡◌, ℕ, zero, suc, ◌≤◌, ◌<◌, ◌+◌, ◌^◌, Bool, true, false, not, ◌&&◌, ltb, inl, inr, List, ℤ, [], ◌∷◌, ◌++◌, length, map, refl, sym, ◌∙◌, ap, subst, arith}
+use Rattle.pref_sky.proofs.Common.{filter, eqb, eq-eqb, max, count_by, cases_Bool, eqb-true, not_from_false, and_parts, filter_agree, length-filter, cell, in_same_group}
 use Rattle.pref_sky.proofs.Common.{RowOrder, StaysWithin, hash_with, Entry, best, is_beaten, rest, without_best, HaveDifferentIds, at_level, entry_of, entry_order, levels, held_at, ranked_from}
 use Rattle.pref_sky.proofs.Common.{ArePartitionedBy, all_at, depth, is_in, mixed_onto, partition_of, partitions_by, ranked_partitions, ranked_upto, Among, take_all}
 use Rattle.std.proofs.Math.Bool.{and_comm}
@@ -8,8 +8,8 @@ use Rattle.std.proofs.Math.Nat.{le-max_left, le-max_right, max-le}
 use Rattle.pref_sky.proofs.ListLaws.{any_from, any_gives, in_filter, from_filter, in_left, in_right, in_either, from_map, in_map, filter_agree_among, none_pass, one_passes, filter_filter, same_answer}
 use Rattle.pref_sky.proofs.ListLaws.{count_both, count_and, count_filtered, count_append}
 use Rattle.pref_sky.proofs.Merges.{different_best, different_filter}
-use Rattle.pref_sky.proofs.SortedLevels.{beaten_by_more, different_by_count}
-use Rattle.pref_sky.proofs.Ranks.{count_at, count_joined, count_level, held_there, held_upto, level_differs, levels_upto_is, one_level, same_upto, take_upto, to_upto, within_if_same}
+use Rattle.pref_sky.proofs.SortedLevels.{different_by_count}
+use Rattle.pref_sky.proofs.Ranks.{count_at, count_joined, count_level, held_there, held_upto, level_differs, levels_upto_is, same_upto, take_upto, to_upto, within_if_same}
 
 -- an entry is over entries of its own partition alone
 abbrev pub IsWithin : (Entry → Entry → Bool) → (Entry → ℕ) → Type 0
@@ -19,11 +19,11 @@ same_mixed : (word : ℕ) (columns : List ℕ) (a b : List ℤ) → in_same_grou
 same_mixed word [] a b same = refl
 same_mixed word (col ∷ columns) a b same =
     let both = and_parts _ _ same in
-    grind (arith, Decides-int_eq (cell a col) (cell b col), same_mixed (hash_with word (cell b col)) columns a b both.1)
+    grind (arith, same_mixed (hash_with word (cell b col)) columns a b both.1)
 
 -- rows of one group are in one partition
 pub is_within : (order : RowOrder) (columns : List ℕ) → StaysWithin order columns → IsWithin (entry_order order) (partition_of columns)
-is_within order columns within a b above = grind (arith, within.over a.row b.row, within.twin a.row b.row, same_mixed 0 columns a.row b.row)
+is_within order columns within a b above = grind (arith, same_mixed 0 columns a.row b.row)
 
 swapped : {E : Type 0} (p q : E → Bool) (xs : List E) → filter p (filter q xs) ≡ filter q (filter p xs)
 swapped p q xs = filter_filter q p xs ∙ (filter_agree (λ x. q x && p x) (λ x. p x && q x) (λ x. and_comm (q x) (p x)) xs ∙ sym (filter_filter p q xs))
@@ -31,7 +31,7 @@ swapped p q xs = filter_filter q p xs ∙ (filter_agree (λ x. q x && p x) (λ x
 -- the best of a partition's entries, and what is left without them
 module _ (over : Entry → Entry → Bool) (number : Entry → ℕ) (within : IsWithin over number) (partition : ℕ) where
   beaten_in_partition : (xs : List Entry) (e : Entry) → is_in number partition e ≡ true → is_beaten over (filter (is_in number partition) xs) e ≡ is_beaten over xs e
-  beaten_in_partition xs e here = grind (arith, same_answer, beaten_by_more, from_filter, any_gives, eqb-true, any_from, in_filter, eq-eqb)
+  beaten_in_partition xs e here = grind (arith, same_answer, from_filter, any_gives, any_from, in_filter)
 
   without_in_partition : (xs : List Entry) → without_best over (filter (is_in number partition) xs) ≡ filter (is_in number partition) (without_best over xs)
   without_in_partition xs =
@@ -75,7 +75,7 @@ total p (partition ∷ others) = count_by p (map entry_of (ranked_from 1 partiti
 count_beside : (p : Entry → Bool) (f g : ℕ → List Entry) (n : ℕ)
     → count_by p (map entry_of (ranked_upto (λ k. f k ++ g k) n)) ≡ count_by p (map entry_of (ranked_upto f n)) + count_by p (map entry_of (ranked_upto g n))
 count_beside p f g zero = refl
-count_beside p f g (suc n) = grind (arith, count_joined p, one_level (suc n), count_level p (suc n), count_beside p f g n, count_append p (f n) (g n))
+count_beside p f g (suc n) = grind (arith, count_joined p, count_level p (suc n), count_beside p f g n, count_append p (f n) (g n))
 
 count_levels : (p : Entry → Bool) (partitions : List (List (List Entry))) (n : ℕ) → depth partitions ≤ n → count_by p (map entry_of (ranked_upto (all_at partitions) n)) ≡ total p partitions
 count_levels p [] zero le = refl
@@ -96,7 +96,7 @@ count_partition p (first ∷ others) (suc partition) = omega (arith, count_parti
 
 count_level_of_all : (p : Entry → Bool) (partitions : List (List (List Entry))) (k : ℕ) → count_by p (all_at partitions k) ≤ total p partitions
 count_level_of_all p [] k = omega arith
-count_level_of_all p (partition ∷ others) k = grind (arith, count_level_of_all p others k, others, count_append p (held_at k partition) (all_at others k), count_at p k partition)
+count_level_of_all p (partition ∷ others) k = grind (arith, count_level_of_all p others k, count_append p (held_at k partition) (all_at others k), count_at p k partition)
 
 pub partition_differs : (partitions : List (List (List Entry))) → HaveDifferentIds (map entry_of (ranked_partitions partitions)) → (partition : ℕ) → HaveDifferentIds (map entry_of (ranked_from 1 (held_at partition partitions)))
 partition_differs partitions different partition = record { once = λ id. omega (arith, different.once id, count_all (λ e. eqb e.id id) partitions, count_partition (λ e. eqb e.id id) partitions partition) }
@@ -141,7 +141,7 @@ module _ (over : Entry → Entry → Bool) (number : Entry → ℕ) (within : Is
       let held : ℕ → ℕ → List Entry = λ partition k. held_at k (held_at partition partitions) in
       let some : ℕ → ℕ → List Entry = λ partition k. best over (rest over (filter (is_in number partition) all) k) in
       let long : ℕ → ℕ = λ partition. length (held_at partition partitions) in
-      let same : (partition : ℕ) → ranked_upto (held partition) (long partition) ≡ ranked_upto (some partition) cut = grind (arith, held_upto, each, levels_upto_is over) in
+      let same : (partition : ℕ) → ranked_upto (held partition) (long partition) ≡ ranked_upto (some partition) cut = grind (arith, held_upto) in
       same_upto (all_at partitions) whole (depth partitions) cut (all_differ partitions apart) (λ k. different_best over all k different)
       (λ k e below m.
       let u = from_all partitions k e m in
@@ -176,13 +176,9 @@ total_within p comes (was ∷ old) (first ∷ new) more =
     let deeper = total_within p (λ k. comes (suc k)) old new (λ q partition. more q (suc partition)) in
     omega (arith, more p 0, deeper, sum_first (λ k. count_by p (comes k)) (length new))
 
-below_or_at : (b : Bool) (m n : ℕ) → cond {A = ℕ} (b && ltb m n) 1 0 + cond (b && eqb m n) 1 0 ≤ cond (b && ltb m (suc n)) 1 0
-below_or_at false m n = omega arith
-below_or_at true m n = grind (arith, nat_tests)
-
 sum_of_partitions : (p : Entry → Bool) (number : Entry → ℕ) (coming : List Entry) (n : ℕ) → sum_upto (λ k. count_by p (filter (is_in number k) coming)) n ≤ count_by (λ e. p e && ltb (number e) n) coming
 sum_of_partitions p number coming zero = omega arith
-sum_of_partitions p number coming (suc n) = grind (arith, count_both, below_or_at, sum_of_partitions p number coming n, count_filtered p (is_in number n) coming)
+sum_of_partitions p number coming (suc n) = grind (arith, count_both, sum_of_partitions p number coming n, count_filtered p (is_in number n) coming)
 
 -- what the partitions hold after an addition has different ids
 pub differ_after : (number : Entry → ℕ) (old new : List (List (List Entry))) (coming : List Entry) → HaveDifferentIds (map entry_of (ranked_partitions old) ++ coming) → NoMore (λ partition. filter (is_in number partition) coming) old new

@@ -1,7 +1,7 @@
 -- The steps of passes, and what they keep true: nothing is lost, each pass settles more, what goes to the rest is dominated, and what is early at the end of a pass is best.
 use Rattle.pref_sky.proofs.Common.{◌≡◌, ℕ, ◌<◌, ◌≤◌, ◌+◌, Bool, true, false, inl, inr, List, [], ◌∷◌, ◌++◌, length, sym, ◌∙◌, ap, arith, append-nil, append_assoc, get_or, swap_remove, IsPermutation}
-use Rattle.pref_sky.proofs.Common.{sum_by-IsPermutation, sum_by-cons, sum_by-append, sum_by-swap_remove, RowOrder, StandAlike, Entry, Item, IsAntichain, item_order, IsClear, IsDecided}
-use Rattle.pref_sky.proofs.Common.{Sifted, Among, cond, ◌⊎◌, refl, subst, length-append, sum_by, both_ways, false_from_ne_true, IsStrictOrder, is_beaten, Parted, Passing, nil_from_length}
+use Rattle.pref_sky.proofs.Common.{sum_by-IsPermutation, sum_by-cons, sum_by-append, sum_by-swap_remove, Item, IsAntichain, IsClear}
+use Rattle.pref_sky.proofs.Common.{Sifted, Among, cond, ◌⊎◌, refl, length-append, sum_by, both_ways, false_from_ne_true, IsStrictOrder, is_beaten, Parted, Passing, nil_from_length}
 use Rattle.std.specs.List.{AllWithin}
 use Rattle.pref_sky.proofs.ListLaws.{in_either, any_from, any_gives, any_none, in_left, among_if, among_or, is_item, long_by, none_by, some_of, sum_by-ones, count_append}
 use Rattle.pref_sky.proofs.Merges.{unbeaten_over}
@@ -10,17 +10,9 @@ use Rattle.pref_sky.proofs.Merges.{unbeaten_over}
 abbrev pub AreClear : {E : Type 0} → (E → E → Bool) → List E → E → ℕ → Type 0
 AreClear over xs e n = AllWithin (λ x. (over x e ≡ false) × (over e x ≡ false)) xs 0 n
 
--- and of some of it the signatures tell
-abbrev pub AreDecided : List Item → Item → ℕ → ℕ → Type 0
-AreDecided xs e from to = (k : ℕ) (d : Item) → from ≤ k → k < to → IsDecided e.signature (get_or xs k d)
-
 -- nothing went out so far
 pub sifted_none : {over : Item → Item → Bool} {e : Item} {old : List Item} (rest : List Item) → Sifted over e old old rest rest
 sifted_none rest = record { gone = []; behind = sym (append-nil rest); bag = λ f. omega arith; below = λ x m. absurd m }
-
--- where one of a list that is apart stands as an item does, all of it is clear of the item
-pub clear_if_alike : {E : Type 0} (over : E → E → Bool) (xs : List E) (y e : E) → Among y xs → StandAlike over y e → IsAntichain over xs → IsClear over xs e
-clear_if_alike over xs y e here alike apart x m = (sym (alike.above x) ∙ apart x y m here, sym (alike.below x) ∙ apart y x here m)
 
 -- one more goes out, that the item dominates: the last one takes its place
 pub sifted_more : {over : Item → Item → Bool} {e : Item} {old held start rest held_now rest_now : List Item} → Sifted over e old held start rest → (i : ℕ) (x : Item) → i < length held → x ≡ get_or held i x → over e x ≡ true
@@ -38,28 +30,15 @@ sifted_more {over = over} {e = e} {old = old} {held = held} {start = start} {res
 pub clear_after_move : {E : Type 0} (over : E → E → Bool) (xs ys : List E) (e : E) (n long : ℕ) → n < long
     → ((k : ℕ) (d : E) → (k ≡ n → ⊥) → k + 1 < long → get_or ys k d ≡ get_or xs k d)
     → AreClear over xs e n → AreClear over ys e n
-clear_after_move over xs ys e n long inside same each k d from below = grind (arith, below, inside, each k d from below)
+clear_after_move over xs ys e n long inside same each k d from below = grind (arith)
 
 -- two of the list change places
 pub sifted_moved : {over : Item → Item → Bool} {e : Item} {old held start rest : List Item} (moved : List Item) → IsPermutation held moved → Sifted over e old held start rest → Sifted over e old moved start rest
-sifted_moved {held = held} moved permuted s = grind (arith, s.gone, s.behind, s.bag, sum_by-IsPermutation, s.below)
-
--- items of which the signatures tell are clear
-told_is_clear : (order : RowOrder) (pool : List Entry) (x e : Item) → IsDecided e.signature x → (item_order order pool x e ≡ false) × (item_order order pool e x ≡ false)
-told_is_clear order pool x e decided = (grind (arith, decided.0), grind (arith, decided.1))
-
-pub clear_upto : (order : RowOrder) (pool : List Entry) (xs : List Item) (e : Item) (from to : ℕ) → AreClear (item_order order pool) xs e from
-    → AreDecided xs e from to → AreClear (item_order order pool) xs e to
-clear_upto order pool xs e from to clear decided k d low within = grind (arith, told_is_clear order pool (get_or xs k d) e)
+sifted_moved {held = held} moved permuted s = grind (arith, sum_by-IsPermutation)
 
 -- what is among a list with one more
 or_last : {E : Type 0} (xs : List E) (e x : E) → Among x (xs ++ e ∷ []) → Among x xs ⊎ (x ≡ e)
 or_last xs e x m = elim (in_either xs (e ∷ []) x m) [ inl old ↦ inl old | inr new ↦ elim new [ inl same ↦ inr same | inr none ↦ absurd none ] ]
-
--- with an item that is clear of it, what was apart is apart
-apart_with_one : (over : Item → Item → Bool) → IsStrictOrder over → (e : Item) (P : Item → Type 0) → ((x y : Item) → P x → P y → over x y ≡ false) → ((x : Item) → P x → (over x e ≡ false) × (over e x ≡ false))
-    → (x y : Item) → P x ⊎ (x ≡ e) → P y ⊎ (y ≡ e) → over x y ≡ false
-apart_with_one over strict e P apart clear x y mx my = grind (arith, apart x y, strict.irreflexive e)
 
 module _ {over : Item → Item → Bool} {held : List Item} {window : ℕ} {input best : List Item} {before : ℕ} {left early late overflow rest : List Item} {e : Item} (p : Passing over held window input best (e ∷ left) before early late overflow rest) where
   pub early_apart : IsAntichain over held → IsAntichain over early
@@ -76,24 +55,24 @@ module _ {over : Item → Item → Bool} {held : List Item} {window : ℕ} {inpu
       let early_less : length early_now + length s.gone ≡ length early = long_by early_now s.gone early s.bag in
       let late_less : length late_now + length t.gone ≡ length late = long_by late_now t.gone late t.bag in
       let longer : length most ≡ (length rest + length s.gone) + length t.gone = grind (arith, length-append more t.gone, length-append rest s.gone) in
-      grind (arith, among_if e input, is_item e, some_of e (e ∷ left) (inl refl), among_if, is_item, some_of, in_either more t.gone, in_either rest s.gone, any_from)
+      grind (arith, among_if e input, is_item e, some_of e (e ∷ left) (inl refl), among_if, some_of, any_from)
 
   -- the next item is dominated by one of the window
   pub pass_dropped : (IsAntichain over held → (is_beaten over early e ≡ true) ⊎ (is_beaten over late e ≡ true)) → Passing over held window input best left before early late overflow (rest ++ e ∷ [])
-  pass_dropped beaten = grind (arith, length-append rest (e ∷ []), p.bag, sum_by-cons, sum_by-append, p.fresh, p.more, p.fits, p.falls, p.decided, any_gives, among_if, is_item, some_of, or_last rest e, any_from)
+  pass_dropped beaten = grind (arith, length-append rest (e ∷ []), sum_by-cons, sum_by-append, any_gives, among_if, some_of, any_from)
 
   -- it overflows: the window is full
   pub pass_overflows : (IsAntichain over held → IsClear over early e) → (length late ≡ 0 → window ≤ length early) → Passing over held window input best left before early late (overflow ++ e ∷ []) rest
-  pass_overflows is_clear full = grind (arith, p.bag, sum_by-cons, sum_by-append, length-append overflow (e ∷ []), p.more, p.fits, p.falls, p.fresh, p.decided, or_last overflow e)
+  pass_overflows is_clear full = grind (arith, sum_by-cons, sum_by-append, length-append overflow (e ∷ []), or_last overflow e)
 
   -- it joins the window: the early ones where nothing overflowed so far, and else the late ones
   pub pass_joined : {early_now late_now : List Item} → IsStrictOrder over → (IsAntichain over held → IsClear over early e × IsClear over late e) → length early + length late < window
       → ((early_now ≡ early ++ e ∷ []) × (late_now ≡ late) × (length overflow ≡ 0)) ⊎ ((early_now ≡ early) × (late_now ≡ late ++ e ∷ []) × (0 < length overflow)) → Passing over held window input best left before early_now late_now overflow rest
-  pass_joined {early_now = early_now} {late_now = late_now} strict is_clear room joined = grind (arith, sum_by-append, length-append early (e ∷ []), length-append late (e ∷ []), or_last early e, or_last late e, sum_by-cons, apart_with_one over strict e, nil_from_length overflow)
+  pass_joined {early_now = early_now} {late_now = late_now} strict is_clear room joined = grind (arith, sum_by-append, length-append early (e ∷ []), length-append late (e ∷ []), or_last early e, or_last late e, sum_by-cons, nil_from_length overflow)
 
 module _ {over : Item → Item → Bool} {held : List Item} {window : ℕ} {input best : List Item} {before : ℕ} {left early late overflow rest : List Item} (p : Passing over held window input best left before early late overflow rest) where
   pub pass_long : length best + length early + length late + length overflow + length left + length rest ≡ length input
-  pass_long = grind (arith, p.bag, sum_by-ones best, sum_by-ones early, sum_by-ones late, sum_by-ones overflow, sum_by-ones left, sum_by-ones rest, sum_by-ones input)
+  pass_long = grind (arith, sum_by-ones best, sum_by-ones early, sum_by-ones late, sum_by-ones overflow, sum_by-ones left, sum_by-ones rest, sum_by-ones input)
 
   -- what holds of lists holds of the same ones
   pub passing_same : {best_now left_now early_now late_now overflow_now rest_now : List Item} → best_now ≡ best → left_now ≡ left → early_now ≡ early → late_now ≡ late → overflow_now ≡ overflow → rest_now ≡ rest
@@ -103,11 +82,11 @@ module _ {over : Item → Item → Bool} {held : List Item} {window : ℕ} {inpu
 module _ {over : Item → Item → Bool} {held : List Item} {window : ℕ} {input best : List Item} {before : ℕ} {early late overflow rest : List Item} (p : Passing over held window input best [] before early late overflow rest) where
   -- a pass ends: what is early is best
   pub pass_ends : 0 < window → Passing over held window input (best ++ early) overflow (length rest) late [] [] rest
-  pass_ends some = grind (arith, p.bag, sum_by-append, p.fits, p.decided, in_either best early)
+  pass_ends some = grind (arith, sum_by-append, in_either best early)
 
   -- more is settled at the end of a pass than at its begin
   pub more_settled : length best + before < length input → length best + before < length best + length early + length rest
-  more_settled some = grind (arith, p.falls, pass_long p, p.fresh)
+  more_settled some = grind (arith, pass_long p)
 
 -- all passes begin with a window that holds some
 pub passes_begin : (over : Item → Item → Bool) (held : List Item) (window : ℕ) (items : List Item) → length held < window → Passing over held window (held ++ items) [] items (length held) held [] [] []
@@ -117,9 +96,9 @@ passes_begin over held window items room = grind (arith, sum_by-append)
 pub passes_end : {over : Item → Item → Bool} {held : List Item} {window : ℕ} {items best left : List Item} {before : ℕ} {early late overflow rest : List Item} → IsStrictOrder over → length left ≡ 0 → length early ≡ 0 → length late ≡ 0 → length overflow ≡ 0
     → Passing over held window (held ++ items) best left before early late overflow rest → Parted over held items best rest
 passes_end {over = over} {held = held} {items = items} {best = best} {left = left} {early = early} {late = late} {overflow = overflow} {rest = rest} strict left_none early_none late_none overflow_none p =
-    let bag : (f : Item → ℕ) → sum_by f best + sum_by f rest ≡ sum_by f (held ++ items) = grind (arith, p.bag, none_by) in
+    let bag : (f : Item → ℕ) → sum_by f best + sum_by f rest ≡ sum_by f (held ++ items) = grind (arith, none_by) in
     let all = held ++ items in
-    let covers : (x : Item) → Among x all → Among x best ⊎ Among x rest = grind (arith, among_or, among_if, is_item, some_of) in
+    let covers : (x : Item) → Among x all → Among x best ⊎ Among x rest = grind (arith, among_or, some_of) in
     record {
       within = λ x m. among_if x all (elim m [ inl a ↦ omega (arith, bag (is_item x), some_of x best a) | inr b ↦ omega (arith, bag (is_item x), some_of x rest b) ]);
       covers = covers;
@@ -135,4 +114,4 @@ passes_end {over = over} {held = held} {items = items} {best = best} {left = lef
 
 -- where no items come, those that were held are the best
 pub parted_held : (over : Item → Item → Bool) (held items : List Item) → length items ≡ 0 → Parted over held items held []
-parted_held over held items none = grind (arith, in_either held items, nil_from_length items none, in_left held items, count_append, none_by, any_none)
+parted_held over held items none = grind (arith, in_either held items, nil_from_length items none, in_left held items, count_append, any_none)

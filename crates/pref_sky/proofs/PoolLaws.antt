@@ -51,7 +51,7 @@ module _ (a b : Pool) (grown : HasGrown a b) where
   entry_grown place inside = ap (λ l. entry_at l place) grown.entries ∙ get_or_append_left a.entries.items grown.more (record { id = 0; row = [] }) place inside
 
   pub item_grown : (x : Item) → IsItem (signature_by a.scales) a.entries.items x → IsItem (signature_by b.scales) b.entries.items x
-  item_grown x is = grind (arith, is.within, length-append a.entries.items grown.more, is.word, is.signed, entry_grown x.place is.within)
+  item_grown x is = grind (arith, length-append a.entries.items grown.more, entry_grown x.place is.within)
 
   -- items of a pool, their levels and their partitions are items of a longer pool
   pub items_grown : (items : List Item) → AreItems (signature_by a.scales) a.entries.items items → AreItems (signature_by b.scales) b.entries.items items
@@ -78,7 +78,7 @@ module _ (a b : Pool) (grown : HasGrown a b) where
       (λ v m. levels_grown v.items (all_among (λ (partition : Vec (Vec Item Global) Global). AreAllItems (signature_by a.scales) a.entries.items partition.items) partitions are v m))
 
   pub grown_then : (c : Pool) → HasGrown b c → HasGrown a c
-  grown_then c more = grind (arith, more.scales, grown.scales, grown.more, append_assoc a.entries.items grown.more more.more)
+  grown_then c more = grind (arith, append_assoc a.entries.items grown.more more.more)
 
 -- the first n of a list are taken into a pool that has grown from the first one
 pub record AreTaken {A B : Type 0} (AreOf : Pool → A → Type 0) (read : List Entry → A → B) (source : List Entry) (all : List A) (first pool : Pool) (taken : List A) (n : ℕ) : Type 0 where
@@ -93,7 +93,7 @@ module _ {A B : Type 0} {AreOf : Pool → A → Type 0} {read : List Entry → A
       → {taken_now : List A} → taken_now ≡ taken ++ next ∷ [] → AreTaken AreOf read source all first now taken_now (n + 1)
   taken_more still next old inside is of_pool same pushed =
       let kept = map_agree_among (read now.entries.items) (read was.entries.items) taken (λ x m. (still x (all_among (AreOf was) taken so_far.items x m)).1) in
-      grind (arith, length-append taken (next ∷ []), so_far.long, grown_then first was so_far.grown now grown, All-push (AreOf now) taken next, so_far.items, map-append (read now.entries.items) taken (next ∷ []), map_more (read source) all n old inside, inside)
+      grind (arith, length-append taken (next ∷ []), grown_then first was so_far.grown now grown, All-push (AreOf now) taken next, map-append (read now.entries.items) taken (next ∷ []), map_more (read source) all n old inside)
 
 -- one more entry behind those of a pool
 pub entry_behind : (pool : List Entry) (e : Entry) (item : Item) → item.place ≡ length pool → entry_at (pool ++ e ∷ []) item.place ≡ e
@@ -120,16 +120,13 @@ partition_here pool partitions k partition inside is = levels_of_at pool k parti
 -- what one of a level dominates is below it
 pub behind_level : (over : Entry → Entry → Bool) (pool : List Entry) (levels : List (Vec Item Global)) (k n : ℕ) (level : Vec Item Global) (e : Entry) → k < length levels → n ≡ suc k → level ≡ get_or levels k level
     → is_beaten over (entries_at pool level.items) e ≡ true → IsBehind over (levels_at pool levels) n e
-behind_level over pool levels k n level e inside next is beaten = grind (arith, level_here pool levels k level inside is, inside)
+behind_level over pool levels k n level e inside next is beaten = grind (arith, level_here pool levels k level inside is)
 
 -- partitions that hold nothing
 pub none_held : (pool : List Entry) (partitions : List (Vec (Vec Item Global) Global)) → All (λ (partition : Vec (Vec Item Global) Global). partition.items ≡ []) partitions → (n : ℕ) → held_at n (partitions_at pool partitions) ≡ []
 none_held pool [] none n = refl
 none_held pool (partition ∷ others) none zero = ap (levels_at pool) (none 0 partition (omega arith))
 none_held pool (partition ∷ others) none (suc n) = none_held pool others (λ k d inside. none (suc k) d (omega (arith, inside))) n
-
-pub none_in_pool : (rule : Entry → ℕ) (pool : List Entry) (partitions : List (Vec (Vec Item Global) Global)) → All (λ (partition : Vec (Vec Item Global) Global). partition.items ≡ []) partitions → AreInPool rule pool partitions
-none_in_pool rule pool partitions none = λ k d inside. subst (AreAllItems rule pool) (sym (none k d inside)) (λ j level there. absurd (omega (arith, there)))
 
 -- ---- one after the other is signed
 
@@ -142,4 +139,4 @@ pub record AreSigned {A B : Type 0} (f : A → B) (Ready Signed : A → Type 0) 
 
 pub signed_more : {A B : Type 0} {f : A → B} {Ready Signed : A → Type 0} {first now : List A} {i : ℕ} → AreSigned f Ready Signed first now i → i < length now → (old new : A) → old ≡ get_or now i old → f new ≡ f old → Ready new → Signed new
     → AreSigned f Ready Signed first (set now i new) (i + 1)
-signed_more {f = f} {Ready = Ready} {Signed = Signed} {now = now} {i = i} so_far inside old new is same ready signed = grind (arith, length-set now i new, so_far.long, map-set_same f now i new old (same ∙ ap f is), All-set Ready now i new ready so_far.ready, ready, AllWithin-more_set now i new inside Signed so_far.signed signed, inside, signed)
+signed_more {f = f} {Ready = Ready} {Signed = Signed} {now = now} {i = i} so_far inside old new is same ready signed = grind (arith, length-set now i new, map-set_same f now i new old (same ∙ ap f is), All-set Ready now i new ready so_far.ready, AllWithin-more_set now i new inside Signed so_far.signed signed)

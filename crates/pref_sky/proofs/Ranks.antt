@@ -4,7 +4,7 @@ use Rattle.pref_sky.proofs.Common.{HaveDifferentIds, in_order_of_id, at_level, e
 use Rattle.pref_sky.proofs.Common.{cases_lt, IsNonDecreasingBy, IsPermutation, get_or-map, length-map, IsPermutation-map, take-length, best, rest, levels, ranked_upto, Among, is_lt, ordering_then}
 use Rattle.pref_sky.proofs.Common.{nat_cmp, nat_tests, IsInOrder, sum_by, sum_by-cons, sum_by-take-drop}
 use Rattle.std.specs.Cmp.{IsStrictWeakOrder}
-use borrow.Rule.Slice.PartMut.{mid_of, post_of, put_mid}
+use borrow.Rule.Slice.PartMut.{mid_of, put_mid}
 use Rattle.pref_sky.proofs.IdOrder.{count_in_order, Rises, rises_in_order, same_if_in_order, sorted_is, among_in_order, from_in_order}
 use Rattle.pref_sky.proofs.Merges.{entries_at_level}
 use Rattle.pref_sky.proofs.ListLaws.{in_left, in_right, in_either, from_map, in_map, same_if_permuted, cut_at, count_append, in_order_joined}
@@ -22,7 +22,7 @@ count_level p n entries = ap (count_by p) (entries_at_level n (in_order_of_id en
 -- how many of a kind levels hold
 pub count_held : (p : Entry → Bool) (k : ℕ) (held : List (List Entry)) → count_by p (map entry_of (ranked_from k held)) ≡ sum_by (count_by p) held
 count_held p k [] = refl
-count_held p k (level ∷ behind) = grind (arith, count_joined p (one_level k level) (ranked_from (suc k) behind), one_level k level, behind, count_level p k level, count_held p (suc k) behind, sum_by-cons (count_by p) level behind)
+count_held p k (level ∷ behind) = grind (arith, count_joined p (one_level k level) (ranked_from (suc k) behind), count_level p k level, count_held p (suc k) behind, sum_by-cons (count_by p) level behind)
 
 pub count_behind : (p : Entry → Bool) (n : ℕ) (held : List (List Entry)) → sum_by (count_by p) (drop n held) ≡ count_by p (held_at n held) + sum_by (count_by p) (drop (suc n) held)
 count_behind p zero [] = refl
@@ -126,9 +126,9 @@ levels_upto_is over all (suc n) = ap (λ l. l ++ one_level (suc n) (best over (r
 -- held levels
 pub take_level : (k n m : ℕ) (held : List (List Entry)) → m ≡ k + n → ranked_from k (take (suc n) held) ≡ ranked_from k (take n held) ++ one_level m (held_at n held)
 take_level k zero m [] at = refl
-take_level k zero m (level ∷ behind) at = grind (arith, append-nil (one_level k level), one_level k level, one_level)
+take_level k zero m (level ∷ behind) at = grind (arith, append-nil (one_level k level))
 take_level k (suc n) m [] at = refl
-take_level k (suc n) m (level ∷ behind) at = grind (arith, one_level k level, take_level (suc k) n m behind, behind, append_assoc, one_level m (held_at n behind))
+take_level k (suc n) m (level ∷ behind) at = grind (arith, take_level (suc k) n m behind, append_assoc)
 
 pub take_upto : (held : List (List Entry)) (n : ℕ) → ranked_from 1 (take n held) ≡ ranked_upto (λ k. held_at k held) n
 take_upto held zero = refl
@@ -152,7 +152,7 @@ at_level_again n (r ∷ others) of_level =
 entries_sorted : (ranked : List Ranked) → IsNonDecreasingBy (λ (r : Ranked). r.id) ranked → IsNonDecreasingBy (λ (e : Entry). e.id) (map entry_of ranked)
 entries_sorted ranked sorted i j d le inside =
     let r : Ranked = at_level 0 d in
-    grind (arith, inside, length-map ranked entry_of, get_or-map entry_of ranked i r d, get_or-map entry_of ranked j r d)
+    grind (arith, length-map ranked entry_of, get_or-map entry_of ranked i r d, get_or-map entry_of ranked j r d)
 
 -- what a sort by id leaves of the entries of one level
 pub level_sorted : (n : ℕ) (entries : List Entry) (ranked : List Ranked) → HaveDifferentIds entries → IsPermutation (map (at_level n) entries) ranked → IsNonDecreasingBy (λ (r : Ranked). r.id) ranked → ranked ≡ one_level n entries
@@ -166,4 +166,4 @@ pub sorted_behind : (n start : ℕ) (front : List Ranked) (entries : List Entry)
     → IsPermutation (mid_of start (length ranked - start) ranked) after → IsNonDecreasingBy (λ (r : Ranked). r.id) after → put_mid start (length ranked - start) ranked after ≡ front ++ one_level n entries
 sorted_behind n start front entries ranked after different long is moved sorted =
     let level = map (at_level n) entries in
-    grind (arith, cut_at ranked front level start is (sym long), long, length-append front level, take-length level, drop_of_length-le level, append-nil after, level_sorted n entries after different)
+    grind (arith, cut_at ranked front level start is (sym long), length-append front level, take-length level, drop_of_length-le level, append-nil after, level_sorted n entries after different)

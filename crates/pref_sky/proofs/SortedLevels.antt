@@ -1,6 +1,6 @@
 -- Lists with the same members have the same best, and entries that others are over change nothing of these. Lists with the same levels up to a cut, where the ids differ of what is of these: what is below may be left out, and may be there twice.
 use Rattle.pref_sky.proofs.Common.{◌≡◌, ◌≤◌, ◌+◌, Bool, true, not, inl, inr, List, ◌++◌, sym, ◌∙◌, ap, arith, eqb, count_by, both_ways, not-true, IsStrictOrder, Entry, best, is_beaten}
-use Rattle.pref_sky.proofs.Common.{without_best, HaveDifferentIds, in_order_of_id, Among, false, cases_Bool, not_from_false, false_from_ne_true, ◌||◌, append-nil, filter, filter-append, filter_agree}
+use Rattle.pref_sky.proofs.Common.{without_best, HaveDifferentIds, in_order_of_id, Among, false, cases_Bool, not_from_false, false_from_ne_true, ◌||◌, append-nil, filter, filter-append}
 use Rattle.pref_sky.proofs.Common.{ℕ, zero, suc, ltb, ◌&&◌, ◌⊎◌, [], ◌∷◌, map, refl, subst, append_assoc, ◌==◌, IsProductOf, RowOrder, ChainOrder, rest, is_below, own_levels, own_order, entry_of}
 use Rattle.pref_sky.proofs.Common.{entry_order, levels, HoldsUpper}
 use Rattle.std.proofs.lemmas.List.Folds.{list_any-append}
@@ -20,10 +20,10 @@ same_beaten over xs ys same e = same_answer (is_beaten over xs e) (is_beaten ove
 
 -- the best of lists with the same members
 pub best_of_same : (over : Entry → Entry → Bool) (xs ys : List Entry) → SameMembers xs ys → SameMembers (best over xs) (best over ys)
-best_of_same over xs ys same = grind (arith, same_kept, same.there, same_beaten over xs ys same, same.back)
+best_of_same over xs ys same = grind (arith, same_kept, same_beaten over xs ys same)
 
 pub without_of_same : (over : Entry → Entry → Bool) (xs ys : List Entry) → SameMembers xs ys → SameMembers (without_best over xs) (without_best over ys)
-without_of_same over xs ys same = grind (arith, same_kept (is_beaten over xs) (is_beaten over ys) xs ys, same.there, same_beaten over xs ys same, same.back)
+without_of_same over xs ys same = grind (arith, same_kept (is_beaten over xs) (is_beaten over ys) xs ys, same_beaten over xs ys same)
 
 pub different_by_count : (xs ys zs : List Entry) → HaveDifferentIds (xs ++ ys) → ((p : Entry → Bool) → count_by p zs ≤ count_by p xs + count_by p ys) → HaveDifferentIds zs
 different_by_count xs ys zs different fewer = record { once = λ id. omega (arith, different.once id, fewer (λ (e : Entry). eqb e.id id), count_append (λ (e : Entry). eqb e.id id) xs ys) }
@@ -42,15 +42,15 @@ module _ (over : Entry → Entry → Bool) (strict : IsStrictOrder over) (others
       (beaten_by_more over others (others ++ low) e (in_left others low))
 
   pub best_without : best over (others ++ low) ≡ best over others
-  best_without = grind (arith, filter-append, filter_agree, beaten_without, none_pass, append-nil (best over others))
+  best_without = grind (arith, filter-append, beaten_without, none_pass, append-nil (best over others))
 
   pub left_without : without_best over (others ++ low) ≡ without_best over others ++ low
-  left_without = grind (arith, filter-append, filter_agree, beaten_without, all_pass)
+  left_without = grind (arith, filter-append, beaten_without, all_pass)
 
 -- entries come to a list, of which the best are at the top
 module _ (over : Entry → Entry → Bool) (strict : IsStrictOrder over) (left coming top : List Entry) (is : SameMembers top (best over left)) where
   of_both : (x : Entry) → Among x (top ++ coming) → Among x (left ++ coming)
-  of_both x m = grind (arith, in_either top coming x m, in_left left coming x, from_filter, is.there x, in_right left coming x)
+  of_both x m = grind (arith, in_either top coming x m, in_left left coming x, from_filter, in_right left coming x)
 
   in_top : (x : Entry) → Among x left → is_beaten over left x ≡ false → Among x top
   in_top x m free = is.back x (in_filter (λ y. not (is_beaten over left y)) left x m (not_from_false (is_beaten over left x) free))
@@ -139,10 +139,10 @@ module _ (over : Entry → Entry → Bool) (strict : IsStrictOrder over) (some a
 -- new entries come to those that are held, of which those of the levels count alone
 module _ (over : Entry → Entry → Bool) (strict : IsStrictOrder over) (cut : ℕ) (held entries : List Entry) (different : HaveDifferentIds (map entry_of (levels over held cut) ++ entries)) where
   later_still : (x : Entry) → comes_after over (held ++ entries) cut x ≡ false → comes_after over held cut x ≡ false
-  later_still x early = grind (arith, comes_after over held cut x, comes_after over (held ++ entries) cut x, comes_after_among_more over held (held ++ entries) (in_left held entries) cut x, in_left held entries)
+  later_still x early = grind (arith, comes_after_among_more over held (held ++ entries) (in_left held entries) cut x)
 
   all_differ : HaveDifferentIds (map entry_of (levels over (held ++ entries) cut))
-  all_differ = grind (arith, comes_after, different_by_count, count_within, later_still, count_levels, count_append, count_and)
+  all_differ = grind (arith, different_by_count, count_within, later_still, count_levels, count_append)
 
   -- the merge law: those of the levels stand for all that are held
   pub merge : levels over (map entry_of (levels over held cut) ++ entries) cut ≡ levels over (held ++ entries) cut
@@ -159,7 +159,7 @@ module _ (over : Entry → Entry → Bool) (strict : IsStrictOrder over) (cut : 
   -- those of them that are kept
   module _ (kept : List Entry) (within : (x : Entry) → Among x kept → Among x entries) (covers : (x : Entry) → Among x entries → Among x kept ⊎ (comes_after over held cut x ≡ true)) (fewer : (p : Entry → Bool) → count_by p kept ≤ count_by p entries) where
     kept_holds : HoldsLevels over (held ++ kept) (held ++ entries) cut
-    kept_holds = grind (arith, in_either held kept, in_left held entries, in_right held entries, in_either held entries, in_left held kept, in_right held kept, comes_after over held cut, later_still)
+    kept_holds = grind (arith, in_either held kept, in_left held entries, in_right held entries, in_either held entries, in_left held kept, in_right held kept, later_still)
 
     no_more : (p : Entry → Bool) → count_by p (held ++ kept) ≤ count_by p (held ++ entries)
     no_more p = omega (arith, fewer p, count_append p held kept, count_append p held entries)
@@ -176,7 +176,7 @@ module _ (order : ChainOrder) (sorted recent entries : List Entry) (different : 
   covers x m = elim (upper.covers x m) [ inl stays ↦ inl stays | inr below ↦ inr (comes_after_among_more (own_order order) sorted (sorted ++ recent) (in_left sorted recent) order.cut x below) ]
 
   pub upper_differ : HaveDifferentIds (map entry_of (own_levels order (sorted ++ (recent ++ kept))))
-  upper_differ = grind (arith, append_assoc sorted recent kept, kept_differ (own_order order) (own_is_strict order) order.cut (sorted ++ recent) entries different kept upper.within covers upper.counts, own_is_strict order)
+  upper_differ = grind (arith, append_assoc sorted recent kept, kept_differ (own_order order) (own_is_strict order) order.cut (sorted ++ recent) entries different kept upper.within covers upper.counts)
 
   pub upper_levels : (before : List Entry) → own_levels order (sorted ++ recent) ≡ own_levels order before → own_levels order (sorted ++ (recent ++ kept)) ≡ own_levels order (before ++ entries)
   upper_levels before is =

@@ -1,5 +1,5 @@
 -- Chains, and stairs: in the order of the first chain one entry stands for all before it.
-use Rattle.pref_sky.proofs.Common.{◌≡◌, Bool, true, false, not, ◌||◌, inl, inr, List, [], ◌∷◌, ◌++◌, refl, sym, ◌∙◌, ap, subst, filter, arith, IsStrictOrder}
+use Rattle.pref_sky.proofs.Common.{◌≡◌, Bool, true, false, not, inl, inr, List, [], ◌∷◌, ◌++◌, refl, sym, ◌∙◌, ap, filter, arith, IsStrictOrder}
 use Rattle.pref_sky.proofs.Common.{IsAntichain, best, is_beaten, IsChain, AreStairs, IsLine, IsInOrder, are_level, comes_first, in_turn, HasOneCandidate, IsSwept, ServesGroups, Among}
 use Rattle.std.proofs.lemmas.List.Folds.{list_any-append}
 use Rattle.pref_sky.proofs.ListLaws.{any_from, any_gives, any_none, from_filter, in_left, in_right, in_either, in_order_across, in_order_back, in_order_front}
@@ -9,21 +9,14 @@ use Rattle.pref_sky.proofs.Merges.{beaten_by_best}
 pub chain_in_turn : {E : Type 0} (f g : E → E → Bool) → IsChain f → IsChain g → IsChain (in_turn f g)
 chain_in_turn f g first second = grind (arith)
 
--- and its converse
-pub converse_chain : {E : Type 0} (f : E → E → Bool) → IsChain f → IsChain (λ a b. f b a)
-converse_chain f chain = grind (arith)
-
 -- two that are level compare alike with a third
 pub level_above : {E : Type 0} (f : E → E → Bool) → IsChain f → (a b c : E) → are_level f a b ≡ true → f c a ≡ f c b
 level_above f chain a b c level = grind (arith, level, chain.between c a b, chain.between c b a)
 
-pub level_below : {E : Type 0} (f : E → E → Bool) → IsChain f → (a b c : E) → are_level f a b ≡ true → f a c ≡ f b c
-level_below f chain a b c level = grind (arith, level, chain.between a b c, chain.between b a c)
-
 -- what passes a filter stays in order
 pub filter_in_order : {E : Type 0} (before : E → E → Bool) (p : E → Bool) (xs : List E) → IsInOrder before xs → IsInOrder before (filter p xs)
 filter_in_order before p [] h = h
-filter_in_order before p (e ∷ others) h = grind (arith, filter_in_order before p others h.1, others, h.0, from_filter p others)
+filter_in_order before p (e ∷ others) h = grind (arith, filter_in_order before p others h.1, from_filter p others)
 
 in_weaker_order : {E : Type 0} (before weaker : E → E → Bool) → ((a b : E) → before a b ≡ true → weaker a b ≡ true) → (xs : List E) → IsInOrder before xs → IsInOrder weaker xs
 in_weaker_order before weaker then [] h = h
@@ -48,11 +41,11 @@ module _ {E : Type 0} (over f s t : E → E → Bool) (stairs : AreStairs over f
 
   -- a stands for b, which is before it, where neither of the two dominates the other
   pub stands_for : (a b c : E) → f a b ≡ false → f c a ≡ false → over a b ≡ false → over b a ≡ false → over b c ≡ true → over a c ≡ true
-  stands_for a b c ab ca n m bc = grind (arith, stairs.is, stairs.first_is_chain.between, stairs.second_is_chain.between, stairs.second_is_chain.strict.transitive b c a, stairs.tie_is_chain.between b a c)
+  stands_for a b c ab ca n m bc = grind (arith)
 
   -- and is alike to what b is alike to
   alike_for : (a b c : E) → f a b ≡ false → f c a ≡ false → over a b ≡ false → over b a ≡ false → are_level (comes_first f s t) b c ≡ true → are_level (comes_first f s t) a c ≡ true
-  alike_for a b c ab ca n m bc = grind (arith, stairs.first_is_chain.between, stairs.second_is_chain.between, stairs.tie_is_chain.between, stairs.is a b, stairs.is b a)
+  alike_for a b c ab ca n m bc = grind (arith)
 
   -- what does not come first does not dominate
   pub later : (a b : E) → comes_first f s t b a ≡ false → over b a ≡ false
@@ -89,7 +82,7 @@ module _ {E : Type 0} (over f s t : E → E → Bool) (stairs : AreStairs over f
 
   -- of entries in order only those before one dominate it
   beaten_by_those_before : (front : List E) (x : E) (back : List E) → IsInOrder (comes_no_earlier f s t) (front ++ x ∷ back) → is_beaten over (front ++ x ∷ back) x ≡ is_beaten over front x
-  beaten_by_those_before front x back ordered = grind (arith, in_order_back (comes_no_earlier f s t) front (x ∷ back) ordered, any_none, later x, list_any-append, strict_stairs.irreflexive x)
+  beaten_by_those_before front x back ordered = grind (arith, in_order_back (comes_no_earlier f s t) front (x ∷ back) ordered, any_none, list_any-append)
 
   -- so the last best one of those before x dominates it, or none of all does
   last_best_stands_for_all : (front : List E) (x : E) (back : List E) → IsInOrder (comes_no_earlier f s t) (front ++ x ∷ back)
@@ -97,7 +90,7 @@ module _ {E : Type 0} (over f s t : E → E → Bool) (stairs : AreStairs over f
   last_best_stands_for_all front x back ordered stayed y is =
       let comes = comes_no_earlier f s t in
       let level = best_are_a_level over f s t front (in_order_front comes front (x ∷ back) ordered) in
-      grind (arith, in_right stayed (y ∷ []) y (inl refl), in_order_across comes front (x ∷ back) ordered y x, from_filter, beaten_by_those_before front x back ordered, beaten_by_best over strict_stairs front x, strict_stairs, one_candidate.candidate stayed y)
+      grind (arith, in_right stayed (y ∷ []) y (inl refl), in_order_across comes front (x ∷ back) ordered y x, from_filter, beaten_by_those_before front x back ordered, beaten_by_best over strict_stairs front x, one_candidate.candidate stayed y)
 
 pub swept : {E : Type 0} (over f s t : E → E → Bool) → IsSwept over f s t
 swept over f s t =

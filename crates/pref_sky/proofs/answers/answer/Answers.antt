@@ -1,5 +1,5 @@
 use Rattle.pref_sky.proofs.Common.{◌≡◌, ℕ, eqb-true, nil_from_length, List, [], length, sym, ◌∙◌, ap, subst, IfOk-weaker, IsNonDecreasingBy, order_of, order_of_is_row_order, in_same_group, AtLeast, arith}
-use Rattle.pref_sky.proofs.Common.{Question, cut_of, Entry, Ranked, at_least, answer_of, selected, entry_order, levels}
+use Rattle.pref_sky.proofs.Common.{Question, cut_of, Entry, Ranked, at_least, answer_of, entry_order, levels}
 use Rattle.pref_sky.proofs.AtLeastLaws.{enough, levels_sorted}
 use Rattle.pref_sky.proofs.Merges.{entry_order_is_strict, entry_order_stays_in_groups}
 use Rattle.pref_sky.proofs.answers.answer.Goals as goal
@@ -10,7 +10,7 @@ selected_from : (ask : Question) (k : ℕ) (found : List Ranked) (entries : List
 selected_from ask k found entries mode held =
     let over = entry_order (order_of ask) in
     let same = in_same_group ask.group in
-    grind (arith, enough over (entry_order_is_strict (order_of ask) (order_of_is_row_order ask)) same (entry_order_stays_in_groups ask) entries k, entry_order_is_strict (order_of ask) (order_of_is_row_order ask), entry_order_stays_in_groups ask)
+    grind (arith, enough over (entry_order_is_strict (order_of ask) (order_of_is_row_order ask)) same (entry_order_stays_in_groups ask) entries k)
 
 in_order : (ask : Question) (found : List Ranked) (entries : List Entry) → found ≡ levels (entry_order (order_of ask)) entries (cut_of ask.mode) → IsNonDecreasingBy (λ (r : Ranked). r.level) found
 in_order ask found entries held = subst (IsNonDecreasingBy (λ (r : Ranked). r.level)) (sym held) (levels_sorted (entry_order (order_of ask)) entries (cut_of ask.mode))

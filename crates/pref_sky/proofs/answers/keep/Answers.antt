@@ -1,4 +1,4 @@
-use Rattle.pref_sky.proofs.Common.{◌≡◌, ◌≤◌, ◌<◌, Bool, false, map, length, get_or, sym, ◌∙◌, ap, arith, length-set, get_or-map, get_or_default, [], Ranked, FiltersInPlace-more_no}
+use Rattle.pref_sky.proofs.Common.{◌≡◌, ◌≤◌, ◌<◌, Bool, false, map, length, get_or, ◌∙◌, arith, length-set, get_or-map, get_or_default, [], Ranked, FiltersInPlace-more_no}
 use Rattle.pref_sky.proofs.Common.{FiltersInPlace-more_set}
 use Rattle.pref_sky.proofs.ListLaws.{same_there}
 use Rattle.pref_sky.proofs.answers.keep.Goals.{then-chosen-place, else-chosen-place}
@@ -13,7 +13,7 @@ loop-place-preserved c =
     let inv = c.loop-place.invariant in
     let few : c.min-place-end.result ≤ c.len.result = grind arith in
     let inside : place < length ys = omega (arith, c.loop-place-test.true, few, c.len.ensures, c.args.ranked.now.ok.0, inv.long) in
-    let decided : (test : Ranked → Bool) (x : Ranked) → flags ≡ map test xs → x ≡ get_or ys place x → test x ≡ get_or flags place false = grind (arith, same_there xs ys place, inv.moved, get_or-map, inv.long) in
+    let decided : (test : Ranked → Bool) (x : Ranked) → flags ≡ map test xs → x ≡ get_or ys place x → test x ≡ get_or flags place false = grind (arith, same_there xs ys place, get_or-map) in
     elim c.if-chosen-place.branch [
       | then-chosen-place w ↦
           let x : Ranked = w.index.result.now in

@@ -1,5 +1,5 @@
-use Rattle.pref_sky.proofs.Common.{rules, ◌≡◌, ◌<◌, ◌-◌, suc, [], leb, true, false, List, length, sym, ◌∙◌, ap, subst, arith, IsNonDecreasingBy, IsPartitionPoint, IsPartitionPoint-from_clause}
-use Rattle.pref_sky.proofs.Common.{IsPartitionedBy-leb, in_same_group, Ranked, at_least}
+use Rattle.pref_sky.proofs.Common.{rules, ◌≡◌, ◌-◌, leb, sym, subst, arith, IsNonDecreasingBy, IsPartitionPoint-from_clause}
+use Rattle.pref_sky.proofs.Common.{IsPartitionedBy-leb, Ranked}
 use Rattle.pref_sky.proofs.AtLeastLaws.{all_ranked, first_ranked, none_ranked}
 use Rattle.pref_sky.proofs.answers.keep_first_levels.Goals as goal
 
@@ -7,7 +7,7 @@ pub returns-then-least-eq0 : goal.returns-then-least-eq0
 returns-then-least-eq0 c sorted = grind (arith, none_ranked)
 
 pub returns-else-least-len : goal.returns-else-least-len
-returns-else-least-len c sorted = grind (arith, all_ranked c.args.least c.args.ranked.now.items, c.if-least-len.false, c.len.ensures, c.args.ranked.now.ok.0)
+returns-else-least-len c sorted = grind (arith, all_ranked c.args.least c.args.ranked.now.items)
 
 pub returns-then-least-len : goal.returns-then-least-len
 returns-then-least-len c sorted =
@@ -19,4 +19,4 @@ returns-then-least-len c sorted =
     let entry = c.index.result.now in
     let slice_sorted : IsNonDecreasingBy (λ (r : Ranked). r.level) slice = subst (IsNonDecreasingBy (λ (r : Ranked). r.level)) (sym whole) sorted in
     let found = IsPartitionPoint-from_clause (λ (r : Ranked). leb r.level entry.level) slice count c.partition_point-count.ensures.partitioned (IsPartitionedBy-leb (λ (r : Ranked). r.level) slice entry.level slice_sorted) (λ a r q k. search rules) in
-    grind (arith, c.if-least-eq0.false, c.if-least-len.true, c.len.ensures, c.args.ranked.now.ok.0, first_ranked xs sorted place count entry)
+    grind (arith, first_ranked xs sorted place count entry)

@@ -1,4 +1,4 @@
-use Rattle.pref_sky.proofs.Common.{◌≡◌, ◌+◌, ◌-◌, ◌/◌, ℕ, true, length, subst, arith, is_beaten, entries_at, entry_order}
+use Rattle.pref_sky.proofs.Common.{arith, entry_order}
 use Rattle.pref_sky.proofs.PoolLaws.{behind_level}
 use Rattle.pref_sky.proofs.arrival.start_of.Goals as goal
 
@@ -10,4 +10,4 @@ returns-then-dominates-clause-behind g c =
 pub halves-preserved-then-dominates-2 : goal.halves-preserved-then-dominates-2
 halves-preserved-then-dominates-2 g c =
     let over = entry_order (g.D.Dominance.order c.args.dominance.now) in
-    grind (arith, c.halves.low, c.halves.high, c.halves.invariant.inside, behind_level over c.args.pool.now.entries.items)
+    grind (arith, behind_level over c.args.pool.now.entries.items)

@@ -1,5 +1,5 @@
-use Rattle.pref_sky.proofs.Common.{rules, ◌≡◌, ◌==◌, ◌++◌, [], ◌∷◌, get_or, take, take_all, sym, ◌∙◌, ap, subst, arith, get_or_default, map-append, take_more, IsNonDecreasingBy-from_sort_by_key}
-use Rattle.pref_sky.proofs.Common.{Entry, Item, best, AreItems, entries_at, entry_at, HaveDifferentIds, entry_order, Parted, signature_by}
+use Rattle.pref_sky.proofs.Common.{rules, ◌≡◌, ◌==◌, [], take_all, sym, ◌∙◌, ap, subst, arith, get_or_default, map-append, take_more, IsNonDecreasingBy-from_sort_by_key}
+use Rattle.pref_sky.proofs.Common.{Entry, Item, best, AreItems, entries_at, HaveDifferentIds, entry_order, Parted, signature_by}
 use Rattle.pref_sky.proofs.Merges.{different_best}
 use Rattle.pref_sky.proofs.IdOrder.{same_in_order, sorted_is}
 use Rattle.pref_sky.proofs.ItemsLaws.{best_are, entries_parted, parted_items, suit_tells}
@@ -12,7 +12,7 @@ best_are_items : (g : Over) (c : After-deref-item-items g) → AreItems (signatu
 best_are_items g c =
     let entries = c.args.entries.now in
     let rule = signature_by c.in_ok-scales.scales in
-    grind (arith, c.in_ok-items.ensures {u = tt}, parted_items (g.D.Dominance.order c.args.dominance.now) rule entries, g.D.Dominance.order c.args.dominance.now, c.in_ok-found.ensures {u = tt})
+    grind (arith, parted_items (g.D.Dominance.order c.args.dominance.now) rule entries)
 
 pub bounds-entries-item : goal.bounds-entries-item
 bounds-entries-item g c = (best_are_items g (goal.at.bounds-entries-item g c).After-deref-item-items c.loop-item.item-index (record { signature = 0; place = 0 }) c.loop-item-test.true).within
@@ -29,7 +29,7 @@ loop-item-preserved g c =
     let i = c.loop-item.item-index in
     let d : Item = record { signature = 0; place = 0 } in
     let inside = (best_are_items g (goal.at.loop-item-preserved g c).After-deref-item-items i d c.loop-item-test.true).within in
-    grind (arith, c.index-entries-item.is, get_or_default entries, c.in_ok-push.ensures {u = tt}, take_more top i d c.loop-item-test.true, map-append)
+    grind (arith, get_or_default entries, take_more top i d c.loop-item-test.true, map-append)
 
 pub returns-clause-best : goal.returns-clause-best
 returns-clause-best g c =
@@ -48,7 +48,7 @@ returns-clause-best g c =
     subst (λ l. Parted over [] l (entries_at all top) (entries_at all others)) whole
     (entries_parted order rule all [] items top others (suit_tells order scales (c.in_ok-scales.ensures {u = tt})) are (c.in_ok-found.ensures {u = tt}).parted) in
     let found = c.loop-item.best.items in
-    let copied : found ≡ entries_at all top = grind (arith, c.loop-item.invariant, take_all c.loop-item.item-index c.deref-item-items.result.now c.loop-item-test.false, c.deref-item-items.ensures.value) in
+    let copied : found ≡ entries_at all top = grind (arith, take_all c.loop-item.item-index c.deref-item-items.result.now c.loop-item-test.false) in
     let decided : Parted over [] all found (entries_at all others) = subst (λ l. Parted over [] all l (entries_at all others)) (sym copied) parted in
     let differ : HaveDifferentIds found = record { once = λ id. omega (arith, decided.bag (λ (e : Entry). e.id == id), c.requires.ids.once id) } in
     let sorted = IsNonDecreasingBy-from_sort_by_key (λ (e : Entry). e.id) _ c.sort_unstable_by_key.ensures.sorted (λ a r q k. search rules) in

@@ -1,4 +1,4 @@
-use Rattle.pref_sky.proofs.Common.{◌≡◌, ◌∙◌, ◌+◌, ◌++◌, ◌∷◌, [], sym, ap, subst, take, add-one, get_or_read, own_order, entry_at, StandsBehind, with_levels, at_level, arith}
+use Rattle.pref_sky.proofs.Common.{◌≡◌, ◌∙◌, ◌+◌, ◌++◌, ◌∷◌, [], sym, ap, subst, take, add-one, get_or_read, own_order, entry_at, StandsBehind, with_levels, at_level}
 use Rattle.pref_sky.proofs.ChainStairs.{own_are_stairs, stands_behind}
 use Rattle.pref_sky.proofs.LayersLaws.{lasts_more, lasts_stay, next_chain, listed_as_it_was, listed_more}
 use Rattle.pref_sky.proofs.layers.with_levels.Goals.{then-above-order+in_ok-note_last+in_ok-push, else-above-order}
@@ -23,7 +23,10 @@ loop-place-preserved c =
     elim c.if-above-order.branch [
       | then-above-order+in_ok-note_last+in_ok-push w ↦ rw (w.last-is, w.found-is) (record {
         lasts = rw (w.in_ok-note_last.ensures {u = tt}) (lasts_more over _ _ _ stairs order.cut all ordered i last inv.lasts inside n stands w.if-above-order.true);
-        found = grind (arith, w.in_ok-push.ensures {u = tt}, listed_more over all order.cut i n inside chain w.if-above-order.true);
+        found = (w.in_ok-push.ensures {u = tt}).items
+            ∙ (ap (λ l. l ++ at_level (n + 1) e ∷ []) inv.found
+            ∙ (ap (λ x. with_levels over all order.cut (take i all) ++ at_level (n + 1) x ∷ []) here
+            ∙ (ap (λ k. with_levels over all order.cut (take i all) ++ at_level k (entry_at all i) ∷ []) (add-one n) ∙ sym (listed_more over all order.cut i n inside chain w.if-above-order.true))));
       })
       | else-above-order w ↦ rw (w.last-is, w.found-is) (record {
         lasts = lasts_stay over _ _ _ stairs order.cut all ordered i last inv.lasts inside n stands w.if-above-order.false;

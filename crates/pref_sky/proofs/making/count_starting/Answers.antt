@@ -1,4 +1,4 @@
-use Rattle.pref_sky.proofs.Common.{Arrival, arith}
+use Rattle.pref_sky.proofs.Common.{Arrival}
 use Rattle.pref_sky.proofs.ListLaws.{later_behind}
 use Rattle.pref_sky.proofs.making.count_starting.Goals as goal
 

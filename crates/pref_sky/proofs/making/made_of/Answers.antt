@@ -1,7 +1,7 @@
-use Rattle.pref_sky.proofs.Common.{◌≡◌, ◌≤◌, ◌<◌, ◌⊎◌, inl, inr, map, get_or, length, vec_len, sym, ◌∙◌, ap, subst, arith, both_ways, eqb-true, Arrival, item_order, items_at, Parted, signature_by}
+use Rattle.pref_sky.proofs.Common.{◌≡◌, ◌≤◌, ◌<◌, ◌⊎◌, map, get_or, length, ◌∙◌, ap, arith, Arrival, item_order, items_at, Parted, signature_by}
 use Rattle.pref_sky.proofs.Common.{◌++◌}
 use Rattle.pref_sky.proofs.Merges.{entry_order_is_strict}
-use Rattle.pref_sky.proofs.MadeLevels.{MakingItems, making_items_begin, making_items_end, making_items_more}
+use Rattle.pref_sky.proofs.MadeLevels.{making_items_begin, making_items_end, making_items_more}
 use Rattle.pref_sky.proofs.making.made_of.Goals.{then-each_level-test+else-not-is_empty, then-is_empty, else-is_empty, else-each_level-test}
 use Rattle.pref_sky.proofs.making.made_of.Goals as goal
 
@@ -19,7 +19,7 @@ each_level-init g c =
     let long : length made.items ≡ (get_or arrivals 0 none).start = c.in_ok-made.ensures.long in
     let begun = making_items_begin order (entry_order_is_strict order (g.met.D.Dominance.laws c.args.dominance.now)) scales pool c.args.cut levels arrivals none c.requires.start c.requires.in_order c.requires.some
     made.items long (c.in_ok-made.ensures.items (signature_by scales) pool) in
-    grind (arith, made.ok.0, begun.inside)
+    grind (arith)
 
 pub each_level-preserved : goal.each_level-preserved
 each_level-preserved g c =
@@ -51,5 +51,5 @@ returns-clause-made g c =
     let down = c.each_level.down in
     let rest = c.each_level.rest.now in
     let inv = c.each_level.invariant in
-    let ended : (c.args.cut ≤ length made.items) ⊎ ((length down.items ≡ 0) × (length rest ≡ 0)) = grind (arith, eqb-true (vec_len down) 0, eqb-true (length rest) 0, down.ok.0, c.len.ensures, made.ok.0) in
-    grind (arith, making_items_end (entry_order_is_strict order (g.met.D.Dominance.laws c.args.dominance.now)) inv.so_far ended, entry_order_is_strict order (g.met.D.Dominance.laws c.args.dominance.now))
+    let ended : (c.args.cut ≤ length made.items) ⊎ ((length down.items ≡ 0) × (length rest ≡ 0)) = grind (arith) in
+    grind (arith, making_items_end (entry_order_is_strict order (g.met.D.Dominance.laws c.args.dominance.now)) inv.so_far ended)

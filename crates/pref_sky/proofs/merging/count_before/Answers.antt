@@ -1,4 +1,4 @@
-use Rattle.pref_sky.proofs.Common.{rules, ◌≡◌, true, false, IsPartitionPoint, IsPartitionPoint-from_clause, comes_before, Entry, arith}
+use Rattle.pref_sky.proofs.Common.{rules, ◌≡◌, true, false, IsPartitionPoint, IsPartitionPoint-from_clause, comes_before, Entry}
 use Rattle.pref_sky.proofs.ChainStairs.{before_is_chain}
 use Rattle.pref_sky.proofs.ListLaws.{fails_behind, passes_before, parted_by_entry}
 use Rattle.pref_sky.proofs.merging.count_before.Goals as goal

@@ -1,4 +1,4 @@
-use Rattle.pref_sky.proofs.Common.{◌≡◌, ◌∙◌, ◌++◌, ◌+◌, [], ◌∷◌, true, false, not, take, drop, sym, ap, subst, append_assoc, take-append-drop, IsPermutation, drop_more, Entry, AreInOrder, arith}
+use Rattle.pref_sky.proofs.Common.{◌≡◌, ◌∙◌, ◌++◌, ◌+◌, [], ◌∷◌, true, false, not, take, drop, sym, ap, subst, append_assoc, take-append-drop, drop_more, Entry, AreInOrder, arith}
 use Rattle.pref_sky.proofs.Common.{comes_before, Among}
 use Rattle.pref_sky.proofs.ChainStairs.{before_is_chain}
 use Rattle.pref_sky.proofs.ListLaws.{front_more, below_later, in_order_back, merged_more, moved_more}

@@ -1,4 +1,4 @@
-use Rattle.pref_sky.proofs.Common.{◌++◌, subst, IsPermutation, IsPermutation-append_right, IsPermutation-trans, IfOk-weaker, arith}
+use Rattle.pref_sky.proofs.Common.{◌++◌, subst, IsPermutation, IsPermutation-append_right, IsPermutation-trans, IfOk-weaker}
 use Rattle.pref_sky.proofs.merging.merge_all.Goals as goal
 
 pub returns : goal.returns

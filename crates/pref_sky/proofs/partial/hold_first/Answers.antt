@@ -1,4 +1,4 @@
-use Rattle.pref_sky.proofs.Common.{◌≡◌, ◌++◌, sym, ◌∙◌, ap, subst, IfSome, IsProductOf, ChainOrder, own_levels, arith}
+use Rattle.pref_sky.proofs.Common.{arith}
 use Rattle.pref_sky.proofs.SortedLevels.{says_its_levels}
 use Rattle.pref_sky.proofs.partial.hold_first.Goals as goal
 
@@ -7,4 +7,4 @@ pub returns-in-Some-clause-levels : goal.returns-in-Some-clause-levels
 returns-in-Some-clause-levels g c =
     let row_order = g.D.Dominance.order c.args.dominance.now in
     let order = c.in-Some.order in
-    grind (arith, c.in_ok-sorted.ensures {u = tt}, c.in_ok-order.ensures {u = tt}, says_its_levels row_order order c.args.cut)
+    grind (arith, says_its_levels row_order order c.args.cut)

@@ -1,4 +1,4 @@
-use Rattle.pref_sky.proofs.Common.{[], ◌∙◌, IfOk-weaker, entry_order, arith}
+use Rattle.pref_sky.proofs.Common.{[], ◌∙◌, IfOk-weaker, entry_order}
 use Rattle.pref_sky.proofs.partial.levels.Goals as goal
 
 -- what was empty holds the levels of what was added

@@ -18,4 +18,4 @@ pub returns-else-arrivals-count-clause-coming : goal.returns-else-arrivals-count
 returns-else-arrivals-count-clause-coming c = coming_in_front c.args.partition c.args.arrivals.now c.front.count c.front.invariant.here (returns-else-arrivals-count-clause-behind c)
 
 pub returns-after-front-clause-coming : goal.returns-after-front-clause-coming
-returns-after-front-clause-coming c = grind (arith, coming_in_front c.args.partition c.args.arrivals.now c.front.count c.front.invariant.here, length-drop c.front.count c.args.arrivals.now, c.front-test.false)
+returns-after-front-clause-coming c = grind (arith, coming_in_front c.args.partition c.args.arrivals.now c.front.count c.front.invariant.here, length-drop c.front.count c.args.arrivals.now)

@@ -1,4 +1,4 @@
-use Rattle.pref_sky.proofs.Common.{◌≡◌, ◌∙◌, ◌+◌, ◌++◌, suc, List, Vec, Global, drop, map, sym, ap, subst, append_assoc, add-one, at_drop_more, map-append, Item, AreAllItems, AreItems, IsItem, arith}
+use Rattle.pref_sky.proofs.Common.{◌≡◌, ◌∙◌, ◌+◌, ◌++◌, suc, List, Vec, Global, drop, map, sym, ap, append_assoc, add-one, at_drop_more, map-append, Item, IsItem, arith}
 use Rattle.pref_sky.proofs.Common.{entries_at, levels_at, partitions_at, at_level, held_at, all_at}
 use Rattle.pref_sky.proofs.PoolLaws.{all_held, entries_held}
 use Rattle.pref_sky.proofs.partitions.push_partitions.Goals as goal
@@ -8,7 +8,7 @@ push_items-requires c =
     let rule = c.requires.items.0 in
     let pool = c.args.pool.now in
     let partition : Vec (Vec Item Global) Global = c.levels-item.result in
-    grind (arith, c.requires.items.1 c.loop-levels.levels-index partition c.loop-levels-test.true, all_held (IsItem rule pool) c.deref.result.now)
+    grind (arith, all_held (IsItem rule pool) c.deref.result.now)
 
 pub loop-levels-preserved : goal.loop-levels-preserved
 loop-levels-preserved c =

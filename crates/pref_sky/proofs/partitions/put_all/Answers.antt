@@ -1,4 +1,3 @@
-use Rattle.pref_sky.proofs.Common.{arith}
 use Rattle.pref_sky.proofs.PartitionSteps.{next_fits, put_more, whole_still}
 use Rattle.pref_sky.proofs.partitions.put_all.Goals as goal
 

@@ -1,4 +1,4 @@
-use Rattle.pref_sky.proofs.Common.{◌≡◌, ◌∙◌, ◌<◌, [], ◌++◌, length, sym, ap, subst, arith, length-append, vec_len, eqb-true, eqb-false, item_order, Parted, Passes}
+use Rattle.pref_sky.proofs.Common.{◌≡◌, ◌∙◌, ◌<◌, [], ◌++◌, length, sym, subst, arith, length-append, vec_len, eqb-true, eqb-false, item_order, Passes}
 use Rattle.pref_sky.proofs.ItemsLaws.{item_order_is_strict}
 use Rattle.pref_sky.proofs.Merges.{entry_order_is_strict}
 use Rattle.pref_sky.proofs.PassesLaws.{more_settled, parted_held, pass_ends, pass_long, passes_begin, passes_end, passing_same}
@@ -8,7 +8,7 @@ use Rattle.pref_sky.proofs.passes.best_and_rest.Goals as goal
 pub returns-then-is_empty-clause-parted : goal.returns-then-is_empty-clause-parted
 returns-then-is_empty-clause-parted g c =
     let over = item_order (g.D.Dominance.order c.args.dominance.now) c.args.pool.now in
-    grind (arith, parted_held over, eqb-true, c.if-is_empty.true)
+    grind (arith, parted_held over, eqb-true)
 
 pub each_pass-init : goal.each_pass-init
 each_pass-init g c =
@@ -16,7 +16,7 @@ each_pass-init g c =
     let items = c.args.items.now in
     let over = item_order (g.D.Dominance.order c.args.dominance.now) c.args.pool.now in
     let room = c.saturating_add-room.result in
-    grind (arith, c.in_ok-with_room.field-0, c.saturating_add-room.ensures, c.requires, eqb-false (length items) 0 (sym c.is_empty.ensures ∙ c.if-is_empty.false), c.if-is_empty.false, passing_same, passes_begin over held room items, length-append held items)
+    grind (arith, passes_begin over held room items, length-append held items)
 
 pub each_pass-preserved : goal.each_pass-preserved
 each_pass-preserved g c =
@@ -33,7 +33,7 @@ each_pass-preserved g c =
     let more = more_settled passed (omega (arith, inv.unsettled, some)) in
     let s = c.in_ok-input-2.ensures in
     let next = passing_same (pass_ends passed (omega (arith, c.saturating_add-room.ensures, c.requires))) s.best s.next s.early s.late s.overflow s.rest in
-    grind (arith, passed.fresh, length-append best end.early.items, inv.count, pass_long next)
+    grind (arith, length-append best end.early.items, pass_long next)
 
 pub each_pass-smaller : goal.each_pass-smaller
 each_pass-smaller g c =
@@ -45,7 +45,7 @@ each_pass-smaller g c =
     let end = c.offer_all.new.pass in
     let passed : Passes over held c.saturating_add-room.result all best [] inv.before end = c.in_ok-offer_all.ensures {u = tt} held all best inv.before (subst (λ l. Passes over held c.saturating_add-room.result all best l inv.before c.each_pass.pass) (sym c.deref.ensures.value) inv.passed) in
     let some : 0 < length c.each_pass.input.items = omega (arith, eqb-false (vec_len c.each_pass.input) 0 (sym c.is_empty-in-each_pass.ensures ∙ c.each_pass-test.true), c.each_pass.input.ok.0) in
-    grind (arith, c.in_ok-input-2.ensures, more_settled passed, inv.unsettled, inv.settled, length-append best end.early.items, pass_long passed)
+    grind (arith, more_settled passed, length-append best end.early.items)
 
 pub returns-clause-parted : goal.returns-clause-parted
 returns-clause-parted g c =

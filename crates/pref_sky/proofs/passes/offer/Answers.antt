@@ -1,4 +1,4 @@
-use Rattle.pref_sky.proofs.Common.{sym, subst, inl, inr, IsAntichain, item_order, IsClear, IsMet, Passing, arith}
+use Rattle.pref_sky.proofs.Common.{sym, subst, inl, inr, IsAntichain, item_order, IsClear, IsMet, Passing}
 use Rattle.pref_sky.proofs.Merges.{entry_order_is_strict}
 use Rattle.pref_sky.proofs.ItemsLaws.{item_order_is_strict}
 use Rattle.pref_sky.proofs.PassesLaws.{early_apart, late_apart, pass_dropped, pass_sifted, sifted_none}
@@ -25,6 +25,10 @@ pub returns : goal.returns
 returns g c held input best left before p =
     let order = g.D.Dominance.order c.args.dominance.now in
     let over = item_order order c.args.pool.now in
-    let clear : IsAntichain over held → IsClear over c.sift.new.held.items c.args.item × IsClear over c.sift-2.new.held.items c.args.item = grind (arith, c.in_ok-sift.ensures.1, early_apart p, c.in_ok-sift-2.ensures.1, late_apart p) in
+    let clear : IsAntichain over held → IsClear over c.sift.new.held.items c.args.item × IsClear over c.sift-2.new.held.items c.args.item =
+    λ apart. (
+      subst (IsMet over c.sift.new.held.items c.args.item) c.if-branch.false (c.in_ok-sift.ensures.1 (early_apart p apart)),
+      subst (IsMet over c.sift-2.new.held.items c.args.item) c.if-branch-2.false (c.in_ok-sift-2.ensures.1 (late_apart p apart)),
+    ) in
     c.in_ok-take_in.ensures {u = tt} over (item_order_is_strict order c.args.pool.now (entry_order_is_strict order (g.met.D.Dominance.laws c.args.dominance.now))) held input best left before clear
     (pass_sifted p c.in_ok-sift.ensures.0 c.in_ok-sift-2.ensures.0)

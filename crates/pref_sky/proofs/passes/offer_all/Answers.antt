@@ -1,4 +1,4 @@
-use Rattle.pref_sky.proofs.Common.{◌≡◌, ◌∙◌, ◌+◌, [], ◌∷◌, drop, sym, ap, subst, arith, add-one, drop_of_length-le, get_or, drop-cons, item_order, Passes}
+use Rattle.pref_sky.proofs.Common.{◌≡◌, ◌∙◌, ◌+◌, ◌∷◌, drop, sym, ap, arith, add-one, drop_of_length-le, get_or, drop-cons}
 use Rattle.pref_sky.proofs.passes.offer_all.Goals as goal
 
 pub loop-item-preserved : goal.loop-item-preserved
@@ -10,4 +10,4 @@ loop-item-preserved g c held input best before p =
     grind (arith, c.in_ok-offer.ensures {u = tt} held input best (drop (i + 1) items) before, c.loop-item.invariant held input best before p)
 
 pub returns : goal.returns
-returns g c held input best before p = grind (arith, g.D.Dominance.order c.args.dominance.now, drop_of_length-le c.args.items.now, c.loop-item-test.false, c.loop-item.invariant held input best before p)
+returns g c held input best before p = grind (arith, drop_of_length-le c.args.items.now, c.loop-item.invariant held input best before p)

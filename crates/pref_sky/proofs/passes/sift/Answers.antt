@@ -1,8 +1,8 @@
-use Rattle.pref_sky.proofs.Common.{◌≡◌, ◌∙◌, ◌<◌, ◌/◌, true, length, sym, ap, subst, arith, vec_len, get_or_default, IsPermutation-swap, is_better, is_worse, is_same}
+use Rattle.pref_sky.proofs.Common.{◌≡◌, ◌∙◌, ◌<◌, ◌/◌, true, length, sym, ap, subst, arith, vec_len, get_or_default, IsPermutation-swap, is_better, is_worse}
 use Rattle.pref_sky.proofs.Common.{Item, item_order, Among, Sifted, false}
 use Rattle.std.proofs.lemmas.List.Elements.{AllWithin-more, at_read}
-use Rattle.pref_sky.proofs.ListLaws.{all_among, among_if, is_item, some_of, among_place, any_from, same_if_permuted}
-use Rattle.pref_sky.proofs.PassesLaws.{AreClear, AreDecided, clear_if_alike, clear_after_move, clear_upto, sifted_more, sifted_moved}
+use Rattle.pref_sky.proofs.ListLaws.{all_among, among_if, some_of, among_place, any_from, same_if_permuted}
+use Rattle.pref_sky.proofs.PassesLaws.{AreClear, clear_after_move, sifted_more, sifted_moved}
 use Rattle.pref_sky.proofs.passes.sift.Goals.{in-Worse+in_ok-push-in-Worse, in-Neither}
 use Rattle.pref_sky.proofs.passes.sift.Goals as goal
 
@@ -10,7 +10,7 @@ use Rattle.pref_sky.proofs.passes.sift.Goals as goal
 pub returns-in-Same : goal.returns-in-Same
 returns-in-Same g c =
     let over = item_order (g.D.Dominance.order c.args.dominance.now) c.args.pool.now in
-    grind (arith, c.each.invariant.sifted, c.each-test.true, c.len.ensures, c.each.held.ok.0, among_if, c.each.invariant.sifted.bag, is_item, some_of, clear_if_alike over, among_place, c.compare_items.ensures.stand_alike (ap is_same c.in-Same.is))
+    grind (arith, among_if, some_of, among_place)
 
 -- one of the list dominates the item: it goes to a place further up
 pub returns-in-Better : goal.returns-in-Better
@@ -54,7 +54,7 @@ each-preserved g c =
           rw (w.held-is, w.rest-is, w.place-is) (c.each.invariant.sifted, AllWithin-more IsApart held 0 i c.each.invariant.clear (at_read held IsApart i c.index.result.now inside c.index.ensures apart))
     ] in
     let next = c.next_open-place-in-each.result in
-    grind (arith, c.next_open-place-in-each.ensures.within.1, step.0, clear_upto order pool met.held.items item met.place next step.1)
+    grind (arith)
 
 pub returns : goal.returns
 returns g c =

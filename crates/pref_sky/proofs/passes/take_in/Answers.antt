@@ -1,11 +1,11 @@
-use Rattle.pref_sky.proofs.Common.{refl, sym, ◌∙◌, subst, arith, vec_len, inl, inr, eqb-true, eqb-false, Passing}
+use Rattle.pref_sky.proofs.Common.{refl, sym, ◌∙◌, arith, vec_len, inl, inr, eqb-true, eqb-false}
 use Rattle.pref_sky.proofs.PassesLaws.{pass_joined, pass_overflows}
 use Rattle.pref_sky.proofs.passes.take_in.Goals as goal
 
 -- the window is full
 pub returns-in_ok-push : goal.returns-in_ok-push
 returns-in_ok-push c over strict held input best left before clear p =
-    grind (arith, left, pass_overflows p)
+    grind (arith, pass_overflows p)
 
 -- there is room, and nothing overflowed so far
 pub returns-in_ok-push-2 : goal.returns-in_ok-push-2

@@ -1,5 +1,5 @@
-use Rattle.pref_sky.proofs.Common.{◌≡◌, ◌∙◌, [], get_or, length, ◌<◌, ap, get_or_default, Entry, Item, entry_at, arith}
-use Rattle.pref_sky.proofs.PoolLaws.{entry_behind, entry_grown, item_grown, taken_more}
+use Rattle.pref_sky.proofs.Common.{◌≡◌, ◌∙◌, [], get_or, length, ◌<◌, get_or_default, Entry, Item, entry_at, arith}
+use Rattle.pref_sky.proofs.PoolLaws.{entry_behind, entry_grown, taken_more}
 use Rattle.pref_sky.proofs.pool.take_items.Goals as goal
 
 pub loop-item-preserved : goal.loop-item-preserved
@@ -17,4 +17,4 @@ loop-item-preserved c =
     let at : e ≡ entry_at entries x.place = c.index-entries-item.is ∙ get_or_default entries x.place e (record { id = 0; row = [] }) (c.requires.1 i none inside).within in
     let grown = c.in_ok-item.ensures.grown in
     let put = c.in_ok-item.ensures.item in
-    grind (arith, entry_behind pool.entries.items e next put.2, taken_more c.loop-item.invariant grown, item_grown pool now grown, entry_grown pool now grown, get_or_default items i none x inside)
+    grind (arith, entry_behind pool.entries.items e next put.2, taken_more c.loop-item.invariant grown, entry_grown pool now grown, get_or_default items i none x inside)

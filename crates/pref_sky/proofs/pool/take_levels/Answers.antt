@@ -1,4 +1,4 @@
-use Rattle.pref_sky.proofs.Common.{◌∙◌, ap, entries_at, arith}
+use Rattle.pref_sky.proofs.Common.{arith}
 use Rattle.pref_sky.proofs.PoolLaws.{items_grown, entries_grown, taken_more}
 use Rattle.pref_sky.proofs.pool.take_levels.Goals as goal
 
@@ -8,4 +8,4 @@ loop-level-preserved c =
     let now = c.take_items.new.pool in
     let grown = c.in_ok-items.ensures.grown in
     let taken = c.in_ok-items.ensures.taken in
-    grind (arith, taken_more c.loop-level.invariant grown, items_grown was now grown, entries_grown was now grown, taken.1)
+    grind (arith, taken_more c.loop-level.invariant grown, items_grown was now grown, entries_grown was now grown)

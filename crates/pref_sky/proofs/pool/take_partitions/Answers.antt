@@ -1,4 +1,4 @@
-use Rattle.pref_sky.proofs.Common.{◌∙◌, ap, levels_at, arith}
+use Rattle.pref_sky.proofs.Common.{◌∙◌, ap, levels_at}
 use Rattle.pref_sky.proofs.PoolLaws.{all_items_grown, levels_grown, taken_more}
 use Rattle.pref_sky.proofs.pool.take_partitions.Goals as goal
 

@@ -1,4 +1,3 @@
-use Rattle.pref_sky.proofs.Common.{arith}
 use Rattle.pref_sky.proofs.ChainStairs.{columns_order_groups, keys_are_chain}
 use Rattle.pref_sky.proofs.stairs.chains_are_these.Goals as goal
 

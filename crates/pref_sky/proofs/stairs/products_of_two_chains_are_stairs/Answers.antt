@@ -1,4 +1,3 @@
-use Rattle.pref_sky.proofs.Common.{arith}
 use Rattle.pref_sky.proofs.ChainStairs.{products_are_stairs}
 use Rattle.pref_sky.proofs.stairs.products_of_two_chains_are_stairs.Goals as goal
 

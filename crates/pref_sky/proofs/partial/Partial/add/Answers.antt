@@ -1,5 +1,4 @@
-use Rattle.pref_sky.proofs.Common.{◌++◌, Result, Ok, Err, sym, ◌∙◌, ap, OnOk, ChainOrder, own_levels, entry_order, arith}
-use Rattle.pref_sky.specs.PartialForms.{ranked_held}
+use Rattle.pref_sky.proofs.Common.{Result, Ok, Err, OnOk, arith}
 use Rattle.pref_sky.proofs.LevelLaws.{merge_none}
 use Rattle.pref_sky.proofs.Merges.{entry_order_is_strict}
 use Rattle.pref_sky.proofs.SortedLevels.{says_its_levels}
@@ -11,10 +10,10 @@ if_done (Err e) then done = tt
 
 -- what comes to nothing has the levels of all
 pub returns-in_ok-self-inside-in-Nothing-clause-ok : goal.returns-in_ok-self-inside-in-Nothing-clause-ok
-returns-in_ok-self-inside-in-Nothing-clause-ok g c = grind (arith, g.D.Dominance.order c.args.dominance.now, c.in_ok-self-inside-in-Nothing.ensures.levels, merge_none, entry_order_is_strict, g.met.D.Dominance.laws c.args.dominance.now)
+returns-in_ok-self-inside-in-Nothing-clause-ok g c = grind (arith, merge_none, entry_order_is_strict)
 
 -- the chains say what the order says
 pub returns-then-is_of-clause-ok : goal.returns-then-is_of-clause-ok
 returns-then-is_of-clause-ok g c =
     let new = c.add.new.self in
-    grind (arith, says_its_levels (g.D.Dominance.order c.args.dominance.now) c.in-Sorted.sorted.pruned.order c.args.cut (c.is_of.ensures c.if-is_of.true), g.D.Dominance.order c.args.dominance.now, c.is_of.ensures c.if-is_of.true, new.pruned.entries.items, c.add.ensures.ok)
+    grind (arith, says_its_levels (g.D.Dominance.order c.args.dominance.now) c.in-Sorted.sorted.pruned.order c.args.cut (c.is_of.ensures c.if-is_of.true))

@@ -14,7 +14,7 @@ pub made_of-requires-clause-start : goal.made_of-requires-clause-start
 made_of-requires-clause-start g c =
     let rest = c.each_partition.rest.now in
     let inv = c.each_partition.invariant in
-    grind (arith, eqb-false (length rest) 0 (sym c.is_empty.ensures ∙ c.each_partition-test.true), c.each_partition-test.true, in_here, inv.coming.partition 0 none, front_starts inv)
+    grind (arith, in_here, front_starts inv)
 
 pub made_of-requires-clause-in_order : goal.made_of-requires-clause-in_order
 made_of-requires-clause-in_order g c =

@@ -1,6 +1,5 @@
-use Rattle.pref_sky.proofs.Common.{◌≡◌, ◌∙◌, ◌++◌, suc, length, map, sym, ap, subst, arith, add-one, AreInPool, partitions_at, at_level, all_at, ranked_upto, signature_by}
+use Rattle.pref_sky.proofs.Common.{sym, subst, arith, AreInPool, signature_by}
 use Rattle.pref_sky.proofs.PartitionsLaws.{all_differ}
-use Rattle.pref_sky.proofs.Ranks.{one_level}
 use Rattle.pref_sky.proofs.partitions.Partitions.ranked.Goals as goal
 
 pub push_partitions-requires-clause-items : goal.push_partitions-requires-clause-items
@@ -12,4 +11,4 @@ push_partitions-requires-clause-items c =
 pub loop-place-preserved : goal.loop-place-preserved
 loop-place-preserved c =
     let place = c.loop-place.place in
-    grind (arith, c.in_ok-push_partitions.ensures {u = tt}, c.len-start.ensures, c.loop-place.ranked.ok.0, c.sort_behind.ensures, all_differ, one_level)
+    grind (arith, all_differ)

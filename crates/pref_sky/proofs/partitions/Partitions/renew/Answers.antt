@@ -1,4 +1,4 @@
-use Rattle.pref_sky.proofs.Common.{sym, subst, AreInPool, signature_by, arith}
+use Rattle.pref_sky.proofs.Common.{sym, subst, AreInPool, signature_by}
 use Rattle.pref_sky.proofs.partitions.Partitions.renew.Goals as goal
 
 pub take_partitions-requires : goal.take_partitions-requires

@@ -1,4 +1,4 @@
-use Rattle.pref_sky.proofs.Common.{◌≡◌, ◌∙◌, ◌<◌, [], get_or, get_or_default, length, refl, sym, ap, subst, arith, Item, entry_at, signature_by}
+use Rattle.pref_sky.proofs.Common.{◌≡◌, ◌∙◌, ◌<◌, get_or, get_or_default, length, refl, sym, subst, arith, Item}
 use Rattle.pref_sky.proofs.PoolLaws.{signed_more}
 use Rattle.pref_sky.proofs.pool.Pool.sign.Goals as goal
 
@@ -14,4 +14,4 @@ loop-place-preserved c =
     let was : old ≡ get_or items i old = c.index_mut.ensures.value in
     let within : old.place < length pool = subst (λ (x : Item). x.place < length pool) (sym was) (inv.ready i old inside) in
     let read : c.index-item.result.now ≡ old = c.index-item.ensures ∙ (get_or_default items i c.index-item.result.now old inside ∙ sym was) in
-    grind (arith, c.index.ensures, get_or_default pool old.place c.index.result.now, signed_more inv inside old new was refl within, c.signature_of.type_inv, c.signature_of.ensures)
+    grind (arith, get_or_default pool old.place c.index.result.now, signed_more inv inside old new was refl within)

@@ -1,9 +1,9 @@
-use Rattle.pref_sky.proofs.Common.{◌<◌, ℕ, Vec, Global, length, sym, subst, arith, Entry, Item, AreItems, signature_by}
+use Rattle.pref_sky.proofs.Common.{◌<◌, length, arith, signature_by}
 use Rattle.pref_sky.proofs.PoolLaws.{signed_more}
 use Rattle.pref_sky.proofs.pool.Pool.sign_levels.Goals as goal
 
 pub sign-requires : goal.sign-requires
-sign-requires c = grind (arith, c.loop-place-test.true, c.len-place-end.ensures, c.args.levels.now.ok.0, c.loop-place.invariant.long, c.loop-place.invariant.ready c.loop-place.place c.index_mut.result.now)
+sign-requires c = grind (arith, c.loop-place.invariant.ready c.loop-place.place c.index_mut.result.now)
 
 pub loop-place-preserved : goal.loop-place-preserved
 loop-place-preserved c =

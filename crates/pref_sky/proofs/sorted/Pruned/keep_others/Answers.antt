@@ -1,4 +1,4 @@
-use Rattle.pref_sky.proofs.Common.{◌≡◌, ◌∙◌, ◌+◌, ◌++◌, [], ◌∷◌, true, take, Vec, Global, sym, ap, subst, append_assoc, Entry, is_below, HoldsUpper, arith}
+use Rattle.pref_sky.proofs.Common.{◌≡◌, ◌∙◌, ◌+◌, ◌++◌, [], ◌∷◌, true, take, Vec, Global, sym, ap, subst, append_assoc, Entry, is_below, HoldsUpper}
 use Rattle.pref_sky.proofs.ArrivalsLaws.{drops_one, keeps_one}
 use Rattle.pref_sky.proofs.ListLaws.{front_more}
 use Rattle.pref_sky.proofs.sorted.Pruned.keep_others.Goals.{then-not-dominates+then-dominates, then-not-dominates+else-dominates+in_ok-push, else-not-dominates}

@@ -1,4 +1,4 @@
-use Rattle.pref_sky.proofs.Common.{◌∙◌, ◌++◌, ap, subst, IfOk-weaker, AreSorted, own_order, with_levels, arith}
+use Rattle.pref_sky.proofs.Common.{◌∙◌, ◌++◌, ap, subst, IfOk-weaker, AreSorted, own_order, with_levels}
 use Rattle.pref_sky.proofs.sorted.Pruned.with_levels.Goals as goal
 
 pub returns : goal.returns

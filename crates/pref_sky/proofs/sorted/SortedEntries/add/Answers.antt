@@ -1,4 +1,4 @@
-use Rattle.pref_sky.proofs.Common.{◌≡◌, ◌++◌, length, map, take, sym, ◌∙◌, ap, subst, arith, take-append_seam, ChainOrder, own_levels, HaveDifferentIds, entry_of}
+use Rattle.pref_sky.proofs.Common.{◌≡◌, ◌++◌, map, sym, ◌∙◌, ap, subst, arith, take-append_seam, ChainOrder, own_levels, HaveDifferentIds, entry_of}
 use Rattle.pref_sky.proofs.SortedLevels.{upper_differ, upper_levels}
 use Rattle.pref_sky.proofs.sorted.SortedEntries.add.Goals.{After-prune}
 use Rattle.pref_sky.proofs.sorted.SortedEntries.add.Goals as goal
@@ -18,13 +18,13 @@ invariant_of-self c = record { ids = still_differ ((goal.at.invariant_of-self c)
 
 pub invariant_of-self-in-Err : goal.invariant_of-self-in-Err
 invariant_of-self-in-Err c =
-    grind (arith, c.len-held.ensures, c.prune.new.recent.ok.0, take-append_seam, goal.at.invariant_of-self-in-Err c)
+    grind (arith, take-append_seam)
 
 pub invariant_of-self-in_default : goal.invariant_of-self-in_default
 invariant_of-self-in_default c =
     let new = c.prune.new.self in
-    grind (arith, c.in_default.ensures {u = tt}, upper_differ new.order new.entries.items c.prune.new.recent.items c.args.entries.now (coming_differ ((goal.at.invariant_of-self-in_default c).After-prune)), goal.at.invariant_of-self-in_default c)
+    grind (arith, upper_differ new.order new.entries.items c.prune.new.recent.items c.args.entries.now (coming_differ ((goal.at.invariant_of-self-in_default c).After-prune)))
 
 pub returns-clause-ok : goal.returns-clause-ok
 returns-clause-ok c =
-    grind (arith, c.prune.new.self, c.in_default.ensures {u = tt}, upper_levels)
+    grind (arith, upper_levels)

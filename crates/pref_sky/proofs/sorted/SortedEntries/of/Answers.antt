@@ -1,4 +1,4 @@
-use Rattle.pref_sky.proofs.Common.{◌≡◌, ◌++◌, [], map, sym, ◌∙◌, ap, subst, arith, ChainOrder, own_levels, own_order, HaveDifferentIds, entry_of}
+use Rattle.pref_sky.proofs.Common.{arith, own_order}
 use Rattle.pref_sky.proofs.LevelLaws.{held_differ, levels_of_none, next_piece}
 use Rattle.pref_sky.proofs.sorted.SortedEntries.of.Goals as goal
 
@@ -18,4 +18,4 @@ pub each_piece-preserved : goal.each_piece-preserved
 each_piece-preserved c =
     let inv = c.each_piece.invariant in
     let piece = c.split_at.result.0.now in
-    grind (arith, next_piece inv.levels.0 piece c.split_at.result.1.now inv.levels.1 c.split_at.ensures.by_index.0 c.requires, c.add.ensures.order, inv.order, c.in_ok-add.ensures {u = tt})
+    grind (arith, next_piece inv.levels.0 piece c.split_at.result.1.now inv.levels.1 c.split_at.ensures.by_index.0 c.requires)

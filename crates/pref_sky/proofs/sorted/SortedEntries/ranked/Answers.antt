@@ -1,4 +1,4 @@
-use Rattle.pref_sky.proofs.Common.{rules, ◌++◌, subst, AreLeveled, Ranked, arith}
+use Rattle.pref_sky.proofs.Common.{rules, ◌++◌, subst, AreLeveled, Ranked}
 use Rattle.pref_sky.proofs.LayersLaws.{found_ranked}
 use Rattle.pref_sky.proofs.ListLaws.{sorted_by_both}
 use Rattle.pref_sky.proofs.sorted.SortedEntries.ranked.Goals as goal

@@ -1,5 +1,5 @@
 use Rattle.pref_sky.proofs.Common.{Bool, List, Entry, ℕ, ◌≤◌, refl, append-nil, cond_both, length-filter, count_by-le-length}
-use Rattle.pref_sky.proofs.Common.{rules, ◌≡◌, ◌+◌, ◌∙◌, inr, true, false, not, [], ◌∷◌, ◌++◌, cond, filter, length, sym, ap, subst, arith, is_ok, or_from, length-append, filter-append, is_beaten, entry_order}
+use Rattle.pref_sky.proofs.Common.{rules, ◌≡◌, ◌+◌, ◌∙◌, inr, true, false, not, [], ◌∷◌, ◌++◌, cond, filter, length, ap, subst, arith, is_ok, length-append, filter-append, is_beaten, entry_order}
 use Rattle.pref_sky.specs.Windows.{WindowState, joined, not_below, window_entries}
 use Rattle.std.proofs.lemmas.Fn.{filter_same}
 use Rattle.std.proofs.lemmas.List.Folds.{list_any-append}
@@ -40,7 +40,7 @@ late_left : (g : Over) (c : After-retain-2 g) → c.retain-2.new.self.items ≡ 
 late_left g c = filter_same _ (λ w. not (entry_order (g.D.Dominance.order c.args.dominance.now) c.args.entry w)) _ (λ x b q r. (search rules, search rules)) c.self.inside.late.items _ c.retain-2.ensures.filtered
 
 unbeaten : (g : Over) (c : After-retain-2 g) → is_beaten (entry_order (g.D.Dominance.order c.args.dominance.now)) (c.self.inside.early.items ++ c.self.inside.late.items) c.args.entry ≡ false
-unbeaten g c = grind (arith, g.D.Dominance.order c.args.dominance.now, c.args.entry, list_any-append, c.if-is_beaten_by.false, c.if-is_beaten_by-2.false)
+unbeaten g c = grind (arith, list_any-append)
 
 -- nothing went out of a full window
 pub returns-then-len-self-clause-outcome : goal.returns-then-len-self-clause-outcome
@@ -52,9 +52,9 @@ returns-then-len-self-clause-outcome g c =
     let p : Entry → Bool = λ w. not (over e w) in
     let early = early_left g at in
     let late = late_left g at in
-    let full : length (filter p a.early.items) + length (filter p a.late.items) ≡ a.size = grind (arith, c.if-len-self.true, c.len.ensures, c.len-2.ensures, c.retain.new.self.ok.0, c.retain-2.new.self.ok.0) in
+    let full : length (filter p a.early.items) + length (filter p a.late.items) ≡ a.size = grind (arith) in
     let whole = filtered_whole p a.early.items a.late.items a.size full (omega (arith, c.self.invariant.within, a.early.ok.0, a.late.ok.0)) in
-    let same : held_of a.size c.retain.new.self.items c.retain-2.new.self.items true ≡ held_of a.size a.early.items a.late.items true = grind (arith, whole.0, whole.1) in
+    let same : held_of a.size c.retain.new.self.items c.retain-2.new.self.items true ≡ held_of a.size a.early.items a.late.items true = grind (arith) in
     let stays : filter p (a.early.items ++ a.late.items) ≡ a.early.items ++ a.late.items = filter-append p a.early.items a.late.items ∙ (ap (λ l. l ++ filter p a.late.items) whole.0 ∙ ap (λ l. a.early.items ++ l) whole.1) in
     let long : length (a.early.items ++ a.late.items) ≡ a.size = omega (arith, length-append a.early.items a.late.items, full, ap length whole.0, ap length whole.1) in (
       subst (λ (w : WindowState). is_beaten over (window_entries w) e ≡ false) c.self.view_is (unbeaten g at),
