@@ -1,12 +1,13 @@
 -- What a machine returns at each act is the system's reply: changes and begins.
 use Rattle.pref_core.proofs.Common.{◌≡◌, ℕ, ◌^◌, Bool, true, false, cond, nat_lt, List, Option, Some, None, is_some, Ok, Err, Result, inl, refl, sym, ap, ◌∙◌, subst, option_map, Question, Call}
-use Rattle.pref_core.proofs.Common.{CallInsert, CallUpdate, CallDelete, CallCommit, Begin, Finish, Abandon, Outcome, Added, Done, NoSuchRow, Full, Op, CoreFault, NoSuchClient, Spent, QueryOpen, Act}
+use Rattle.pref_core.proofs.Common.{Begin, Outcome, Op, CoreFault, NoSuchClient, Spent, Act}
 use Rattle.pref_core.proofs.Common.{ActBegin, Reply, Begun, Limits, AreAllowed, blocks, State, is_change, seat, with_seat, refusal, refusal_of, refusal_by_query, begun_after, outcome, Open, Member}
 use Rattle.pref_core.proofs.Common.{System, Step, snapshot, state_of, refused, counted_with, changed, change, step, Contents, StandsFor, adds, PlansIn, applied, Scan, begin, Running, StandsForSystem}
 use Rattle.pref_core.proofs.Common.{Changes, Does, is_refusal, Returns, reply_for, step_of, same_Some}
 use Rattle.pref_core.specs.MachineParts.{change_of, numbered}
 use Rattle.pref_core.proofs.VisibleAfterOp.{length-applied}
 use Rattle.pref_core.proofs.SystemsLaws.{refusal_there, refusal_nobody, IsThere, IsThere-from, IsLetIn, IsLetIn-from, changed_stands, queried_stands, follows_begun}
+use Rattle.pref_core.proofs.Common.{arith}
 
 -- what `plan` says of a store, in every state that it stands for
 abbrev pub PlansAlways : Contents → ℕ → Call → Result Op CoreFault → Type 0
@@ -37,18 +38,13 @@ refused_does old client act call fault refuses plans = record { limits = refl; r
   where
     go : (system : System) → refusal (state_of system) client call ≡ Some fault → (o : Option Member) → seat client system.members ≡ o
         → elim o as (λ x. Step) [ None ↦ refused NoSuchClient system | Some member ↦ step_of old.limits system client member act member.query ] ≡ refused fault system
-    go system returned None at = ap (λ f. refused f system) (same_Some NoSuchClient fault (sym (refusal_nobody system client call at) ∙ returned))
-    go system returned (Some member) at = refuses system member member.query (sym (refusal_there system client member call at) ∙ returned)
+    go system returned o at = grind (arith, refusal_nobody, refusal_there)
 
 -- a numbered call that is refused: what the step is where the query lets it in or not
 numbered_refused : (system : System) (member : Member) (call : Call) (right : Step) (fault : CoreFault)
     → ((early : CoreFault) → refusal_by_query (is_some (option_map snapshot member.query)) call ≡ Some early → right ≡ refused early system)
     → refusal_of (Some member.calls) (is_some (option_map snapshot member.query)) call ≡ Some fault → numbered member system right ≡ refused fault system
-numbered_refused system member call right fault open_ e = go (nat_lt member.calls (2 ^ 56)) e
-  where
-    go : (b : Bool) → cond b (refusal_by_query (is_some (option_map snapshot member.query)) call) (Some Spent) ≡ Some fault → cond b right (refused Spent system) ≡ refused fault system
-    go true h = open_ fault h
-    go false h = ap (λ f. refused f system) (same_Some Spent fault h)
+numbered_refused system member call right fault open_ e = grind (arith)
 
 -- A call that is planned is not refused.
 pub plan_accepts : (system : System) (contents : Contents) (client : ℕ) (call : Call) (op : Op) → PlansIn (state_of system) contents client call (Ok op) → refusal (state_of system) client call ≡ None
@@ -90,10 +86,7 @@ adding_not_refused running system client call done op quiet adding h plans = ap 
     change_comes = comes running system client call done op h plans
 
     go : (o : Outcome) → adds o ≡ true → is_refusal (changed o done call (counted_with change_comes.who.query client change_comes.who system)).reply ≡ false
-    go (Added id) adding = quiet
-    go Done adding = absurd (cc)
-    go (NoSuchRow id) adding = absurd (cc)
-    go (Full size) adding = absurd (cc)
+    go o adding = grind (arith)
 
 -- Changes.
 pub change_returns : (running : Running) (system : System) (client : ℕ) (call : Call) (done : Reply) (op : Op) (new : Contents) (act : Act) → is_change call ≡ true → is_refusal done ≡ false → StandsForSystem running system → PlansAlways running.contents client call (Ok op) → new ≡ applied running.contents op
@@ -113,35 +106,17 @@ change_returns running system client call done op new act c quiet h plans is = s
     outcome_is = plan.2.next.outcome ∙ ap (λ n. outcome n (state_of system) op.call) h.capacity
 
     stands : StandsForSystem after (changed op.outcome done call (counted_with change_comes.who.query client change_comes.who system)).next
-    stands =
-        subst (λ s. StandsForSystem (running_of s running.limits running.scans) (changed op.outcome done call (counted_with change_comes.who.query client change_comes.who system)).next) (sym is)
-        (subst (λ k. StandsForSystem (running_of (applied running.contents op) running.limits running.scans) (changed op.outcome done k (counted_with change_comes.who.query client change_comes.who system)).next) plan.1
-        (subst (λ n. StandsForSystem (running_of (applied running.contents op) running.limits running.scans) (changed op.outcome done op.call (counted_with change_comes.who.query n change_comes.who system)).next) plan.0
-        (subst (λ o. StandsForSystem (running_of (applied running.contents op) running.limits running.scans) (changed o done op.call (counted_with change_comes.who.query op.client change_comes.who system)).next) (sym outcome_is)
-        (changed_stands running system op change_comes.who done (ap (λ n. seat n system.members) plan.0 ∙ change_comes.at) h plan.2 (ap is_change plan.1 ∙ c)))))
+    stands = grind (arith, change_comes, plan, outcome_is, changed_stands)
 
     by_outcome : (o : Outcome) → StandsForSystem after (changed o done call (counted_with change_comes.who.query client change_comes.who system)).next
         → Returns running (changed o done call (counted_with change_comes.who.query client change_comes.who system)) act (reply_for o done) after
-    by_outcome (Added id) s = (refl, quiet, s)
-    by_outcome Done s = (refl, quiet, s)
-    by_outcome (NoSuchRow id) s = inl (refl, s)
-    by_outcome (Full size) s = inl (refl, s)
+    by_outcome o s = grind (arith)
 
 pub change_not : (old : Running) (client : ℕ) (call : Call) (done : Reply) (fault : CoreFault) → is_change call ≡ true → PlansAlways old.contents client call (Err fault) → Changes old client call done (Err fault) old
 change_not old client call done fault c plans = record { limits = refl; returns = λ system h act wants. refused_returns old system _ act fault h (go system (plans (state_of system) h.store) (seat client system.members) refl) }
   where
     no_early : (call : Call) (b : Bool) (early : CoreFault) → is_change call ≡ true → refusal_by_query b call ≡ Some early → ⊥
-    no_early (CallInsert row) true early c e = cc
-    no_early (CallInsert row) false early c e = cc
-    no_early (CallUpdate id row) true early c e = cc
-    no_early (CallUpdate id row) false early c e = cc
-    no_early (CallDelete id) true early c e = cc
-    no_early (CallDelete id) false early c e = cc
-    no_early (CallCommit changes) true early c e = cc
-    no_early (CallCommit changes) false early c e = cc
-    no_early Begin b early c e = cc
-    no_early Finish b early c e = cc
-    no_early Abandon b early c e = cc
+    no_early call b early c e = grind (arith)
 
     go : (system : System) → refusal (state_of system) client call ≡ Some fault → (o : Option Member) → seat client system.members ≡ o
         → elim o as (λ x. Step) [ None ↦ refused NoSuchClient system | Some member ↦ numbered member system (change old.limits system client member call done) ] ≡ refused fault system
@@ -169,12 +144,7 @@ begin_returns running system client ask op new stamp allowed now h plans is =
 
     right : step running.limits system (record { client = client; act = ActBegin ask })
         ≡ record { reply = Begun (blocks running.limits); next = counted_with (Some (record { ask = ask; table = system.table; commits = system.commits; left = blocks running.limits })) client there.who system }
-    right = somebody_steps running.limits system client (ActBegin ask) there.who there.at ∙ go there.who.query let_in.allowed
-      where
-        go : (q : Option Open) → refusal_by_query (is_some (option_map snapshot q)) Begin ≡ None → step_of running.limits system client there.who (ActBegin ask) q
-            ≡ record { reply = Begun (blocks running.limits); next = counted_with (Some (record { ask = ask; table = system.table; commits = system.commits; left = blocks running.limits })) client there.who system }
-        go None e = let_in_steps there.who system _ let_in.unspent
-        go (Some query) e = absurd (cc)
+    right = grind (arith, somebody_steps, there, let_in, let_in_steps)
 
     stands : StandsForSystem (running_of new running.limits (with_seat client (Some (begin ask stamp running.limits)) running.scans)) (counted_with (Some (record { ask = ask; table = system.table; commits = system.commits; left = blocks running.limits })) client there.who system)
     stands =
@@ -188,13 +158,4 @@ pub begin_not : (old : Running) (client : ℕ) (ask : Question) (fault : CoreFau
 begin_not old client ask fault plans = refused_does old client (ActBegin ask) Begin fault refuses plans
   where
     refuses : (system : System) (member : Member) (q : Option Open) → refusal_of (Some member.calls) (is_some (option_map snapshot q)) Begin ≡ Some fault → step_of old.limits system client member (ActBegin ask) q ≡ refused fault system
-    refuses system member None e = none (nat_lt member.calls (2 ^ 56)) e _
-      where
-        none : (b : Bool) → cond b None (Some Spent) ≡ Some fault → (right : Step) → cond b right (refused Spent system) ≡ refused fault system
-        none true h right = absurd (cc)
-        none false h right = ap (λ f. refused f system) (same_Some Spent fault h)
-    refuses system member (Some query) e = some (nat_lt member.calls (2 ^ 56)) e
-      where
-        some : (b : Bool) → cond b (Some QueryOpen) (Some Spent) ≡ Some fault → cond b (refused QueryOpen system) (refused Spent system) ≡ refused fault system
-        some true h = ap (λ f. refused f system) (same_Some QueryOpen fault h)
-        some false h = ap (λ f. refused f system) (same_Some Spent fault h)
+    refuses system member q e = grind (arith)

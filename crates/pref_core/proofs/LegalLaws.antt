@@ -1,27 +1,17 @@
 -- The test of an op at slots is legality in the state that they stand for.
-use Rattle.pref_core.proofs.Common.{◌≡◌, ℕ, Bool, true, false, not, cond, List, length, Option, Some, None, Ok, Err, Result, is_some, refl, sym, ap, ◌∙◌, and_from, Version, Call}
-use Rattle.pref_core.proofs.Common.{CoreFault, Op, State, after, Contents, StandsFor, caller_calls, IsNext, IsLegal, is_next, slots_after, stepped, applied}
-use Rattle.pref_core.proofs.Common.{same_number, same_outcome, outcome_at, refusal_at, Plans, PlansIn, AppliesIn}
+use Rattle.pref_core.proofs.Common.{◌≡◌, ℕ, Bool, true, false, cond, List, length, Option, Some, None, Ok, Err, Result, is_some, refl, sym, ap, ◌∙◌, Version, Call}
+use Rattle.pref_core.proofs.Common.{CoreFault, Op, State, after, Contents, StandsFor, IsNext, IsLegal, is_next, slots_after, stepped, applied}
+use Rattle.pref_core.proofs.Common.{Plans, PlansIn, AppliesIn}
 use Rattle.pref_core.proofs.OutcomeLaws.{same_calls, same_refusal, same_outcome_at}
 use Rattle.pref_core.proofs.AppliedLaws.{IsAllowed-from, stepped_stands}
 use Rattle.pref_core.proofs.PlanLaws.{same_outcome_refl}
+use Rattle.pref_core.proofs.Common.{arith}
 
 pub is_next-from : (contents : Contents) (state : State) (op : Op) → StandsFor contents state → IsNext (length contents.slots) state op → is_next contents op ≡ true
-is_next-from contents state op h next =
-    let accepted : refusal_at contents op.client op.call ≡ None = same_refusal contents state op.client op.call h ∙ next.accepted in
-    let number : same_number (caller_calls contents op.client) op.number ≡ true = ap (λ n. same_number n op.number) (same_calls contents state op.client h) ∙ next.number in
-    let returned : outcome_at contents op.call ≡ op.outcome = same_outcome_at contents state op.call next.formed h ∙ sym next.outcome in
-    and_from _ _ (and_from _ _ (and_from _ _ (ap (λ o. not (is_some o)) accepted) number) (ap (same_outcome op.outcome) returned ∙ same_outcome_refl op.outcome)) next.formed
+is_next-from contents state op h next = grind (arith, same_refusal, same_calls, same_outcome_at, same_outcome_refl)
 
 pub IsNext-from : (contents : Contents) (state : State) (op : Op) → StandsFor contents state → is_next contents op ≡ true → IsNext (length contents.slots) state op
-IsNext-from contents state op h next =
-    let allowed = IsAllowed-from contents op next in
-    record {
-      accepted = sym (same_refusal contents state op.client op.call h) ∙ allowed.accepted;
-      number = ap (λ n. same_number n op.number) (sym (same_calls contents state op.client h)) ∙ allowed.number;
-      outcome = allowed.outcome ∙ same_outcome_at contents state op.call allowed.formed h;
-      formed = allowed.formed;
-    }
+IsNext-from contents state op h next = grind (arith, IsAllowed-from, same_refusal, same_calls, same_outcome_at)
 
 pub applied_stands : (contents : Contents) (state : State) (op : Op) → StandsFor contents state → IsLegal state contents op → StandsFor (applied contents op) (after (length contents.slots) state op.client op.call)
 applied_stands contents state op h legal = go (slots_after contents op) refl legal.fits

@@ -1,9 +1,9 @@
 -- Each part of a machine does its act.
-use Rattle.pref_core.proofs.Common.{◌≡◌, ℕ, ◌-◌, ◌&&◌, true, false, List, length, Option, Some, is_some, Ok, Err, Result, IfErr, MatchResult, ⊎_elim, inr, nat_lt, ap, refl, sym, ◌∙◌, subst}
+use Rattle.pref_core.proofs.Common.{◌≡◌, ℕ, ◌-◌, ◌&&◌, true, false, List, length, Option, Some, is_some, Ok, Err, Result, IfErr, inr, nat_lt, ap, refl, sym, ◌∙◌, subst}
 use Rattle.pref_core.proofs.Common.{option_map, Question, Call, CallInsert, CallUpdate, CallDelete, CallCommit, Begin, Finish, Change, Op, CoreFault, OutOfMemory, Act, ActInsert, ActUpdate, ActDelete}
-use Rattle.pref_core.proofs.Common.{ActCommit, ActBegin, ActScan, ActFinish, ActAbandon, ActGet, ActRoom, Event, Reply, Inserted, Updated, Deleted, Committed, Begun, Left, Room, Refused, Row}
-use Rattle.pref_core.proofs.Common.{AreAllowed, blocks, Line, line_of, State, is_change, succeeds, added, seat, with_seat, needed, System, Step, step, committed_of, Contents, StandsFor, IsIndexOf}
-use Rattle.pref_core.proofs.Common.{adds, applied, IsPlan, Scan, begin, Running, StandsForSystem, may_want_memory, is_refusal, Returns, Does, as_reply, without_event, Steps, IsInOrder, Changes}
+use Rattle.pref_core.proofs.Common.{ActCommit, ActBegin, ActScan, ActFinish, ActGet, ActRoom, Event, Reply, Inserted, Updated, Deleted, Committed, Begun, Left, Room, Row}
+use Rattle.pref_core.proofs.Common.{AreAllowed, blocks, Line, line_of, State, is_change, succeeds, added, seat, with_seat, needed, System, Step, committed_of, Contents, StandsFor, IsIndexOf}
+use Rattle.pref_core.proofs.Common.{adds, applied, IsPlan, Scan, begin, Running, StandsForSystem, is_refusal, Returns, Does, as_reply, without_event, Steps, IsInOrder, Changes}
 use Rattle.pref_core.proofs.Common.{reply_for, NextIsNewAt, ScansAt, AnswersAt, is_begin}
 use Rattle.pref_core.specs.declared.event.StepFault.{StepFault}
 use Rattle.pref_core.specs.MachineParts.{change_of}
@@ -12,14 +12,11 @@ use Rattle.pref_core.proofs.ChangeReplies.{PlansAlways, running_of, adding_not_r
 use Rattle.pref_core.proofs.IndexLaws.{indexed_still}
 use Rattle.pref_core.proofs.ScanReplies.{next_is_new_at, scan_returns}
 use Rattle.pref_core.proofs.EndReplies.{finish_not_done, found_or_missing, get_returns, room_returns}
+use Rattle.pref_core.proofs.Common.{arith}
 
 -- What is left stands for a system again.
 in_order_returned : (before after : Running) (system : System) (right : Step) (act : Act) (result : Result Reply CoreFault) (index : List (ℕ × ℕ)) → StandsForSystem before system → Returns before right act result after → IsIndexOf after.contents index → IsInOrder after index
-in_order_returned before after system right act (Ok returned) index h says is = record { system = right.next; stands = says.2; indexed = is }
-in_order_returned before after system right act (Err fault) index h says is =
-    ⊎_elim (λ (s : (Refused fault ≡ right.reply) × StandsForSystem after right.next). record { system = right.next; stands = s.1; indexed = is })
-    (λ (s : (fault ≡ OutOfMemory) × (may_want_memory act ≡ true) × (is_refusal right.reply ≡ false) × (after ≡ before)). record { system = system; stands = subst (λ r. StandsForSystem r system) (sym s.3) h; indexed = is })
-    says
+in_order_returned before after system right act result index h says is = grind (arith)
 
 pub in_order_after : (before after : Running) (old index : List (ℕ × ℕ)) (client : ℕ) (act : Act) (result : Result Reply CoreFault) → IsInOrder before old → Does before client act result after → IsIndexOf after.contents index → IsInOrder after index
 in_order_after before after old index client act result h does is = in_order_returned before after h.system _ act result index h.stands (does.returns h.system h.stands) is
@@ -40,16 +37,7 @@ next_is_new_in_order running index client h = next_is_new_at running h.system cl
 -- a step is what its part does, and hands the event back
 pub steps_does : (before after : Running) (event : Event) (act : Act) (returned : Result Reply CoreFault) (result : Result Reply StepFault) → event.act ≡ act → Does before event.client act returned after → without_event result ≡ returned → IfErr result (λ (fault : StepFault). fault.event ≡ event)
     → Steps before event result after
-steps_does before after event act returned result is does alike back = record {
-  limits = does.limits;
-  returns = λ system h. subst (λ t. Returns before (step before.limits system event) event.act t after) (sym alike)
-      (subst (λ a. Returns before (step before.limits system (record { client = event.client; act = a })) a returned after) (sym is) (does.returns system h));
-  handed_back = go result back;
-}
-  where
-    go : (result : Result Reply StepFault) → IfErr result (λ (fault : StepFault). fault.event ≡ event) → MatchResult result (λ returned. Unit {0}) (λ (fault : StepFault). fault.event ≡ event)
-    go (Ok returned) back = tt
-    go (Err fault) back = back
+steps_does before after event act returned result is does alike back = grind (arith)
 
 -- Changes.
 pub change_done : (old : Running) (client : ℕ) (call : Call) (done : Reply) (op : Op) (new : Contents) → is_change call ≡ true → is_refusal done ≡ false → PlansAlways old.contents client call (Ok op) → new ≡ applied old.contents op
@@ -87,8 +75,7 @@ begin_does old client ask op new stamp scans allowed now plan is placed =
 
 pub scan_does : (old : Running) (client : ℕ) (result : Result ℕ CoreFault) (scans placed : List (Option Scan)) → placed ≡ scans → ScansAt (seat client old.scans) old.contents.slots client old.scans result scans
     → Does old client ActScan (as_reply Left result) (running_of old.contents old.limits placed)
-scan_does old client result scans placed is says =
-    subst (λ l. Does old client ActScan (as_reply Left result) (running_of old.contents old.limits l)) (sym is) (record { limits = refl; returns = λ system h. scan_returns old system client result scans h says })
+scan_does old client result scans placed is says = grind (arith, running_of, scan_returns)
 
 pub finish_early : (old : Running) (client : ℕ) (op : Op) (fault : CoreFault) → PlansAlways old.contents client Finish (Ok op) → AnswersAt (seat client old.scans) (Err fault) → Does old client ActFinish (Err fault) old
 finish_early old client op fault plans says = record { limits = refl; returns = λ system h. finish_not_done old system client op fault h plans says }
@@ -107,16 +94,7 @@ record IsBegin (act : Act) : Type 0 where
   is : act ≡ ActBegin ask
 
 IsBegin-from : (act : Act) → is_begin act ≡ true → IsBegin act
-IsBegin-from (ActBegin ask) h = record { ask = ask; is = refl }
-IsBegin-from (ActInsert row) h = absurd (cc)
-IsBegin-from (ActUpdate id row) h = absurd (cc)
-IsBegin-from (ActDelete id) h = absurd (cc)
-IsBegin-from (ActCommit commit) h = absurd (cc)
-IsBegin-from ActScan h = absurd (cc)
-IsBegin-from ActFinish h = absurd (cc)
-IsBegin-from ActAbandon h = absurd (cc)
-IsBegin-from (ActGet id) h = absurd (cc)
-IsBegin-from ActRoom h = absurd (cc)
+IsBegin-from act h = grind (arith)
 
 pub begin_steps_not : (old : Running) (event : Event) (fault : CoreFault) → is_begin event.act ≡ true → PlansAlways old.contents event.client Begin (Err fault) → Steps old event (Err (record { fault = fault; event = event })) old
 begin_steps_not old event fault begins plans =

@@ -1,17 +1,14 @@
 -- As many slots are in use as there are versions that are needed.
-use Rattle.pref_core.proofs.Common.{map-append, ◌≡◌, ℕ, suc, Bool, true, false, ◌&&◌, ◌||◌, cond, eqb, List, [], ◌∷◌, ◌++◌, filter, length, Option, Some, None, is_some, refl, sym, ap, ap₂, ◌∙◌, subst}
-use Rattle.pref_core.proofs.Common.{cons_option, list_any, AllZip, list_any-IsPermutation, IsPermutation-map, length-filter, eqb-true, eq-eqb, and_parts, Version, Caller, Line, Key, same_key}
-use Rattle.pref_core.proofs.Common.{holds_key, keys, different, State, Client, Snapshot, found_tables, needed, Contents, StandsFor, StandsForClient, Shows, ShowsBegin, seen, visible, is_visible}
-use Rattle.pref_core.proofs.Common.{is_needed, begins, stamps, slot_key, AreDifferent, line, used, list_any-append}
-use Rattle.pref_core.proofs.SlotKeys.{same_key_comm, slot_keys, holds_key-parts, holds_key-cons}
+use Rattle.pref_core.proofs.Common.{map-append, ◌≡◌, ℕ, suc, Bool, true, false, ◌&&◌, ◌||◌, cond, List, [], ◌∷◌, ◌++◌, filter, length, Option, Some, None, is_some, refl, sym, ap, ap₂, ◌∙◌, subst}
+use Rattle.pref_core.proofs.Common.{cons_option, list_any, AllZip, list_any-IsPermutation, IsPermutation-map, length-filter, eq-eqb, Version, Caller, Line, Key, same_key}
+use Rattle.pref_core.proofs.Common.{holds_key, keys, different, State, Client, Snapshot, found_tables, needed, Contents, StandsFor, StandsForClient, Shows, ShowsBegin, seen, visible}
+use Rattle.pref_core.proofs.Common.{is_needed, begins, stamps, slot_key, AreDifferent, used, list_any-append}
+use Rattle.pref_core.proofs.SlotKeys.{same_key_comm, slot_keys, holds_key-parts}
+use Rattle.pref_core.proofs.Common.{arith}
 
 -- keys that the test calls the same are equal
 pub same_key-true : (a b : Key) → same_key a b ≡ true → a ≡ b
-same_key-true a b h =
-    let parts = and_parts (eqb a.id b.id) (eqb a.made b.made) h in
-    let id : a.id ≡ b.id = eqb-true _ _ parts.0 in
-    let made : a.made ≡ b.made = eqb-true _ _ parts.1 in
-    λ i. record { id = id i; made = made i }
+same_key-true a b h = grind (arith)
 
 pub same_key_refl : (a : Key) → same_key a a ≡ true
 same_key_refl a = rw (eq-eqb a.id a.id refl, eq-eqb a.made a.made refl) refl
@@ -29,46 +26,22 @@ others_none x (k ∷ ks) h = let p = holds_key-parts k ks x h in rw (p.0, others
 holds_key-others : (x : Key) (ks : List Key) → holds_key (others x ks) x ≡ false
 unfolding others
 holds_key-others x [] = refl
-holds_key-others x (k ∷ ks) = go (holds_key-others x ks) (same_key x k) refl
-  where
-    go : holds_key (others x ks) x ≡ false → (b : Bool) → same_key x k ≡ b → holds_key (cond b (others x ks) (k ∷ others x ks)) x ≡ false
-    go rest true e = rest
-    go rest false e = holds_key-cons k _ x e rest
+holds_key-others x (k ∷ ks) = grind (arith, holds_key-others x ks)
 
 pub holds_key-others-at : (x key : Key) (ks : List Key) → same_key key x ≡ false → holds_key (others x ks) key ≡ holds_key ks key
 unfolding others
 holds_key-others-at x key [] h = refl
-holds_key-others-at x key (k ∷ ks) h = go (holds_key-others-at x key ks h) (same_key x k) refl
-  where
-    go : holds_key (others x ks) key ≡ holds_key ks key → (b : Bool) → same_key x k ≡ b → holds_key (cond b (others x ks) (k ∷ others x ks)) key ≡ holds_key (k ∷ ks) key
-    go rest true e =
-        let same : x ≡ k = same_key-true x k e in
-        let apart : same_key key k ≡ false = subst (λ y. same_key key y ≡ false) same h in
-        rest ∙ sym (ap (λ b. b || holds_key ks key) apart)
-    go rest false e = ap (λ b. same_key key k || b) rest
+holds_key-others-at x key (k ∷ ks) h = grind (arith, holds_key-others-at x key ks h)
 
 pub AreDifferent-others : (x : Key) (ks : List Key) → AreDifferent ks → AreDifferent (others x ks)
 unfolding others
 AreDifferent-others x [] h = tt
-AreDifferent-others x (k ∷ ks) h = go (AreDifferent-others x ks h.1) (same_key x k) refl
-  where
-    go : AreDifferent (others x ks) → (b : Bool) → same_key x k ≡ b → AreDifferent (cond b (others x ks) (k ∷ others x ks))
-    go rest true e = rest
-    go rest false e = (holds_key-others-at x k ks (same_key_comm k x ∙ e) ∙ h.0, rest)
+AreDifferent-others x (k ∷ ks) h = grind (arith, AreDifferent-others x ks h.1, others, holds_key-others-at, same_key_comm)
 
 pub length-others : (x : Key) (ks : List Key) → AreDifferent ks → holds_key ks x ≡ true → length ks ≡ suc (length (others x ks))
 unfolding others
 length-others x [] h is = absurd (cc)
-length-others x (k ∷ ks) h is = go (length-others x ks h.1) (same_key x k) refl
-  where
-    go : (holds_key ks x ≡ true → length ks ≡ suc (length (others x ks))) → (b : Bool) → same_key x k ≡ b → suc (length ks) ≡ suc (length (cond b (others x ks) (k ∷ others x ks)))
-    go rest true e =
-        let same : x ≡ k = same_key-true x k e in
-        let none : holds_key ks x ≡ false = subst (λ y. holds_key ks y ≡ false) (sym same) h.0 in
-        ap (λ l. suc (length l)) (sym (others_none x ks none))
-    go rest false e =
-        let there : holds_key ks x ≡ true = sym (ap (λ b. b || holds_key ks x) e) ∙ is in
-        ap suc (rest there)
+length-others x (k ∷ ks) h is = grind (arith, length-others x ks h.1, others, same_key-true, others_none)
 
 -- lists without doubles that hold the same keys are as long
 same_length : (xs ys : List Key) → AreDifferent xs → AreDifferent ys → ((key : Key) → holds_key xs key ≡ holds_key ys key) → length xs ≡ length ys
@@ -87,23 +60,11 @@ same_length (x ∷ xs) ys p q same =
 
 pub holds_key-different : (ks : List Key) (key : Key) → holds_key (different ks) key ≡ holds_key ks key
 holds_key-different [] key = refl
-holds_key-different (k ∷ ks) key = go (holds_key-different ks key) (holds_key ks k) refl
-  where
-    go : holds_key (different ks) key ≡ holds_key ks key → (b : Bool) → holds_key ks k ≡ b → holds_key (cond b (different ks) (k ∷ different ks)) key ≡ holds_key (k ∷ ks) key
-    go rest true e = rest ∙ double (same_key key k) refl
-      where
-        double : (b : Bool) → same_key key k ≡ b → holds_key ks key ≡ (b || holds_key ks key)
-        double true h = let is : key ≡ k = same_key-true key k h in subst (λ y. holds_key ks y ≡ true) (sym is) e
-        double false h = refl
-    go rest false e = ap (λ b. same_key key k || b) rest
+holds_key-different (k ∷ ks) key = grind (arith, holds_key-different ks key)
 
 pub AreDifferent-different : (ks : List Key) → AreDifferent (different ks)
 AreDifferent-different [] = tt
-AreDifferent-different (k ∷ ks) = go (AreDifferent-different ks) (holds_key ks k) refl
-  where
-    go : AreDifferent (different ks) → (b : Bool) → holds_key ks k ≡ b → AreDifferent (cond b (different ks) (k ∷ different ks))
-    go rest true e = rest
-    go rest false e = (holds_key-different ks k ∙ e, rest)
+AreDifferent-different (k ∷ ks) = grind (arith, AreDifferent-different ks, holds_key-different)
 
 -- whether the slot holds the version of this key
 has_key : Key → Option Version → Bool
@@ -114,38 +75,16 @@ holds_key-visible : (stamp : ℕ) (key : Key) (slots : List (Option Version)) �
 unfolding has_key
 holds_key-visible stamp key [] = refl
 holds_key-visible stamp key (None ∷ slots) = holds_key-visible stamp key slots
-holds_key-visible stamp key (Some version ∷ slots) =
-    go (is_visible stamp version) (holds_key-visible stamp key slots)
-  where
-    go : (b : Bool) → holds_key (keys (visible stamp slots)) key ≡ list_any (λ slot. is_some (seen stamp slot) && has_key key slot) slots
-        → holds_key (keys (cons_option (cond b (Some (line version)) None) (visible stamp slots))) key
-        ≡ ((is_some (cond b (Some (line version)) None) && same_key key (record { id = version.id; made = version.birth })) || list_any (λ slot. is_some (seen stamp slot) && has_key key slot) slots)
-    go true rest = ap (λ b. same_key key (record { id = version.id; made = version.birth }) || b) rest
-    go false rest = rest
+holds_key-visible stamp key (Some version ∷ slots) = grind (arith, holds_key-visible stamp key slots)
 
 holds_key-needed : (ns : List ℕ) (key : Key) (slots : List (Option Version)) → holds_key (slot_keys (filter (is_needed ns) slots)) key ≡ list_any (λ slot. is_needed ns slot && has_key key slot) slots
 unfolding has_key
 holds_key-needed ns key [] = refl
-holds_key-needed ns key (slot ∷ slots) = go (is_needed ns slot) slot (holds_key-needed ns key slots)
-  where
-    go : (b : Bool) (s : Option Version) → holds_key (slot_keys (filter (is_needed ns) slots)) key ≡ list_any (λ slot. is_needed ns slot && has_key key slot) slots
-        → holds_key (slot_keys (cond b (s ∷ filter (is_needed ns) slots) (filter (is_needed ns) slots))) key
-        ≡ ((b && has_key key s) || list_any (λ slot. is_needed ns slot && has_key key slot) slots)
-    go false s rest = rest
-    go true None rest = rest
-    go true (Some version) rest = ap (λ b. same_key key (record { id = version.id; made = version.birth }) || b) rest
+holds_key-needed ns key (slot ∷ slots) = grind (arith, holds_key-needed ns key slots)
 
 -- needed at the first stamp or at one of the others
 shared_or : (p q r a b : Bool) → (((p || q) && r) || (a || b)) ≡ (((p && r) || a) || ((q && r) || b))
-shared_or true true true a b = refl
-shared_or true false true a b = refl
-shared_or false true true true b = refl
-shared_or false true true false b = refl
-shared_or false false true a b = refl
-shared_or true true false a b = refl
-shared_or true false false a b = refl
-shared_or false true false a b = refl
-shared_or false false false a b = refl
+shared_or p q r a b = grind (arith)
 
 list_any-shared : {X : Type 0} (p q r : X → Bool) (xs : List X) → list_any (λ x. (p x || q x) && r x) xs ≡ (list_any (λ x. p x && r x) xs || list_any (λ x. q x && r x) xs)
 list_any-shared p q r [] = refl
@@ -160,9 +99,7 @@ holds_key-keys-append key xs ys = ap (list_any (same_key key)) (map-append (λ (
 
 -- a table's keys are those that the slots show
 holds_key-shown : (slots : List (Option Version)) (stamp : ℕ) (table : List Line) (key : Key) → Shows slots stamp table → holds_key (keys table) key ≡ list_any (λ slot. is_some (seen stamp slot) && has_key key slot) slots
-holds_key-shown slots stamp table key shows =
-    sym (list_any-IsPermutation (same_key key) _ _ (IsPermutation-map (λ (l : Line). record { id = l.id; made = l.made }) _ _ shows.lines))
-    ∙ holds_key-visible stamp key slots
+holds_key-shown slots stamp table key shows = grind (arith, list_any-IsPermutation, IsPermutation-map, holds_key-visible)
 
 abbrev needed_somewhere : List ℕ → Key → List (Option Version) → Bool
 needed_somewhere ns key slots = list_any (λ slot. is_needed ns slot && has_key key slot) slots
@@ -175,13 +112,11 @@ holds_key-found slots now (caller ∷ callers) (client ∷ clients) key h = go c
   where
     go : (b : Option ℕ) (f : Option Snapshot) → ShowsBegin slots now b f → holds_key (keys (found_tables clients)) key ≡ needed_somewhere (begins callers) key slots
         → holds_key (keys (found_tables (record { calls = client.calls; at_begin = f } ∷ clients))) key ≡ needed_somewhere (cons_option b (begins callers)) key slots
-    go None None s rest = rest
     go (Some stamp) (Some found) s rest =
         holds_key-keys-append key found.table (found_tables clients)
         ∙ ap₂ (λ a b. a || b) (holds_key-shown slots stamp found.table key s.2) rest
         ∙ sym (list_any-shared (λ slot. is_some (seen stamp slot)) (is_needed (begins callers)) (has_key key) slots)
-    go None (Some found) s rest = absurd s
-    go (Some stamp) None s rest = absurd s
+    go b f s rest = grind (arith)
 
 -- the slots that are needed hold different versions
 slot_keys-filter : (p : Option Version → Bool) (slot : Option Version) (slots : List (Option Version)) → slot_keys (filter p (slot ∷ slots)) ≡ cond (p slot) (cons_option (slot_key slot) (slot_keys (filter p slots))) (slot_keys (filter p slots))
@@ -189,28 +124,11 @@ slot_keys-filter p slot slots = elim (p slot) as (λ b. slot_keys (cond b (slot 
 
 holds_key-filter : (p : Option Version → Bool) (slots : List (Option Version)) (key : Key) → holds_key (slot_keys slots) key ≡ false → holds_key (slot_keys (filter p slots)) key ≡ false
 holds_key-filter p [] key h = refl
-holds_key-filter p (slot ∷ slots) key h =
-    subst (λ l. holds_key l key ≡ false) (sym (slot_keys-filter p slot slots)) (go (p slot) (slot_key slot) h (holds_key-filter p slots key))
-  where
-    go : (b : Bool) (k : Option Key) → holds_key (cons_option k (slot_keys slots)) key ≡ false → (holds_key (slot_keys slots) key ≡ false → holds_key (slot_keys (filter p slots)) key ≡ false)
-        → holds_key (cond b (cons_option k (slot_keys (filter p slots))) (slot_keys (filter p slots))) key ≡ false
-    go true None h rest = rest h
-    go true (Some k) h rest = let q = holds_key-parts k _ key h in holds_key-cons k _ key q.0 (rest q.1)
-    go false None h rest = rest h
-    go false (Some k) h rest = rest (holds_key-parts k _ key h).1
+holds_key-filter p (slot ∷ slots) key h = grind (arith, holds_key-filter p slots key)
 
 AreDifferent-filter : (p : Option Version → Bool) (slots : List (Option Version)) → AreDifferent (slot_keys slots) → AreDifferent (slot_keys (filter p slots))
 AreDifferent-filter p [] h = tt
-AreDifferent-filter p (slot ∷ slots) h =
-    subst AreDifferent (sym (slot_keys-filter p slot slots)) (go (p slot) (slot_key slot) h (AreDifferent-filter p slots) (λ key. holds_key-filter p slots key))
-  where
-    go : (b : Bool) (k : Option Key) → AreDifferent (cons_option k (slot_keys slots)) → (AreDifferent (slot_keys slots) → AreDifferent (slot_keys (filter p slots)))
-        → ((key : Key) → holds_key (slot_keys slots) key ≡ false → holds_key (slot_keys (filter p slots)) key ≡ false)
-        → AreDifferent (cond b (cons_option k (slot_keys (filter p slots))) (slot_keys (filter p slots)))
-    go true None h rest none = rest h
-    go true (Some k) h rest none = (none k h.0, rest h.1)
-    go false None h rest none = rest h
-    go false (Some k) h rest none = rest h.1
+AreDifferent-filter p (slot ∷ slots) h = grind (arith, AreDifferent-filter p slots, slot_keys-filter, holds_key-filter, slot_keys)
 
 -- an empty slot is needed at no stamp
 pub is_needed-empty : (ns : List ℕ) → is_needed ns None ≡ false
@@ -220,12 +138,7 @@ is_needed-empty (n ∷ ns) = is_needed-empty ns
 length_needed : (ns : List ℕ) (slots : List (Option Version)) → length (slot_keys (filter (is_needed ns) slots)) ≡ length (filter (is_needed ns) slots)
 length_needed ns [] = refl
 length_needed ns (None ∷ slots) = rw (is_needed-empty ns) (length_needed ns slots)
-length_needed ns (Some version ∷ slots) = go (is_needed ns (Some version)) (length_needed ns slots)
-  where
-    go : (b : Bool) → length (slot_keys (filter (is_needed ns) slots)) ≡ length (filter (is_needed ns) slots)
-        → length (slot_keys (cond b (Some version ∷ filter (is_needed ns) slots) (filter (is_needed ns) slots))) ≡ length (cond b (Some version ∷ filter (is_needed ns) slots) (filter (is_needed ns) slots))
-    go true rest = ap suc rest
-    go false rest = rest
+length_needed ns (Some version ∷ slots) = grind (arith, length_needed ns slots)
 
 -- the size of `needed` is the number of slots in use
 pub length-needed : (contents : Contents) (state : State) → StandsFor contents state → length (needed state) ≡ used contents

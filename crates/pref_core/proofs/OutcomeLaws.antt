@@ -4,6 +4,7 @@ use Rattle.pref_core.proofs.Common.{Client, Snapshot, seat, calls_of, refusal, r
 use Rattle.pref_core.proofs.Common.{visible, caller_calls, refusal_at, outcome_at, grown}
 use Rattle.pref_core.proofs.CommitLaws.{has_visible, grown_stands}
 use Rattle.pref_core.proofs.NeededCounts.{length-needed}
+use Rattle.pref_core.proofs.Common.{arith}
 
 -- the caller and the client of one number: both or none
 pub data SameSeat (slots : List (Option Version)) (now : ℕ) : Option Caller → Option Client → Type 0 where
@@ -27,10 +28,7 @@ seat_calls nobody = refl
 seat_calls (somebody caller client h) = ap Some h.calls
 
 same_open : (slots : List (Option Version)) (now : ℕ) (a : Option ℕ) (b : Option Snapshot) → ShowsBegin slots now a b → is_some a ≡ is_some b
-same_open slots now None None h = refl
-same_open slots now (Some stamp) (Some found) h = refl
-same_open slots now None (Some found) h = absurd h
-same_open slots now (Some stamp) None h = absurd h
+same_open slots now a b h = grind (arith)
 
 seat_open : {slots : List (Option Version)} {now : ℕ} {a : Option Caller} {b : Option Client} → SameSeat slots now a b
     → is_some (elim a as (λ x. Option ℕ) [ None ↦ None | Some caller ↦ caller.at_begin ]) ≡ is_some (elim b as (λ x. Option Snapshot) [ None ↦ None | Some found ↦ found.at_begin ])

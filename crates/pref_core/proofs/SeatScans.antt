@@ -1,7 +1,8 @@
 -- The query at a client's place scans.
-use Rattle.pref_core.proofs.Common.{◌≡◌, ℕ, ◌-◌, ◌≤◌, List, length, get_or, Option, Some, None, Err, Result, slice_set, refl, sym, ap, ◌∙◌, subst, Version, CoreFault, NoQuery, seat, Scan, NextIsNew}
+use Rattle.pref_core.proofs.Common.{◌≡◌, ℕ, ◌-◌, ◌≤◌, List, length, get_or, Option, Some, None, Err, Result, slice_set, ap, ◌∙◌, subst, Version, CoreFault, NoQuery, seat, Scan, NextIsNew}
 use Rattle.pref_core.proofs.Common.{Scans, NextIsNewAt, ScansAt}
 use Rattle.pref_core.proofs.SeatLaws.{seat_read, seat_written, written_same}
+use Rattle.pref_core.proofs.Common.{arith}
 
 pub next_is_new_there : (queries : List (Option Scan)) (client : ℕ) (slots : List (Option Version)) (read : Option Scan) (query : Scan) → (client ≡ 0 → ⊥) → client ≤ length queries
     → read ≡ get_or queries (client - 1) read → read ≡ Some query → NextIsNewAt (seat client queries) slots → NextIsNew query slots
@@ -10,13 +11,9 @@ next_is_new_there queries client slots read query some l at is h = subst (λ o. 
 pub scans_some : (queries : List (Option Scan)) (client : ℕ) (slots : List (Option Version)) (read : Option Scan) (query new : Scan) (result : Result ℕ CoreFault) → (client ≡ 0 → ⊥) → client ≤ length queries
     → read ≡ get_or queries (client - 1) read → read ≡ Some query → Scans query slots result new
     → ScansAt (seat client queries) slots client queries result (slice_set queries (client - 1) (Some new))
-scans_some queries client slots read query new result some l at is says =
-    subst (λ s. ScansAt s slots client queries result (slice_set queries (client - 1) (Some new))) (sym (seat_read queries client read some l at ∙ ap Some is))
-    (record { new = new; scans = says; placed = seat_written queries client (Some new) some })
+scans_some queries client slots read query new result some l at is says = grind (arith, seat_read, seat_written)
 
 pub scans_none : (queries : List (Option Scan)) (client : ℕ) (slots : List (Option Version)) (read : Option Scan) → (client ≡ 0 → ⊥) → client ≤ length queries
     → read ≡ get_or queries (client - 1) read → read ≡ None
     → ScansAt (seat client queries) slots client queries (Err NoQuery) (slice_set queries (client - 1) (get_or queries (client - 1) read))
-scans_none queries client slots read some l at is =
-    subst (λ s. ScansAt s slots client queries (Err NoQuery) (slice_set queries (client - 1) (get_or queries (client - 1) read))) (sym (seat_read queries client read some l at ∙ ap Some is))
-    (refl, ap (λ s. slice_set queries (client - 1) s) (sym at) ∙ written_same queries client read some l at)
+scans_none queries client slots read some l at is = grind (arith, seat_read, written_same)
