@@ -1,11 +1,9 @@
 -- The table block, line by line.
-use Rattle.pref_script.proofs.Common.{◌≡◌, ◌∙◌, ℕ, zero, suc, ◌+◌, ◌-◌, ◌<◌, ◌≤◌, true, false, List, [], ◌∷◌, ◌++◌, length, take, drop, get_or, ap, refl, sym, subst, arith, append_assoc, Option}
-use Rattle.pref_script.proofs.Common.{Ok, Err, inl, inr, ◌⊎◌, cases_lt, eqb-true, append-nil, drop-append-le, drop-take, drop_all, get_or_append_left, length-append, length-drop}
-use Rattle.pref_script.proofs.Common.{length-take, take-append-drop, take-append-le, take_all, take_at, fails_before_first, passes_at_first, position_or_len_is, get_or-append_seam}
-use Rattle.pref_script.proofs.Common.{is_byte, Consumes-trans, Consumes, concat, position_or_len, HearsNone, IsBlock, LacksBlock, ReadsBlock, EndsWithLine, HeardNone, IsTooLong, IsLineAt, IsLittle}
-use Rattle.pref_script.proofs.Common.{IsLong, LineFault, NoLineFeed, ReadBehind, ReadSome, between, is_at_end, unread, Source, block_lines, is_end_line, is_table_line, parts_of, raw_lines}
-use Rattle.pref_script.proofs.Common.{RunFault, ReadAhead}
-use borrow.Author.Count.{below_more}
+use Rattle.pref_script.proofs.Common.{◌≡◌, ◌∙◌, ℕ, zero, suc, ◌+◌, ◌-◌, ◌<◌, ◌≤◌, true, false, List, [], ◌∷◌, ◌++◌, length, take, drop, get_or, ap, refl, sym, subst, arith, append_assoc, Option, Ok}
+use Rattle.pref_script.proofs.Common.{Err, inl, inr, ◌⊎◌, append-nil, drop-append-le, drop-take, drop_all, get_or_append_left, length-append, length-drop, length-take, take-append-drop}
+use Rattle.pref_script.proofs.Common.{take-append-le, take_all, take_at, fails_before_first, passes_at_first, position_or_len_is, get_or-append_seam, is_byte, Consumes-trans, Consumes, concat}
+use Rattle.pref_script.proofs.Common.{position_or_len, HearsNone, IsBlock, LacksBlock, ReadsBlock, EndsWithLine, HeardNone, IsTooLong, IsLineAt, IsLittle, IsLong, LineFault, NoLineFeed, ReadBehind}
+use Rattle.pref_script.proofs.Common.{ReadSome, between, is_at_end, unread, Source, block_lines, is_end_line, is_table_line, parts_of, raw_lines, RunFault, ReadAhead}
 use Rattle.pref_script.proofs.LineFacts.{behind_more, ends_more, front_is, front_more, line_at, little_left, none_behind, none_in_front, same_front}
 use Rattle.pref_script.proofs.ScriptFacts.{concat-push, lines_at, lines_last, lines_none, script-none}
 use Rattle.pref_script.specs.declared.fault.RunFault.TheVariants as fault

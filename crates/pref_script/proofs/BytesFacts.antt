@@ -1,5 +1,5 @@
 -- Bytes that are read and written part by part.
-use Rattle.pref_script.proofs.Common.{◌≡◌, ◌++◌, [], ◌∙◌, ℕ, ◌+◌, ◌-◌, ◌<◌, ◌≤◌, List, length, take, drop, ap, refl, sym, arith, Option, ◌∷◌, ℤ, pos, map, get_or, append_assoc, Appends}
+use Rattle.pref_script.proofs.Common.{◌≡◌, ◌++◌, [], ℕ, ◌+◌, ◌-◌, ◌<◌, ◌≤◌, List, length, take, drop, arith, Option, ◌∷◌, ℤ, pos, map, get_or, append_assoc, Appends}
 use Rattle.pref_script.proofs.Common.{Appends-trans, signed_decimal, join_with_byte, range_with_len, row_text, drop-drop, take_all, length-drop, take-add}
 use Rattle.std.proofs.lemmas.List.FromFn.{length-map-range_with_len, map-range_with_len_more}
 

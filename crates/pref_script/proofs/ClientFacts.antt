@@ -1,8 +1,5 @@
 -- The acts of one client among events.
-use Rattle.pref_script.proofs.Common.{◌≡◌, ◌≢◌, ℕ, ◌≤◌, cond, List, [], ◌∷◌, ◌++◌, length, map, ap, arith, eq-eqb, ne_eqb, map-append, Event}
-use Rattle.std.proofs.lemmas.List.{length-map}
-use Rattle.std.proofs.lemmas.List.Elements.{filter-append}
-use Rattle.std.proofs.lemmas.List.Sums.{count_by-le-length, length-filter}
+use Rattle.pref_script.proofs.Common.{◌≡◌, ◌≢◌, ℕ, cond, [], ◌∷◌, map, ap, eq-eqb, ne_eqb, Event}
 use Rattle.pref_share.specs.Interleavings.{acts_of}
 
 -- one event is an act of its client alone

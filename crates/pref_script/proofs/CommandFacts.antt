@@ -1,8 +1,7 @@
 -- The commands of a script, one line at a time.
-use Rattle.pref_script.proofs.Common.{◌≡◌, ◌∙◌, ℕ, suc, ◌+◌, ◌<◌, ◌≤◌, Bool, true, false, List, [], ◌∷◌, ◌++◌, length, refl, sym, ap, arith, append_assoc, Result, Ok, Err, nat_le, nat_lt}
-use Rattle.pref_script.proofs.Common.{if◌then◌else◌, inl, inr, list_all, and_from, le-leb, lt-ltb, append-nil, is_blank, Event, Command, refused, runs, accepted_events}
-use Rattle.pref_script.proofs.Common.{commands_in, commands_of, event_of, raw_lines, without_line_end, refused_line, reply_lines, texts, is_client, unowned_line, unowned_lines, Refusal}
-use Rattle.std.proofs.lemmas.Bool.{cases_Bool}
+use Rattle.pref_script.proofs.Common.{◌≡◌, ℕ, suc, ◌+◌, ◌<◌, ◌≤◌, Bool, true, false, List, [], ◌∷◌, ◌++◌, length, refl, sym, arith, append_assoc, Result, Ok, Err}
+use Rattle.pref_script.proofs.Common.{if◌then◌else◌, list_all, append-nil, is_blank, Event, Command, accepted_events}
+use Rattle.pref_script.proofs.Common.{commands_in, commands_of, event_of, raw_lines, without_line_end, refused_line, reply_lines, texts, is_client, unowned_lines, Refusal}
 use Rattle.pref_core.specs.declared.event.Reply.TheVariants.{Refused as NotThere}
 use Rattle.pref_core.specs.declared.fault.CoreFault.TheVariants.{NoSuchClient}
 use Rattle.pref_script.proofs.TextFacts.{texts-append}

@@ -1,11 +1,10 @@
 -- The changes of a commit line, one piece at a time.
-use Rattle.pref_script.proofs.Common.{◌≡◌, ◌∙◌, ℕ, ◌+◌, ◌<◌, ◌≤◌, true, List, [], ◌∷◌, ◌++◌, length, take, drop, get_or, set, sym, ap, refl, arith, inl, inr, nat_lt, Ok, Err, Bool, cond}
-use Rattle.pref_script.proofs.Common.{Option, Some, None, is_some, nat_le, list_all, and_right, cases_lt, lt-leb, length-drop, length-set, length-take, length-take-le, length_push, take-append-le}
+use Rattle.pref_script.proofs.Common.{◌≡◌, ◌∙◌, ℕ, ◌+◌, ◌<◌, ◌≤◌, true, List, [], ◌∷◌, ◌++◌, length, take, drop, get_or, set, sym, ap, refl, arith, inl, inr, Ok, Err, Bool, cond}
+use Rattle.pref_script.proofs.Common.{Option, Some, None, is_some, list_all, cases_lt, length-drop, length-set, length-take, length-take-le, length_push, take-append-le}
 use Rattle.pref_script.proofs.Common.{take_all, take_more_set, all_from, change_of, commit_said, of_changes, piece_change, are_changes, piece_said, pieces_of, Reads, first_refusal, pieces_left}
 use Rattle.std.proofs.lemmas.Bool.{cases_Bool}
 use Rattle.pref_core.specs.Changes.{commit_of}
 use Rattle.pref_core.specs.declared.changes.Change.{Change}
-use Rattle.pref_core.specs.declared.fault.CoreFault.TheVariants.{ChangeCount}
 use Rattle.pref_table.proofs.NumberedFacts.{all_from-all, all_from-fails_at, all_from-more, all_from-none}
 use Rattle.pref_script.proofs.SplitFacts.{drop_here}
 use Rattle.pref_script.specs.Pieces.{ChangeSaid}

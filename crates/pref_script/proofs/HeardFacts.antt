@@ -1,11 +1,10 @@
 -- A script that is heard line by line.
-use Rattle.pref_script.proofs.Common.{◌≡◌, ◌∙◌, ℕ, ◌+◌, ◌^◌, ◌<◌, List, [], ◌∷◌, ◌++◌, length, take, drop, ap, refl, sym, subst, arith, append_assoc, add-zero, Option}
-use Rattle.pref_script.proofs.Common.{Result, Ok, inl, inr, Appends-trans, Consumes-trans, Consumes-whole, append-nil, drop-append-le, drop_all, get_or_append_left}
-use Rattle.pref_script.proofs.Common.{length-append, length-drop, take-append-drop, take-append-le, take-append-add, fails_before_first, passes_at_first, position_or_len_is, Appends, Consumes}
-use Rattle.pref_script.proofs.Common.{position_or_len, IfSome, IsOk, Limits, accepted_events, commands_in, commands_of, HeardScript, Hears}
-use Rattle.pref_script.proofs.Common.{EndsWithLine, IsHeard, IsTooLong, NoneLeft, RanLive, StopsEarly, StopsInLine, PrintsNext, PrintsLine, names_of, next_number, command_lines, output}
-use Rattle.pref_script.proofs.Common.{script_of, IsLittle, IsLong, ReadBehind, ReadSome, between, unread, Sink, Source, WroteAll, WroteBeginning, Parts, is_end_line}
-use Rattle.pref_script.proofs.Common.{parts_of, raw_lines, without_line_end, RunFault, LiveTable, ReadAhead}
+use Rattle.pref_script.proofs.Common.{◌≡◌, ◌∙◌, ℕ, ◌+◌, ◌^◌, ◌<◌, List, [], ◌∷◌, ◌++◌, length, take, drop, ap, refl, sym, subst, arith, append_assoc, add-zero, Option, Ok, inl, inr, Appends-trans}
+use Rattle.pref_script.proofs.Common.{Consumes-trans, Consumes-whole, append-nil, drop-append-le, drop_all, get_or_append_left, length-append, length-drop, take-append-drop, take-append-le}
+use Rattle.pref_script.proofs.Common.{take-append-add, fails_before_first, passes_at_first, position_or_len_is, Appends, Consumes, position_or_len, IfSome, IsOk, Limits, accepted_events, commands_in}
+use Rattle.pref_script.proofs.Common.{commands_of, HeardScript, Hears, EndsWithLine, IsHeard, IsTooLong, NoneLeft, RanLive, StopsEarly, StopsInLine, PrintsNext, PrintsLine, names_of, next_number}
+use Rattle.pref_script.proofs.Common.{command_lines, output, script_of, IsLittle, IsLong, ReadBehind, ReadSome, unread, Sink, Source, WroteAll, WroteBeginning, Parts, is_end_line, parts_of, raw_lines}
+use Rattle.pref_script.proofs.Common.{without_line_end, LiveTable, ReadAhead}
 use Rattle.pref_script.proofs.BlockFacts.{first_too_long, long_among}
 use Rattle.pref_script.proofs.LineFacts.{ends_more, front_is, line_at, little_later, little_left, some_none}
 use Rattle.pref_script.proofs.OutputFacts.{cut_of, script-ok}

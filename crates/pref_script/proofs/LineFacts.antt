@@ -1,9 +1,8 @@
 -- Lines that are read ahead.
 use Rattle.pref_script.proofs.Common.{◌≡◌, ◌∙◌, ℕ, ◌+◌, ◌-◌, ◌<◌, ◌≤◌, true, false, Bool, List, [], ◌∷◌, ◌++◌, length, take, drop, get_or, ap, refl, sym, subst, arith, append_assoc, eq-eqb, Option}
 use Rattle.pref_script.proofs.Common.{Some, None, ◌⊎◌, Consumes-nil, Consumes-trans, append-nil, drop-append-le, drop_all, get_or-drop, get_or-take, get_or_append_left}
-use Rattle.pref_script.proofs.Common.{length-append, length-drop, length-take, take-append-le, take_all, take-add, cases_lt, is_some, IsFirstByte, is_byte, EndsWithLine, IsLineAt}
+use Rattle.pref_script.proofs.Common.{length-append, length-drop, length-take, take-append-le, take_all, take-add, is_some, IsFirstByte, is_byte, EndsWithLine, IsLineAt}
 use Rattle.pref_script.proofs.Common.{IsLittle, IsLong, IsWhole, NoLineFeed, ReadBehind, ReadOnce, ReadSome, between, is_at_end, unread, raw_lines, ReadAhead}
-use Rattle.std.proofs.lemmas.Bool.{cases_Bool}
 use Rattle.pref_script.proofs.ScriptFacts.{lines_at, lines_last, lines_none}
 
 -- something was read, and then something more

@@ -1,12 +1,12 @@
 -- A run that replies to each line as it comes: how it begins, goes on and ends.
-use Rattle.pref_script.proofs.Common.{◌≡◌, ◌∙◌, ◌⊎◌, ℕ, ◌+◌, ◌≤◌, true, false, List, [], ◌++◌, length, take, drop, ap, refl, sym, subst, arith, append-nil, append_assoc, Option, Result, Ok, Err, inl, inr}
+use Rattle.pref_script.proofs.Common.{◌≡◌, ◌⊎◌, ℕ, ◌+◌, ◌≤◌, true, false, List, [], ◌++◌, length, take, drop, refl, subst, arith, append-nil, append_assoc, Option, Result, Ok, Err, inl, inr}
 use Rattle.pref_script.proofs.Common.{Appends-kept, Appends-trans, drop_all, length-drop, take-append-drop, take_all, Appends, Consumes, IsAtEnd, position_or_len, Limits, commands_of, Hears}
-use Rattle.pref_script.proofs.Common.{IsBlock, LacksBlock, OpensLive, ReadsBlock, EndsWithLine, HeardNone, IsTooLong, RanLive, ShowsFault, StopsEarly, PrintsNext, Turns, IsOpened, OpeningFault}
-use Rattle.pref_script.proofs.Common.{next_number, ScriptFault, fault_text, script_of, IsLittle, ReadBehind, ReadSome, between, is_at_end, unread, Keeps, NothingWritten, Sink, Source, WroteAll}
+use Rattle.pref_script.proofs.Common.{IsBlock, LacksBlock, OpensLive, ReadsBlock, EndsWithLine, HeardNone, RanLive, ShowsFault, StopsEarly, PrintsNext, Turns, IsOpened, OpeningFault}
+use Rattle.pref_script.proofs.Common.{next_number, ScriptFault, script_of, IsLittle, ReadBehind, ReadSome, between, is_at_end, unread, Keeps, NothingWritten, Sink, Source, WroteAll}
 use Rattle.pref_script.proofs.Common.{WroteBeginning, Wrote, Parts, block_lines, is_end_line, parts_of, raw_lines, RunFault, LiveTable, ReadAhead}
 use Rattle.pref_script.specs.declared.live.TableBlock.{TableBlock}
-use Rattle.pref_script.proofs.BlockFacts.{all_read, hears_part, little_at_first}
-use Rattle.pref_script.proofs.HeardFacts.{had_all, heard_too_long, hears_next, parts_more, since, stops_early, stops_writing}
+use Rattle.pref_script.proofs.BlockFacts.{all_read, hears_part}
+use Rattle.pref_script.proofs.HeardFacts.{heard_too_long, hears_next, parts_more, since, stops_early, stops_writing}
 use Rattle.pref_script.proofs.LineFacts.{little_left}
 use Rattle.pref_script.proofs.OutputFacts.{cut_of, script-parts}
 use Rattle.pref_script.specs.declared.fault.RunFault.TheVariants as fault

@@ -1,8 +1,7 @@
 -- The output of a script, part by part.
-use Rattle.pref_script.proofs.Common.{◌≡◌, ℕ, ◌+◌, ◌<◌, ◌≤◌, List, ◌∷◌, length, arith, refl, Ok, Err, true, ◌⊎◌, Result, cases_lt, le-ltb, lt-ltb, ltb-true, after_first, before_first, concat, Global, IfErr}
+use Rattle.pref_script.proofs.Common.{◌≡◌, ℕ, ◌+◌, ◌<◌, List, ◌∷◌, length, arith, refl, Ok, Err, true, ◌⊎◌, Result, after_first, before_first, concat, Global, IfErr}
 use Rattle.pref_script.proofs.Common.{IfOk, String, string_bytes, position_or_len, Fails, Table, table_of, Limits, Script, ScriptFault, PrintsOutput, in_bytes, output_of, script_of}
 use Rattle.pref_script.proofs.Common.{script_with, core_fault, table_fault, Parts, is_end_line, is_table_line, parts_of, raw_lines, RunFault, CoreFault}
-use Rattle.std.proofs.lemmas.Bool.{cases_Bool}
 use Rattle.pref_table.specs.declared.fault.TableFault.{TableFault}
 use Rattle.pref_core.specs.declared.fault.CoreFault.TheVariants as core
 use Rattle.pref_script.specs.declared.fault.RunFault.TheVariants as fault

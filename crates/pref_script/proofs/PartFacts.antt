@@ -1,8 +1,8 @@
 -- A client's part of a script, one line at a time.
-use Rattle.pref_script.proofs.Common.{◌≡◌, ◌≢◌, ◌∙◌, ℕ, suc, ◌+◌, ◌<◌, ◌≤◌, ◌^◌, true, false, List, [], ◌∷◌, ◌++◌, length, map, slice_get, Some, Ok, Err, refl, sym}
-use Rattle.pref_script.proofs.Common.{ap, arith, append_assoc, inl, inr, string_bytes, All, list_all, Vec, append-nil, length-append, is_blank, Event, AcceptsLeft, AllAccepted, AreParts, ArePartsUpTo}
+use Rattle.pref_script.proofs.Common.{◌≡◌, ◌≢◌, ◌∙◌, ℕ, suc, ◌+◌, ◌<◌, ◌≤◌, ◌^◌, false, List, [], ◌∷◌, ◌++◌, length, map, slice_get, Some, Ok, refl, sym}
+use Rattle.pref_script.proofs.Common.{ap, arith, append_assoc, inl, inr, string_bytes, All, Vec, append-nil, length-append, Event, AcceptsLeft, AllAccepted, AreParts, ArePartsUpTo}
 use Rattle.pref_script.proofs.Common.{HasReplied, IsAccepted, IsFound, IsGiven, AllGiven, IsPart, AreActs, acts_in, acts_left, accepted_events, act_of, commands_in, commands_of}
-use Rattle.pref_script.proofs.Common.{event_of, client_named, said_in, raw_lines, without_line_end, reply_lines, texts, clients_lines, unowned_line, unowned_lines, Refusal, Part}
+use Rattle.pref_script.proofs.Common.{event_of, client_named, said_in, raw_lines, without_line_end, reply_lines, texts, clients_lines, unowned_lines, Part}
 use Rattle.pref_script.proofs.Common.{◌==◌, NamesNone, cases_lt, drop, drop_all, drop_more, eqb-false, eqb-true, get_or, get_or_append_left, length-set, lines_in, lines_left, map-append, range_with_len, set, vec_len, Act}
 use Rattle.std.proofs.lemmas.List.Sums.{count_by-le-length, length-filter}
 use Rattle.std.proofs.lemmas.List.Elements.{filter-append}
@@ -19,7 +19,6 @@ use Rattle.pref_share.specs.Reports.{AreTaken}
 use Rattle.pref_share.proofs.RunsLaws.{there}
 use Rattle.pref_script.specs.ClientParts.{IsWhole, acts_found}
 use Rattle.pref_script.specs.declared.parts.Found.{Found}
-use Rattle.pref_script.proofs.ClientFacts.{acts-other, acts-own}
 use Rattle.pref_script.proofs.CommandFacts.{accepted_events-append, events-any_number, events-in, events-of_lines, lines-few, unowned-blank, unowned-own}
 use Rattle.pref_script.proofs.TextFacts.{texts-append}
 use Rattle.pref_script.specs.declared.parts.Found.TheVariants as found

@@ -1,7 +1,7 @@
 -- A script, one line at a time.
 use Rattle.pref_script.proofs.Common.{◌≡◌, ◌∙◌, ℕ, ◌+◌, ◌-◌, ◌<◌, ◌≤◌, true, false, List, [], ◌∷◌, ◌++◌, length, take, drop, get_or, sym, ap, refl, arith, append_assoc, Some, None, Err, concat}
-use Rattle.pref_script.proofs.Common.{position_or_len, slice_split, eqb-true, ne_eqb, append-nil, take-append-le, take_all, length-append, length-drop, take_more, position_or_len_is, IsFirstByte}
-use Rattle.pref_script.proofs.Common.{is_byte, is_end_line, is_line_feed, parts_of, raw_lines, with_line_feeds}
+use Rattle.pref_script.proofs.Common.{position_or_len, append-nil, take-append-le, take_all, length-append, length-drop, take_more, position_or_len_is, IsFirstByte}
+use Rattle.pref_script.proofs.Common.{is_byte, is_end_line, is_line_feed, parts_of, raw_lines}
 use borrow.Author.Count.{below_more}
 use Rattle.std.proofs.lemmas.List.{nil_from_length}
 use Rattle.std.proofs.lemmas.List.Folds.{concat-append}

@@ -1,5 +1,5 @@
 -- Lines that are printed one after the other.
-use Rattle.pref_script.proofs.Common.{arith, ◌≡◌, ◌∙◌, ℕ, ◌+◌, ◌<◌, ◌≤◌, List, [], ◌∷◌, ◌++◌, length, drop, get_or, refl, sym, ap, append_assoc, append-nil, drop_more, drop_all, texts}
+use Rattle.pref_script.proofs.Common.{arith, ◌≡◌, ◌∙◌, ℕ, ◌+◌, ◌<◌, ◌≤◌, List, [], ◌∷◌, ◌++◌, length, drop, get_or, refl, sym, append_assoc, append-nil, drop_more, drop_all, texts}
 
 -- one text more
 pub texts-more : {A : Type 0} (text : A → List ℕ) (out wrote all : List ℕ) (xs : List A) (place : ℕ) (x d : A) → place < length xs → get_or xs place d ≡ x

@@ -1,11 +1,11 @@
 -- What a script prints whose clients run on threads.
-use Rattle.pref_script.proofs.Common.{◌≡◌, ◌∙◌, ℕ, ◌+◌, ◌<◌, ◌≤◌, ◌^◌, arith, map, Bool, List, ◌++◌, length, refl, sym, ap, subst, Result, Ok, Err, IfErr, ◌⊎◌, inl, inr, ℤ, Vec, string_bytes, All, [], Limits}
+use Rattle.pref_script.proofs.Common.{◌≡◌, ◌∙◌, ℕ, ◌+◌, ◌<◌, ◌≤◌, ◌^◌, arith, map, Bool, List, ◌++◌, length, refl, sym, subst, Result, Ok, Err, IfErr, ◌⊎◌, inl, inr, ℤ, Vec, string_bytes, All, [], Limits}
 use Rattle.pref_script.proofs.Common.{AllGiven, AreParts, HasReplied, acts_left, accepted_events, commands_of, ScriptFault, script_of, script_with, IsOpeningOf, share_fault, raw_lines}
 use Rattle.pref_script.proofs.Common.{texts, Sink, Wrote, AreActs, ClosesOrStops, HoldsNobody, PrintsOnThreads, always_open, opening_of, unowned_lines, RunFault, Part, Act, CoreFault}
-use Rattle.pref_script.proofs.OutputFacts.{cut_of, script-core-fault, script-ok}
+use Rattle.pref_script.proofs.OutputFacts.{script-core-fault, script-ok}
 use Rattle.std.specs.declared.marker.Brand.{Brand}
 use Rattle.pref_share.specs.Openings.{Opening}
-use Rattle.pref_share.specs.Reports.{AreTaken, RanTasks}
+use Rattle.pref_share.specs.Reports.{RanTasks}
 use Rattle.pref_share.specs.Standing.{newcomers}
 use Rattle.pref_share.specs.declared.fault.ShareFault.{ShareFault}
 use Rattle.pref_share.proofs.InterleavingsLaws.{length-newcomers}

@@ -1,11 +1,10 @@
 -- The words of a command line.
 use Rattle.pref_script.proofs.Common.{◌≡◌, ◌∙◌, ℕ, ◌+◌, ◌-◌, ◌*◌, ◌<◌, true, false, List, length, take, drop, get_or, sym, ap, refl, arith, nat_lt, Some, None, ◌≤◌, nat_le, not}
-use Rattle.pref_script.proofs.Common.{is_ascii_digit, list_any, position_or_len, all_ascii_digits, bytes_eq, digits_value, and_left, and_right, le-leb, le-ltb, lt-leb, ne_eqb, true≢false}
+use Rattle.pref_script.proofs.Common.{is_ascii_digit, list_any, position_or_len, all_ascii_digits, bytes_eq, digits_value, and_left, and_right, le-leb, le-ltb, lt-leb, ne_eqb}
 use Rattle.pref_script.proofs.Common.{drop_all, get_or-drop, get_or-take, length-drop, take_all, fails_before_first, passes_at_first, position_or_len_is, digits_next, after_blanks, is_blank}
 use Rattle.pref_script.proofs.Common.{is_numeral, IsDigitsWord, after_word, word_number, word_of}
 use Rattle.std.specs.Int.{IsInRange}
 use Rattle.std.specs.Cmp.Lexicographic.{same_text}
-use Rattle.std.proofs.lemmas.Bool.{false_from_ne_true}
 use Rattle.std.proofs.lemmas.Int.Digits.{digits_value_more}
 use Rattle.std.proofs.lemmas.List.Folds.{length-prefix_len, list_any_at}
 use Rattle.std.proofs.lemmas.Str.{digit_value_digit}

@@ -1,4 +1,4 @@
-use Rattle.pref_script.proofs.Common.{◌∙◌, ◌-◌, ap, arith, drop, get_or, length, sym, length-drop, take_all, after_blanks, said_by_client}
+use Rattle.pref_script.proofs.Common.{arith, sym, length-drop, take_all}
 use Rattle.pref_script.proofs.FormFacts.{client_at}
 use Rattle.pref_script.proofs.forms.cut_client.Goals as goal
 

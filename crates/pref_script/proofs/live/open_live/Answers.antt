@@ -1,5 +1,4 @@
-use Rattle.pref_script.proofs.Common.{arith}
-use Rattle.pref_script.proofs.Common.{List, ℕ, subst, exits, IsOpened, OpeningFault, between, source_of}
+use Rattle.pref_script.proofs.Common.{arith, List, ℕ, subst, exits, IsOpened, OpeningFault, between, source_of}
 use Rattle.pref_script.proofs.LiveRunFacts.{opened_live, refused_block, refused_table}
 use Rattle.pref_script.proofs.live.open_live.Goals as goal
 

@@ -1,5 +1,4 @@
-use Rattle.pref_script.proofs.Common.{Ok, [], arith, subst, Appends-kept, exits, Turns, sink_of, source_of}
-use Rattle.pref_script.specs.declared.live.Turn.{Turn}
+use Rattle.pref_script.proofs.Common.{[], arith, Appends-kept, exits, sink_of, source_of}
 use Rattle.pref_script.proofs.HeardFacts.{heard_number, heard_too_many, ran_whole, stops_early}
 use Rattle.pref_script.proofs.LineFacts.{some_none}
 use Rattle.pref_script.proofs.LiveRunFacts.{replying_more, turn_failed}

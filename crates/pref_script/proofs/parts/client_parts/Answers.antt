@@ -1,4 +1,4 @@
-use Rattle.pref_script.proofs.Common.{◌∙◌, ℕ, List, arith, subst, sym, AllGiven, ArePartsUpTo, IsGiven, raw_lines}
+use Rattle.pref_script.proofs.Common.{◌∙◌, arith, raw_lines}
 use Rattle.pref_script.proofs.ScriptFacts.{lines_empty}
 use Rattle.pref_script.proofs.parts.client_parts.Goals as goal
 

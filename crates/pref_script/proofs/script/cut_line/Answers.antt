@@ -1,4 +1,4 @@
-use Rattle.pref_script.proofs.Common.{length, arith, take_all, drop_all}
+use Rattle.pref_script.proofs.Common.{arith, take_all, drop_all}
 use Rattle.pref_script.proofs.ScriptFacts.{lines_at, lines_last}
 use Rattle.pref_script.proofs.script.cut_line.Goals as goal
 

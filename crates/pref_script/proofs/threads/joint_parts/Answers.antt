@@ -1,4 +1,4 @@
-use Rattle.pref_script.proofs.Common.{ap, append-nil, arith, length, refl, sym, texts}
+use Rattle.pref_script.proofs.Common.{append-nil, arith, refl, sym, texts}
 use Rattle.pref_share.proofs.InterleavingsLaws.{length-newcomers}
 use Rattle.pref_script.proofs.threads.joint_parts.Goals as goal
 

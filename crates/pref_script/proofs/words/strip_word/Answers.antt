@@ -1,4 +1,4 @@
-use Rattle.pref_script.proofs.Common.{passes_at_first, true≢false, ◌≡◌, ◌∙◌, ◌<◌, true, ap, arith, get_or, length, rules, sym, None, eqb-false, eqb-true, after_blanks, is_blank}
+use Rattle.pref_script.proofs.Common.{passes_at_first, true≢false, arith, eqb-false, eqb-true, is_blank}
 use Rattle.pref_script.proofs.WordsFacts.{rest_first, word_at, word_place, word_stripped}
 use Rattle.std.proofs.lemmas.Bool.{false_from_ne_true}
 use Rattle.pref_script.proofs.words.strip_word.Goals as goal

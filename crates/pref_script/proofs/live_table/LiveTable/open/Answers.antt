@@ -1,5 +1,4 @@
-use Rattle.pref_script.proofs.Common.{arith}
-use Rattle.pref_script.proofs.Common.{◌∙◌, ap, subst, sym, List, ℕ, exits, Fails, table_of}
+use Rattle.pref_script.proofs.Common.{arith, ◌∙◌, ap, exits, table_of}
 use Rattle.pref_script.proofs.OutputFacts.{script-core-fault, script-table-fault}
 use Rattle.pref_script.proofs.live_table.LiveTable.open.Goals as goal
 

@@ -1,4 +1,4 @@
-use Rattle.pref_script.proofs.Common.{◌≤◌, ap, arith, length, length-append, IfOk-weaker, take_rest, is_at_end, unread}
+use Rattle.pref_script.proofs.Common.{arith, length-append, IfOk-weaker, take_rest, is_at_end, unread}
 use Rattle.std.proofs.lemmas.Result.{IfErr-weaker}
 use Rattle.pref_script.proofs.LineFacts.{last_at, long_none, long_some, whole_at}
 use Rattle.pref_script.proofs.read_ahead.ReadAhead.read_line.Goals as goal
