@@ -1,7 +1,6 @@
 -- One entry more comes to partitions, and what comes is put in order.
-use Rattle.pref_sky.proofs.Common.{◌≡◌, ℕ, ◌≤◌, ◌<◌, Bool, inl, inr, List, [], ◌∷◌, ◌++◌, Vec, Global, get_or, length, map, refl, arith, IsPermutation}
-use Rattle.pref_sky.proofs.Common.{All, map-append, All-push, sum_by-IsPermutation, Entry, Item, Pool, signature_by, Arrival}
-use Rattle.pref_sky.proofs.Common.{IsArrival, KeepsAllBut, arrived, AreInPool, HasGrown, IsItem, levels_at, partitions_at, IsBehind, held_at}
+use Rattle.pref_sky.proofs.Common.{◌≡◌, ℕ, ◌≤◌, ◌<◌, Bool, inl, inr, List, [], ◌∷◌, ◌++◌, Vec, Global, get_or, length, map, refl, arith, IsPermutation, All, map-append, All-push, sum_by-IsPermutation}
+use Rattle.pref_sky.proofs.Common.{Entry, Item, Pool, signature_by, Arrival, IsArrival, KeepsAllBut, arrived, AreInPool, HasGrown, IsItem, levels_at, partitions_at, IsBehind, held_at}
 use Rattle.pref_sky.proofs.ListLaws.{all_among, in_either, in_left, in_right, map_agree_among, same_if_permuted, count_append}
 use Rattle.pref_sky.proofs.PoolLaws.{entry_grown, item_grown, levels_grown, partition_here}
 

@@ -1,10 +1,9 @@
 -- The levels of a list in the order of stairs, by one pass: the last entry of a level stands for all of it. The entries of the levels up to a cut, each with its level: sorted by level and id they are the levels.
 use Rattle.pref_sky.proofs.Common.{◌≡◌, ℕ, suc, zero, ◌<◌, ◌≤◌, ◌+◌, Bool, true, false, not, ◌&&◌, ◌⊎◌, inl, inr, List, [], ◌∷◌, ◌++◌, refl, sym, ◌∙◌, ap, subst, arith, length, get_or}
-use Rattle.pref_sky.proofs.Common.{get_or-set_same, get_or-set_other, both_ways, and_parts, and_from, cases_eq, cases_lt, cond-true, cond-false, false_from_ne_true, ltb-true}
-use Rattle.pref_sky.proofs.Common.{get_or_append_left, get_or_push, length-set, length_push, Entry, entry_at, StandsBehind, count_above, with_last, AreStairs, comes_first, Among}
-use Rattle.pref_sky.proofs.Common.{map, filter, take, count_by, IsPermutation, IsSortedBy, All, cond, nat_tests}
-use Rattle.pref_sky.proofs.Common.{get_or-map, length-map, map-append, sorted_far, sum_by-IsPermutation, IsStrictOrder, ChainOrder, Ranked, best, rest, AreInOrder}
-use Rattle.pref_sky.proofs.Common.{own_levels, own_order, with_levels, with_level, HaveDifferentIds, at_level, entry_of, levels, ranked_upto, AreLeveled, AreLowest, eqb}
+use Rattle.pref_sky.proofs.Common.{get_or-set_same, get_or-set_other, both_ways, and_parts, and_from, cases_eq, cases_lt, cond-true, cond-false, false_from_ne_true, ltb-true, get_or_append_left}
+use Rattle.pref_sky.proofs.Common.{get_or_push, length-set, length_push, Entry, entry_at, StandsBehind, count_above, with_last, AreStairs, comes_first, Among, map, filter, take, count_by}
+use Rattle.pref_sky.proofs.Common.{IsPermutation, IsSortedBy, All, cond, nat_tests, get_or-map, length-map, map-append, sorted_far, sum_by-IsPermutation, IsStrictOrder, ChainOrder, Ranked, best, rest}
+use Rattle.pref_sky.proofs.Common.{AreInOrder, own_levels, own_order, with_levels, with_level, HaveDifferentIds, at_level, entry_of, levels, ranked_upto, AreLeveled, AreLowest, eqb}
 use Rattle.pref_sky.proofs.ListLaws.{among_place, any_from, place_of, same_answer, count_filter, count_filtered, from_filter, from_map, in_filter, in_map, SameMembers, same_if_permuted, leaves, stays}
 use Rattle.pref_sky.proofs.Merges.{is_at, HoldsLevels, held_all, held_within, comes_after, early_stays, unbeaten_over, same_chains}
 use Rattle.pref_sky.proofs.StairLaws.{later, stands_for, strict_stairs, filter_in_order}

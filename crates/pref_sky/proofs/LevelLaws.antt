@@ -1,8 +1,7 @@
 -- Laws of the levels, for the crates above: no entries have no levels, the order in which entries stand does not matter, what is held has different ids, and of twins the first is best.
-use Rattle.pref_sky.proofs.Common.{not, ◌≡◌, List, arith, RowOrder, Entry, best, entry_order, Among, ℕ}
-use Rattle.pref_sky.proofs.Common.{zero, suc, ◌<◌, Bool, [], ◌∷◌, ◌++◌, map, append_assoc, refl, sym, ◌∙◌, ap, append-nil, ◌==◌, flat_map, IsStrictOrder, Row, Best}
-use Rattle.pref_sky.proofs.Common.{TopLevel, AtLeast, Question, Ranked, rest, without_best, order_of, order_of_is_row_order, HaveDifferentIds, entry_of}
-use Rattle.pref_sky.proofs.Common.{held_after, levels, count_upto, selected, answer_of, at_least}
+use Rattle.pref_sky.proofs.Common.{not, ◌≡◌, List, arith, RowOrder, Entry, best, entry_order, Among, ℕ, zero, suc, ◌<◌, Bool, [], ◌∷◌, ◌++◌, map, append_assoc, refl, sym, ◌∙◌, ap, append-nil, ◌==◌}
+use Rattle.pref_sky.proofs.Common.{flat_map, IsStrictOrder, Row, Best, TopLevel, AtLeast, Question, Ranked, rest, without_best, order_of, order_of_is_row_order, HaveDifferentIds, entry_of, held_after}
+use Rattle.pref_sky.proofs.Common.{levels, count_upto, selected, answer_of, at_least}
 use Rattle.pref_sky.specs.Twins.{IsFirstOfTwins}
 use Rattle.pref_term.specs.declared.ask.Mode.{Mode}
 use Rattle.pref_sky.proofs.ListLaws.{SameMembers, any_from, any_gives, count_and, count_within, from_filter, in_filter, count_append}

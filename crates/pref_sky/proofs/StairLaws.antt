@@ -60,7 +60,6 @@ module _ {E : Type 0} (over f s t : E → E → Bool) (stairs : AreStairs over f
   one_candidate =
       record {
         candidate = λ front y back x ordered apart reach beyond.
-            let level = front ++ y ∷ back in
             let front_then : is_beaten over front x ≡ true → over y x ≡ true =
             λ h. let w = any_gives (λ z. over z x) front h in
             let before = in_order_across (λ a b. not (f b a)) front (y ∷ back) ordered w.0 y w.1 (inl refl) in

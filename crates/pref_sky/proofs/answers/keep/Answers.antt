@@ -1,5 +1,4 @@
-use Rattle.pref_sky.proofs.Common.{◌≡◌, ◌≤◌, ◌<◌, Bool, false, map, length, get_or, ◌∙◌, arith, length-set, get_or-map, get_or_default, [], Ranked, FiltersInPlace-more_no}
-use Rattle.pref_sky.proofs.Common.{FiltersInPlace-more_set}
+use Rattle.pref_sky.proofs.Common.{◌≡◌, ◌≤◌, ◌<◌, Bool, false, map, length, get_or, ◌∙◌, arith, length-set, get_or-map, get_or_default, [], Ranked, FiltersInPlace-more_no, FiltersInPlace-more_set}
 use Rattle.pref_sky.proofs.ListLaws.{same_there}
 use Rattle.pref_sky.proofs.answers.keep.Goals.{then-chosen-place, else-chosen-place}
 use Rattle.pref_sky.proofs.answers.keep.Goals as goal

@@ -1,5 +1,4 @@
-use Rattle.pref_sky.proofs.Common.{rules, ◌≡◌, ◌-◌, leb, sym, subst, arith, IsNonDecreasingBy, IsPartitionPoint-from_clause}
-use Rattle.pref_sky.proofs.Common.{IsPartitionedBy-leb, Ranked}
+use Rattle.pref_sky.proofs.Common.{rules, ◌≡◌, ◌-◌, leb, sym, subst, arith, IsNonDecreasingBy, IsPartitionPoint-from_clause, IsPartitionedBy-leb, Ranked}
 use Rattle.pref_sky.proofs.AtLeastLaws.{all_ranked, first_ranked, none_ranked}
 use Rattle.pref_sky.proofs.answers.keep_first_levels.Goals as goal
 

@@ -1,5 +1,4 @@
-use Rattle.pref_sky.proofs.Common.{◌≡◌, ◌≤◌, ◌<◌, ◌⊎◌, map, get_or, length, ◌∙◌, ap, arith, Arrival, item_order, items_at, Parted, signature_by}
-use Rattle.pref_sky.proofs.Common.{◌++◌}
+use Rattle.pref_sky.proofs.Common.{◌≡◌, ◌≤◌, ◌<◌, ◌⊎◌, map, get_or, length, ◌∙◌, ap, arith, Arrival, item_order, items_at, Parted, signature_by, ◌++◌}
 use Rattle.pref_sky.proofs.Merges.{entry_order_is_strict}
 use Rattle.pref_sky.proofs.MadeLevels.{making_items_begin, making_items_end, making_items_more}
 use Rattle.pref_sky.proofs.making.made_of.Goals.{then-each_level-test+else-not-is_empty, then-is_empty, else-is_empty, else-each_level-test}
@@ -31,7 +30,6 @@ each_level-preserved g c =
     let here : c.len-place.result ≡ length made = omega (arith, c.len-place.ensures, c.each_level.made.ok.0) in
     let below : length made < c.args.cut = omega (arith, c.each_level-test.true, c.len.ensures, c.each_level.made.ok.0) in
     let others = c.count_starting.ensures.others so_far.in_order (λ k d inside. omega (arith, here, so_far.behind k d inside)) in
-    let held_is : c.level_at-held.result.now ≡ items_at (length made) levels = c.level_at-held.ensures ∙ ap (λ n. items_at n levels) here in
     let now = c.push_items.new.items.items in
     let top = c.in_ok-found.found.best in
     let down = c.in_ok-found.found.rest.items in

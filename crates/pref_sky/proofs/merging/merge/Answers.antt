@@ -1,11 +1,12 @@
-use Rattle.pref_sky.proofs.Common.{◌≡◌, ◌∙◌, ◌++◌, ◌+◌, [], ◌∷◌, true, false, not, take, drop, sym, ap, subst, append_assoc, take-append-drop, drop_more, Entry, AreInOrder, arith}
+use Rattle.pref_sky.proofs.Common.{◌≡◌, ◌∙◌, ◌++◌, ◌+◌, [], ◌∷◌, true, false, not, take, drop, sym, ap, subst, append_assoc, take-append-drop, IsPermutation, drop_more, Entry, AreInOrder}
 use Rattle.pref_sky.proofs.Common.{comes_before, Among}
 use Rattle.pref_sky.proofs.ChainStairs.{before_is_chain}
 use Rattle.pref_sky.proofs.ListLaws.{front_more, below_later, in_order_back, merged_more, moved_more}
 use Rattle.pref_sky.proofs.merging.merge.Goals as goal
 
 pub count_before-requires : goal.count_before-requires
-count_before-requires c = grind (arith, in_order_back)
+count_before-requires c =
+    in_order_back (λ a b. not (comes_before c.args.order.now b a)) c.loop-entry.all.items c.loop-entry.rest.now c.loop-entry.invariant.sorted
 
 pub loop-entry-preserved : goal.loop-entry-preserved
 loop-entry-preserved c =
@@ -29,7 +30,9 @@ loop-entry-preserved c =
     let passed : (x : Entry) → Among x front → comes_before order x e ≡ true = λ x m. c.count_before.ensures.front x (subst (Among x) c.split_at.ensures.front m) in
     let left : (x : Entry) → Among x back → comes_before order x e ≡ false = λ x m. c.count_before.ensures.back x (subst (Among x) c.split_at.ensures.back m) in
     record {
-      moved = grind (arith, front_more coming place e c.loop-entry-test.true c.entry-item.is, append_assoc c.args.sorted.now (take place coming) (e ∷ []), moved_more (c.args.sorted.now ++ take place coming) all front back e);
+      moved = subst (λ l. IsPermutation l (c.push.new.self.items ++ back)) (sym (ap (λ l. c.args.sorted.now ++ l) (front_more coming place e c.loop-entry-test.true c.entry-item.is) ∙ sym (append_assoc c.args.sorted.now (take place coming) (e ∷ []))))
+          (subst (IsPermutation ((c.args.sorted.now ++ take place coming) ++ e ∷ [])) (sym whole)
+          (moved_more (c.args.sorted.now ++ take place coming) all front back e (subst (λ l. IsPermutation (c.args.sorted.now ++ take place coming) (all ++ l)) c.split_at.ensures.by_index.0 inv.moved)));
       sorted = subst (AreInOrder order) (sym whole) (merged_more (comes_before order) chain all front back e later sorted ordered below passed left);
       below = λ a b m k. below_later (comes_before order) chain all front back e later sorted ordered below passed left a b (subst (Among a) new m) k;
     }

@@ -7,7 +7,6 @@ pub push_items-requires : goal.push_items-requires
 push_items-requires c =
     let rule = c.requires.items.0 in
     let pool = c.args.pool.now in
-    let partition : Vec (Vec Item Global) Global = c.levels-item.result in
     grind (arith, all_held (IsItem rule pool) c.deref.result.now)
 
 pub loop-levels-preserved : goal.loop-levels-preserved

@@ -30,7 +30,6 @@ each_pass-preserved g c =
     let end = c.offer_all.new.pass in
     let passed : Passes over held room all best [] inv.before end = c.in_ok-offer_all.ensures {u = tt} held all best inv.before (subst (λ l. Passes over held room all best l inv.before c.each_pass.pass) (sym c.deref.ensures.value) inv.passed) in
     let some : 0 < length left = omega (arith, eqb-false (vec_len c.each_pass.input) 0 (sym c.is_empty-in-each_pass.ensures ∙ c.each_pass-test.true), c.each_pass.input.ok.0) in
-    let more = more_settled passed (omega (arith, inv.unsettled, some)) in
     let s = c.in_ok-input-2.ensures in
     let next = passing_same (pass_ends passed (omega (arith, c.saturating_add-room.ensures, c.requires))) s.best s.next s.early s.late s.overflow s.rest in
     grind (arith, length-append best end.early.items, pass_long next)
@@ -44,7 +43,6 @@ each_pass-smaller g c =
     let best = c.each_pass.best.items in
     let end = c.offer_all.new.pass in
     let passed : Passes over held c.saturating_add-room.result all best [] inv.before end = c.in_ok-offer_all.ensures {u = tt} held all best inv.before (subst (λ l. Passes over held c.saturating_add-room.result all best l inv.before c.each_pass.pass) (sym c.deref.ensures.value) inv.passed) in
-    let some : 0 < length c.each_pass.input.items = omega (arith, eqb-false (vec_len c.each_pass.input) 0 (sym c.is_empty-in-each_pass.ensures ∙ c.each_pass-test.true), c.each_pass.input.ok.0) in
     grind (arith, more_settled passed, length-append best end.early.items)
 
 pub returns-clause-parted : goal.returns-clause-parted

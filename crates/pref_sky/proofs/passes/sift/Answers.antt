@@ -1,5 +1,4 @@
-use Rattle.pref_sky.proofs.Common.{◌≡◌, ◌∙◌, ◌<◌, ◌/◌, true, length, sym, ap, subst, arith, vec_len, get_or_default, IsPermutation-swap, is_better, is_worse}
-use Rattle.pref_sky.proofs.Common.{Item, item_order, Among, Sifted, false}
+use Rattle.pref_sky.proofs.Common.{◌≡◌, ◌∙◌, ◌<◌, ◌/◌, true, length, sym, ap, subst, arith, vec_len, get_or_default, IsPermutation-swap, is_better, is_worse, Item, item_order, Among, Sifted, false}
 use Rattle.std.proofs.lemmas.List.Elements.{AllWithin-more, at_read}
 use Rattle.pref_sky.proofs.ListLaws.{all_among, among_if, some_of, among_place, any_from, same_if_permuted}
 use Rattle.pref_sky.proofs.PassesLaws.{AreClear, clear_after_move, sifted_more, sifted_moved}
@@ -9,7 +8,6 @@ use Rattle.pref_sky.proofs.passes.sift.Goals as goal
 -- one of the list is alike
 pub returns-in-Same : goal.returns-in-Same
 returns-in-Same g c =
-    let over = item_order (g.D.Dominance.order c.args.dominance.now) c.args.pool.now in
     grind (arith, among_if, some_of, among_place)
 
 -- one of the list dominates the item: it goes to a place further up

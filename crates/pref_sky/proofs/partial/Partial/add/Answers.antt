@@ -15,5 +15,4 @@ returns-in_ok-self-inside-in-Nothing-clause-ok g c = grind (arith, merge_none, e
 -- the chains say what the order says
 pub returns-then-is_of-clause-ok : goal.returns-then-is_of-clause-ok
 returns-then-is_of-clause-ok g c =
-    let new = c.add.new.self in
     grind (arith, says_its_levels (g.D.Dominance.order c.args.dominance.now) c.in-Sorted.sorted.pruned.order c.args.cut (c.is_of.ensures c.if-is_of.true))

@@ -12,7 +12,6 @@ count_coming-requires-clause-first g c = first_partition c.each_partition.rest.n
 
 pub made_of-requires-clause-start : goal.made_of-requires-clause-start
 made_of-requires-clause-start g c =
-    let rest = c.each_partition.rest.now in
     let inv = c.each_partition.invariant in
     grind (arith, in_here, front_starts inv)
 

@@ -1,5 +1,4 @@
-use Rattle.pref_sky.proofs.Common.{append-nil, arith, nil_from_length}
-use Rattle.pref_sky.proofs.Common.{entry_order}
+use Rattle.pref_sky.proofs.Common.{append-nil, arith, nil_from_length, entry_order}
 use Rattle.pref_sky.proofs.LevelLaws.{held_differ, levels_of_none, next_piece}
 use Rattle.pref_sky.proofs.partitions.Partitions.of.Goals as goal
 

@@ -10,5 +10,4 @@ push_partitions-requires-clause-items c =
 
 pub loop-place-preserved : goal.loop-place-preserved
 loop-place-preserved c =
-    let place = c.loop-place.place in
     grind (arith, all_differ)

@@ -1,5 +1,4 @@
-use Rattle.pref_sky.proofs.Common.{◌≡◌, ◌∙◌, List, [], drop, get_or, take, subst, take-append-drop, Item, IsItem, entry_at, signature_by, Among, arith}
-use Rattle.pref_sky.proofs.Common.{get_or_default}
+use Rattle.pref_sky.proofs.Common.{◌≡◌, ◌∙◌, List, [], drop, get_or, take, subst, take-append-drop, Item, IsItem, entry_at, signature_by, Among, arith, get_or_default}
 use Rattle.pref_sky.proofs.ListLaws.{all_among, among_place, any_from, in_left, in_map}
 use Rattle.pref_sky.proofs.pool.Pool.dominates.Goals as goal
 
