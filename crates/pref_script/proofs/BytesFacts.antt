@@ -19,7 +19,3 @@ pub row_text-more : (cells : List ℤ) (col : ℕ) → 0 < col → row_text (col
 row_text-more cells col some =
     let text = λ (k : ℕ). signed_decimal (get_or cells k (pos 0)) in
     rw (map-range_with_len_more text 0 col col (omega arith)) (join-push 44 (map text (range_with_len 0 col)) (text col) (omega (arith, length-map-range_with_len text 0 col)))
-
--- a comma and a text pushed after a row
-pub pushed-more : (out row a b c text : List ℕ) → a ≡ out ++ row → b ≡ a ++ 44 ∷ [] → c ≡ b ++ text → c ≡ out ++ (row ++ (44 ∷ text))
-pushed-more out row a b c text first comma last = grind (arith, append_assoc)

@@ -85,9 +85,6 @@ long_none text from ended none before after = grind (arith, none_met text from n
 pub one_line : (line : List ℕ) → IsWhole line → raw_lines line ≡ line ∷ []
 one_line line whole = ap raw_lines (sym (append-nil line)) ∙ whole [] ∙ ap (λ (t : List (List ℕ)). line ∷ t) lines_none
 
-pub ends_whole : (line : List ℕ) → IsWhole line → EndsWithLine line
-ends_whole line whole = λ more. whole more ∙ ap (λ (t : List (List ℕ)). t ++ raw_lines more) (sym (one_line line whole))
-
 -- two texts that end with a line, one after the other
 pub ends_more : (a b : List ℕ) → EndsWithLine a → EndsWithLine b → EndsWithLine (a ++ b)
 ends_more a b first next = grind (arith, append_assoc)
