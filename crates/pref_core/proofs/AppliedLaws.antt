@@ -12,9 +12,6 @@ AllZip-set : {A B : Type 0} (R : A → B → Type 0) (xs : List A) (ys : List B)
 AllZip-set R (x ∷ xs) (y ∷ ys) (suc k) a b r h = (h.0, AllZip-set R xs ys k a b r h.1)
 AllZip-set R xs ys k a b r h = grind (arith)
 
-AllZip-with_seat : {A B : Type 0} (R : A → B → Type 0) (xs : List A) (ys : List B) (client : ℕ) (a : A) (b : B) → R a b → AllZip R xs ys → AllZip R (with_seat client a xs) (with_seat client b ys)
-AllZip-with_seat R xs ys client a b r h = grind (arith, AllZip-set)
-
 counted_stands : (contents : Contents) (state : State) (client : ℕ) (call : Call) → StandsFor contents state → StandsFor
     (record { slots = contents.slots; stamp = contents.stamp; next_id = contents.next_id; callers = callers_after contents.stamp contents.callers client call })
     (record { table = state.table; next_id = state.next_id; commits = state.commits; clients = counted state client call })
@@ -31,7 +28,7 @@ counted_stands contents state client call h = record {
         (elim a as (λ x. List Caller) [ None ↦ contents.callers | Some found ↦ with_seat client (record { calls = suc found.calls; at_begin = begin_after contents.stamp call found.at_begin }) contents.callers ])
         (elim b as (λ x. List Client) [ None ↦ state.clients | Some found ↦ with_seat client (record { calls = suc found.calls; at_begin = begun_after state call found.at_begin }) state.clients ])
     go nobody = h.clients
-    go (somebody caller found s) = grind (arith, AllZip-with_seat)
+    go (somebody caller found s) = grind (arith, AllZip-set)
 
 -- a change that succeeds misses no row
 pub succeeds-missing : (capacity : ℕ) (begins : Bool) (m : Option ℕ) (size : ℕ) (success_outcome : Outcome) → succeeds (outcome_of capacity begins m size success_outcome) ≡ true → m ≡ None

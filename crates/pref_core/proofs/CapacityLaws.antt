@@ -27,16 +27,16 @@ found_set key (client ∷ clients) (suc k) new h =
     (λ (rest : holds key (found_tables clients) ≡ true). or_right (holds key (found_of new.at_begin)) _ (cons_found key client clients ∙ or_right (holds key (found_of client.at_begin)) _ rest))
     (or_cases _ _ (found_set key clients k new there)))
     (or_cases _ _ (sym (cons_found key client (slice_set clients k new)) ∙ h))
-found_set key clients k new h = grind (arith, holds, cons_found)
+found_set key clients k new h = grind (arith, cons_found)
 
 found_has : (key : Key) (clients : List Client) (k : ℕ) (who : Client) → slice_get clients k ≡ Some who → holds key (found_of who.at_begin) ≡ true → holds key (found_tables clients) ≡ true
 found_has key (client ∷ clients) (suc k) who at h = cons_found key client clients ∙ or_right (holds key (found_of client.at_begin)) _ (found_has key clients k who at h)
-found_has key clients k who at h = grind (arith, cons_found, holds)
+found_has key clients k who at h = grind (arith, cons_found)
 
 -- what open queries found after a call: no more than before, and the table where the call is a begin
 found_counted : (key : Key) (table : List Line) (state : State) (client : ℕ) (call : Call) → (is_change call ≡ false → table ≡ state.table) → holds key (found_tables (counted state client call)) ≡ true → (holds key table || holds key (found_tables state.clients)) ≡ true
 unfolding holds found_of
-found_counted key table state client call quiet = grind (arith, holds, found_has, found_set)
+found_counted key table state client call quiet = grind (arith, found_has, found_set)
 
 -- with these clients no more is needed
 needed_counted : (table : List Line) (state : State) (client : ℕ) (call : Call) (next_id commits : ℕ) → (is_change call ≡ false → table ≡ state.table)
@@ -67,7 +67,7 @@ after_fits capacity state client call fits = go (is_change call) refl (succeeds 
         let made = change_fits capacity state call c e fits in
         let fewer_now = needed_counted (committed call state).table state client call (committed call state).next_id (committed call state).commits (λ q. absurd (let both : true ≡ false = sym c ∙ q in cc)) in
         omega arith
-    go c h2 s e = grind (arith, noted_fits, change_fits)
+    go c h2 s e = grind (arith, noted_fits)
 
 pub needed_fits : NeededFits
 needed_fits capacity state [] fits legal = fits

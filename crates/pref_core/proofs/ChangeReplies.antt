@@ -106,7 +106,7 @@ change_returns running system client call done op new act c quiet h plans is = s
     outcome_is = plan.2.next.outcome ∙ ap (λ n. outcome n (state_of system) op.call) h.capacity
 
     stands : StandsForSystem after (changed op.outcome done call (counted_with change_comes.who.query client change_comes.who system)).next
-    stands = grind (arith, change_comes, plan, outcome_is, changed_stands)
+    stands = grind (arith, change_comes, plan, changed_stands)
 
     by_outcome : (o : Outcome) → StandsForSystem after (changed o done call (counted_with change_comes.who.query client change_comes.who system)).next
         → Returns running (changed o done call (counted_with change_comes.who.query client change_comes.who system)) act (reply_for o done) after
@@ -144,7 +144,7 @@ begin_returns running system client ask op new stamp allowed now h plans is =
 
     right : step running.limits system (record { client = client; act = ActBegin ask })
         ≡ record { reply = Begun (blocks running.limits); next = counted_with (Some (record { ask = ask; table = system.table; commits = system.commits; left = blocks running.limits })) client there.who system }
-    right = grind (arith, somebody_steps, there, let_in, let_in_steps)
+    right = grind (arith, there, let_in, let_in_steps)
 
     stands : StandsForSystem (running_of new running.limits (with_seat client (Some (begin ask stamp running.limits)) running.scans)) (counted_with (Some (record { ask = ask; table = system.table; commits = system.commits; left = blocks running.limits })) client there.who system)
     stands =

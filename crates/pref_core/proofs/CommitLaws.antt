@@ -49,7 +49,7 @@ has_put shown table id = sym (list_any-IsPermutation (λ line. eqb line.id id) (
 -- what stays fresh once another row is there
 fresh_put : (limit : ℕ) (shown : Line) (table : List Line) (begun : List Entry) → among (ids_of begun) shown.id ≡ false → AreFresh limit table begun → AreFresh limit (put shown table) begun
 fresh_put limit shown table [] a h = grind (arith)
-fresh_put limit shown table (fresh ∷ rest) a h = grind (arith, fresh_put limit shown table rest, ids_of, has_put)
+fresh_put limit shown table (fresh ∷ rest) a h = grind (arith, fresh_put limit shown table rest, has_put)
 
 rows_ordered : (limit made : ℕ) (begun : List Entry) (table : List Line) → AreFresh limit table begun → IsOrdered table → IsOrdered (with_rows made begun table)
 rows_ordered limit made [] table f h = h

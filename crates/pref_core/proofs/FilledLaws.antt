@@ -46,7 +46,7 @@ free_there contents uses links place h f = go (slice_get uses place) refl (ap (�
     go o e is = grind (arith)
 
 pub free_inside : (contents : Contents) (uses : List SlotUse) (links : List ℕ) (place : ℕ) → IsTracked contents uses links → is_free (stamps contents) contents.slots place ≡ true → place < length contents.slots
-free_inside contents uses links place h f = grind (arith, slice_get_within, length-map)
+free_inside contents uses links place h f = grind (arith, slice_get_within)
 
 -- The ids that the slots show, with one more.
 pub ids_born : (made place : ℕ) (fresh : Entry) (slots : List (Option Version)) → fresh.id < 2 ^ 64 → place < length slots → IsPlaceOf made fresh.id slots None → AreIds (2 ^ 64) (id_at (ids_of made slots))

@@ -14,7 +14,7 @@ use Rattle.pref_core.proofs.SlotUseLaws.{has_row_at}
 
 -- Slots for all rows that a change begins, which misses none: it succeeds.
 chosen_at_once : (contents : Contents) (call : Call) (slots : List ℕ) → is_change call ≡ true → is_formed call ≡ true → missing (ended call) (visible contents.stamp contents.slots) ≡ None → ChosenUpTo contents call [] slots → FitAtOnce contents call slots
-chosen_at_once contents call slots c formed none h = grind (arith, all_chosen, stamps_next, closed_slots, append-nil, outcome_fits, plan_is_not_full, outcome_other)
+chosen_at_once contents call slots c formed none h = grind (arith, all_chosen, stamps_next, closed_slots, append-nil, outcome_fits, plan_is_not_full)
 
 -- A place that was taken for one of the first changes: it was free, or a row stood there that one of them ends.
 pub record StoodThere (contents : Contents) (ids : List ℕ) (place : ℕ) : Type 0 where

@@ -82,7 +82,7 @@ free_other uses mark p n = ap (λ (o : Option SlotUse). elim o as (λ x. Bool) [
 
 count_one : (uses : List SlotUse) (mark : ℕ) → mark < length uses → free_at uses mark ≡ false → count_by is_free_use (set uses mark Free) ≡ suc (count_by is_free_use uses)
 count_one [] mark l f = absurd (omega arith)
-count_one (z ∷ zs) zero l f = grind (arith, count_by-cons is_free_use Free zs, one_no (is_free_use z) f)
+count_one (z ∷ zs) zero l f = grind (arith, count_by-cons is_free_use Free zs)
 count_one (z ∷ zs) (suc mark) l f = grind (arith, count_one zs mark (omega arith) f, count_by-cons is_free_use z zs, count_by-cons is_free_use z (set zs mark Free))
 
 marked_count : (before after : List SlotUse) (marks : List ℕ) → length before ≡ length after → AreApart marks
@@ -187,7 +187,7 @@ module _ (contents : Contents) (state : State) (bounded : IsBounded contents) (s
 
   -- where a row stands it isn't
   pub row_taken : (id place : ℕ) → row_at contents.stamp id contents.slots place ≡ true → free_at uses place ≡ false
-  row_taken id place row = grind (arith, use_there, row_alive, holds_there)
+  row_taken id place row = grind (arith, use_there, holds_there)
 
   -- the slot of a place is free once rows ended where it was free, or one of them stood there and nobody needs it
   frees_open : (ids olds : List ℕ) (place : ℕ) → AreOldPlaces contents.stamp ids contents.slots olds → frees_at ns ids made contents.slots place ≡ (free_at uses place || (among olds place && frees_at ns ids made contents.slots place))

@@ -52,11 +52,6 @@ place_behind limit capacity homes ids links id node place linked inside before a
     go : (o : Option ℕ) → ids (links node) ≡ o → LeadsTo capacity homes ids (homes id) before.bound (links node) o → o ≡ Some id
     go o e leads = grind (arith)
 
--- A node of an id's home that is not the last one before it has a greater bound than that one, which is a row's.
-other_node : (limit capacity : ℕ) (homes : ℕ → ℕ) (ids : ℕ → Option ℕ) (id node b n : ℕ) (before : IsBefore limit capacity homes ids id node) → AreIds limit ids
-    → IsNode limit capacity homes ids (homes id) b n → (n ≡ node → ⊥) → id < b → (ids node ≡ Some before.bound) × (homes before.bound ≡ homes id) × (before.bound < b)
-other_node limit capacity homes ids id node b n before known is apart less = grind (arith)
-
 -- What a node is called is its own.
 one_node : (limit capacity : ℕ) (homes : ℕ → ℕ) (ids : ℕ → Option ℕ) (home other bound b node : ℕ) → ((place id : ℕ) → ids place ≡ Some id → place < capacity)
     → IsNode limit capacity homes ids home bound node → IsNode limit capacity homes ids other b node → (home ≡ other) × (bound ≡ b)
@@ -101,7 +96,7 @@ added limit capacity homes ids after links linked_after id place node known with
         go o e leads = grind (arith)
 
         new_one : b ≡ id → homes b ≡ home → LeadsTo capacity homes after home b (linked_after n) (after (linked_after n))
-        new_one is_id is_home = grind (arith, leads, go)
+        new_one is_id is_home = grind (arith, leads)
 
     -- the node before leads to the new row
     at_node : (n ≡ place → ⊥) → n ≡ node → LeadsTo capacity homes after home b (linked_after n) (after (linked_after n))
@@ -159,7 +154,7 @@ removed limit capacity homes ids after links linked_after id place node known wi
         leads = linked home b n less was_node
 
         apart : links n ≡ place → ⊥
-        apart e = grind (arith, leads, was_node)
+        apart e = grind (arith, leads)
 
         go : (o : Option ℕ) → LeadsTo capacity homes ids home b (links n) o → LeadsTo capacity homes after home b (links n) o
         go o leads = grind (arith)

@@ -140,7 +140,7 @@ module _ (contents : Contents) (within : AllByRecursion (IsWithin contents.next_
           index_after contents op next after true later e both (done change after (rw both at e))
 
       go : (b : Bool) → is_change op.call ≡ b → IsIndexOf (applied contents op) later
-      go b e = grind (arith, placed, indexed_still, later)
+      go b e = grind (arith, placed, indexed_still)
 
   -- Before an op is done, it gives the places of the rows that the op ends.
   pub ended_there : (op : Op) (index : Pairs) → is_next contents op ≡ true → succeeds op.outcome ≡ true → IsIndexOf contents index → AreThere contents contents.next_id (ended op.call) index
@@ -152,7 +152,7 @@ module _ (contents : Contents) (within : AllByRecursion (IsWithin contents.next_
   }
     where
       there : (id : ℕ) → among (ended op.call) id ≡ true → has (visible contents.stamp contents.slots) id ≡ true
-      there id ends = grind (arith, found_all, none_missing, no_changes)
+      there id ends = grind (arith, found_all, no_changes)
 
 -- A row is added only by a call that adds one.
 pub adds_planned : (contents : Contents) (op : Op) → is_next contents op ≡ true → adds op.outcome ≡ true → nat_lt 0 (added op.call) ≡ true

@@ -8,7 +8,7 @@ use Rattle.pref_core.proofs.PlanLaws.{same_outcome_refl}
 use Rattle.pref_core.proofs.Common.{arith}
 
 pub is_next-from : (contents : Contents) (state : State) (op : Op) → StandsFor contents state → IsNext (length contents.slots) state op → is_next contents op ≡ true
-is_next-from contents state op h next = grind (arith, same_refusal, same_calls, same_outcome_at, same_outcome_refl)
+is_next-from contents state op h next = grind (arith, same_refusal, same_calls, same_outcome_at)
 
 pub IsNext-from : (contents : Contents) (state : State) (op : Op) → StandsFor contents state → is_next contents op ≡ true → IsNext (length contents.slots) state op
 IsNext-from contents state op h next = grind (arith, IsAllowed-from, same_refusal, same_calls, same_outcome_at)

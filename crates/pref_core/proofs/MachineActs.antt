@@ -75,7 +75,7 @@ begin_does old client ask op new stamp scans allowed now plan is placed =
 
 pub scan_does : (old : Running) (client : ℕ) (result : Result ℕ CoreFault) (scans placed : List (Option Scan)) → placed ≡ scans → ScansAt (seat client old.scans) old.contents.slots client old.scans result scans
     → Does old client ActScan (as_reply Left result) (running_of old.contents old.limits placed)
-scan_does old client result scans placed is says = grind (arith, running_of, scan_returns)
+scan_does old client result scans placed is says = grind (arith, scan_returns)
 
 pub finish_early : (old : Running) (client : ℕ) (op : Op) (fault : CoreFault) → PlansAlways old.contents client Finish (Ok op) → AnswersAt (seat client old.scans) (Err fault) → Does old client ActFinish (Err fault) old
 finish_early old client op fault plans says = record { limits = refl; returns = λ system h. finish_not_done old system client op fault h plans says }

@@ -36,12 +36,12 @@ holds_key-others-at x key (k ∷ ks) h = grind (arith, holds_key-others-at x key
 pub AreDifferent-others : (x : Key) (ks : List Key) → AreDifferent ks → AreDifferent (others x ks)
 unfolding others
 AreDifferent-others x [] h = tt
-AreDifferent-others x (k ∷ ks) h = grind (arith, AreDifferent-others x ks h.1, others, holds_key-others-at, same_key_comm)
+AreDifferent-others x (k ∷ ks) h = grind (arith, AreDifferent-others x ks h.1, others, holds_key-others-at)
 
 pub length-others : (x : Key) (ks : List Key) → AreDifferent ks → holds_key ks x ≡ true → length ks ≡ suc (length (others x ks))
 unfolding others
 length-others x [] h is = absurd (cc)
-length-others x (k ∷ ks) h is = grind (arith, length-others x ks h.1, others, same_key-true, others_none)
+length-others x (k ∷ ks) h is = grind (arith, length-others x ks h.1, others, others_none)
 
 -- lists without doubles that hold the same keys are as long
 same_length : (xs ys : List Key) → AreDifferent xs → AreDifferent ys → ((key : Key) → holds_key xs key ≡ holds_key ys key) → length xs ≡ length ys
@@ -128,7 +128,7 @@ holds_key-filter p (slot ∷ slots) key h = grind (arith, holds_key-filter p slo
 
 AreDifferent-filter : (p : Option Version → Bool) (slots : List (Option Version)) → AreDifferent (slot_keys slots) → AreDifferent (slot_keys (filter p slots))
 AreDifferent-filter p [] h = tt
-AreDifferent-filter p (slot ∷ slots) h = grind (arith, AreDifferent-filter p slots, slot_keys-filter, holds_key-filter, slot_keys)
+AreDifferent-filter p (slot ∷ slots) h = grind (arith, AreDifferent-filter p slots, holds_key-filter, slot_keys)
 
 -- an empty slot is needed at no stamp
 pub is_needed-empty : (ns : List ℕ) → is_needed ns None ≡ false

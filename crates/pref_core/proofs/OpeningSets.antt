@@ -41,7 +41,7 @@ opened_ascend capacity free i j h le l = grind (arith)
 -- the uses, pointwise and as a list
 slot_use : (capacity rows p : ℕ) → rows ≤ capacity → p < capacity → (d : SlotUse)
     → use_at (opened capacity (capacity - rows)) (rotated capacity (capacity - rows) p) ≡ get_or (replicate rows Live ++ replicate (capacity - rows) Free) p d
-slot_use capacity rows p r l d = grind (arith, length-replicate, low, get_or-append, get_or-replicate, high, use_free, get_or-append_right)
+slot_use capacity rows p r l d = grind (arith, length-replicate, low, get_or-append, get_or-replicate, high, get_or-append_right)
 
 pub turned_uses : (capacity rows : ℕ) → rows ≤ capacity → map (use_at (opened capacity (capacity - rows))) (map (rotated capacity (capacity - rows)) (range_with_len 0 capacity)) ≡ replicate rows Live ++ replicate (capacity - rows) Free
 turned_uses capacity rows r = same_lists _ _

@@ -104,7 +104,7 @@ same_members = along_permutation (λ xs ys. SameMembers xs ys)
     (λ xs ys zs a b. record { there = λ y m. b.there y (a.there y m); back = λ y m. a.back y (b.back y m) })
 
 pub begun_on_its_way : (limits : Limits) (slots : List (Option Version)) (ask : Question) (stamp : ℕ) → AreAllowed limits → length slots ≡ limits.capacity → IsOnItsWay slots (begin ask stamp limits)
-begun_on_its_way limits slots ask stamp allowed long = grind (arith, levels_of_none, all_blocks)
+begun_on_its_way limits slots ask stamp allowed long = grind (arith, levels_of_none)
 
 -- what shows the same, and as many slots
 pub way_stays : (before after : List (Option Version)) (scan : Scan) → length after ≡ length before → shown scan.stamp after ≡ shown scan.stamp before → IsOnItsWay before scan → IsOnItsWay after scan

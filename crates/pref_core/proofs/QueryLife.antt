@@ -18,7 +18,7 @@ record IsOpen (contents : Contents) (client : ℕ) (ask : Question) (table : Lis
 
 -- the stamp that is kept of a client that begins a query
 begin_kept : (contents : Contents) (state : State) (op : Op) → StandsFor contents state → IsLegal state contents op → op.call ≡ Begin → caller_begun (applied contents op) op.client ≡ Some contents.stamp
-begin_kept contents state op h legal what = grind (arith, is_next-from, begun_at, legal_done, begun_own)
+begin_kept contents state op h legal what = grind (arith, is_next-from, begun_at, begun_own)
 
 open_begun : (limits : Limits) (first : Contents) (state : State) (client : ℕ) (ask : Question) (op : Op) → AreAllowed limits → length first.slots ≡ limits.capacity → StandsFor first state → IsPlan first client Begin op
     → IsOpen (applied first op) client ask state.table (begin ask first.stamp limits)

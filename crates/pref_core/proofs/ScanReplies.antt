@@ -50,9 +50,9 @@ no_left n h = le-ltb 0 n (omega arith)
 scan_one : (running : Running) (system : System) (client : ℕ) (held : Scan) (result : Result ℕ CoreFault) (scans : List (Option Scan)) → StandsForSystem running system → seat client running.scans ≡ Some (Some held)
     → ScansOne held running.contents.slots client running.scans result scans
     → Returns running (step running.limits system (record { client = client; act = ActScan })) ActScan (as_reply Left result) (running_of running.contents running.limits scans)
-scan_one running system client held result scans h at says = grind (arith, IsAsking-from, some_left, running_of, query_shows, follows_scanned, scanned_stands, with_seat_self)
+scan_one running system client held result scans h at says = grind (arith, some_left, running_of, query_shows, follows_scanned, scanned_stands, with_seat_self)
 
 pub scan_returns : (running : Running) (system : System) (client : ℕ) (result : Result ℕ CoreFault) (scans : List (Option Scan)) → StandsForSystem running system
     → ScansAt (seat client running.scans) running.contents.slots client running.scans result scans
     → Returns running (step running.limits system (record { client = client; act = ActScan })) ActScan (as_reply Left result) (running_of running.contents running.limits scans)
-scan_returns running system client result scans h = grind (arith, running_of, nobody_steps, nobody_there, IsIdle-from, somebody_steps, scan_one)
+scan_returns running system client result scans h = grind (arith, running_of, nobody_steps, nobody_there, IsIdle-from, scan_one)

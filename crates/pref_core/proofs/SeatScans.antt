@@ -11,7 +11,7 @@ next_is_new_there queries client slots read query some l at is h = subst (λ o. 
 pub scans_some : (queries : List (Option Scan)) (client : ℕ) (slots : List (Option Version)) (read : Option Scan) (query new : Scan) (result : Result ℕ CoreFault) → (client ≡ 0 → ⊥) → client ≤ length queries
     → read ≡ get_or queries (client - 1) read → read ≡ Some query → Scans query slots result new
     → ScansAt (seat client queries) slots client queries result (slice_set queries (client - 1) (Some new))
-scans_some queries client slots read query new result some l at is says = grind (arith, seat_read, seat_written)
+scans_some queries client slots read query new result some l at is says = grind (arith, seat_read)
 
 pub scans_none : (queries : List (Option Scan)) (client : ℕ) (slots : List (Option Version)) (read : Option Scan) → (client ≡ 0 → ⊥) → client ≤ length queries
     → read ≡ get_or queries (client - 1) read → read ≡ None

@@ -68,7 +68,7 @@ module _ (order positions : List ℕ) (place to : ℕ) (inv : IsInverse order po
   at_other = second positions place other to from (lq place lp) (lq other lo)
 
   at_place : get_or new_positions place 0 ≡ to
-  at_place = grind (arith, at_other, first, lq, lo)
+  at_place = grind (arith, at_other, first, lo)
 
   at_neither : (k : ℕ) → k ≢ place → k ≢ other → get_or new_positions k 0 ≡ get_or positions k 0
   at_neither k a b = neither positions place other to from (lq place lp) (lq other lo) k a b
@@ -77,7 +77,7 @@ module _ (order positions : List ℕ) (place to : ℕ) (inv : IsInverse order po
   order_to = second order from to other place lf lt
 
   pub order_from : get_or new_order from 0 ≡ other
-  order_from = grind (arith, order_to, first, lf)
+  order_from = grind (arith, order_to, first)
 
   pub order_neither : (k : ℕ) → k ≢ from → k ≢ to → get_or new_order k 0 ≡ get_or order k 0
   order_neither k a b = neither order from to other place lf lt k a b

@@ -80,4 +80,4 @@ some_left made ns places begun slots now e fits chosen =
 -- the needed versions once these rows have begun, had they always room
 pub count_grown : (made : ℕ) (ns : List ℕ) (begun : List Entry) (slots : List (Option Version)) → count_by (is_needed (made ∷ ns)) (map (new_version made) begun ++ slots) ≡ count_by (is_needed (made ∷ ns)) slots + length begun
 count_grown made ns [] slots = omega arith
-count_grown made ns (fresh ∷ rest) slots = grind (arith, count_grown made ns rest slots, count_by-cons (is_needed (made ∷ ns)) (new_version made fresh) (map (new_version made) rest ++ slots), born_needed made ns fresh)
+count_grown made ns (fresh ∷ rest) slots = grind (arith, count_grown made ns rest slots, count_by-cons (is_needed (made ∷ ns)) (new_version made fresh) (map (new_version made) rest ++ slots))

@@ -18,11 +18,8 @@ pub Shows-close-before : (ids : List ℕ) (now stamp : ℕ) (slots : List (Optio
 Shows-close-before ids now stamp slots table h shows = search (rules, visible_close-before)
 
 -- a slot that shows nothing is used again
-visible_set : (stamp : ℕ) (slots : List (Option Version)) (place : ℕ) (old new : Option Version) → slice_get slots place ≡ Some old → seen stamp old ≡ None → IsPermutation (visible stamp (new ∷ slots)) (visible stamp (slice_set slots place new))
-visible_set stamp slots place old new at hidden = grind (arith, visible_set-same, visible_set-new)
-
 pub Shows-set : (stamp : ℕ) (slots : List (Option Version)) (place : ℕ) (old new : Option Version) (table : List Line) → slice_get slots place ≡ Some old → seen stamp old ≡ None → Shows (new ∷ slots) stamp table → Shows (slice_set slots place new) stamp table
-Shows-set stamp slots place old new table at hidden shows = grind (arith, IsPermutation-trans, IsPermutation-sym, visible_set)
+Shows-set stamp slots place old new table at hidden shows = grind (arith, IsPermutation-trans, IsPermutation-sym, visible_set-same, visible_set-new)
 
 -- what a slot that isn't needed shows: nothing at any of the stamps
 pub hidden_unneeded : (stamps : List ℕ) (slot : Option Version) → is_needed stamps slot ≡ false → AllByRecursion (λ stamp. seen stamp slot ≡ None) stamps
@@ -47,7 +44,7 @@ clients-close ids now slots = AllZip-weaker (StandsForClient slots now) (StandsF
 })
 
 pub clients-new_version : (now : ℕ) (fresh : Entry) (slots : List (Option Version)) (callers : List Caller) (clients : List Client) → AllZip (StandsForClient slots now) callers clients → AllZip (StandsForClient (new_version (suc now) fresh ∷ slots) now) callers clients
-clients-new_version now fresh slots = grind (arith, AllZip-weaker, ShowsBegin-moved)
+clients-new_version now fresh slots = grind (arith, AllZip-weaker)
 
 pub clients-later : (now : ℕ) (slots : List (Option Version)) (callers : List Caller) (clients : List Client) → AllZip (StandsForClient slots now) callers clients → AllZip (StandsForClient slots (suc now)) callers clients
 clients-later now slots = grind (arith, AllZip-weaker)

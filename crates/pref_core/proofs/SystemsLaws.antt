@@ -52,7 +52,7 @@ begun_after-change state call found c = grind (arith)
 
 pub state_of-changed : (capacity : ℕ) (system : System) (client : ℕ) (member : Member) (call : Call) (done : Reply) → seat client system.members ≡ Some member → is_change call ≡ true
     → state_of (changed (outcome capacity (state_of system) call) done call (counted_with member.query client member system)).next ≡ after capacity (state_of system) client call
-state_of-changed capacity system client member call done at c = grind (arith, state_of-counted, begun_after-change, after_done, after_refused)
+state_of-changed capacity system client member call done at c = grind (arith, state_of-counted, after_done, after_refused)
 
 pub members-changed : (o : Outcome) (done : Reply) (call : Call) (counted_one : System) → (changed o done call counted_one).next.members ≡ counted_one.members
 members-changed o done call counted_one = grind (arith)
@@ -110,7 +110,7 @@ numbered_stands running system next op member new scan at h legal is members min
 }
   where
     same : (client : ℕ) → client ≡ op.client → StandsForMember (applied running.contents op).slots (seat client (with_seat op.client scan running.scans)) (seat client next.members)
-    same client e = grind (arith, HasPlace-from, seat-with_seat_same)
+    same client e = grind (arith, seat-with_seat_same)
 
     others : (client : ℕ) → (client ≡ op.client → ⊥) → StandsForMember (applied running.contents op).slots (seat client (with_seat op.client scan running.scans)) (seat client next.members)
     others client n = grind (arith, seat-with_seat_other, member_stays)
@@ -152,7 +152,7 @@ scanned_stands running system client member scan query at same h mine = record {
 }
   where
     unchanged : state_of (scanned_with query client member system) ≡ state_of system
-    unchanged = grind (arith, with_seat-map, same, with_seat_self, client_there)
+    unchanged = grind (arith, with_seat-map, with_seat_self, client_there)
 
     here : (other : ℕ) → other ≡ client → StandsForMember running.contents.slots (seat other (with_seat client (Some scan) running.scans)) (seat other (with_seat client (record { calls = member.calls; query = Some query }) system.members))
     here other e =
