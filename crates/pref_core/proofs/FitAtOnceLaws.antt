@@ -5,7 +5,7 @@ use Rattle.pref_core.proofs.Common.{Set, Remove, Version, Row, ended_by, begun_b
 use Rattle.pref_core.proofs.Common.{slots_after, used, free_at, Contents, begins, visible, begun, changes_of, ended, is_change, is_formed, missing}
 use Rattle.pref_core.proofs.Common.{Line, among, false_from_ne_true, drop_all}
 use Rattle.pref_core.proofs.ChangesLaws.{AreApart, among_append, among_inside, drop_at, ended_so_far, formed_apart, take_at}
-use Rattle.pref_core.proofs.ChosenSlots.{ChosenUpTo, all_chosen, closed_slots, outcome_fits, outcome_other, stamps_next}
+use Rattle.pref_core.proofs.ChosenSlots.{ChosenUpTo, all_chosen, closed_slots, outcome_fits, stamps_next}
 use Rattle.pref_core.proofs.ChangeCounts.{ended_next, one_begins}
 use Rattle.pref_core.proofs.FilledLaws.{fills_free}
 use Rattle.pref_core.proofs.FreedLaws.{free_closed, frees_closed, row_taken}

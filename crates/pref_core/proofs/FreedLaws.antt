@@ -6,12 +6,11 @@ use Rattle.pref_core.proofs.Common.{Contents, StandsFor, IsWithin, visible, begi
 use Rattle.pref_core.proofs.Common.{AreOldPlaces, frees_at, is_open, IsFreed, false_from_ne_true}
 use Rattle.std.specs.List.{filter}
 use Rattle.pref_core.proofs.ChangesLaws.{AreApart}
-use Rattle.pref_core.proofs.RowEndLaws.{row_alive}
 use Rattle.pref_core.proofs.SlotKeys.{within-close}
 use Rattle.pref_core.proofs.IdsAfterCommit.{known_ids}
 use Rattle.pref_core.proofs.IdChainsLaws.{row_shown}
 use Rattle.pref_core.proofs.StabilityLaws.{slice_get-set_other}
-use Rattle.pref_core.proofs.SlotUseLaws.{count_by-cons, holds_there, has_row_at, row_version, free_use, needed_uses, spare_use, one_no}
+use Rattle.pref_core.proofs.SlotUseLaws.{count_by-cons, holds_there, has_row_at, row_version, free_use, needed_uses, spare_use}
 use Rattle.pref_core.proofs.Common.{rules}
 
 -- What was found of the first of these rows.

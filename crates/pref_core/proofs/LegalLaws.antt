@@ -4,7 +4,6 @@ use Rattle.pref_core.proofs.Common.{CoreFault, Op, State, after, Contents, Stand
 use Rattle.pref_core.proofs.Common.{Plans, PlansIn, AppliesIn}
 use Rattle.pref_core.proofs.OutcomeLaws.{same_calls, same_refusal, same_outcome_at}
 use Rattle.pref_core.proofs.AppliedLaws.{IsAllowed-from, stepped_stands}
-use Rattle.pref_core.proofs.PlanLaws.{same_outcome_refl}
 use Rattle.pref_core.proofs.Common.{arith}
 
 pub is_next-from : (contents : Contents) (state : State) (op : Op) → StandsFor contents state → IsNext (length contents.slots) state op → is_next contents op ≡ true

@@ -3,7 +3,7 @@ use Rattle.pref_core.proofs.Common.{map-append, ◌≡◌, ℕ, suc, Bool, true,
 use Rattle.pref_core.proofs.Common.{cons_option, list_any, AllZip, list_any-IsPermutation, IsPermutation-map, length-filter, eq-eqb, Version, Caller, Line, Key, same_key}
 use Rattle.pref_core.proofs.Common.{holds_key, keys, different, State, Client, Snapshot, found_tables, needed, Contents, StandsFor, StandsForClient, Shows, ShowsBegin, seen, visible}
 use Rattle.pref_core.proofs.Common.{is_needed, begins, stamps, slot_key, AreDifferent, used, list_any-append}
-use Rattle.pref_core.proofs.SlotKeys.{same_key_comm, slot_keys, holds_key-parts}
+use Rattle.pref_core.proofs.SlotKeys.{slot_keys, holds_key-parts}
 use Rattle.pref_core.proofs.Common.{arith}
 
 -- keys that the test calls the same are equal

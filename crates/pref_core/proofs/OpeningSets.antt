@@ -4,7 +4,6 @@ use Rattle.pref_core.proofs.Common.{count_by, range_with_len, length-map, length
 use Rattle.pref_core.proofs.Common.{lt-ltb, le-ltb, SlotUse, Free, Live, use_at, is_free_use, IsInverse, IsArranged, rotated, sum_by-replicate, get_or-append_right}
 use Rattle.pref_core.proofs.Common.{get_or-replicate}
 use Rattle.std.proofs.Math.ListN.{get_or-append}
-use Rattle.pref_core.proofs.SlotSetsLaws.{use_free}
 
 abbrev all : ℕ → ℕ → List ℕ
 all capacity first = map (rotated capacity first) (range_with_len 0 capacity)

@@ -5,7 +5,7 @@ use Rattle.pref_core.proofs.Common.{IsScanned}
 use Rattle.pref_core.specs.Queries.{IsOnItsWay, LivesTo, at_begin, after_op, after_scan, NextBlockIsNew, AnswersTheBegin}
 use Rattle.pref_core.proofs.LegalLaws.{is_next-from, applied_stands, plans_in}
 use Rattle.pref_core.proofs.StabilityLaws.{begun_at, begun_own, lasts_applied}
-use Rattle.pref_core.proofs.VisibleAfterOp.{legal_done, length-applied, length-ran, shows_still}
+use Rattle.pref_core.proofs.VisibleAfterOp.{length-applied, length-ran, shows_still}
 use Rattle.pref_core.proofs.QueryLaws.{begun_on_its_way, way_stays, next_is_new_on_its_way, scanned_on_its_way, answers_the_begin}
 
 -- what holds of a query as long as it lives

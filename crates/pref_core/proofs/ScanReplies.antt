@@ -5,7 +5,7 @@ use Rattle.pref_core.proofs.Common.{step, Scan, Running, Follows, StandsForSyste
 use Rattle.pref_core.proofs.SeatLaws.{with_seat_self}
 use Rattle.pref_core.proofs.QueryLaws.{next_is_new, follows_scanned}
 use Rattle.pref_core.proofs.SystemsLaws.{scanned_stands, query_shows}
-use Rattle.pref_core.proofs.ChangeReplies.{running_of, nobody_steps, somebody_steps}
+use Rattle.pref_core.proofs.ChangeReplies.{running_of, nobody_steps}
 
 -- what an open query's place and the client's query are
 pub record IsAsking (running : Running) (system : System) (client : ℕ) (held : Scan) : Type 0 where

@@ -1,7 +1,7 @@
 -- The query at a client's place scans.
 use Rattle.pref_core.proofs.Common.{◌≡◌, ℕ, ◌-◌, ◌≤◌, List, length, get_or, Option, Some, None, Err, Result, slice_set, ap, ◌∙◌, subst, Version, CoreFault, NoQuery, seat, Scan, NextIsNew}
 use Rattle.pref_core.proofs.Common.{Scans, NextIsNewAt, ScansAt}
-use Rattle.pref_core.proofs.SeatLaws.{seat_read, seat_written, written_same}
+use Rattle.pref_core.proofs.SeatLaws.{seat_read, written_same}
 use Rattle.pref_core.proofs.Common.{arith}
 
 pub next_is_new_there : (queries : List (Option Scan)) (client : ℕ) (slots : List (Option Version)) (read : Option Scan) (query : Scan) → (client ≡ 0 → ⊥) → client ≤ length queries
