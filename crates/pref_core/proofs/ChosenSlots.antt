@@ -29,9 +29,6 @@ missing_quiet contents op freed finds not returned = grind (arith)
 pub outcome_fits : (contents : Contents) (call : Call) (size : ℕ) → is_change call ≡ true → missing (ended call) (visible contents.stamp contents.slots) ≡ None → begins_row call ≡ true → size ≡ used (grown call contents) → size ≤ length contents.slots → success_outcome contents.next_id call ≡ outcome_at contents call
 outcome_fits contents call size c none row is small = grind (arith)
 
-pub outcome_other : (contents : Contents) (call : Call) → is_change call ≡ true → missing (ended call) (visible contents.stamp contents.slots) ≡ None → begins_row call ≡ false → success_outcome contents.next_id call ≡ outcome_at contents call
-outcome_other contents call c none row = rw (c, none, row) refl
-
 begins_where : (changes : List Change) (next : ℕ) (done : List Entry) (fresh : Entry) (rest : List Entry) → begun_by next changes ≡ done ++ fresh ∷ rest → begins_any changes ≡ true
 begins_where [] next [] fresh rest e = absurd (cc)
 begins_where [] next (entry ∷ done) fresh rest e = absurd (cc)

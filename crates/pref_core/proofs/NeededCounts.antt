@@ -119,9 +119,6 @@ holds_key-found slots now (caller ∷ callers) (client ∷ clients) key h = go c
     go b f s rest = grind (arith)
 
 -- the slots that are needed hold different versions
-slot_keys-filter : (p : Option Version → Bool) (slot : Option Version) (slots : List (Option Version)) → slot_keys (filter p (slot ∷ slots)) ≡ cond (p slot) (cons_option (slot_key slot) (slot_keys (filter p slots))) (slot_keys (filter p slots))
-slot_keys-filter p slot slots = elim (p slot) as (λ b. slot_keys (cond b (slot ∷ filter p slots) (filter p slots)) ≡ cond b (cons_option (slot_key slot) (slot_keys (filter p slots))) (slot_keys (filter p slots))) [ true ↦ refl | false ↦ refl ]
-
 holds_key-filter : (p : Option Version → Bool) (slots : List (Option Version)) (key : Key) → holds_key (slot_keys slots) key ≡ false → holds_key (slot_keys (filter p slots)) key ≡ false
 holds_key-filter p [] key h = refl
 holds_key-filter p (slot ∷ slots) key h = grind (arith, holds_key-filter p slots key)

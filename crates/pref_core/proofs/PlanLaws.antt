@@ -22,6 +22,3 @@ pub close_none : (stamp : ℕ) (slots : List (Option Version)) → map (close []
 close_none stamp [] = refl
 close_none stamp (None ∷ slots) = ap (λ l. None ∷ l) (close_none stamp slots)
 close_none stamp (Some version ∷ slots) = grind (arith, close_none stamp slots)
-
-pub same_outcome_refl : (a : Outcome) → same_outcome a a ≡ true
-same_outcome_refl a = grind (arith)

@@ -85,10 +85,6 @@ follows_scanned slots scan new query shows h is =
       way = scanned_on_its_way slots scan new query.table (subst (λ n. Shows slots n query.table) (sym h.stamp) shows) h.way is;
     }
 
--- All blocks are the whole store.
-all_blocks : (capacity block : ℕ) → 1 ≤ block → capacity ≤ (capacity + block - 1) / block * block
-all_blocks capacity block h = omega (arith, mul_comm ((capacity + block - 1) / block) block)
-
 -- the same members along a permutation
 same_cons : (x : Entry) (xs ys : List Entry) → SameMembers xs ys → SameMembers (x ∷ xs) (x ∷ ys)
 same_cons x xs ys h = record { there = λ y m. elim m [ inl e ↦ inl e | inr l ↦ inr (h.there y l) ]; back = λ y m. elim m [ inl e ↦ inl e | inr l ↦ inr (h.back y l) ] }

@@ -14,10 +14,6 @@ one_of b e = ap (λ t. cond t 1 0) e
 count_by_set : {X : Type 0} (p : X → Bool) (xs : List X) (k : ℕ) (old new : X) → slice_get xs k ≡ Some old → p old ≡ false → p new ≡ true → count_by p (slice_set xs k new) ≡ suc (count_by p xs)
 count_by_set p xs k old new at off on = omega (arith, count_set p xs k old new at, one_no (p old) off, one_of (p new) on)
 
--- a new version is needed at its birth
-pub born_needed : (made : ℕ) (ns : List ℕ) (entry : Entry) → is_needed (made ∷ ns) (new_version made entry) ≡ true
-born_needed made ns entry = ap (λ s. is_some s || list_any (λ n. is_some (seen n (new_version made entry))) ns) (seen_born made entry)
-
 -- as many more are needed as rows begin
 pub filled_needs : (made : ℕ) (ns places : List ℕ) (begun : List Entry) (slots after : List (Option Version)) → filled (made ∷ ns) made places begun slots ≡ Some after
     → count_by (is_needed (made ∷ ns)) after ≡ count_by (is_needed (made ∷ ns)) slots + length begun
