@@ -67,7 +67,7 @@ after_fits capacity state client call fits = go (is_change call) refl (succeeds 
         let made = change_fits capacity state call c e fits in
         let fewer_now = needed_counted (committed call state).table state client call (committed call state).next_id (committed call state).commits (λ q. absurd (let both : true ≡ false = sym c ∙ q in cc)) in
         omega arith
-    go c h2 s e = grind (arith, noted_fits)
+    go c is s e = grind (arith, noted_fits)
 
 pub needed_fits : NeededFits
 needed_fits capacity state [] fits legal = fits

@@ -28,7 +28,7 @@ fills_where made ns earlier before slots now (place ∷ places) (fresh ∷ rest)
     go : (a : Bool) → among earlier place ≡ a → (f : Bool) → is_free (made ∷ ns) slots place ≡ f
         → (is_free (made ∷ ns) now place ≡ true → is_some (filled (made ∷ ns) made places rest (set now place (new_version made fresh))) ≡ are_free (made ∷ ns) slots (earlier ++ place ∷ []) places)
         → is_some (cond (is_free (made ∷ ns) now place) (filled (made ∷ ns) made places rest (set now place (new_version made fresh))) None) ≡ ((not (among earlier place) && is_free (made ∷ ns) slots place) && are_free (made ∷ ns) slots (earlier ++ place ∷ []) places)
-    go a h2 f g more = grind (arith, taken, free_still)
+    go a chosen f g more = grind (arith, taken, free_still)
 fills_where made ns earlier before slots now places begun e long = grind (arith)
 
 pub fills_free : (made : ℕ) (ns : List ℕ) (slots : List (Option Version)) (places : List ℕ) (begun : List Entry) → length places ≡ length begun → are_free (made ∷ ns) slots [] places ≡ is_some (filled (made ∷ ns) made places begun slots)

@@ -33,7 +33,7 @@ slice_get_behind front xs i n e = grind (arith)
 
 slice_set_behind : {X : Type 0} (front xs : List X) (i n : ℕ) (y : X) → n ≡ length front + i → slice_set (front ++ xs) n y ≡ front ++ slice_set xs i y
 slice_set_behind {X} (x ∷ front) xs i (suc n) y e = ap (λ (l : List X). x ∷ l) (slice_set_behind front xs i n y (omega arith))
-slice_set_behind {X} xs i n y e h7 = grind (arith)
+slice_set_behind {X} front xs i n y e = grind (arith)
 
 IsFree-behind : (ns : List ℕ) (front slots : List (Option Version)) (place : ℕ) → IsFree ns slots place → IsFree ns (front ++ slots) (length front + place)
 IsFree-behind ns front slots place h = record { old = h.old; at = slice_get_behind front slots place _ refl ∙ h.at; unneeded = h.unneeded }

@@ -65,7 +65,7 @@ table_missing ahead start inside (inl (some, whole)) other =
 table_missing ahead start inside (inr (ended, all, last)) other = grind (arith, take_all, script-none)
 
 pub input_missing : (ahead : ReadAhead) → IsLineAt 0 0 ahead → LacksBlock ahead fault.NoTable
-input_missing ahead h1 = grind (arith, script-none)
+input_missing ahead at = grind (arith, script-none)
 
 -- A beginning of a table block stands there, and more was read behind it.
 module _ (had left : Option (List ℕ)) (old new : ReadAhead) (start stop count : ℕ) (so_far : BlockAt old start stop count) (read : ReadBehind had left old new) where

@@ -103,7 +103,7 @@ front_more stop end text inside = grind (arith, take-add stop (end - stop) text)
 
 -- what stands at a line: one line, which is whole or the last
 pub line_at : (a : ReadAhead) (from end : ℕ) → IsLineAt from end a → from < end → (raw_lines (between from end (unread a)) ≡ between from end (unread a) ∷ []) × (EndsWithLine (between from end (unread a)) ⊎ (is_at_end a ≡ true) × (end ≡ length (unread a)))
-line_at a from end h3 inside = grind (arith, one_line)
+line_at a from end at inside = grind (arith, one_line)
 
 -- nothing was read
 pub some_none : (a : Option (List ℕ)) (x : ReadAhead) (from : ℕ) → ReadSome a a from x

@@ -37,7 +37,7 @@ pub script-core-fault : (limits : Limits) (bytes : List ℕ) (parts : Parts) (ta
     → (limits.capacity < length table.1 → why ≡ core.Full (length table.1)) → (why ≡ core.OutOfMemory) ⊎ (limits.capacity < length table.1)
     → ScriptFault (core_fault why) (script_of limits bytes)
 unfolding script_of
-script-core-fault limits bytes parts table why h t full h8 = grind (arith)
+script-core-fault limits bytes parts table why h t full which = grind (arith)
 
 -- a script without a fault
 pub script-ok : (limits : Limits) (bytes : List ℕ) (parts : Parts) (table : Table) → parts_of (raw_lines bytes) ≡ Ok parts → table_of parts.table ≡ Ok table
