@@ -20,9 +20,6 @@ scores-same x y = grind (arith, ints)
 pub product-better : (r s : Relation) → is_better (in_product r s) ≡ ((is_better r && (is_better s || is_same s)) || (is_better s && (is_better r || is_same r)))
 product-better r s = grind arith
 
-pub product-worse : (r s : Relation) → is_worse (in_product r s) ≡ ((is_worse r && (is_worse s || is_same s)) || (is_worse s && (is_worse r || is_same r)))
-product-worse r s = grind arith
-
 pub product-same : (r s : Relation) → is_same (in_product r s) ≡ (is_same r && is_same s)
 product-same r s = grind arith
 
