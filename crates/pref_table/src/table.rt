@@ -32,39 +32,52 @@ fn skip_marks(bytes: &[u8]) -> &[u8]
     rest
 }
 
-/// A reader of the records of a text that has no byte order mark at its start.
-fn reader_of(alloc: Global, text: &[u8]) -> Reader<&[u8]>
+/// The records of a text, which are read one after the other, and the last one that was read.
+struct Records<'text> {
+    reader: Reader<&'text [u8]>,
+    last: ByteRecord,
+}
+
+// By hand, so that letting one go is a call: a derived `drop` is written out, and proved, at each way out of each function that owns one.
+impl Drop for Records<'_> {
+    fn drop(self) {
+        let Records { reader: _, last: _ } = self;
+    }
+}
+
+/// The records of a text that has no byte order mark at its start.
+fn records_of(alloc: Global, text: &[u8]) -> Records<'_>
     requires { strip_bom text.now ≡ text.now }
-    ensures { HasLeft result (records default_config text.now) }
+    ensures { HasLeft result.reader (records default_config text.now) }
 {
-    ReaderBuilder::new()
+    let reader = ReaderBuilder::new()
         .has_headers(false)
         .flexible(true)
-        .from_reader(alloc, text)
+        .from_reader(alloc, text);
+    Records {
+        reader,
+        last: ByteRecord::new(alloc),
+    }
 }
 
 /// Reads the next record, if there is one. What fails is the reader underneath, or memory.
-fn read_next(reader: &mut Reader<&[u8]>, row: &mut ByteRecord) -> Result<bool, csv::Error>
-    ensures found { IfOk result (λ found. ReadsFirst reader.old reader.new found (fields_of row.new)) }
-    ensures stops { IfErr result (λ error. (left : List (List (List ℕ))) → HasLeft reader.old left → stops_reader (error_kind error) ≡ true) }
+fn read_next(from: &mut Records<'_>) -> Result<bool, csv::Error>
+    ensures found { IfOk result (λ found. ReadsFirst from.old.reader from.new.reader found (fields_of from.new.last)) }
+    ensures stops { IfErr result (λ error. (left : List (List (List ℕ))) → HasLeft from.old.reader left → stops_reader (error_kind error) ≡ true) }
 {
-    let found = reader.read_byte_record(row)?;
+    let found = from.reader.read_byte_record(&mut from.last)?;
     Ok(found)
 }
 
 /// Reads the next record of a text in memory, where it has no more fields than a table has columns. Only memory can fail.
-fn next_record<'text>(
-    reader: &mut Reader<&[u8]>,
-    row: &mut ByteRecord,
-    text: &'text [u8],
-) -> Result<Next<'text>, TableFault>
-    requires { HasLeft reader.old (records default_config text.now) }
-    ensures next { IfOk result (λ next. ReadsNext reader.new text.now (fields_of row.new) next) }
+fn next_record<'text>(from: &mut Records<'_>, text: &'text [u8]) -> Result<Next<'text>, TableFault>
+    requires { HasLeft from.old.reader (records default_config text.now) }
+    ensures next { IfOk result (λ next. ReadsNext from.new.reader text.now (fields_of from.new.last) next) }
     ensures memory { IfErr result (λ fault. fault ≡ TableFault.OutOfMemory) }
 {
     let next = next_in(text);
     if let Next::Narrow(_) = next {
-        let Ok(_found) = read_next(reader, row) else {
+        let Ok(_found) = read_next(from) else {
             return Err(TableFault::OutOfMemory);
         };
     }
@@ -109,19 +122,18 @@ fn record_row(schema: &Schema, row: u64, cells_text: &ByteRecord) -> Result<Row,
 /// Reads the names in the first record of a text, and gives what follows it.
 fn read_header<'text>(
     alloc: Global,
-    reader: &mut Reader<&[u8]>,
-    record: &mut ByteRecord,
+    from: &mut Records<'_>,
     text: &'text [u8],
 ) -> Result<(Schema, &'text [u8]), TableFault>
-    requires { HasLeft reader.old (records default_config text.now) }
+    requires { HasLeft from.old.reader (records default_config text.now) }
     ensures names { Gives (λ read. read.0) result (header_names (records default_config text.now)) }
     ensures rest { IfOk result (λ read. records default_config read.1.now ≡ drop 1 (records default_config text.now)) }
-    ensures left { IfOk result (λ read. HasLeft reader.new (records default_config read.1.now)) }
+    ensures left { IfOk result (λ read. HasLeft from.new.reader (records default_config read.1.now)) }
 {
-    match next_record(reader, record, text)? {
+    match next_record(from, text)? {
         Next::Nothing => Err(TableFault::NoColumns),
         Next::Wide => Err(TableFault::TooManyColumns),
-        Next::Narrow(rows) => Ok((read_schema(alloc, record)?, rows)),
+        Next::Narrow(rows) => Ok((read_schema(alloc, &from.last)?, rows)),
     }
 }
 
@@ -129,22 +141,21 @@ fn read_header<'text>(
 fn read_rows(
     schema: &Schema,
     mut rows: Vec<Row>,
-    reader: &mut Reader<&[u8]>,
-    record: &mut ByteRecord,
+    from: &mut Records<'_>,
     text: &[u8],
 ) -> Result<Vec<Row>, TableFault>
     requires few { length rows.items ≤ 65536 }
-    requires left { HasLeft reader.old (records default_config text.now) }
+    requires left { HasLeft from.old.reader (records default_config text.now) }
     ensures { Gives (λ rows. rows.items) result (rows_with (length schema.now) rows.items (records default_config text.now)) }
 {
     let _width = schema.width();
     let mut left = text;
     for row in rows.len() as u64 + 1..MAX_ROWS + 1 {
-        match next_record(reader, record, left)? {
+        match next_record(from, left)? {
             Next::Nothing => return Ok(rows),
             Next::Wide => return Err(TableFault::Width { row }),
             Next::Narrow(more) => {
-                rows.push(record_row(schema, row, record)?)?;
+                rows.push(record_row(schema, row, &from.last)?)?;
                 left = more;
             }
         }
@@ -162,20 +173,13 @@ fn read_lines(alloc: Global, header: &[u8], lines: &[u8]) -> Result<(Schema, Vec
     requires ends { IsLineEnd lines.now }
     ensures { Gives (λ table. (table.0, table.1.items)) result (table_of_records (records default_config (header.now ++ lines.now))) }
 {
-    let mut record = ByteRecord::new(alloc);
-    let (schema, _) = read_header(alloc, &mut reader_of(alloc, header), &mut record, header)?;
+    let (schema, _) = read_header(alloc, &mut records_of(alloc, header), header)?;
     let (rows, left) = plain_rows(alloc, schema.width(), lines)?;
     if left.len() <= 1 {
         // At most a line feed is left, and no record.
         return Ok((schema, rows));
     }
-    let rows = read_rows(
-        &schema,
-        rows,
-        &mut reader_of(alloc, left),
-        &mut record,
-        left,
-    )?;
+    let rows = read_rows(&schema, rows, &mut records_of(alloc, left), left)?;
     Ok((schema, rows))
 }
 
@@ -184,10 +188,9 @@ fn read_records(alloc: Global, text: &[u8]) -> Result<(Schema, Vec<Row>), TableF
     requires { strip_bom text.now ≡ text.now }
     ensures { Gives (λ table. (table.0, table.1.items)) result (table_of_records (records default_config text.now)) }
 {
-    let mut reader = reader_of(alloc, text);
-    let mut record = ByteRecord::new(alloc);
-    let (schema, lines) = read_header(alloc, &mut reader, &mut record, text)?;
-    let rows = read_rows(&schema, Vec::new(alloc), &mut reader, &mut record, lines)?;
+    let mut from = records_of(alloc, text);
+    let (schema, lines) = read_header(alloc, &mut from, text)?;
+    let rows = read_rows(&schema, Vec::new(alloc), &mut from, lines)?;
     Ok((schema, rows))
 }
 

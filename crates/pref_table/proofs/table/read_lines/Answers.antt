@@ -22,8 +22,8 @@ returns-then-left-le1 c =
     table-lines header c.args.lines.now c.requires.plain c.requires.ends schema (Ok rows) names
     (plain ∙ rows_with-none (length schema) rows (records default_config left) (records-none_left left c.in_ok-rows.ensures.left (omega arith)))
 
-pub reader_of-requires-2 : goal.reader_of-requires-2
-reader_of-requires-2 c = strip-line_end c.in_ok-rows.left.now c.in_ok-rows.ensures.left
+pub records_of-requires-2 : goal.records_of-requires-2
+records_of-requires-2 c = strip-line_end c.in_ok-rows.left.now c.in_ok-rows.ensures.left
 
 pub returns-in_err-rows-2 : goal.returns-in_err-rows-2
 returns-in_err-rows-2 c =
