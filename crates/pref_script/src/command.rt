@@ -17,7 +17,7 @@ use pref_term::{Ask, TermFault, read_ask};
 use std::alloc::Global;
 
 /// Why a command line is no event.
-#[derive(Drop)]
+#[derive(Clone, Copy)]
 pub enum Refusal {
     /// It has not the form of a command.
     NotCommand,
@@ -30,7 +30,7 @@ pub enum Refusal {
 }
 
 /// Why reading a command line ended: it is refused, or there was no memory for its question or its commit.
-#[derive(Drop)]
+#[derive(Clone, Copy)]
 pub enum Stop {
     Refused(Refusal),
     OutOfMemory,

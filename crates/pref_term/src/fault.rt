@@ -3,7 +3,7 @@
 use thiserror::Error;
 
 /// Why a text is no question. A place counts the bytes before it, from 0.
-#[derive(Debug, Drop, PartialEq, Eq, Error)]
+#[derive(Clone, Copy, Debug, PartialEq, Eq, Error)]
 pub enum TermFault {
     /// No text of the grammar goes on like this; the place is the token's, and the text's length at its end.
     #[error("unexpected at {at}")]
