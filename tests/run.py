@@ -13,6 +13,7 @@ tests/quick.sh and tests/all.sh are short names of the first two. Needs the Ratt
 Linux. Tests of the Python package that need pandas, matplotlib, dask or Chromium are skipped, with a line that says so, where these are not
 installed; they are counted apart from the checks, which pass without them. Leaves nothing behind but the folders out/, which git ignores.
 """
+import contextlib
 import os
 import re
 import shutil
@@ -20,6 +21,7 @@ import signal
 import subprocess
 import sys
 import tempfile
+import threading
 import time
 import traceback
 from concurrent.futures import ThreadPoolExecutor
@@ -230,15 +232,30 @@ BUILT = [
 
 
 def proofs_at_once():
-    """One for each processor and three at least, since some wait for the disk, as far as each has its memory."""
+    """One more than there are processors, since edits take what proofs leave free, as far as each has its memory."""
     free = int(re.search(r"^MemAvailable: *(\d+) kB$", Path("/proc/meminfo").read_text(), re.MULTILINE)[1])
-    return min(max(len(os.sched_getaffinity(0)), 3), max(free // KILOBYTES_A_PROOF, 1))
+    return min(len(os.sched_getaffinity(0)) + 1, max(free // KILOBYTES_A_PROOF, 1))
 
 
-def run_and_show(*words, **environment):
-    """Runs a command and shows what it prints as it comes: its lines, and whether it passed."""
+def let_proofs_go_first(run):
+    """Until `rt ci` ends, its edits get the processors that its proofs leave free: the proofs of the crates wait for one another."""
+    edits = f"{tempfile.gettempdir()}/rt-edit-{run.pid}-"
+    while run.poll() is None:
+        for process in Path("/proc").glob("[0-9]*"):
+            # It may have ended, or be another user's.
+            with contextlib.suppress(OSError):
+                if os.readlink(process / "cwd").startswith(edits):
+                    for thread in os.listdir(process / "task"):
+                        os.setpriority(os.PRIO_PROCESS, int(thread), 10)
+        time.sleep(1)
+
+
+def run_and_show(*words, beside=None, **environment):
+    """Runs a command and shows what it prints as it comes: its lines, and whether it passed. What is done beside it gets its process."""
     lines = []
     with subprocess.Popen(words, cwd=TOP, env={**os.environ, **environment}, stdout=subprocess.PIPE, text=True, errors="replace") as running:
+        if beside:
+            threading.Thread(target=beside, args=[running], daemon=True).start()
         for line in running.stdout:
             print(line, end="", flush=True)
             lines.append(line.rstrip("\n"))
@@ -252,7 +269,8 @@ def fail_empty_edits(count, lines):
 
 
 def gate(count, words):
-    lines, is_passed = run_and_show("rt", "ci", *words, RT_JOBS=os.environ.get("RT_JOBS") or str(proofs_at_once()))
+    jobs = os.environ.get("RT_JOBS") or str(proofs_at_once())
+    lines, is_passed = run_and_show("rt", "ci", *words, beside=let_proofs_go_first, RT_JOBS=jobs)
     if not is_passed:
         count.fail("rt ci")
     fail_empty_edits(count, lines)
