@@ -75,18 +75,22 @@ fn word_crosses(rt: HostRuntime) -> Result<(), Fail> {
     Ok(())
 }
 
-/// How much a client has seen before it hears another that made one call, and after.
-fn seen_before_and_after<J: BoardBrand, R: Wait>(
+/// How much a client has seen before it hears another that made one call, after that, and once it got the row that the other inserted.
+fn seen_as_it_goes<J: BoardBrand, R: Wait>(
     rt: &R,
     alloc: Global,
     board: &Board<J>,
     hearer: &mut Client<J>,
     speaker: &mut Client<J>,
-) -> Result<(u64, u64), ShareFault> {
+) -> Result<(u64, u64, u64), ShareFault> {
+    let row = hearer.get(1)?;
     let before = hearer.seen();
     speaker.delete(rt, alloc, board, 1)?;
     hearer.hear(speaker.word());
-    Ok((before, hearer.seen()))
+    let heard = hearer.seen();
+    let id = speaker.insert(rt, alloc, board, row)?;
+    hearer.get(id)?;
+    Ok((before, heard, hearer.seen()))
 }
 
 /// The same of the first client of a new board, who hears the second.
@@ -96,13 +100,13 @@ fn seen_on_a_new_board<J: BoardBrand, R: Wait + Abort>(
     name: BoardName,
     setup: Setup,
     rows: &[Row],
-) -> Result<(u64, u64), ShareFault>
+) -> Result<(u64, u64, u64), ShareFault>
     requires book { name.seen.book ≡ J.book }
     requires opening { J.opening ≡ record { limits = setup; rows = rows.now } }
 {
     let (board, mut clients) = open_board::<J, R>(rt, alloc, name, setup, rows)?;
     let (first, second) = first_two(rt, &mut clients);
-    let seen = seen_before_and_after(rt, alloc, &board, first, second);
+    let seen = seen_as_it_goes(rt, alloc, &board, first, second);
     board.close(rt);
     seen
 }
@@ -113,6 +117,6 @@ fn a_word_is_heard(rt: HostRuntime) -> Result<(), Fail> {
     let opening = [row_of(alloc, 5)?];
     let setup = setup_of(2, 4, 4, 64)?;
     let seen = seen_on_a_new_board::<Brand, _>(&rt, alloc, BoardName::new(), setup, &opening)?;
-    assert_same(&rt, "one call", &seen, &(0, 1));
+    assert_same(&rt, "calls", &seen, &(0, 1, 2));
     Ok(())
 }
