@@ -78,3 +78,9 @@ returns-clause-arrivals g c =
           (keeps_moved (take c.loop-entry.entry-index c.args.entries.now) (map one kept) inv.upper (map one moved) (IsPermutation-map one kept moved permuted)));
       dealt = sorted_by_both (λ (a : Arrival). (a.partition, a.start)) moved c.sort_unstable_by_key.ensures.sorted (λ a r f k. search rules);
     }
+
+pub returns-in_err-item-clause-grown : goal.returns-in_err-item-clause-grown
+returns-in_err-item-clause-grown g c = grown_then c.args.pool.now c.loop-entry.pool c.loop-entry.invariant.grown c.push.new.self c.push.ensures.grown
+
+pub returns-in_err-push-clause-grown : goal.returns-in_err-push-clause-grown
+returns-in_err-push-clause-grown g c = grown_then c.args.pool.now c.loop-entry.pool c.loop-entry.invariant.grown c.push.new.self c.push.ensures.grown

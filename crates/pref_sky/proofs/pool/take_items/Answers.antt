@@ -1,5 +1,5 @@
 use Rattle.pref_sky.proofs.Common.{◌≡◌, ◌∙◌, [], get_or, length, ◌<◌, get_or_default, Entry, Item, entry_at, arith}
-use Rattle.pref_sky.proofs.PoolLaws.{entry_behind, entry_grown, taken_more}
+use Rattle.pref_sky.proofs.PoolLaws.{entry_behind, entry_grown, grown_then, taken_more}
 use Rattle.pref_sky.proofs.pool.take_items.Goals as goal
 
 pub loop-item-preserved : goal.loop-item-preserved
@@ -18,3 +18,9 @@ loop-item-preserved c =
     let grown = c.in_ok-item.ensures.grown in
     let put = c.in_ok-item.ensures.item in
     grind (arith, entry_behind pool.entries.items e next put.2, taken_more c.loop-item.invariant grown, entry_grown pool now grown, get_or_default items i none x inside)
+
+pub returns-in_err-item-clause-grown : goal.returns-in_err-item-clause-grown
+returns-in_err-item-clause-grown c = grown_then c.args.pool.now c.loop-item.pool c.loop-item.invariant.grown c.push.new.self c.push.ensures.grown
+
+pub returns-in_err-push-clause-grown : goal.returns-in_err-push-clause-grown
+returns-in_err-push-clause-grown c = grown_then c.args.pool.now c.loop-item.pool c.loop-item.invariant.grown c.push.new.self c.push.ensures.grown
