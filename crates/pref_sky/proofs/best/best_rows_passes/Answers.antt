@@ -1,4 +1,4 @@
-use Rattle.pref_sky.proofs.Common.{rules, ◌≡◌, ◌==◌, [], take_all, sym, ◌∙◌, ap, subst, arith, get_or_default, map-append, take_more, IsNonDecreasingBy-from_sort_by_key}
+use Rattle.pref_sky.proofs.Common.{rules, ◌≡◌, ◌==◌, [], take_all, sym, ◌∙◌, ap, subst, arith, get_or_default, length-map, map-append, take_more, IsNonDecreasingBy-from_sort_by_key}
 use Rattle.pref_sky.proofs.Common.{Entry, Item, best, AreItems, entries_at, HaveDifferentIds, entry_order, Parted, signature_by}
 use Rattle.pref_sky.proofs.Merges.{different_best}
 use Rattle.pref_sky.proofs.IdOrder.{same_in_order, sorted_is}
@@ -53,3 +53,9 @@ returns-clause-best g c =
     let differ : HaveDifferentIds found = record { once = λ id. omega (arith, decided.bag (λ (e : Entry). e.id == id), c.requires.ids.once id) } in
     let sorted = IsNonDecreasingBy-from_sort_by_key (λ (e : Entry). e.id) _ c.sort_unstable_by_key.ensures.sorted (λ a r q k. search rules) in
     sorted_is found _ c.sort_unstable_by_key.ensures.permutation sorted differ ∙ same_in_order found (best over all) differ (different_best over all 0 c.requires.ids) (best_are over [] all found (entries_at all others) decided (λ x y mx my. absurd mx))
+
+pub returns-clause-passes : goal.returns-clause-passes
+returns-clause-passes g c = grind (arith, length-map)
+
+pub returns-clause-some_pass : goal.returns-clause-some_pass
+returns-clause-some_pass g c = grind (arith, length-map)

@@ -52,3 +52,18 @@ returns-clause-parted g c =
     let inv = c.each_pass.invariant in
     let none : length c.each_pass.input.items ≡ 0 = omega (arith, eqb-true (vec_len c.each_pass.input) 0 (sym c.is_empty-in-each_pass.ensures ∙ c.each_pass-test.false), c.each_pass.input.ok.0) in
     passes_end strict none (inv.empty none) inv.late inv.overflow inv.passed
+
+pub returns-clause-passes : goal.returns-clause-passes
+returns-clause-passes g c = omega (arith, length-append c.args.held.now c.args.items.now)
+
+pub returns-clause-some_pass : goal.returns-clause-some_pass
+returns-clause-some_pass g c = grind (arith, eqb-true)
+
+pub returns-then-is_empty-clause-some_pass : goal.returns-then-is_empty-clause-some_pass
+returns-then-is_empty-clause-some_pass g c = grind (arith, eqb-true)
+
+pub offer_all-requires : goal.offer_all-requires
+offer_all-requires g c = omega (arith, c.saturating_add-room.ensures)
+
+pub overflow_add-passes : goal.overflow_add-passes
+overflow_add-passes g c = grind (arith, length-append c.args.held.now c.args.items.now, eqb-false)

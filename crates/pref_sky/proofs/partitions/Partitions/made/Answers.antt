@@ -1,4 +1,4 @@
-use Rattle.pref_sky.proofs.Common.{◌≡◌, ◌<◌, length, get_or, arith, subst, sym, ◌∙◌, refl, eqb-false, AreInOrderOfStart, items_at, Arrival}
+use Rattle.pref_sky.proofs.Common.{◌≡◌, ◌<◌, length, get_or, arith, subst, sym, ◌∙◌, refl, eqb-false, length-drop, length-take, AreInOrderOfStart, items_at, Arrival}
 use Rattle.pref_sky.proofs.ListLaws.{among_place}
 use Rattle.pref_sky.proofs.PartitionSteps.{by_start, first_partition, front_starts, making_more}
 use Rattle.pref_sky.proofs.PoolLaws.{in_here}
@@ -30,3 +30,12 @@ each_partition-preserved g c =
     let there : items_at partition partitions ≡ c.deref.result.now = in_here partition partitions c.index-levels.result.now (inv.coming.partition 0 none some) c.index-levels.ensures ∙ sym c.deref.ensures.value in
     making_more inv partition c.count_coming.result there c.count_coming.ensures.coming c.split_at.ensures.front c.count_coming.ensures.behind (get_or rest 0 none) (among_place rest 0 none some) refl c.in_ok-made.ensures.partition c.in_ok-made.ensures.made
     c.split_at.ensures.back c.in_ok-push.ensures.items
+
+pub each_partition-smaller : goal.each_partition-smaller
+each_partition-smaller g c = grind (arith, eqb-false, length-drop)
+
+pub made_of-requires-clause-items : goal.made_of-requires-clause-items
+made_of-requires-clause-items g c = grind (arith)
+
+pub made_of-requires-clause-some : goal.made_of-requires-clause-some
+made_of-requires-clause-some g c = grind (arith, length-take)
