@@ -15,7 +15,6 @@ use std::alloc::{AllocError, Global};
 use std::marker::Model;
 
 /// What a partial result holds.
-#[derive(Drop)]
 pub(crate) enum Held {
     /// Nothing was added.
     Nothing,
@@ -23,6 +22,15 @@ pub(crate) enum Held {
     Sorted(SortedEntries),
     /// In partitions, which the order never compares with each other.
     Partitioned(Partitions),
+}
+
+// By hand, so that letting one go is a call: a derived `drop` is written out, and proved, at each way out of each function that owns one.
+impl Drop for Held {
+    fn drop(self) {
+        match self {
+            Held::Nothing | Held::Sorted(_) | Held::Partitioned(_) => {}
+        }
+    }
 }
 
 /// The entries of the levels 1 to a cut among all that were added, in order of level, then id.

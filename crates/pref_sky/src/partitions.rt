@@ -136,7 +136,6 @@ fn sort_behind(ranked: &mut Vec<Ranked>, start: usize)
 }
 
 /// Levels of entries, in partitions by the cells of some columns. The entries of all are in one pool.
-#[derive(Drop)]
 pub(crate) struct Partitions {
     pub(crate) columns: Vec<usize>,
     pub(crate) pool: Pool,
@@ -147,6 +146,17 @@ pub(crate) struct Partitions {
     ghost parted: { ArePartitionedBy (partition_of columns.items) (partitions_at pool.entries.items partitions.items) },
     ghost shallow: { depth (partitions_at pool.entries.items partitions.items) < 2 ^ 32 },
     ghost ids: { HaveDifferentIds (map entry_of (ranked_partitions (partitions_at pool.entries.items partitions.items))) },
+}
+
+// By hand, so that letting one go is a call: a derived `drop` is written out, and proved, at each way out of each function that owns one.
+impl Drop for Partitions {
+    fn drop(self) {
+        let Partitions {
+            columns: _,
+            pool: _,
+            partitions: _,
+        } = self;
+    }
 }
 
 impl Partitions {

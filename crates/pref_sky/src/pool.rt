@@ -50,7 +50,6 @@ pub(crate) fn next_look(count: usize) -> usize {
 }
 
 /// Entries, and the scales by which their items are signed.
-#[derive(Drop)]
 pub(crate) struct Pool {
     pub(crate) entries: Vec<Entry>,
     pub(crate) scales: Scales,
@@ -58,6 +57,18 @@ pub(crate) struct Pool {
     pub(crate) held_when_signed: usize,
     /// How many entries there are to be when it is looked again how many of them are held.
     pub(crate) look_at: usize,
+}
+
+// By hand, so that letting one go is a call: a derived `drop` is written out, and proved, at each way out of each function that owns one.
+impl Drop for Pool {
+    fn drop(self) {
+        let Pool {
+            entries: _,
+            scales: _,
+            held_when_signed: _,
+            look_at: _,
+        } = self;
+    }
 }
 
 impl Pool {

@@ -131,7 +131,6 @@ impl Pruned {
 }
 
 /// Entries of an order that is a product of two chains. Their levels up to the cut are found when they are asked for.
-#[derive(Drop)]
 pub(crate) struct SortedEntries {
     pub(crate) pruned: Pruned,
     /// What came since these were pruned.
@@ -139,6 +138,17 @@ pub(crate) struct SortedEntries {
     /// Which of the last level dominated a new entry last. Any number is right.
     lately: usize,
     ghost ids: { HaveDifferentIds (map entry_of (own_levels pruned.order (pruned.entries.items ++ recent.items))) },
+}
+
+// By hand, so that letting one go is a call: a derived `drop` is written out, and proved, at each way out of each function that owns one.
+impl Drop for SortedEntries {
+    fn drop(self) {
+        let SortedEntries {
+            pruned: _,
+            recent: _,
+            lately: _,
+        } = self;
+    }
 }
 
 impl SortedEntries {
