@@ -86,6 +86,19 @@ fn hold_first<D: Dominance>(
     Ok(Held::Partitioned(partitions))
 }
 
+impl Held {
+    /// The entries that are held, with their levels, in order of level, then id.
+    fn ranked(&self, alloc: Global) -> Result<Vec<Ranked>, AllocError>
+        ensures { IfOk result (λ ranked. ranked.items ≡ ranked_held self.now) }
+    {
+        match self {
+            Held::Nothing => Ok(Vec::new(alloc)),
+            Held::Sorted(sorted) => sorted.ranked(alloc),
+            Held::Partitioned(partitions) => partitions.ranked(alloc),
+        }
+    }
+}
+
 /// What is held where an addition is by an order or a cut that does not go with what was held: the entries of its levels and the new
 /// ones are begun anew.
 fn hold_anew<D: Dominance>(
@@ -93,17 +106,18 @@ fn hold_anew<D: Dominance>(
     dominance: &D,
     window: usize,
     cut: u32,
-    ranked: &[Ranked],
+    held: &Held,
     entries: &[Entry],
 ) -> Result<Held, AllocError>
     requires window { 0 < window }
-    requires ids { HaveDifferentIds (map entry_of ranked.now ++ entries.now) }
+    requires ids { HaveDifferentIds (map entry_of (ranked_held held.now) ++ entries.now) }
     ensures ids { IfOk result (λ held. HaveDifferentIds (map entry_of (ranked_held held))) }
     ensures ok { let over = entry_order (D.order dominance.now) in
-        IfOk result (λ held. (before : List Entry) → HaveDifferentIds (before ++ entries.now) → ranked.now ≡ levels over before cut
-        → ranked_held held ≡ levels over (before ++ entries.now) cut) }
+        IfOk result (λ anew. (before : List Entry) → HaveDifferentIds (before ++ entries.now) → ranked_held held.now ≡ levels over before cut
+        → ranked_held anew ≡ levels over (before ++ entries.now) cut) }
 {
-    let mut all = entries_of(alloc, ranked)?;
+    let ranked = held.ranked(alloc)?;
+    let mut all = entries_of(alloc, &ranked)?;
     all.extend_from_slice(entries)?;
     hold_first(alloc, dominance, window, cut, &all)
 }
@@ -128,11 +142,7 @@ impl Partial {
     pub fn ranked(&self, alloc: Global) -> Result<Vec<Ranked>, AllocError>
         ensures { IfOk result (λ ranked. ranked.items ≡ self.now) }
     {
-        match &self.held {
-            Held::Nothing => Ok(Vec::new(alloc)),
-            Held::Sorted(sorted) => sorted.ranked(alloc),
-            Held::Partitioned(partitions) => partitions.ranked(alloc),
-        }
+        self.held.ranked(alloc)
     }
 
     /// Adds entries, of which none has an id that is held: where it held the levels 1 to `cut` of a list,
@@ -183,16 +193,14 @@ impl Partial {
                 if sorted.pruned.order.is_of(dominance, cut) {
                     return sorted.add(alloc, entries);
                 }
-                let ranked = sorted.ranked(alloc)?;
-                self.held = hold_anew(alloc, dominance, window, cut, &ranked, entries)?;
+                self.held = hold_anew(alloc, dominance, window, cut, &self.held, entries)?;
                 Ok(())
             }
             Held::Partitioned(partitions) => {
                 if partitions.columns.as_slice() == dominance.groups() {
                     return partitions.add(alloc, dominance, window, cut, entries);
                 }
-                let ranked = partitions.ranked(alloc)?;
-                self.held = hold_anew(alloc, dominance, window, cut, &ranked, entries)?;
+                self.held = hold_anew(alloc, dominance, window, cut, &self.held, entries)?;
                 Ok(())
             }
         }
