@@ -1,4 +1,4 @@
-use Rattle.pref_sky.proofs.Common.{rules, ◌≡◌, ◌≤◌, length, IsNonDecreasingBy, ◌++◌, ◌∷◌, [], Bool, ℕ, map, take, sym, ◌∙◌, ap, subst, arith, ltb, false, true, map-append, in_same_group, Ranked}
+use Rattle.pref_sky.proofs.Common.{rules, ◌≡◌, ◌≤◌, length, IsNonDecreasingBy, ◌++◌, ◌∷◌, [], Bool, ℕ, map, take, take_all, sym, ◌∙◌, ap, subst, arith, ltb, false, true, map-append, in_same_group, Ranked}
 use Rattle.pref_sky.proofs.Common.{IsPartitionPoint, IsPartitionPoint-from_clause, count_before, IsPartitionedBy-ltb}
 use Rattle.pref_sky.proofs.AtLeastLaws.{count_in_front}
 use Rattle.pref_sky.proofs.ListLaws.{front_more}
@@ -32,3 +32,6 @@ loop-entry-preserved c =
                 ∙ (ap (λ b. map few (take i ranked) ++ b ∷ []) here ∙ (sym (map-append few (take i ranked) (x ∷ [])) ∙ ap (map few) (sym (front_more ranked i x c.loop-entry-test.true c.entry-item.is))))),
           ),
     )
+
+pub returns : goal.returns
+returns c = grind (arith, take_all)

@@ -1,4 +1,4 @@
-use Rattle.pref_sky.proofs.Common.{◌≡◌, ◌∙◌, ◌+◌, ◌++◌, ◌∷◌, [], sym, ap, subst, take, add-one, get_or_read, own_order, entry_at, StandsBehind, with_levels, at_level}
+use Rattle.pref_sky.proofs.Common.{◌≡◌, ◌∙◌, ◌+◌, ◌++◌, ◌∷◌, [], sym, ap, arith, subst, take, take_all, add-one, get_or_default, get_or_read, own_order, entry_at, StandsBehind, with_levels, at_level}
 use Rattle.pref_sky.proofs.ChainStairs.{own_are_stairs, stands_behind}
 use Rattle.pref_sky.proofs.LayersLaws.{lasts_more, lasts_stay, next_chain, listed_as_it_was, listed_more}
 use Rattle.pref_sky.proofs.layers.with_levels.Goals.{then-above-order+in_ok-note_last+in_ok-push, else-above-order}
@@ -33,3 +33,12 @@ loop-place-preserved c =
         found = inv.found ∙ sym (listed_as_it_was over all order.cut i n inside chain w.if-above-order.false);
       })
     ]
+
+pub returns : goal.returns
+returns c = grind (arith, take_all)
+
+pub loop-place-init : goal.loop-place-init
+loop-place-init c = grind (arith)
+
+pub count_above-above-requires : goal.count_above-above-requires
+count_above-above-requires c k d inside = grind (arith, get_or_default c.loop-place.last.items k d 0, c.loop-place.invariant.lasts.there k)

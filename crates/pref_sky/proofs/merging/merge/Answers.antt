@@ -1,4 +1,4 @@
-use Rattle.pref_sky.proofs.Common.{◌≡◌, ◌∙◌, ◌++◌, ◌+◌, [], ◌∷◌, true, false, not, take, drop, sym, ap, subst, append_assoc, take-append-drop, IsPermutation, drop_more, Entry, AreInOrder}
+use Rattle.pref_sky.proofs.Common.{◌≡◌, ◌∙◌, ◌++◌, ◌+◌, [], ◌∷◌, true, false, not, take, drop, sym, ap, subst, append-nil, append_assoc, arith, take_all, IsPermutation-refl, take-append-drop, IsPermutation, drop_more, Entry, AreInOrder}
 use Rattle.pref_sky.proofs.Common.{comes_before, Among}
 use Rattle.pref_sky.proofs.ChainStairs.{before_is_chain}
 use Rattle.pref_sky.proofs.ListLaws.{front_more, below_later, in_order_back, merged_more, moved_more}
@@ -36,3 +36,9 @@ loop-entry-preserved c =
       sorted = subst (AreInOrder order) (sym whole) (merged_more (comes_before order) chain all front back e later sorted ordered below passed left);
       below = λ a b m k. below_later (comes_before order) chain all front back e later sorted ordered below passed left a b (subst (Among a) new m) k;
     }
+
+pub returns : goal.returns
+returns c = grind (arith, take_all)
+
+pub loop-entry-init : goal.loop-entry-init
+loop-entry-init c = grind (arith, append-nil, IsPermutation-refl)

@@ -16,3 +16,12 @@ returns-in_ok-self-inside-in-Nothing-clause-ok g c = grind (arith, merge_none, e
 pub returns-then-is_of-clause-ok : goal.returns-then-is_of-clause-ok
 returns-then-is_of-clause-ok g c =
     grind (arith, says_its_levels (g.D.Dominance.order c.args.dominance.now) c.in-Sorted.sorted.pruned.order c.args.cut (c.is_of.ensures c.if-is_of.true))
+
+pub returns-in_ok-self-inside-in-Sorted-clause-ok : goal.returns-in_ok-self-inside-in-Sorted-clause-ok
+returns-in_ok-self-inside-in-Sorted-clause-ok g c = grind (arith)
+
+pub returns-in_ok-self-inside-in-Partitioned-clause-ok : goal.returns-in_ok-self-inside-in-Partitioned-clause-ok
+returns-in_ok-self-inside-in-Partitioned-clause-ok g c = grind (arith)
+
+pub hold_anew-requires-clause-ids : goal.hold_anew-requires-clause-ids
+hold_anew-requires-clause-ids g c = grind (arith)

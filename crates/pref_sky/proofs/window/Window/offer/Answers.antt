@@ -88,3 +88,15 @@ returns-else-self-clause-outcome g c =
     let pushed : now ≡ not_below over e a.early.items ++ e ∷ [] = c.push-else-self.ensures.items ∙ (ap (λ b. cond b (left ++ e ∷ []) left) (ap is_ok c.unwrap-else-self.ensures) ∙ ap (λ l. l ++ e ∷ []) (early_left g at)) in
     subst (λ (w : WindowState). (is_beaten over (window_entries w) e ≡ false) × (held_of a.size now c.retain-2.new.self.items a.overflowed ≡ joined over w e)) c.self.view_is
     (unbeaten g at, joined_early over e a.size a.early.items a.late.items now c.retain-2.new.self.items a.overflowed c.if-self.false pushed (late_left g at))
+
+pub returns-then-len-self-clause-within : goal.returns-then-len-self-clause-within
+returns-then-len-self-clause-within g c = grind (arith, length-append)
+
+pub returns-then-self-clause-within : goal.returns-then-self-clause-within
+returns-then-self-clause-within g c = grind (arith, length-append)
+
+pub returns-else-self-clause-within : goal.returns-else-self-clause-within
+returns-else-self-clause-within g c = grind (arith, length-append)
+
+pub invariant_of-self : goal.invariant_of-self
+invariant_of-self g c = grind (arith)
