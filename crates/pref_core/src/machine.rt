@@ -332,7 +332,7 @@ impl Machine {
         ensures { Does self.old client act.now result self.new }
     {
         match act {
-            Act::Insert(row) => Ok(Reply::Inserted(self.insert(alloc, client, row)?)),
+            Act::Insert(row) => self.insert(alloc, client, row).map(Reply::Inserted),
             Act::Update(id, row) => {
                 self.update(alloc, client, *id, row)?;
                 Ok(Reply::Updated(*id))
@@ -341,19 +341,18 @@ impl Machine {
                 self.delete(alloc, client, *id)?;
                 Ok(Reply::Deleted(*id))
             }
-            Act::Commit(commit) => {
-                let done = self.commit(alloc, client, commit.commit())?;
-                Ok(Reply::Committed(done))
-            }
+            Act::Commit(commit) => self
+                .commit(alloc, client, commit.commit())
+                .map(Reply::Committed),
             Act::Begin(_) => unreachable!(),
-            Act::Scan => Ok(Reply::Left(self.scan(alloc, client)?)),
-            Act::Finish => Ok(Reply::Answer(self.finish(alloc, client)?)),
+            Act::Scan => self.scan(alloc, client).map(Reply::Left),
+            Act::Finish => self.finish(alloc, client).map(Reply::Answer),
             Act::Abandon => {
                 self.abandon(client)?;
                 Ok(Reply::Abandoned)
             }
             Act::Get(id) => Ok(Reply::Found(*id, self.get(client, *id)?)),
-            Act::Room => Ok(Reply::Room(self.room(client)?)),
+            Act::Room => self.room(client).map(Reply::Room),
         }
     }
 
