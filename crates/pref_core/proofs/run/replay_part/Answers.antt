@@ -1,4 +1,4 @@
-use Rattle.pref_core.proofs.Common.{◌≡◌, [], ◌∷◌, ◌++◌, length, drop, ap, ◌∙◌, arith, sym, subst, length_push, step, replies_from, StandsForSystem}
+use Rattle.pref_core.proofs.Common.{◌≡◌, [], ◌∷◌, ◌++◌, length, drop, ap, ◌∙◌, arith, common_steps, sym, subst, length_push, step, replies_from, StandsForSystem}
 use Rattle.std.proofs.lemmas.Iterator.Consumers.{YieldsList-turn}
 use Rattle.std.proofs.lemmas.Iterator.Adapters.{YieldsList-from_vec}
 use Rattle.pref_core.proofs.RepliesLaws.{reply_is_added, replies_step, one_reply_more}
@@ -22,3 +22,12 @@ loop-event-preserved c =
       count = ap length one.added ∙ one_each;
       rest = ap (λ l. l ++ replies_from c.args.setup (step c.args.setup inv.system event).next (drop (length (c.loop-event.yielded ++ event ∷ [])) c.args.events.items)) one.added ∙ more;
     }
+
+pub loop-event-init : goal.loop-event-init
+loop-event-init c = grind (arith, common_steps)
+
+pub returns-then-is_err-clause-replies : goal.returns-then-is_err-clause-replies
+returns-then-is_err-clause-replies c = grind (arith, common_steps)
+
+pub returns-clause-replies : goal.returns-clause-replies
+returns-clause-replies c = grind (arith, common_steps)

@@ -1,7 +1,12 @@
-use Rattle.pref_core.proofs.Common.{arith, length-append, length-replicate}
+use Rattle.pref_core.proofs.Common.{arith, common_steps, length-append, length-replicate}
 use Rattle.pref_core.proofs.OpeningLaws.{length-opening_slots}
 use Rattle.pref_core.proofs.store.stamped_slots.StampedSlots.new.Goals as goal
-use Rattle.pref_core.proofs.Common.{common_steps}
 
 pub invariant_of-result : goal.invariant_of-result
 invariant_of-result c = grind (arith, common_steps, length-append, length-opening_slots, length-replicate)
+
+pub loop-row-preserved : goal.loop-row-preserved
+loop-row-preserved c = grind (arith, common_steps)
+
+pub loop-empty-preserved : goal.loop-empty-preserved
+loop-empty-preserved c = grind (arith, common_steps)
