@@ -316,7 +316,6 @@ impl Machine {
     ///     reply => Ok(reply),
     /// }
     /// ```
-    #[tactic(auto, using(crate::proofs::RepliesLaws::does_replies, crate::proofs::RepliesLaws::steps_replies))]
     pub fn reply(&mut self, alloc: Global, event: Event) -> Result<Reply, AllocError>
         ensures { Replies self.old event result self.new }
     {

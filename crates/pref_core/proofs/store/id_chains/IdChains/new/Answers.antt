@@ -24,3 +24,9 @@ returns c =
 
 pub loop-place-preserved : goal.loop-place-preserved
 loop-place-preserved c = grind (arith, common_steps)
+
+pub loop-place-init : goal.loop-place-init
+loop-place-init c = grind (arith, common_steps)
+
+pub loop-home-init : goal.loop-home-init
+loop-home-init c = grind (arith, common_steps)

@@ -3,3 +3,9 @@ use Rattle.pref_core.proofs.store.stamped_slots.StampedSlots.entries.Goals as go
 
 pub loop-slot-preserved : goal.loop-slot-preserved
 loop-slot-preserved c = grind (arith, common_steps)
+
+pub loop-slot-init : goal.loop-slot-init
+loop-slot-init c = grind (arith, common_steps)
+
+pub returns : goal.returns
+returns c = grind (arith, common_steps)

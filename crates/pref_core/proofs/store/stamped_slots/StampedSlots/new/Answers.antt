@@ -10,3 +10,12 @@ loop-row-preserved c = grind (arith, common_steps)
 
 pub loop-empty-preserved : goal.loop-empty-preserved
 loop-empty-preserved c = grind (arith, common_steps)
+
+pub loop-row-init : goal.loop-row-init
+loop-row-init c = grind (arith, common_steps)
+
+pub loop-empty-init : goal.loop-empty-init
+loop-empty-init c = grind (arith, common_steps)
+
+pub returns : goal.returns
+returns c = grind (arith, common_steps)
