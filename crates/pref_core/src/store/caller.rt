@@ -76,12 +76,9 @@ fn caller_after(caller: Caller, call: &LentCall<'_>, stamp: u64) -> Caller
 pub(crate) fn idle_callers(alloc: Global, clients: u8) -> Result<Vec<Caller>, AllocError>
     ensures { IfOk result (λ v. v.items ≡ replicate clients (record { calls = 0; at_begin = None })) }
 {
-    let mut callers = Vec::with_capacity(alloc, clients as usize)?;
-    for _client in 0..clients {
-        callers.push(Caller {
-            calls: 0,
-            at_begin: None,
-        })?;
-    }
-    Ok(callers)
+    let idle = Caller {
+        calls: 0,
+        at_begin: None,
+    };
+    vec![in alloc; idle; clients as usize]
 }

@@ -46,9 +46,7 @@ impl IdChains {
         ensures { IfOk result (λ links. AreLinks (opening_ids capacity rows) links) }
     {
         let mut next = Vec::with_capacity(alloc, 2 * capacity as usize)?;
-        for _place in 0..capacity {
-            next.push(capacity)?;
-        }
+        next.resize(capacity as usize, capacity)?;
         for home in 0..capacity {
             let link = if home < rows { home } else { capacity };
             next.push(link)?;

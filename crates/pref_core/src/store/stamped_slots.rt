@@ -55,9 +55,7 @@ impl StampedSlots {
                 death: None,
             }))?;
         }
-        for _empty in 0..capacity as usize - rows.len() {
-            slots.push(None)?;
-        }
+        slots.resize(capacity as usize, None)?;
         Ok(StampedSlots { slots, stamp: made })
     }
 

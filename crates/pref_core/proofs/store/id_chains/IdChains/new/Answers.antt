@@ -11,7 +11,7 @@ loop-home-preserved c =
       | then-home-rows w ↦ w.link-is ∙ sym (ap (λ t. cond t c.loop-home.home c.args.capacity) (lt-ltb c.loop-home.home c.args.rows w.if-home-rows.true))
       | else-home-rows w ↦ w.link-is ∙ sym (ap (λ t. cond t c.loop-home.home c.args.capacity) (le-ltb c.loop-home.home c.args.rows w.if-home-rows.false))
     ] in
-    let pushed : c.push-in-loop-home.new.self.items ≡ c.loop-home.next.items ++ c.if-home-rows.link ∷ [] = search rules in
+    let pushed : c.push.new.self.items ≡ c.loop-home.next.items ++ c.if-home-rows.link ∷ [] = search rules in
     pushed ∙ ap₂ (λ l n. l ++ n ∷ []) c.loop-home.invariant link
     ∙ append_assoc (replicate c.args.capacity c.args.capacity) (map (opening_link c.args.capacity c.args.rows) (range_with_len 0 c.loop-home.home)) (opening_link c.args.capacity c.args.rows c.loop-home.home ∷ [])
     ∙ ap (λ l. replicate c.args.capacity c.args.capacity ++ l) (sym (map-range_with_len_more (opening_link c.args.capacity c.args.rows) 0 c.loop-home.home c.loop-home.home (omega arith)))
@@ -21,12 +21,6 @@ returns c =
     let all : c.loop-home.home ≡ c.args.capacity = omega arith in
     subst (AreLinks (opening_ids c.args.capacity c.args.rows)) (sym (c.loop-home.invariant ∙ ap (λ n. replicate c.args.capacity c.args.capacity ++ map (opening_link c.args.capacity c.args.rows) (range_with_len 0 n)) all))
     (opening_links c.args.capacity c.args.rows c.requires.few c.requires.rows)
-
-pub loop-place-preserved : goal.loop-place-preserved
-loop-place-preserved c = grind (arith, common_steps)
-
-pub loop-place-init : goal.loop-place-init
-loop-place-init c = grind (arith, common_steps)
 
 pub loop-home-init : goal.loop-home-init
 loop-home-init c = grind (arith, common_steps)

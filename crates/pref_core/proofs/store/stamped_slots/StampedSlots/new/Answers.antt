@@ -1,4 +1,4 @@
-use Rattle.pref_core.proofs.Common.{arith, common_steps, length-append, length-replicate}
+use Rattle.pref_core.proofs.Common.{arith, common_steps, take_all, length-append, length-replicate}
 use Rattle.pref_core.proofs.OpeningLaws.{length-opening_slots}
 use Rattle.pref_core.proofs.store.stamped_slots.StampedSlots.new.Goals as goal
 
@@ -8,14 +8,8 @@ invariant_of-result c = grind (arith, common_steps, length-append, length-openin
 pub loop-row-preserved : goal.loop-row-preserved
 loop-row-preserved c = grind (arith, common_steps)
 
-pub loop-empty-preserved : goal.loop-empty-preserved
-loop-empty-preserved c = grind (arith, common_steps)
-
 pub loop-row-init : goal.loop-row-init
 loop-row-init c = grind (arith, common_steps)
 
-pub loop-empty-init : goal.loop-empty-init
-loop-empty-init c = grind (arith, common_steps)
-
 pub returns : goal.returns
-returns c = grind (arith, common_steps)
+returns c = grind (arith, common_steps, take_all, length-opening_slots, c.loop-row.invariant.rest)

@@ -1,4 +1,4 @@
-use Rattle.pref_core.proofs.Common.{◌≡◌, ◌++◌, drop, replicate, None, opening_slots}
+use Rattle.pref_core.proofs.Common.{◌≡◌, ◌++◌, drop, opening_slots}
 use Rattle.pref_core.proofs.store.stamped_slots.StampedSlots.new.Given as goal
 
 abbrev pub invariant-loop-row : goal.invariant-loop-row
@@ -6,6 +6,3 @@ invariant-loop-row l = record {
   made : l.made ≡ l.row-index;
   rest : l.slots.items ++ opening_slots l.made (drop l.row-index l.rows) ≡ opening_slots 0 l.rows;
 }
-
-abbrev pub invariant-loop-empty : goal.invariant-loop-empty
-invariant-loop-empty l = l.slots.items ≡ opening_slots 0 l.rows ++ replicate l._empty None
