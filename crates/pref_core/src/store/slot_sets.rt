@@ -266,14 +266,8 @@ fn rotated(alloc: Global, capacity: u32, first: u32) -> Result<Vec<u32>, AllocEr
     requires first { first ≤ capacity }
     ensures { IfOk result (λ v. v.items ≡ map (rotated capacity first) (range_with_len 0 capacity)) }
 {
-    let mut numbers = Vec::with_capacity(alloc, capacity as usize)?;
-    for at in 0..capacity {
-        let number = if at < capacity - first {
-            first + at
-        } else {
-            at - (capacity - first)
-        };
-        numbers.push(number)?;
-    }
-    Ok(numbers)
+    let back = capacity - first;
+    (0..capacity)
+        .map(|at| if at < back { first + at } else { at - back })
+        .collect(alloc)
 }
