@@ -91,9 +91,11 @@ fn asks_for_room(alloc: Global, count: u32) -> Result<Vec<Event>, Fail> {
 
 /// This many replies, each of which says that there is room for one row.
 fn check_all_room(rt: &impl Abort, replies: &[Reply], count: usize) {
-    assert_same(rt, "replies", &replies.len(), &count);
-    let all = replies.iter().all(|reply| matches!(reply, Reply::Room(1)));
-    assert_same(rt, "room for one", &all, &true);
+    assert_same(rt, "replies", replies.len(), count);
+    for reply in replies {
+        let is_one = matches!(reply, Reply::Room(1));
+        assert_same(rt, "room for one", is_one, true);
+    }
 }
 
 #[test]
@@ -111,7 +113,7 @@ fn a_part_is_the_whole_where_memory_is_there(rt: HostRuntime) -> Result<(), Fail
     let alloc = rt.alloc();
     let setup = setup_of(1, 1, 1, 1)?;
     let part = replay_part(alloc, setup, &[], asks_for_room(alloc, 3)?)?;
-    assert_same(&rt, "stopped", &part.stopped, &false);
+    assert_same(&rt, "stopped", part.stopped, false);
     check_all_room(&rt, &part.replies, 3);
     Ok(())
 }
@@ -119,9 +121,9 @@ fn a_part_is_the_whole_where_memory_is_there(rt: HostRuntime) -> Result<(), Fail
 /// These three rows are refused for want of room.
 fn check_too_many(rt: &impl Abort, alloc: Global, setup: Setup, opening: &[Row]) {
     let returned = replay(alloc, setup, opening, Vec::new(alloc)).err();
-    assert_same(rt, "whole", &returned, &Some(CoreFault::Full { needed: 3 }));
+    assert_same(rt, "whole", returned, Some(CoreFault::Full { needed: 3 }));
     let returned = replay_part(alloc, setup, opening, Vec::new(alloc)).err();
-    assert_same(rt, "part", &returned, &Some(CoreFault::Full { needed: 3 }));
+    assert_same(rt, "part", returned, Some(CoreFault::Full { needed: 3 }));
 }
 
 #[test]
@@ -132,24 +134,13 @@ fn too_many_opening_rows_are_refused(rt: HostRuntime) -> Result<(), Fail> {
     Ok(())
 }
 
-/// A setup of eight clients, ten slots, blocks of four and a window of one says so.
-fn check_numbers(rt: &impl Abort, setup: &Setup) {
-    let numbers = [
-        ("clients", u32::from(setup.clients()), 8),
-        ("capacity", setup.capacity(), 10),
-        ("block", setup.block(), 4),
-        ("window", setup.window(), 1),
-        ("blocks", setup.blocks(), 3),
-    ];
-    for (case, found, wanted) in numbers {
-        assert_same(rt, case, &found, &wanted);
-    }
-}
-
 #[test]
 fn a_setup_has_its_limits(rt: HostRuntime) -> Result<(), Fail> {
     let setup = Setup::new(8, 10, 4, 1).ok_or("setup")?;
-    check_numbers(&rt, &setup);
+    let clients = u32::from(setup.clients());
+    let slots = (setup.capacity(), setup.block(), setup.blocks());
+    let found = (clients, slots, setup.window());
+    assert_same(&rt, "its numbers", found, (8, (10, 4, 3), 1));
     for (clients, capacity, block, window) in [
         (0, 1, 1, 1),
         (9, 1, 1, 1),
@@ -160,7 +151,7 @@ fn a_setup_has_its_limits(rt: HostRuntime) -> Result<(), Fail> {
     ] {
         let case = (clients, capacity, block, window);
         let refused = Setup::new(clients, capacity, block, window).is_none();
-        assert_same(&rt, case, &refused, &true);
+        assert_same(&rt, case, refused, true);
     }
     Ok(())
 }
@@ -168,7 +159,7 @@ fn a_setup_has_its_limits(rt: HostRuntime) -> Result<(), Fail> {
 #[test]
 fn an_answer_is_given_back(rt: HostRuntime) -> Result<(), Fail> {
     let list = RankedList::of(Vec::new(rt.alloc()));
-    assert_same(&rt, "rows", &list.as_slice().len(), &0);
-    assert_same(&rt, "rows given back", &list.into_vec().len(), &0);
+    assert_same(&rt, "rows", list.as_slice().len(), 0);
+    assert_same(&rt, "rows given back", list.into_vec().len(), 0);
     Ok(())
 }

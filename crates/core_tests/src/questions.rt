@@ -9,7 +9,7 @@ mod refusals;
 mod showing;
 mod signatures;
 
-use crate::same::{assert_same, assert_same_list, assert_same_text};
+use crate::same::assert_same;
 use pref_table::{Row, Schema, TableFault};
 use pref_term::{
     Ask, Dominance, Mode, Numbers, Relation, Term, TermFault, better, compare, in_same_group,
@@ -46,25 +46,25 @@ fn fault_over(alloc: Global, names: &[&[u8]], text: &[u8]) -> Option<TermFault> 
     ask_over(alloc, names, text).err()
 }
 
-/// What is wrong with a text over the column x.
-fn fault(alloc: Global, text: &[u8]) -> Option<TermFault> {
-    fault_over(alloc, &X, text)
-}
-
 /// Texts over these columns, and the fault of each.
 fn check_refused(rt: &impl Abort, alloc: Global, names: &[&[u8]], cases: &[(&str, TermFault)]) {
     for (text, wanted) in cases {
         let found = fault_over(alloc, names, text.as_bytes());
-        assert_same(rt, *text, &found.as_ref(), &Some(wanted));
+        assert_same(rt, *text, found, Some(*wanted));
     }
 }
 
-/// How two rows over the columns x, y and z compare by a question.
-fn standing(alloc: Global, text: &[u8], a: &[i64; 3], b: &[i64; 3]) -> Result<Relation, Fail> {
+/// How two rows over the columns x, y and z compare by a question, and whether they are twins.
+fn standing(
+    alloc: Global,
+    text: &[u8],
+    a: &[i64; 3],
+    b: &[i64; 3],
+) -> Result<(Relation, bool), Fail> {
     let first = row_over(alloc, &XYZ, a)?;
     let second = row_over(alloc, &XYZ, b)?;
     let ask = ask_over(alloc, &XYZ, text)?;
-    Ok(ask.compare(&first, &second))
+    Ok((ask.compare(&first, &second), ask.twin(&first, &second)))
 }
 
 /// Questions, of each two rows, and how the first compares with the second.
@@ -74,8 +74,8 @@ fn check_standings(
     cases: &[(&str, [i64; 3], [i64; 3], Relation)],
 ) -> Result<(), Fail> {
     for (text, first, second, wanted) in cases {
-        let found = standing(alloc, text.as_bytes(), first, second)?;
-        assert_same(rt, (*text, first, second), &found, wanted);
+        let (found, _) = standing(alloc, text.as_bytes(), first, second)?;
+        assert_same(rt, (*text, first, second), found, *wanted);
     }
     Ok(())
 }
@@ -108,13 +108,14 @@ fn negated(alloc: Global, times: usize) -> Result<Vec<u8>, Fail> {
 
 /// What is wrong with a question behind this many minus signs.
 fn fault_of_negated(alloc: Global, times: usize) -> Result<Option<TermFault>, Fail> {
-    Ok(fault(alloc, negated(alloc, times)?.as_slice()))
+    Ok(fault_over(alloc, &X, negated(alloc, times)?.as_slice()))
 }
 
 /// How a row compares by such a question with one that holds a larger number.
 fn standing_of_negated(alloc: Global, times: usize) -> Result<Relation, Fail> {
     let text = negated(alloc, times)?;
-    standing(alloc, text.as_slice(), &[1, 0, 0], &[2, 0, 0])
+    let (relation, _) = standing(alloc, text.as_slice(), &[1, 0, 0], &[2, 0, 0])?;
+    Ok(relation)
 }
 
 const REFUSED: [(&str, TermFault); 17] = [
@@ -163,7 +164,8 @@ fn accepted(rt: HostRuntime) {
         "skyline of DISTINCT x Min",
     ];
     for text in cases {
-        assert_same(&rt, text, &fault(rt.alloc(), text.as_bytes()), &None);
+        let found = fault_over(rt.alloc(), &X, text.as_bytes());
+        assert_same(&rt, text, found, None);
     }
 }
 
@@ -176,34 +178,34 @@ const NESTINGS: [(&str, usize, Option<TermFault>); 2] = [
 fn the_65th_nesting_is_too_deep(rt: HostRuntime) -> Result<(), Fail> {
     for (case, times, wanted) in &NESTINGS {
         let returned = fault_of_negated(rt.alloc(), *times)?;
-        assert_same(&rt, *case, &returned, wanted);
+        assert_same(&rt, *case, returned, *wanted);
     }
     let relation = standing_of_negated(rt.alloc(), 64)?;
-    assert_same(&rt, "rows", &relation, &Relation::Better);
+    assert_same(&rt, "rows", relation, Relation::Better);
     Ok(())
 }
 
 /// What is wrong with a text of this many plus signs.
 fn fault_of_plus_signs(alloc: Global, count: usize) -> Result<Option<TermFault>, Fail> {
     let text = vec![in alloc; b'+'; count]?;
-    Ok(fault(alloc, text.as_slice()))
+    Ok(fault_over(alloc, &X, text.as_slice()))
 }
 
 #[test]
 fn a_longer_text_is_too_long_whatever_it_holds(rt: HostRuntime) -> Result<(), Fail> {
     let returned = fault_of_plus_signs(rt.alloc(), 4_096)?;
     let wanted = Some(TermFault::Unexpected { at: 0 });
-    assert_same(&rt, "4096 bytes", &returned, &wanted);
+    assert_same(&rt, "4096 bytes", returned, wanted);
     let returned = fault_of_plus_signs(rt.alloc(), 4_097)?;
-    assert_same(&rt, "4097 bytes", &returned, &Some(TermFault::TooLong));
+    assert_same(&rt, "4097 bytes", returned, Some(TermFault::TooLong));
     Ok(())
 }
 
 /// A question has this mode, this cut and this group.
 fn check_parts(rt: &impl Abort, ask: &Ask, case: &(&str, Mode, u32, &[usize])) {
     let (text, mode, cut, group) = *case;
-    assert_same(rt, text, &(ask.mode(), ask.cut()), &(mode, cut));
-    assert_same_list(rt, text, ask.group(), group);
+    let found = (ask.mode(), ask.cut(), ask.group());
+    assert_same(rt, text, found, (mode, cut, group));
 }
 
 const COLUMNS_CALLED_AS_WORDS: [(&str, Mode, u32, &[usize]); 2] = [
@@ -352,7 +354,7 @@ fn read_off_text(
 fn better_same_and_over_read_off_one_walk(rt: HostRuntime) -> Result<(), Fail> {
     for (text, first, second, wanted) in &WALKS {
         let found = read_off_text(rt.alloc(), text.as_bytes(), first, second)?;
-        assert_same(&rt, (*text, first, second), &found, wanted);
+        assert_same(&rt, (*text, first, second), found, *wanted);
     }
     Ok(())
 }
@@ -370,18 +372,21 @@ fn walks_of(set: Numbers, first: &Row, second: &Row) -> [Relation; 3] {
 
 /// The first of two rows is better.
 fn check_walks(rt: &impl Abort, [relation, turned, alone]: [Relation; 3]) {
-    assert_same(rt, "better", &relation.is_better(), &true);
-    assert_same(rt, "not worse", &relation.is_worse(), &false);
-    assert_same(rt, "not the same", &relation.is_same(), &false);
-    assert_same(rt, "worse", &turned.is_worse(), &true);
-    assert_same(rt, "the same", &alone.is_same(), &true);
+    let of_first = (
+        relation.is_better(),
+        relation.is_worse(),
+        relation.is_same(),
+    );
+    let found = (of_first, turned.is_worse(), alone.is_same());
+    let wanted = ((true, false, false), true, true);
+    assert_same(rt, "better, turned round, alone", found, wanted);
 }
 
 /// Two rows that are equal in the column y alone.
 fn check_groups(rt: &impl Abort, first: &Row, second: &Row) {
-    assert_same(rt, "by y", &in_same_group(&[1], first, second), &true);
-    let both = in_same_group(&[1, 0], first, second);
-    assert_same(rt, "by y, x", &both, &false);
+    let by_y = in_same_group(&[1], first, second);
+    let by_both = in_same_group(&[1, 0], first, second);
+    assert_same(rt, "by y, by y and x", (by_y, by_both), (true, false));
 }
 
 #[test]
@@ -390,7 +395,7 @@ fn a_term_made_by_hand_is_walked(rt: HostRuntime) -> Result<(), Fail> {
     let second = row_over(rt.alloc(), &XY, &[1, 7])?;
     check_groups(&rt, &first, &second);
     let set = set_of(rt.alloc(), &[2, 5])?;
-    assert_same_list(&rt, "set", set.as_slice(), [2, 5].as_slice());
+    assert_same(&rt, "set", set.as_slice(), [2, 5].as_slice());
     check_walks(&rt, walks_of(set, &first, &second));
     Ok(())
 }
@@ -407,7 +412,7 @@ fn longest_product(alloc: Global) -> Result<Vec<u8>, Fail> {
 /// Compares a row with itself 1,000 times.
 fn check_same_as_itself(rt: &impl Abort, ask: &Ask, row: &Row) {
     for _ in 0..1_000 {
-        assert_same(rt, "the row", &ask.compare(row, row), &Relation::Same);
+        assert_same(rt, "the row", ask.compare(row, row), Relation::Same);
     }
 }
 
@@ -437,7 +442,7 @@ const MESSAGES: [(TermFault, &str); 9] = [
 fn messages(rt: HostRuntime) -> Result<(), Fail> {
     for (fault, text) in &MESSAGES {
         let message = fault.to_string(rt.alloc())?;
-        assert_same_text(&rt, *text, message.as_str(), text);
+        assert_same(&rt, *text, message.as_str(), text);
     }
     Ok(())
 }

@@ -2,7 +2,7 @@
 mod numbers;
 mod refusals;
 
-use crate::same::{assert_same, assert_same_list, assert_same_text};
+use crate::same::assert_same;
 use pref_table::{
     Row, Schema, TableFault, blanks_length, is_name_byte, read_row, read_table, signed_number,
 };
@@ -21,9 +21,8 @@ fn pair(row: &Row) -> (i64, i64) {
 
 /// The columns are a and b.
 fn check_columns(rt: &impl Abort, schema: &Schema) {
-    assert_same(rt, "width", &schema.width(), &2);
-    assert_same(rt, "b", &schema.index_of(b"b"), &Some(1));
-    assert_same(rt, "B", &schema.index_of(b"B"), &None);
+    let found = (schema.width(), schema.index_of(b"b"), schema.index_of(b"B"));
+    assert_same(rt, "width, b, B", found, (2, Some(1), None));
 }
 
 /// The only row holds a 7 and a 0.
@@ -31,8 +30,8 @@ fn check_rows(rt: &impl Abort, rows: &[Row]) -> Result<(), Fail> {
     let [row] = rows else {
         return Err("one row".into());
     };
-    assert_same(rt, "its columns", &pair(row), &(7, 0));
-    assert_same(rt, "no column", &row.cell(15), &0);
+    let found = (pair(row), row.cell(15));
+    assert_same(rt, "its columns, no column", found, ((7, 0), 0));
     Ok(())
 }
 
@@ -64,7 +63,7 @@ fn count_and_first(alloc: Global, text: &[u8]) -> Result<(usize, Option<(i64, i6
 fn records_as_csv_reads_them(rt: HostRuntime) -> Result<(), Fail> {
     for (text, count, first) in &RECORDS {
         let found = count_and_first(rt.alloc(), text.as_bytes())?;
-        assert_same(&rt, *text, &found, &(*count, *first));
+        assert_same(&rt, *text, found, (*count, *first));
     }
     Ok(())
 }
@@ -106,7 +105,7 @@ const TABLES: [(&str, &[(i64, i64)]); 13] = [
 fn plain_rows_before_others(rt: HostRuntime) -> Result<(), Fail> {
     for (text, wanted) in &TABLES {
         let found = pairs_of(rt.alloc(), text.as_bytes())?;
-        assert_same_list(&rt, *text, found.as_slice(), wanted);
+        assert_same(&rt, *text, found.as_slice(), wanted);
     }
     Ok(())
 }
@@ -130,7 +129,7 @@ const FAULTS_BEHIND_PLAIN_ROWS: [(&str, TableFault); 9] = [
 fn check_refused(rt: &impl Abort, alloc: Global, cases: &[(&str, TableFault)]) {
     for (text, fault) in cases {
         let found = fault_of(alloc, text.as_bytes());
-        assert_same(rt, *text, &found, &Some(*fault));
+        assert_same(rt, *text, found, Some(*fault));
     }
 }
 
@@ -139,7 +138,7 @@ fn faults_behind_plain_rows(rt: HostRuntime) {
     check_refused(&rt, rt.alloc(), &FAULTS_BEHIND_PLAIN_ROWS);
 }
 
-const REFUSED: [(&str, TableFault); 17] = [
+const REFUSED: [(&str, TableFault); 18] = [
     ("", TableFault::NoColumns),
     ("\n\n", TableFault::NoColumns),
     ("a,a", TableFault::SameName { col: 2 }),
@@ -166,12 +165,8 @@ const REFUSED: [(&str, TableFault); 17] = [
         "x\n99999999999999999999x\n",
         TableFault::NotWhole { row: 1, col: 1 },
     ),
+    ("x,y\n\"1,2\",3\n", TableFault::NotWhole { row: 1, col: 1 }),
 ];
-
-#[test]
-fn refused_texts(rt: HostRuntime) {
-    check_refused(&rt, rt.alloc(), &REFUSED);
-}
 
 /// Texts of which a record has one field more than a table has columns, unless commas are inside quotes.
 const WIDE: [(&str, TableFault); 9] = [
@@ -199,7 +194,8 @@ const WIDE: [(&str, TableFault); 9] = [
 ];
 
 #[test]
-fn records_of_too_many_fields(rt: HostRuntime) {
+fn refused_texts(rt: HostRuntime) {
+    check_refused(&rt, rt.alloc(), &REFUSED);
     check_refused(&rt, rt.alloc(), &WIDE);
 }
 
@@ -211,6 +207,15 @@ fn add_lines(text: &mut Vec<u8>, line: &[u8], times: usize) -> Result<(), AllocE
     Ok(())
 }
 
+/// The text of these lines, of which each comes this many times.
+fn text_of(alloc: Global, lines: &[(&str, usize)]) -> Result<Vec<u8>, AllocError> {
+    let mut text = Vec::new(alloc);
+    for (line, times) in lines {
+        add_lines(&mut text, line.as_bytes(), *times)?;
+    }
+    Ok(text)
+}
+
 /// A table text has the most rows that a table can have, and with one more line too many.
 fn check_last_row(
     rt: &impl Abort,
@@ -219,33 +224,31 @@ fn check_last_row(
     line: &[u8],
 ) -> Result<(), Fail> {
     let (count, _) = count_and_first(alloc, text.as_slice())?;
-    assert_same(rt, "the last row", &count, &65_536);
+    assert_same(rt, "the last row", count, 65_536);
     text.extend_from_slice(line)?;
     let found = fault_of(alloc, text.as_slice());
-    assert_same(rt, "one more", &found, &Some(TableFault::TooManyRows));
+    assert_same(rt, "one more", found, Some(TableFault::TooManyRows));
     Ok(())
 }
 
 #[test]
 fn the_row_after_the_last_is_too_many(rt: HostRuntime) -> Result<(), Fail> {
-    let mut text = b"a\n".to_vec(rt.alloc())?;
-    add_lines(&mut text, b"-12\n", 65_536)?;
+    let lines = [("a\n", 1), ("-12\n", 65_536)];
+    let mut text = text_of(rt.alloc(), &lines)?;
     check_last_row(&rt, rt.alloc(), &mut text, b"1,2\n")
 }
 
 #[test]
 fn rows_behind_many_plain_ones_count_on(rt: HostRuntime) -> Result<(), Fail> {
-    let mut text = b"a\n".to_vec(rt.alloc())?;
-    add_lines(&mut text, b"7\n", 65_534)?;
-    add_lines(&mut text, b"\"8\"\n9\n", 1)?;
+    let lines = [("a\n", 1), ("7\n", 65_534), ("\"8\"\n9\n", 1)];
+    let mut text = text_of(rt.alloc(), &lines)?;
     check_last_row(&rt, rt.alloc(), &mut text, b"10\n")
 }
 
 /// The longest name and a short one.
 fn check_names(rt: &impl Abort, schema: &Schema, longest: &[u8]) {
-    assert_same(rt, "width", &schema.width(), &2);
-    assert_same(rt, "longest", &schema.index_of(longest), &Some(0));
-    assert_same_list(rt, "its name", schema.name(0), longest);
+    let found = (schema.width(), schema.index_of(longest), schema.name(0));
+    assert_same(rt, "width, place, name", found, (2, Some(0), longest));
 }
 
 #[test]
@@ -253,7 +256,7 @@ fn names_of_a_schema(rt: HostRuntime) -> Result<(), Fail> {
     let too_long = [b"abcdefghijklmnopqrstuvwxyz_.01234".as_slice()];
     let returned = Schema::new(rt.alloc(), too_long.as_slice()).err();
     let wanted = Some(TableFault::BadName { col: 1 });
-    assert_same(&rt, "too long", &returned, &wanted);
+    assert_same(&rt, "too long", returned, wanted);
     let longest = b"abcdefghijklmnopqrstuvwxyz_.0123";
     let names = [longest.as_slice(), b"y_1".as_slice()];
     let schema = Schema::new(rt.alloc(), names.as_slice())?;
@@ -281,27 +284,22 @@ const LINES: [(&str, Result<[i64; 2], TableFault>); 7] = [
 ];
 
 /// Lines over the columns of a schema, and of each the cells of its row or its fault.
-fn check_lines(
-    rt: &impl Abort,
-    schema: &Schema,
-    lines: &[(&str, Result<[i64; 2], TableFault>)],
-) -> Result<(), Fail> {
+fn check_lines(rt: &impl Abort, schema: &Schema, lines: &[(&str, Result<[i64; 2], TableFault>)]) {
     for (line, cells) in lines {
         let wanted = match cells {
-            Ok(cells) => Ok(Row::of(schema, cells.as_slice())?),
+            Ok(cells) => Row::of(schema, cells.as_slice()),
             Err(fault) => Err(*fault),
         };
-        assert_same(rt, *line, &read_row(schema, line.as_bytes()), &wanted);
+        assert_same(rt, *line, read_row(schema, line.as_bytes()), wanted);
     }
-    Ok(())
 }
 
 /// Rows have the cells that they are made of, one for each column.
 fn check_rows_of_cells(rt: &impl Abort, schema: &Schema) -> Result<(), Fail> {
     let row = Row::of(schema, [3, i64::MIN].as_slice())?;
-    assert_same(rt, "its cells", &pair(&row), &(3, i64::MIN));
+    assert_same(rt, "its cells", pair(&row), (3, i64::MIN));
     let short = Row::of(schema, [1].as_slice());
-    assert_same(rt, "one cell", &short, &Err(TableFault::Width { row: 0 }));
+    assert_same(rt, "one cell", short, Err(TableFault::Width { row: 0 }));
     Ok(())
 }
 
@@ -310,7 +308,8 @@ fn rows_of_a_line(rt: HostRuntime) -> Result<(), Fail> {
     let names = [b"x".as_slice(), b"y_1".as_slice()];
     let schema = Schema::new(rt.alloc(), names.as_slice())?;
     check_rows_of_cells(&rt, &schema)?;
-    check_lines(&rt, &schema, &LINES)
+    check_lines(&rt, &schema, &LINES);
+    Ok(())
 }
 
 const NAME_BYTES: [(u8, bool); 6] = [
@@ -331,13 +330,13 @@ const SIGNED_DIGITS: [(bool, &str, Option<i64>); 4] = [
 
 #[test]
 fn parts_that_questions_share(rt: HostRuntime) {
-    assert_same(&rt, "blanks", &blanks_length(b" \t x "), &3);
+    assert_same(&rt, "blanks", blanks_length(b" \t x "), 3);
     for (byte, wanted) in &NAME_BYTES {
-        assert_same(&rt, *byte, &is_name_byte(*byte), wanted);
+        assert_same(&rt, *byte, is_name_byte(*byte), *wanted);
     }
     for (is_minus, digits, wanted) in &SIGNED_DIGITS {
         let found = signed_number(*is_minus, digits.as_bytes());
-        assert_same(&rt, *digits, &found, wanted);
+        assert_same(&rt, *digits, found, *wanted);
     }
 }
 
@@ -363,7 +362,7 @@ const MESSAGES: [(TableFault, &str); 9] = [
 fn messages(rt: HostRuntime) -> Result<(), Fail> {
     for (fault, text) in &MESSAGES {
         let message = fault.to_string(rt.alloc())?;
-        assert_same_text(&rt, *text, message.as_str(), text);
+        assert_same(&rt, *text, message.as_str(), text);
     }
     Ok(())
 }

@@ -1,5 +1,6 @@
 //! Calls in boxes: an op with one is done as the op with a call of its own.
 
+use super::fixtures::value_of;
 use crate::same::assert_same;
 use pref_core::{BoxedCall, BoxedCommit, BoxedOp, Call, Change, Commit, Store};
 use pref_table::Schema;
@@ -27,8 +28,12 @@ fn calls(alloc: Global, schema: &Schema) -> Result<Vec<(Call, BoxedCall)>, Fail>
 
 /// The stamp, how many calls client 1 has made, the room, and the value of row 2.
 fn standing(store: &Store) -> (u64, u64, u32, Option<i64>) {
-    let value = store.get(2).map(|row| row.cell(0));
-    (store.stamp(), store.last(1), store.room(), value)
+    (
+        store.stamp(),
+        store.last(1),
+        store.room(),
+        value_of(store, 2),
+    )
 }
 
 /// Does a call of client 1 in a store by its op, and in another by the op with the call in a box: then they stand alike.
@@ -50,8 +55,8 @@ fn is_done_alike(
     store.apply(&op);
     let lent = boxed.call.lend();
     other.apply_planned(&boxed.planned(&lent));
-    assert_same(rt, number, &standing(other), &standing(store));
-    assert_same(rt, number, &other.last(1), &op.number);
+    let wanted = (standing(store), op.number);
+    assert_same(rt, number, (standing(other), other.last(1)), wanted);
     Ok(())
 }
 

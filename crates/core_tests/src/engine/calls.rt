@@ -1,7 +1,7 @@
 //! The calls of a machine: the value that each returns, and a refusal of each.
 
 use super::fixtures::with_machine;
-use crate::same::{assert_same, assert_same_text};
+use crate::same::assert_same;
 use pref_core::{Commit, Committed, CoreFault, Machine};
 use pref_table::{Row, Schema};
 use pref_term::{Ask, read_ask};
@@ -29,11 +29,14 @@ fn check_changes(
         changes: 2,
         first: 4,
     };
-    assert_same(rt, "insert", &machine.insert(alloc, 2, row), &Ok(3));
-    assert_same(rt, "update", &machine.update(alloc, 2, 2, row), &Ok(()));
-    assert_same(rt, "delete", &machine.delete(alloc, 2, 1), &Ok(()));
-    let returned = machine.commit(alloc, 2, commit);
-    assert_same(rt, "commit", &returned, &Ok(committed));
+    let returned = (
+        machine.insert(alloc, 2, row),
+        machine.update(alloc, 2, 2, row),
+        machine.delete(alloc, 2, 1),
+        machine.commit(alloc, 2, commit),
+    );
+    let wanted = (Ok(3), Ok(()), Ok(()), Ok(committed));
+    assert_same(rt, "insert, update, delete, commit", returned, wanted);
 }
 
 /// The same changes again, of which the rows 1 and 3 are gone, and inserts until there is no room.
@@ -47,13 +50,19 @@ fn check_refused_changes(
     let first = CoreFault::NoSuchRow { id: 1 };
     let third = CoreFault::NoSuchRow { id: 3 };
     let full = CoreFault::Full { needed: 5 };
-    assert_same(rt, "update", &machine.update(alloc, 2, 1, row), &Err(first));
-    assert_same(rt, "delete", &machine.delete(alloc, 2, 1), &Err(first));
-    let returned = machine.commit(alloc, 2, commit);
-    assert_same(rt, "commit", &returned, &Err(third));
-    assert_same(rt, "insert", &machine.insert(alloc, 2, row), &Ok(5));
-    assert_same(rt, "insert", &machine.insert(alloc, 2, row), &Ok(6));
-    assert_same(rt, "full", &machine.insert(alloc, 2, row), &Err(full));
+    let returned = (
+        machine.update(alloc, 2, 1, row),
+        machine.delete(alloc, 2, 1),
+        machine.commit(alloc, 2, commit),
+    );
+    let wanted = (Err(first), Err(first), Err(third));
+    assert_same(rt, "update, delete, commit", returned, wanted);
+    let returned = (
+        machine.insert(alloc, 2, row),
+        machine.insert(alloc, 2, row),
+        machine.insert(alloc, 2, row),
+    );
+    assert_same(rt, "inserts", returned, (Ok(5), Ok(6), Err(full)));
 }
 
 #[test]
@@ -80,26 +89,18 @@ fn check_query(
     machine: &mut Machine,
 ) -> Result<(), Fail> {
     let begun = machine.begin(1, lowest(alloc, schema)?);
-    assert_same(rt, "begin", &begun, &Ok(2));
     let again = machine.begin(1, lowest(alloc, schema)?);
-    assert_same(rt, "begin again", &again, &Err(CoreFault::QueryOpen));
-    assert_same(rt, "first scan", &machine.scan(alloc, 1), &Ok(1));
-    let early = machine.finish(alloc, 1).err();
-    assert_same(rt, "early", &early, &Some(CoreFault::NotDone { left: 1 }));
-    assert_same(rt, "last scan", &machine.scan(alloc, 1), &Ok(0));
-    let past = machine.scan(alloc, 1);
-    assert_same(rt, "past the last", &past, &Err(CoreFault::AllScanned));
+    let wanted = (Ok(2), Err(CoreFault::QueryOpen));
+    assert_same(rt, "begin, begin again", (begun, again), wanted);
+    let first = (machine.scan(alloc, 1), machine.finish(alloc, 1).err());
+    let wanted = (Ok(1), Some(CoreFault::NotDone { left: 1 }));
+    assert_same(rt, "first scan, early finish", first, wanted);
+    let last = (machine.scan(alloc, 1), machine.scan(alloc, 1));
+    let wanted = (Ok(0), Err(CoreFault::AllScanned));
+    assert_same(rt, "last scan, past the last", last, wanted);
     let answer = answer_text(alloc, machine.finish(alloc, 1)?.as_slice())?;
-    assert_same_text(rt, "answer", answer.as_str(), "answer 1\nlevel 1 id 1: 5");
+    assert_same(rt, "answer", answer.as_str(), "answer 1\nlevel 1 id 1: 5");
     Ok(())
-}
-
-#[test]
-fn a_query_returns_its_blocks_and_its_answer(rt: HostRuntime) -> Result<(), Fail> {
-    let alloc = rt.alloc();
-    with_machine(alloc, |schema, machine| {
-        check_query(&rt, alloc, schema, machine)
-    })
 }
 
 /// An abandoned query is gone.
@@ -110,17 +111,17 @@ fn check_abandon(
     machine: &mut Machine,
 ) -> Result<(), Fail> {
     let begun = machine.begin(2, lowest(alloc, schema)?);
-    assert_same(rt, "begin", &begun, &Ok(2));
-    assert_same(rt, "abandon", &machine.abandon(2), &Ok(()));
-    let again = machine.abandon(2);
-    assert_same(rt, "abandon again", &again, &Err(CoreFault::NoQuery));
+    let returned = (begun, machine.abandon(2), machine.abandon(2));
+    let wanted = (Ok(2), Ok(()), Err(CoreFault::NoQuery));
+    assert_same(rt, "begin, abandon, abandon again", returned, wanted);
     Ok(())
 }
 
 #[test]
-fn an_abandon_returns_nothing(rt: HostRuntime) -> Result<(), Fail> {
+fn a_query_returns_its_blocks_and_its_answer_or_nothing(rt: HostRuntime) -> Result<(), Fail> {
     let alloc = rt.alloc();
     with_machine(alloc, |schema, machine| {
+        check_query(&rt, alloc, schema, machine)?;
         check_abandon(&rt, alloc, schema, machine)
     })
 }
@@ -128,11 +129,11 @@ fn an_abandon_returns_nothing(rt: HostRuntime) -> Result<(), Fail> {
 /// Row 1 is this one, and there is room for two rows beside the two.
 fn check_reads(rt: &impl Abort, machine: &Machine, row: Row) {
     let missing = CoreFault::NoSuchRow { id: 9 };
-    assert_same(rt, "get", &machine.get(1, 1), &Ok(row));
-    assert_same(rt, "no row", &machine.get(1, 9), &Err(missing));
-    assert_same(rt, "room", &machine.room(1), &Ok(2));
-    let returned = machine.room(3);
-    assert_same(rt, "no client", &returned, &Err(CoreFault::NoSuchClient));
+    let rows = (machine.get(1, 1), machine.get(1, 9));
+    assert_same(rt, "row, no row", rows, (Ok(row), Err(missing)));
+    let room = (machine.room(1), machine.room(3));
+    let wanted = (Ok(2), Err(CoreFault::NoSuchClient));
+    assert_same(rt, "room, no client", room, wanted);
 }
 
 #[test]

@@ -1,13 +1,14 @@
 //! Commits of several changes.
 
 use super::fixtures::check_run;
-use crate::same::{assert_same, assert_same_list};
+use crate::same::assert_same;
 use pref_core::{Change, Commit, CoreFault};
 use pref_table::Schema;
 use std::alloc::Global;
+use std::process::Abort;
 use std::test::Fail;
 use test_runs::Changes::{self, Adds, Removes, Sets};
-use test_runs::{COMMITS, changes_of, columns, row_of};
+use test_runs::{COMMITS, Run, changes_of, columns, row_of};
 
 /// Lists of changes, and the refusal that each meets.
 static LISTS: [(&[Changes], Option<CoreFault>); 10] = [
@@ -65,7 +66,7 @@ fn a_commit_has_its_changes_as_they_stand(rt: HostRuntime) -> Result<(), Fail> {
     let adds = [Change::Add(added); 8];
     for count in 1..9 {
         let commit = Commit::of(&adds[..count])?;
-        assert_same_list(&rt, count, commit.as_slice(), &adds[..count]);
+        assert_same(&rt, count, commit.as_slice(), &adds[..count]);
     }
     Ok(())
 }
@@ -75,22 +76,34 @@ fn refusal_of(alloc: Global, schema: &Schema, list: &[Changes]) -> Result<Option
     Ok(Commit::of(&changes_of(alloc, schema, list)?).err())
 }
 
+fn check_refusals(
+    rt: &impl Abort,
+    alloc: Global,
+    schema: &Schema,
+    lists: &[(&[Changes], Option<CoreFault>)],
+) -> Result<(), Fail> {
+    for (case, (list, wanted)) in lists.iter().enumerate() {
+        let refusal = refusal_of(alloc, schema, list)?;
+        assert_same(rt, case, refusal, *wanted);
+    }
+    Ok(())
+}
+
 #[test]
 fn what_is_no_commit_is_refused(rt: HostRuntime) -> Result<(), Fail> {
     let alloc = rt.alloc();
-    let schema = columns(alloc)?;
-    for (case, (list, wanted)) in LISTS.iter().enumerate() {
-        let refusal = refusal_of(alloc, &schema, list)?;
-        assert_same(&rt, case, &refusal, wanted);
+    check_refusals(&rt, alloc, &columns(alloc)?, &LISTS)
+}
+
+/// A loop over a list that is lent, since a proof pays for all that a loop over a `static` reads.
+fn check_runs(rt: &impl Abort, alloc: Global, runs: &[Run]) -> Result<(), Fail> {
+    for run in runs {
+        check_run(rt, alloc, run)?;
     }
     Ok(())
 }
 
 #[test]
 fn a_commit_is_made_whole_or_refused(rt: HostRuntime) -> Result<(), Fail> {
-    let alloc = rt.alloc();
-    for run in &COMMITS {
-        check_run(&rt, alloc, run)?;
-    }
-    Ok(())
+    check_runs(&rt, rt.alloc(), &COMMITS)
 }

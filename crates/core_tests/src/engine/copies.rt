@@ -23,10 +23,10 @@ fn goes_its_own_way(
 ) -> Result<(), Fail> {
     let old = row(schema, 4)?;
     let new = row(schema, 5)?;
-    assert_same(rt, "copied", &copy.get(1), &store.get(1));
+    assert_same(rt, "copied", copy.get(1), store.get(1));
     update_copy(copy, new)?;
-    assert_same(rt, "copy", &copy.get(1), &Some(new));
-    assert_same(rt, "store", &store.get(1), &Some(old));
+    let found = (copy.get(1), store.get(1));
+    assert_same(rt, "copy and store", found, (Some(new), Some(old)));
     Ok(())
 }
 

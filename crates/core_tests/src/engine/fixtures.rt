@@ -1,12 +1,12 @@
 //! Runs that are compared with their replies, and small stores and machines.
 
-use crate::same::{assert_same, assert_same_text};
-use pref_core::{Machine, Reply, Setup, Store, replay};
+use crate::same::assert_same;
+use pref_core::{Call, Machine, Reply, Setup, Store, replay};
 use pref_table::Schema;
 use std::alloc::Global;
 use std::process::Abort;
 use std::test::Fail;
-use test_runs::{Run, Turn, columns, events_of, reply_text, rows_of, setup_of};
+use test_runs::{Does, Run, Turn, columns, events_of, reply_text, row, rows_of, setup_of};
 
 /// A reply is what the turn of this number says.
 pub(crate) fn check_reply(
@@ -17,18 +17,17 @@ pub(crate) fn check_reply(
     wanted: &str,
 ) -> Result<(), Fail> {
     let returned = reply_text(alloc, reply)?;
-    assert_same_text(rt, number, returned.as_str(), wanted);
+    assert_same(rt, number, returned.as_str(), wanted);
     Ok(())
 }
 
-/// The replies are those of the turns.
-fn check_replies(
+/// The replies are those of the first turns.
+pub(crate) fn check_replies(
     rt: &impl Abort,
     alloc: Global,
     replies: &[Reply],
     turns: &[Turn],
 ) -> Result<(), Fail> {
-    assert_same(rt, "replies", &replies.len(), &turns.len());
     for (number, (reply, turn)) in replies.iter().zip(turns).enumerate() {
         check_reply(rt, alloc, number, reply, turn.2)?;
     }
@@ -55,6 +54,7 @@ pub(crate) fn check_turns(
     turns: &[Turn],
 ) -> Result<(), Fail> {
     let replies = replies_to(alloc, setup, values, turns)?;
+    assert_same(rt, "replies", replies.len(), turns.len());
     check_replies(rt, alloc, &replies, turns)
 }
 
@@ -81,6 +81,26 @@ pub(crate) fn with_store<L: FnOnce(&Schema, &mut Store) -> Result<(), Fail>>(
     let schema = columns(alloc)?;
     let mut store = opened_store(alloc, values)?;
     look(&schema, &mut store)
+}
+
+/// The call of a change of one row, or of the begin or the end of a query.
+pub(crate) fn call_of(schema: &Schema, does: Does) -> Result<Call, Fail> {
+    Ok(match does {
+        Does::Inserts(value) => Call::Insert(row(schema, value)?),
+        Does::Updates(id, value) => Call::Update(id, row(schema, value)?),
+        Does::Deletes(id) => Call::Delete(id),
+        Does::Begins => Call::Begin,
+        Does::Abandons => Call::Abandon,
+        _ => return Err("another call".into()),
+    })
+}
+
+/// The value of a row of a store.
+pub(crate) fn value_of(store: &Store, id: u64) -> Option<i64> {
+    match store.get(id) {
+        Some(row) => Some(row.cell(0)),
+        None => None,
+    }
 }
 
 /// A machine with these rows.

@@ -55,7 +55,8 @@ fn with_index<L: FnOnce(&Schema, &mut Store, &mut Index) -> Result<(), Fail>>(
     look(&schema, &mut store, &mut index)
 }
 
-fn has_an_added_row(
+/// A row is added, deleted, moved beside a query, and deleted while that is open.
+fn goes_along(
     rt: &impl Abort,
     alloc: Global,
     schema: &Schema,
@@ -64,93 +65,31 @@ fn has_an_added_row(
 ) -> Result<(), Fail>
     requires { IsIndexOf store.old index.old }
 {
-    let new = row(schema, 6)?;
-    let outcome = done(alloc, store, index, 1, &Call::Insert(new))?;
-    assert_same(rt, "outcome", &outcome, &Outcome::Added(3));
-    assert_same(rt, "slot", &index.slot(3), &Some(2));
-    assert_same(rt, "row", &store.get_at(index, 3), &Some(new));
-    Ok(())
-}
-
-#[test]
-fn an_index_has_an_added_row(rt: HostRuntime) -> Result<(), Fail> {
-    let alloc = rt.alloc();
-    with_index(alloc, &[4, 5], |schema, store, index| {
-        has_an_added_row(&rt, alloc, schema, store, index)
-    })
-}
-
-fn goes_where_an_update_goes(
-    rt: &impl Abort,
-    alloc: Global,
-    schema: &Schema,
-    store: &mut Store,
-    index: &mut Index,
-) -> Result<(), Fail>
-    requires { IsIndexOf store.old index.old }
-{
-    let update = Call::Update(2, row(schema, 7)?);
+    let added = row(schema, 6)?;
+    let outcome = done(alloc, store, index, 1, &Call::Insert(added))?;
+    let found = (outcome, index.slot(3), store.get_at(index, 3));
+    let wanted = (Outcome::Added(3), Some(2), Some(added));
+    assert_same(rt, "added", found, wanted);
+    done(alloc, store, index, 1, &Call::Delete(3))?;
+    assert_same(rt, "deleted", index.slot(3), None);
     done(alloc, store, index, 2, &Call::Begin)?;
-    done(alloc, store, index, 1, &update)?;
-    assert_same(rt, "moved", &(index.slot(2) != Some(1)), &true);
-    Ok(())
-}
-
-#[test]
-fn an_index_goes_where_an_update_goes(rt: HostRuntime) -> Result<(), Fail> {
-    let alloc = rt.alloc();
-    with_index(alloc, &[4, 5], |schema, store, index| {
-        goes_where_an_update_goes(&rt, alloc, schema, store, index)
-    })
-}
-
-fn has_no_deleted_row(
-    rt: &impl Abort,
-    alloc: Global,
-    store: &mut Store,
-    index: &mut Index,
-) -> Result<(), Fail>
-    requires { IsIndexOf store.old index.old }
-{
+    done(alloc, store, index, 1, &Call::Update(2, added))?;
+    assert_same(rt, "moved", index.slot(2) != Some(1), true);
+    for id in [2, 9] {
+        let by_index = store.plan_at(index, 1, Call::Delete(id));
+        let by_store = store.plan(1, Call::Delete(id));
+        assert_same(rt, ("plan", id), &by_index, &by_store);
+    }
     done(alloc, store, index, 1, &Call::Delete(2))?;
-    assert_same(rt, "deleted", &index.slot(2), &None);
+    assert_same(rt, "deleted beside a query", index.slot(2), None);
     Ok(())
 }
 
 #[test]
-fn an_index_has_no_deleted_row(rt: HostRuntime) -> Result<(), Fail> {
-    let alloc = rt.alloc();
-    with_index(alloc, &[4, 5], |_schema, store, index| {
-        has_no_deleted_row(&rt, alloc, store, index)
-    })
-}
-
-fn plans_as_its_store(
-    rt: &impl Abort,
-    alloc: Global,
-    schema: &Schema,
-    store: &mut Store,
-    index: &mut Index,
-) -> Result<(), Fail>
-    requires { IsIndexOf store.old index.old }
-{
-    let update = Call::Update(2, row(schema, 7)?);
-    done(alloc, store, index, 2, &Call::Begin)?;
-    done(alloc, store, index, 1, &update)?;
-    let delete = Call::Delete(2);
-    let by_index = store.plan_at(index, 1, delete);
-    assert_same(rt, "plan", &by_index, &store.plan(1, delete));
-    let missing = Call::Delete(9);
-    let by_index = store.plan_at(index, 1, missing);
-    assert_same(rt, "missing", &by_index, &store.plan(1, missing));
-    Ok(())
-}
-
-#[test]
-fn a_plan_by_an_index_is_that_of_its_store(rt: HostRuntime) -> Result<(), Fail> {
+fn an_index_goes_along_with_its_store(rt: HostRuntime) -> Result<(), Fail> {
     let alloc = rt.alloc();
     with_index(alloc, &[4, 5], |schema, store, index| {
-        plans_as_its_store(&rt, alloc, schema, store, index)
+        goes_along(&rt, alloc, schema, store, index)
     })
 }
 
@@ -169,8 +108,8 @@ fn goes_before_the_store(
         Err(fault) => return Err(Fail::from(fault)),
     };
     store.reindex(alloc, index, &op)?;
-    assert_same(rt, "in the index", &index.slot(2), &None);
-    assert_same(rt, "in the store", &store.get(2).is_some(), &true);
+    let found = (index.slot(2), store.get(2).is_some());
+    assert_same(rt, "in the index, in the store", found, (None, true));
     Ok(())
 }
 
@@ -184,11 +123,12 @@ fn an_index_goes_before_its_store(rt: HostRuntime) -> Result<(), Fail> {
 
 fn is_a_map(rt: &impl Abort, alloc: Global, index: &mut Index) -> Result<(), Fail> {
     index.put(alloc, 7, 1)?;
-    assert_same(rt, "put", &index.slot(7), &Some(1));
+    let put = index.slot(7);
     index.set(7, 0);
-    assert_same(rt, "set", &index.slot(7), &Some(0));
+    let set = index.slot(7);
     index.take(7);
-    assert_same(rt, "taken", &index.slot(7), &None);
+    let found = (put, set, index.slot(7));
+    assert_same(rt, "put, set, taken", found, (Some(1), Some(0), None));
     Ok(())
 }
 

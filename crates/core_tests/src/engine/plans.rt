@@ -1,7 +1,7 @@
 //! Calls that a store plans and does.
 
 use super::fixtures::with_store;
-use crate::same::{assert_same, assert_same_list};
+use crate::same::assert_same;
 use pref_core::{Call, Change, Commit, CoreFault, Op, Outcome, QueryState, Store};
 use pref_table::{Row, Schema};
 use std::alloc::Global;
@@ -9,33 +9,13 @@ use std::process::Abort;
 use std::test::Fail;
 use test_runs::row;
 
-/// Does an op, and once more, which changes nothing: its number is one above the client's last.
-fn apply_twice(store: &mut Store, op: &Op) {
-    store.apply(op);
-    store.apply(op);
-}
-
-/// Adds a third row by an insert of client 2, which is done twice.
+/// Adds a third row by an insert of client 2, which is done once more and changes nothing then: its number is one above the
+/// client's last.
 fn add_a_third(schema: &Schema, store: &mut Store) -> Result<(), Fail> {
     let op = store.plan(2, Call::Insert(row(schema, 5)?))?;
-    apply_twice(store, &op);
+    store.apply(&op);
+    store.apply(&op);
     Ok(())
-}
-
-fn is_done_once(rt: &impl Abort, schema: &Schema, store: &mut Store) -> Result<(), Fail> {
-    add_a_third(schema, store)?;
-    assert_same(rt, "stamp", &store.stamp(), &3);
-    assert_same(rt, "last of client 2", &store.last(2), &1);
-    assert_same(rt, "last of client 1", &store.last(1), &0);
-    assert_same(rt, "room", &store.room(), &0);
-    Ok(())
-}
-
-#[test]
-fn a_planned_call_is_done_once(rt: HostRuntime) -> Result<(), Fail> {
-    with_store(rt.alloc(), &[4, 6], |schema, store| {
-        is_done_once(&rt, schema, store)
-    })
 }
 
 /// The ids that a block of two slots shows.
@@ -56,28 +36,22 @@ fn check_shown(
     wanted: &[u64],
 ) -> Result<(), Fail> {
     let ids = shown_ids(alloc, store, 1, stamp)?;
-    assert_same_list(rt, ("at stamp", stamp), ids.as_slice(), wanted);
+    assert_same(rt, ("at stamp", stamp), ids.as_slice(), wanted);
     Ok(())
 }
 
-fn is_shown_in_its_block(
+fn is_done_once(
     rt: &impl Abort,
     alloc: Global,
     schema: &Schema,
     store: &mut Store,
 ) -> Result<(), Fail> {
     add_a_third(schema, store)?;
-    assert_same(rt, "row", &store.get(3), &Some(row(schema, 5)?));
+    let numbers = (store.stamp(), store.last(2), store.last(1), store.room());
+    assert_same(rt, "stamp, last calls, room", numbers, (3, 1, 0, 0));
+    assert_same(rt, "row", store.get(3), Some(row(schema, 5)?));
     check_shown(rt, alloc, store, 3, &[3])?;
     check_shown(rt, alloc, store, 2, &[])
-}
-
-#[test]
-fn an_added_row_is_shown_in_its_block(rt: HostRuntime) -> Result<(), Fail> {
-    let alloc = rt.alloc();
-    with_store(alloc, &[4, 6], |schema, store| {
-        is_shown_in_its_block(&rt, alloc, schema, store)
-    })
 }
 
 fn tells_what_becomes_of_a_call(
@@ -86,17 +60,20 @@ fn tells_what_becomes_of_a_call(
     store: &Store,
 ) -> Result<(), Fail> {
     let op = store.plan(2, Call::Insert(row(schema, 5)?))?;
-    assert_same(rt, "outcome", &op.outcome, &Outcome::Added(3));
-    assert_same_list(rt, "slots", op.slots.as_slice(), [2].as_slice());
+    assert_same(rt, "outcome", op.outcome, Outcome::Added(3));
+    assert_same(rt, "slots", op.slots.as_slice(), [2].as_slice());
     let returned = store.plan(9, Call::Abandon).err();
-    assert_same(rt, "client 9", &returned, &Some(CoreFault::NoSuchClient));
+    assert_same(rt, "client 9", returned, Some(CoreFault::NoSuchClient));
     Ok(())
 }
 
+/// The plan tells what becomes of the call, and its new row is shown in its block from its stamp on.
 #[test]
-fn a_plan_tells_what_becomes_of_a_call(rt: HostRuntime) -> Result<(), Fail> {
-    with_store(rt.alloc(), &[4, 6], |schema, store| {
-        tells_what_becomes_of_a_call(&rt, schema, store)
+fn a_planned_call_is_done_once(rt: HostRuntime) -> Result<(), Fail> {
+    let alloc = rt.alloc();
+    with_store(alloc, &[4, 6], |schema, store| {
+        tells_what_becomes_of_a_call(&rt, schema, store)?;
+        is_done_once(&rt, alloc, schema, store)
     })
 }
 
@@ -110,7 +87,7 @@ fn takes_a_stamp(
     let op = store.plan(1, call)?;
     store.apply(&op);
     let found = (op.outcome, store.stamp(), store.get(2));
-    assert_same(rt, wanted.1, &found, &wanted);
+    assert_same(rt, wanted.1, found, wanted);
     Ok(())
 }
 
@@ -122,7 +99,7 @@ fn take_one_stamp_each(rt: &impl Abort, schema: &Schema, store: &mut Store) -> R
     let changes = [Change::Remove(1), Change::Add(new), Change::Set(2, new)];
     let commit = Call::Commit(Commit::of(&changes)?);
     takes_a_stamp(rt, store, commit, (Outcome::Added(3), 4, Some(new)))?;
-    assert_same(rt, "room", &store.room(), &1);
+    assert_same(rt, "room", store.room(), 1);
     Ok(())
 }
 
@@ -163,7 +140,7 @@ fn a_call_gets_a_number_or_its_refusal(rt: HostRuntime) -> Result<(), Fail> {
         (Call::Begin, most, QueryState::Open, Some(CoreFault::Spent)),
     ];
     for (case, (call, calls, query, wanted)) in cases.iter().enumerate() {
-        assert_same(&rt, case, &call.lend().refusal(*calls, *query), wanted);
+        assert_same(&rt, case, call.lend().refusal(*calls, *query), *wanted);
     }
     Ok(())
 }
@@ -177,7 +154,7 @@ fn an_outcome_is_a_refusal_or_none(rt: HostRuntime) -> Result<(), Fail> {
         (Outcome::Full(5), Some(CoreFault::Full { needed: 5 })),
     ];
     for (case, (outcome, wanted)) in cases.iter().enumerate() {
-        assert_same(&rt, case, &outcome.refusal(), wanted);
+        assert_same(&rt, case, outcome.refusal(), *wanted);
     }
     Ok(())
 }

@@ -6,8 +6,8 @@ ghost use Rattle.std.specs.Prelude.{IfOk};
 ghost use Rattle.pref_core.specs.Indexes.{IsIndexOf};
 ghost use Rattle.pref_core.specs.Scans.{NextIsNew};
 
-use super::fixtures::{opened_machine, with_machine};
-use crate::same::{assert_same, assert_same_text};
+use super::fixtures::{check_reply, opened_machine, with_machine};
+use crate::same::assert_same;
 use pref_core::{
     Act, Change, Commit, Committed, CoreFault, Event, Index, LentCall, Machine, Query, Reply,
     StepFault, Store,
@@ -15,48 +15,28 @@ use pref_core::{
 use pref_sky::Ranked;
 use pref_table::{Row, Schema};
 use pref_term::{Ask, read_ask};
-use std::alloc::{AllocError, Global};
+use std::alloc::Global;
 use std::process::Abort;
 use std::test::Fail;
 use test_runs::{
-    Does, Turn, answer_text, columns, commit_act, event_of, reply_text, row_of, rows_of, setup_of,
+    Does, Turn, answer_text, columns, commit_act, event_of, row_of, rows_of, setup_of,
 };
 
 /// How often eight rows come in the place of eight others: the index, which has room for 18, has to grow by then.
 const ROUNDS: u8 = 30;
 
-/// What a step returns that memory was refused to before.
-fn told_at_last(rt: &impl Abort, alloc: Global, machine: &mut Machine, event: Event) -> Reply {
-    match machine.step(alloc, event) {
-        Ok(reply) => reply,
-        Err(StepFault { fault, .. }) => {
-            assert_same(rt, fault, &(fault != CoreFault::OutOfMemory), &true);
-            Reply::Refused(fault)
-        }
-    }
-}
-
 /// What a step returns in the end: a step that memory is refused to hands its event back, and is made again.
 fn told_in_the_end(rt: &impl Abort, alloc: Global, machine: &mut Machine, event: Event) -> Reply {
     match machine.step(alloc, event) {
         Ok(reply) => reply,
-        Err(StepFault { fault, event }) => {
-            if fault != CoreFault::OutOfMemory {
-                return Reply::Refused(fault);
-            }
-            told_at_last(rt, alloc, machine, event)
-        }
+        Err(
+            StepFault {
+                fault: CoreFault::OutOfMemory,
+                event,
+            },
+        ) => machine.reply(alloc, event).expect(rt, "memory"),
+        Err(StepFault { fault, .. }) => Reply::Refused(fault),
     }
-}
-
-/// What a step returns in the end, as a text.
-fn text_in_the_end(
-    rt: &impl Abort,
-    alloc: Global,
-    machine: &mut Machine,
-    event: Event,
-) -> Result<String, AllocError> {
-    reply_text(alloc, &told_in_the_end(rt, alloc, machine, event))
 }
 
 /// What clients do one after the other, and what is returned to them.
@@ -81,11 +61,12 @@ fn go_through_a_run(
     alloc: Global,
     schema: &Schema,
     machine: &mut Machine,
+    turns: &[Turn],
 ) -> Result<(), Fail> {
-    for turn in &TURNS {
+    for (number, turn) in turns.iter().enumerate() {
         let event = event_of(alloc, schema, turn)?;
-        let returned = text_in_the_end(rt, alloc, machine, event)?;
-        assert_same_text(rt, turn.0, returned.as_str(), turn.2);
+        let reply = told_in_the_end(rt, alloc, machine, event);
+        check_reply(rt, alloc, number, &reply, turn.2)?;
     }
     Ok(())
 }
@@ -94,7 +75,7 @@ fn go_through_a_run(
 fn each_act_changes_nothing_where_refused_and_is_made_again(rt: HostRuntime) -> Result<(), Fail> {
     let alloc = rt.alloc();
     with_machine(alloc, |schema, machine| {
-        go_through_a_run(&rt, alloc, schema, machine)
+        go_through_a_run(&rt, alloc, schema, machine, &TURNS)
     })
 }
 
@@ -108,29 +89,11 @@ fn removes_of(rounds: u8) -> [Change; 8] {
     removes
 }
 
-/// Why client 2 is refused a row, or none.
-fn refusal_of_a_row(alloc: Global, machine: &mut Machine, id: u64) -> Option<CoreFault> {
-    let event = Event {
-        client: 2,
-        act: Act::Get(id),
-    };
-    match machine.step(alloc, event) {
-        Ok(_reply) => None,
-        Err(refused) => Some(refused.fault),
-    }
-}
-
 /// No row of this id is there, and there is room for eight rows.
-fn has_room_for_eight(rt: &impl Abort, alloc: Global, machine: &mut Machine, id: u64) {
+fn has_room_for_eight(rt: &impl Abort, machine: &Machine, id: u64) {
     let missing = CoreFault::NoSuchRow { id };
-    let got = refusal_of_a_row(alloc, machine, id);
-    assert_same(rt, id, &got, &Some(missing));
-    let room = Event {
-        client: 2,
-        act: Act::Room,
-    };
-    let has_room = matches!(machine.step(alloc, room), Ok(Reply::Room(8)));
-    assert_same(rt, id, &has_room, &true);
+    let found = (machine.get(2, id), machine.room(2));
+    assert_same(rt, id, found, (Err(missing), Ok(8)));
 }
 
 /// A commit that adds eight rows, made again where memory was refused: until then none of them is there.
@@ -144,9 +107,9 @@ fn added_in_the_end(
     let returned = match machine.step(alloc, event) {
         Ok(returned) => returned,
         Err(StepFault { fault, event }) => {
-            assert_same(rt, first, &fault, &CoreFault::OutOfMemory);
-            has_room_for_eight(rt, alloc, machine, first);
-            machine.step(alloc, event).ok()?
+            assert_same(rt, first, fault, CoreFault::OutOfMemory);
+            has_room_for_eight(rt, machine, first);
+            machine.reply(alloc, event).expect(rt, "memory")
         }
     };
     match returned {
@@ -155,24 +118,7 @@ fn added_in_the_end(
     }
 }
 
-/// Removes the eight oldest rows of a full table.
-fn remove_eight_rows(
-    rt: &impl Abort,
-    alloc: Global,
-    machine: &mut Machine,
-    round: u8,
-) -> Result<(), Fail> {
-    let removes = Event {
-        client: 1,
-        act: commit_act(alloc, &removes_of(round))?,
-    };
-    machine
-        .reply(alloc, removes)
-        .expect(rt, "a remove takes no memory");
-    Ok(())
-}
-
-/// Adds eight rows in their place.
+/// Adds eight rows to a table that has room for them.
 fn add_eight_rows(
     rt: &impl Abort,
     alloc: Global,
@@ -186,12 +132,7 @@ fn add_eight_rows(
     };
     let first = 8 * u64::from(round) + 19;
     let committed = added_in_the_end(rt, alloc, machine, event, first);
-    assert_same(
-        rt,
-        round,
-        &committed,
-        &Some(Committed { changes: 8, first }),
-    );
+    assert_same(rt, round, committed, Some(Committed { changes: 8, first }));
     Ok(())
 }
 
@@ -203,7 +144,10 @@ fn replace_eight_rows(
     added: Row,
 ) -> Result<(), Fail> {
     for round in 0..ROUNDS {
-        remove_eight_rows(rt, alloc, machine, round)?;
+        let removes = Commit::of(&removes_of(round))?;
+        machine
+            .commit(alloc, 1, &removes)
+            .expect(rt, "a remove takes no memory");
         add_eight_rows(rt, alloc, machine, added, round)?;
     }
     Ok(())
@@ -222,7 +166,7 @@ fn a_commit_that_makes_the_index_grow_is_made_again(rt: HostRuntime) -> Result<(
 fn check_first_rows(rt: &impl Abort, index: &Index, rows: usize) {
     for slot in 0..10usize {
         let wanted = if slot < rows { Some(slot) } else { None };
-        assert_same(rt, slot, &index.slot(slot as u64 + 1), &wanted);
+        assert_same(rt, slot, index.slot(slot as u64 + 1), wanted);
     }
 }
 
@@ -275,8 +219,8 @@ fn scan_in_the_end(rt: &impl Abort, alloc: Global, query: &mut Query, store: &St
     match query.scan(alloc, store) {
         Ok(left) => left,
         Err(fault) => {
-            assert_same(rt, "refused", &fault, &CoreFault::OutOfMemory);
-            assert_same(rt, "left", &query.left(), &before);
+            let found = (fault, query.left());
+            assert_same(rt, "refused", found, (CoreFault::OutOfMemory, before));
             query.scan(alloc, store).expect(rt, "memory")
         }
     }
@@ -287,7 +231,7 @@ fn answer_in_the_end(rt: &impl Abort, alloc: Global, query: &Query) -> Vec<Ranke
     match query.answer(alloc) {
         Ok(ranked) => ranked,
         Err(fault) => {
-            assert_same(rt, "refused", &fault, &CoreFault::OutOfMemory);
+            assert_same(rt, "refused", fault, CoreFault::OutOfMemory);
             query.answer(alloc).expect(rt, "memory")
         }
     }
@@ -297,7 +241,7 @@ fn answer_in_the_end(rt: &impl Abort, alloc: Global, query: &Query) -> Vec<Ranke
 fn check_two_levels(rt: &impl Abort, alloc: Global, query: &Query) -> Result<(), Fail> {
     let returned = answer_text(alloc, &answer_in_the_end(rt, alloc, query))?;
     let wanted = "answer 3\nlevel 1 id 1: 4\nlevel 1 id 3: 4\nlevel 2 id 2: 6";
-    assert_same_text(rt, "answer", returned.as_str(), wanted);
+    assert_same(rt, "answer", returned.as_str(), wanted);
     Ok(())
 }
 
@@ -310,11 +254,11 @@ fn scan_and_answer(
 ) -> Result<(), Fail>
     requires { NextIsNew query.old store.now.slots }
 {
-    assert_same(rt, "begun", &query.left(), &1);
-    let early = query.answer(alloc).err();
-    assert_same(rt, "early", &early, &Some(CoreFault::NotDone { left: 1 }));
+    let begun = (query.left(), query.answer(alloc).err());
+    let wanted = (1, Some(CoreFault::NotDone { left: 1 }));
+    assert_same(rt, "begun", begun, wanted);
     let left = scan_in_the_end(rt, alloc, query, store);
-    assert_same(rt, "scanned", &left, &0);
+    assert_same(rt, "scanned", left, 0);
     check_two_levels(rt, alloc, query)
 }
 
@@ -327,7 +271,7 @@ fn two_levels(alloc: Global) -> Result<Ask, Fail> {
 fn a_query_is_scanned_and_answered_again_after_a_refusal(rt: HostRuntime) -> Result<(), Fail> {
     let alloc = rt.alloc();
     let setup = setup_of(1, 3, 3, 1)?;
-    assert_same(&rt, "blocks", &setup.blocks(), &1);
+    assert_same(&rt, "blocks", setup.blocks(), 1);
     let store = Store::new(alloc, &setup, &rows_of(alloc, &[4, 6, 4])?)?;
     let ask = two_levels(alloc)?;
     let mut query = Query::begin(ask, store.stamp(), &setup);

@@ -1,18 +1,14 @@
 //! Replies of a machine to one event after another, refusals among them.
 
-use super::fixtures::with_machine;
-use crate::same::{assert_same, assert_same_text};
+use super::fixtures::{check_reply, with_machine};
+use crate::same::assert_same;
 use pref_core::{Act, CoreFault, Event, Machine, StepFault};
 use pref_table::Schema;
-use std::alloc::{AllocError, Global};
+use pref_term::read_ask;
+use std::alloc::Global;
 use std::process::Abort;
 use std::test::Fail;
-use test_runs::{Does, Turn, begin_act, event_of, reply_text};
-
-/// What a machine replies to an event.
-fn returned(alloc: Global, machine: &mut Machine, event: Event) -> Result<String, AllocError> {
-    reply_text(alloc, &machine.reply(alloc, event)?)
-}
+use test_runs::{Does, Turn, begin_act, event_of};
 
 /// What clients do, and what is returned to them.
 static TURNS: [Turn; 5] = [
@@ -28,11 +24,11 @@ fn tells_what_is_refused(
     alloc: Global,
     schema: &Schema,
     machine: &mut Machine,
+    turns: &[Turn],
 ) -> Result<(), Fail> {
-    for turn in &TURNS {
-        let event = event_of(alloc, schema, turn)?;
-        let returned = returned(alloc, machine, event)?;
-        assert_same_text(rt, turn.0, returned.as_str(), turn.2);
+    for (number, turn) in turns.iter().enumerate() {
+        let reply = machine.reply(alloc, event_of(alloc, schema, turn)?)?;
+        check_reply(rt, alloc, number, &reply, turn.2)?;
     }
     Ok(())
 }
@@ -41,7 +37,7 @@ fn tells_what_is_refused(
 fn a_refusal_is_a_reply(rt: HostRuntime) -> Result<(), Fail> {
     let alloc = rt.alloc();
     with_machine(alloc, |schema, machine| {
-        tells_what_is_refused(&rt, alloc, schema, machine)
+        tells_what_is_refused(&rt, alloc, schema, machine, &TURNS)
     })
 }
 
@@ -54,24 +50,9 @@ fn cut_handed_back(event: &Event) -> Option<u32> {
 }
 
 fn check_handed_back(rt: &impl Abort, refused: &StepFault) {
-    assert_same(rt, "fault", &refused.fault, &CoreFault::QueryOpen);
-    assert_same(rt, "client", &refused.event.client, &1);
     let cut = cut_handed_back(&refused.event);
-    assert_same(rt, "cut", &cut, &Some(3));
-}
-
-/// A begin of client 1.
-fn begin(alloc: Global, schema: &Schema, question: &str) -> Result<Event, Fail> {
-    Ok(Event {
-        client: 1,
-        act: begin_act(alloc, schema, question)?,
-    })
-}
-
-/// Whether a begin of client 1 is let in.
-fn is_let_in(alloc: Global, schema: &Schema, machine: &mut Machine) -> Result<bool, Fail> {
-    let event = begin(alloc, schema, "best low(x)")?;
-    Ok(machine.step(alloc, event).is_ok())
+    let found = (refused.fault, refused.event.client, cut);
+    assert_same(rt, "refused", found, (CoreFault::QueryOpen, 1, Some(3)));
 }
 
 fn hands_its_ask_back(
@@ -80,10 +61,10 @@ fn hands_its_ask_back(
     schema: &Schema,
     machine: &mut Machine,
 ) -> Result<(), Fail> {
-    let begun = is_let_in(alloc, schema, machine)?;
-    assert_same(rt, "begun", &begun, &true);
-    let event = begin(alloc, schema, "top_level 3 low(x)")?;
-    match machine.step(alloc, event) {
+    let begun = machine.begin(1, read_ask(alloc, schema, b"best low(x)")?);
+    assert_same(rt, "begun", begun, Ok(2));
+    let act = begin_act(alloc, schema, "top_level 3 low(x)")?;
+    match machine.step(alloc, Event { client: 1, act }) {
         Ok(_reply) => Err("let in".into()),
         Err(refused) => {
             check_handed_back(rt, &refused);

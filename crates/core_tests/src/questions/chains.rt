@@ -82,7 +82,7 @@ fn check_pairs(rt: &impl Abort, question: &str, ask: &Ask, rows: &[Row]) {
             let near = in_same_group(ask.group(), first, second);
             if near && found.is_some() {
                 let wanted = (ask.compare(first, second), ask.twin(first, second));
-                assert_same(rt, (question, first, second), &found, &Some(wanted));
+                assert_same(rt, (question, first, second), found, Some(wanted));
             }
         }
     }
@@ -101,7 +101,7 @@ fn check_copy(rt: &impl Abort, alloc: Global, question: &str, ask: &Ask) -> Resu
     if let Some((_, chains, _)) = ask.chains() {
         let copied = chains.copy(alloc)?;
         let found = (copied.is_same(chains), copied.is_one());
-        assert_same(rt, question, &found, &(true, chains.is_one()));
+        assert_same(rt, question, found, (true, chains.is_one()));
     }
     Ok(())
 }
@@ -115,7 +115,7 @@ fn check_chains(
 ) -> Result<(), Fail> {
     for (question, wanted) in cases {
         let ask = ask_over(alloc, names, question.as_bytes())?;
-        assert_same(rt, *question, &is_one(&ask), wanted);
+        assert_same(rt, *question, is_one(&ask), *wanted);
         check_pairs(rt, question, &ask, rows);
         check_copy(rt, alloc, question, &ask)?;
     }
@@ -188,7 +188,7 @@ fn chains_are_the_same_where_their_keys_are(rt: HostRuntime) -> Result<(), Fail>
         let one = ask_over(rt.alloc(), &XY, first.as_bytes())?;
         let other = ask_over(rt.alloc(), &XY, second.as_bytes())?;
         let found = have_same(&one, &other);
-        assert_same(&rt, (first, second), &found, &Some(wanted));
+        assert_same(&rt, (first, second), found, Some(wanted));
     }
     Ok(())
 }

@@ -2,10 +2,10 @@
 ghost use Rattle.std.specs.Prelude.{length};
 ghost use Rattle.pref_term.specs.Question.{FitsWidth};
 
-use super::{X, XYZ, are_equal, ask_over, check_refused, row_over};
-use crate::same::{assert_same, assert_same_list};
+use super::{X, are_equal, check_refused, standing};
+use crate::same::assert_same;
 use pref_table::Schema;
-use pref_term::{Ask, Dominance, TermFault, read_ask, show};
+use pref_term::{Ask, TermFault, read_ask, show};
 use std::alloc::Global;
 use std::process::Abort;
 use std::test::Fail;
@@ -53,11 +53,6 @@ const REFUSED: [(&str, TermFault); 13] = [
     ("skyline distinct of x min", TermFault::Unexpected { at: 8 }),
 ];
 
-#[test]
-fn the_second_token_behind_it_tells_the_word_from_a_column(rt: HostRuntime) {
-    check_refused(&rt, rt.alloc(), &X, &REFUSED);
-}
-
 const REFUSED_OVER_WORDS: [(&str, TermFault); 7] = [
     (
         "skyline of distinct , min",
@@ -80,8 +75,10 @@ const REFUSED_OVER_WORDS: [(&str, TermFault); 7] = [
     ("skyline of distinct diff, x diff", TermFault::NoMinOrMax),
 ];
 
+/// Also where a column is called `distinct`.
 #[test]
-fn the_same_where_a_column_is_called_distinct(rt: HostRuntime) {
+fn the_second_token_behind_it_tells_the_word_from_a_column(rt: HostRuntime) {
+    check_refused(&rt, rt.alloc(), &X, &REFUSED);
     check_refused(&rt, rt.alloc(), &WORDS, &REFUSED_OVER_WORDS);
 }
 
@@ -141,11 +138,11 @@ fn check_shown(
     requires { FitsWidth (length schema.now) ask.now }
 {
     let (text, distinct, wanted) = *case;
-    assert_same(rt, text, &ask.distinct(), &distinct);
+    assert_same(rt, text, ask.distinct(), distinct);
     let shown = show(alloc, schema, ask)?;
-    assert_same_list(rt, text, shown.as_slice(), wanted.as_bytes());
+    assert_same(rt, text, shown.as_slice(), wanted.as_bytes());
     let again = read_ask(alloc, schema, shown.as_slice())?;
-    assert_same(rt, wanted, &(again == *ask), &true);
+    assert_same(rt, wanted, again == *ask, true);
     Ok(())
 }
 
@@ -173,16 +170,8 @@ fn a_distinct_clause_is_another_question(rt: HostRuntime) -> Result<(), Fail> {
     let plain = b"skyline of x min";
     let distinct = b"skyline of distinct x min";
     let equal = are_equal(rt.alloc(), &WORDS, plain, distinct)?;
-    assert_same(&rt, "one of the two", &equal, &false);
+    assert_same(&rt, "one of the two", equal, false);
     Ok(())
-}
-
-/// Whether two rows over the columns x, y and z are twins.
-fn are_twins(alloc: Global, text: &[u8], a: &[i64; 3], b: &[i64; 3]) -> Result<bool, Fail> {
-    let first = row_over(alloc, &XYZ, a)?;
-    let second = row_over(alloc, &XYZ, b)?;
-    let ask = ask_over(alloc, &XYZ, text)?;
-    Ok(ask.twin(&first, &second))
 }
 
 const TWINS: [(&str, [i64; 3], [i64; 3], bool); 6] = [
@@ -217,8 +206,8 @@ const TWINS: [(&str, [i64; 3], [i64; 3], bool); 6] = [
 #[test]
 fn twins_are_equal_in_each_column_of_the_clause(rt: HostRuntime) -> Result<(), Fail> {
     for (text, first, second, wanted) in &TWINS {
-        let found = are_twins(rt.alloc(), text.as_bytes(), first, second)?;
-        assert_same(&rt, (*text, first, second), &found, wanted);
+        let (_, found) = standing(rt.alloc(), text.as_bytes(), first, second)?;
+        assert_same(&rt, (*text, first, second), found, *wanted);
     }
     Ok(())
 }

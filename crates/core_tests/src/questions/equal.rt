@@ -58,8 +58,8 @@ const PAIRS_OF_QUESTIONS: [(&str, &str, bool); 22] = [
 
 fn check_equal_terms(rt: &impl Abort) {
     let low = Term::Low { col: 0 };
-    assert_same(rt, "one column", &(low == Term::Low { col: 0 }), &true);
-    assert_same(rt, "two columns", &(low == Term::Low { col: 1 }), &false);
+    let found = (low == Term::Low { col: 0 }, low == Term::Low { col: 1 });
+    assert_same(rt, "one column, two columns", found, (true, false));
 }
 
 /// Whether sets of these numbers are equal.
@@ -69,10 +69,9 @@ fn are_equal_sets(alloc: Global, first: &[i64], second: &[i64]) -> Result<bool, 
 }
 
 fn check_equal_sets(rt: &impl Abort, alloc: Global) -> Result<(), Fail> {
-    let equal = are_equal_sets(alloc, &[2, 5], &[2, 5])?;
-    assert_same(rt, "one set", &equal, &true);
-    let equal = are_equal_sets(alloc, &[2, 5], &[2])?;
-    assert_same(rt, "two sets", &equal, &false);
+    let one = are_equal_sets(alloc, &[2, 5], &[2, 5])?;
+    let two = are_equal_sets(alloc, &[2, 5], &[2])?;
+    assert_same(rt, "one set, two sets", (one, two), (true, false));
     Ok(())
 }
 
@@ -80,7 +79,7 @@ fn check_equal_sets(rt: &impl Abort, alloc: Global) -> Result<(), Fail> {
 fn equal_where_the_same_is_seen(rt: HostRuntime) -> Result<(), Fail> {
     for (first, second, wanted) in &PAIRS_OF_QUESTIONS {
         let found = are_equal(rt.alloc(), &XYG, first.as_bytes(), second.as_bytes())?;
-        assert_same(&rt, (*first, *second), &found, wanted);
+        assert_same(&rt, (*first, *second), found, *wanted);
     }
     check_equal_terms(&rt);
     check_equal_sets(&rt, rt.alloc())

@@ -1,6 +1,6 @@
 //! Questions with sets in layers: where they are wrong, and that the first set that holds a value counts.
 use super::{X, check_refused, check_standings, row_over, set_of};
-use crate::same::{assert_same, assert_same_list};
+use crate::same::assert_same;
 use pref_table::Row;
 use pref_term::{NumberSets, Relation, Term, TermFault, compare};
 use std::alloc::{AllocError, Global};
@@ -99,12 +99,15 @@ fn two_sets(alloc: Global, last: i64) -> Result<NumberSets, AllocError> {
     Ok(NumberSets::of(sets))
 }
 
-const NUMBERS: [&[i64]; 2] = [&[2, 3], &[5]];
-
-fn check_numbers(rt: &impl Abort, sets: &NumberSets) {
-    for (set, wanted) in sets.as_slice().iter().zip(&NUMBERS) {
-        assert_same_list(rt, "set", set.as_slice(), wanted);
-    }
+/// These are a set of 2 and 3, and a set of 5.
+fn check_numbers(rt: &impl Abort, sets: &NumberSets) -> Result<(), Fail> {
+    let [first, second] = sets.as_slice() else {
+        return Err("two sets".into());
+    };
+    let found = (first.as_slice(), second.as_slice());
+    let wanted = ([2, 3].as_slice(), [5].as_slice());
+    assert_same(rt, "sets", found, wanted);
+    Ok(())
 }
 
 /// Whether these are the two sets of which the second holds this number.
@@ -116,16 +119,15 @@ fn are_two_sets(alloc: Global, sets: &NumberSets, last: i64) -> Result<bool, All
 fn check_better(rt: &impl Abort, sets: NumberSets, first: &Row, second: &Row) {
     let term = Term::Layered { col: 0, sets };
     let relation = compare(&term, first, second);
-    assert_same(rt, "rows", &relation, &Relation::Better);
+    assert_same(rt, "rows", relation, Relation::Better);
 }
 
 fn check_sets(rt: &impl Abort, alloc: Global) -> Result<(), Fail> {
     let sets = two_sets(alloc, 5)?;
-    check_numbers(rt, &sets);
+    check_numbers(rt, &sets)?;
     let same = are_two_sets(alloc, &sets, 5)?;
-    assert_same(rt, "the same", &same, &true);
     let others = are_two_sets(alloc, &sets, 6)?;
-    assert_same(rt, "others", &others, &false);
+    assert_same(rt, "the same, others", (same, others), (true, false));
     Ok(())
 }
 

@@ -128,7 +128,7 @@ fn check_pairs(rt: &impl Abort, question: &str, ask: &Ask, rows: &[Row]) {
         for second in rows {
             let found = ask.compare(first, second);
             let walked = compare(ask.term(), first, second);
-            assert_same(rt, (question, first, second), &found, &walked);
+            assert_same(rt, (question, first, second), found, walked);
         }
     }
 }

@@ -4,7 +4,7 @@ ghost use Rattle.std.specs.Prelude.{length};
 ghost use Rattle.pref_term.specs.Question.{FitsWidth};
 
 use super::{XYG, row_over};
-use crate::same::{assert_same, assert_same_list};
+use crate::same::assert_same;
 use pref_table::Schema;
 use pref_term::{Ask, Chains, Dominance, Mode, Relation, TermFault, read_ask, show};
 use std::alloc::Global;
@@ -21,7 +21,7 @@ fn read_in_the_end(rt: &impl Abort, alloc: Global, question: &[u8]) -> Result<As
     match read_ask(alloc, &schema, question) {
         Ok(ask) => Ok(ask),
         Err(fault) => {
-            assert_same(rt, "refused", &fault, &TermFault::OutOfMemory);
+            assert_same(rt, "refused", fault, TermFault::OutOfMemory);
             Ok(read_ask(alloc, &schema, question).expect(rt, "memory"))
         }
     }
@@ -33,8 +33,8 @@ const QUESTION: &[u8] =
 #[test]
 fn a_refused_reading_of_a_question_is_told_and_made_again(rt: HostRuntime) -> Result<(), Fail> {
     let ask = read_in_the_end(&rt, rt.alloc(), QUESTION)?;
-    assert_same(&rt, "mode", &ask.mode(), &Mode::AtLeast(20));
-    assert_same_list(&rt, "group", ask.group(), [2, 0].as_slice());
+    let wanted = (Mode::AtLeast(20), [2, 0].as_slice());
+    assert_same(&rt, "mode, group", (ask.mode(), ask.group()), wanted);
     Ok(())
 }
 
@@ -45,7 +45,7 @@ fn a_refused_reading_of_a_product_is_told_and_made_again(rt: HostRuntime) -> Res
     let second = row_over(rt.alloc(), &XYG, &[1, -2, 2])?;
     let ask = read_in_the_end(&rt, rt.alloc(), question)?;
     let relation = ask.compare(&first, &second);
-    assert_same(&rt, "rows", &relation, &Relation::Better);
+    assert_same(&rt, "rows", relation, Relation::Better);
     Ok(())
 }
 
@@ -55,8 +55,8 @@ fn a_refused_reading_of_a_distinct_clause_is_told_and_made_again(
 ) -> Result<(), Fail> {
     let question = b"skyline of distinct x min, g diff, y max";
     let ask = read_in_the_end(&rt, rt.alloc(), question)?;
-    assert_same(&rt, "distinct", &ask.distinct(), &true);
-    assert_same_list(&rt, "group", ask.group(), [2].as_slice());
+    let found = (ask.distinct(), ask.group());
+    assert_same(&rt, "distinct, group", found, (true, [2].as_slice()));
     Ok(())
 }
 
@@ -68,7 +68,7 @@ fn check_showing(rt: &impl Abort, alloc: Global, schema: &Schema, ask: &Ask)
         Ok(text) => text,
         Err(_) => show(alloc, schema, ask).expect(rt, "memory"),
     };
-    assert_same_list(rt, "text", text.as_slice(), QUESTION);
+    assert_same(rt, "text", text.as_slice(), QUESTION);
 }
 
 #[test]
@@ -108,7 +108,7 @@ fn a_refused_copy_of_chains_is_told_and_made_again(rt: HostRuntime) -> Result<()
         "best (low(x) * pos(y, 1)) & (pos(g, 1) & high(x))",
     ] {
         let found = are_copied(&rt, rt.alloc(), question)?;
-        assert_same(&rt, question, &found, &Some(true));
+        assert_same(&rt, question, found, Some(true));
     }
     Ok(())
 }

@@ -1,5 +1,5 @@
 //! What is shown of questions.
-use crate::same::assert_same_list;
+use crate::same::assert_same;
 use pref_table::Schema;
 use pref_term::{read_ask, show};
 use std::alloc::Global;
@@ -69,7 +69,7 @@ const SPELLINGS: [(&str, &str); 13] = [
 fn shown_in_one_spelling(rt: HostRuntime) -> Result<(), Fail> {
     for (text, wanted) in &SPELLINGS {
         let found = shown(rt.alloc(), text.as_bytes())?;
-        assert_same_list(&rt, *text, found.as_slice(), wanted.as_bytes());
+        assert_same(&rt, *text, found.as_slice(), wanted.as_bytes());
     }
     Ok(())
 }
@@ -88,7 +88,7 @@ const TEXTS: [&str; 7] = [
 fn check_shown_again(rt: &impl Abort, alloc: Global, text: &str) -> Result<(), Fail> {
     let first = shown(alloc, text.as_bytes())?;
     let second = shown(alloc, first.as_slice())?;
-    assert_same_list(rt, text, first.as_slice(), second.as_slice());
+    assert_same(rt, text, first.as_slice(), second.as_slice());
     Ok(())
 }
 

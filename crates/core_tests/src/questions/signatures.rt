@@ -60,7 +60,7 @@ fn check_pairs(rt: &impl Abort, text: &str, ask: &Ask, scales: &Scales, rows: &[
             let within = is_within(scales.signature(first), scales.signature(second));
             let relation = ask.compare(first, second);
             let wanted = matches!(relation, Relation::Better | Relation::Same);
-            assert_same(rt, (text, first, second), &within, &wanted);
+            assert_same(rt, (text, first, second), within, wanted);
         }
     }
 }
@@ -75,7 +75,7 @@ fn check_signatures(
 ) -> Result<(), Fail> {
     let (question, leading) = (text.as_bytes(), leading.as_bytes());
     let suits = suits_scales_of(alloc, sample, question, question)?;
-    assert_same(rt, text, &suits, &true);
+    assert_same(rt, text, suits, true);
     let scales = scales_of(alloc, sample, question)?;
     let part = ask_over(alloc, &XY, leading)?;
     check_pairs(rt, text, &part, &scales, rows);
@@ -132,7 +132,7 @@ fn check_takers(
 ) -> Result<(), Fail> {
     for (text, other, wanted) in cases {
         let found = suits_scales_of(alloc, rows, text.as_bytes(), other.as_bytes())?;
-        assert_same(rt, (*text, *other), &found, wanted);
+        assert_same(rt, (*text, *other), found, *wanted);
     }
     Ok(())
 }

@@ -18,124 +18,120 @@ pub(super) fn ask_of(alloc: Global, text: &[u8]) -> Result<Ask, Fail> {
     Ok(read_ask(alloc, &schema, text)?)
 }
 
+/// An ask over rows of the columns x and y, and the levels and ids of its answer.
+pub(super) struct Answer {
+    pub(super) name: &'static str,
+    pub(super) text: &'static [u8],
+    pub(super) rows: &'static [(i64, i64)],
+    pub(super) places: &'static [(u32, u64)],
+}
+
 /// Cut there, and added to a partial result that holds nothing, the two pieces make the answer.
 fn check_answer_cut_at(
     rt: &impl Abort,
     alloc: Global,
+    case: &Answer,
     ask: &Ask,
     partial: &mut Partial,
     entries: &[Entry],
-    places: &[(u32, u64)],
     at: usize,
 ) -> Result<(), Fail>
     requires nothing { partial.old ≡ [] }
     requires ids { HaveDifferentIds entries.now }
 {
-    let (front, back) = entries.split_at(at.min(entries.len()));
-    add_in_two(alloc, ask, ask.cut(), partial, front, back)?;
+    add_in_two(alloc, ask, ask.cut(), partial, entries, at)?;
     let ranked = answer(alloc, ask, partial)?;
-    check_places(rt, alloc, ("cut at", at), &ranked, places)
+    check_places(rt, alloc, (case.name, "cut at", at), &ranked, case.places)
 }
 
-pub(super) fn check_answer(
-    rt: &impl Abort,
-    alloc: Global,
-    text: &[u8],
-    rows: &[(i64, i64)],
-    places: &[(u32, u64)],
-) -> Result<(), Fail> {
-    let ask = ask_of(alloc, text)?;
-    let entries = numbered(alloc, rows)?;
+fn check_answer(rt: &impl Abort, alloc: Global, case: &Answer) -> Result<(), Fail> {
+    let ask = ask_of(alloc, case.text)?;
+    let entries = numbered(alloc, case.rows)?;
     for at in 0..=entries.len() {
         let mut partial = Partial::empty();
-        check_answer_cut_at(rt, alloc, &ask, &mut partial, &entries, places, at)?;
+        check_answer_cut_at(rt, alloc, case, &ask, &mut partial, &entries, at)?;
     }
     Ok(())
 }
 
-#[test]
-fn best_of_five_hotels(rt: HostRuntime) -> Result<(), Fail> {
-    let hotels = [(50, 8), (60, 5), (80, 2), (70, 6), (90, 2)];
-    let places = [(1, 1), (1, 2), (1, 3)];
-    check_answer(&rt, rt.alloc(), b"best low(x) * low(y)", &hotels, &places)
+pub(super) fn check_answers(rt: &impl Abort, alloc: Global, cases: &[Answer]) -> Result<(), Fail> {
+    for case in cases {
+        check_answer(rt, alloc, case)?;
+    }
+    Ok(())
 }
 
-#[test]
-fn at_least_five_of_nine_rows(rt: HostRuntime) -> Result<(), Fail> {
-    let places = [(1, 1), (1, 7), (2, 6), (2, 8), (3, 9)];
-    check_answer(
-        &rt,
-        rt.alloc(),
-        b"at_least 5 low(x) * low(y)",
-        &PAIRS,
-        &places,
-    )?;
-    check_answer(
-        &rt,
-        rt.alloc(),
-        b"at_least 5 low(x) * low(y) * low(x)",
-        &PAIRS,
-        &places,
-    )
-}
-
-#[test]
-fn at_least_four_of_nine_rows(rt: HostRuntime) -> Result<(), Fail> {
-    let two_levels = [(1, 1), (1, 7), (2, 6), (2, 8)];
-    check_answer(
-        &rt,
-        rt.alloc(),
-        b"at_least 4 low(x) * low(y)",
-        &PAIRS,
-        &two_levels,
-    )
-}
-
-#[test]
-fn top_two_levels_of_nine_rows(rt: HostRuntime) -> Result<(), Fail> {
-    let places = [(1, 1), (1, 7), (2, 6), (2, 8)];
-    check_answer(
-        &rt,
-        rt.alloc(),
-        b"top_level 2 low(x) * low(y)",
-        &PAIRS,
-        &places,
-    )?;
+static ANSWERS: [Answer; 11] = [
+    Answer {
+        name: "best of five hotels",
+        text: b"best low(x) * low(y)",
+        rows: &[(50, 8), (60, 5), (80, 2), (70, 6), (90, 2)],
+        places: &[(1, 1), (1, 2), (1, 3)],
+    },
+    Answer {
+        name: "at least five of nine rows",
+        text: b"at_least 5 low(x) * low(y)",
+        rows: &PAIRS,
+        places: &[(1, 1), (1, 7), (2, 6), (2, 8), (3, 9)],
+    },
+    Answer {
+        name: "at least five of nine rows, level by level",
+        text: b"at_least 5 low(x) * low(y) * low(x)",
+        rows: &PAIRS,
+        places: &[(1, 1), (1, 7), (2, 6), (2, 8), (3, 9)],
+    },
+    Answer {
+        name: "at least four of nine rows",
+        text: b"at_least 4 low(x) * low(y)",
+        rows: &PAIRS,
+        places: &[(1, 1), (1, 7), (2, 6), (2, 8)],
+    },
+    Answer {
+        name: "top two levels of nine rows",
+        text: b"top_level 2 low(x) * low(y)",
+        rows: &PAIRS,
+        places: &[(1, 1), (1, 7), (2, 6), (2, 8)],
+    },
     // A product of three is held level by level.
-    check_answer(
-        &rt,
-        rt.alloc(),
-        b"top_level 2 low(x) * low(y) * low(x)",
-        &PAIRS,
-        &places,
-    )
-}
+    Answer {
+        name: "top two levels of nine rows, level by level",
+        text: b"top_level 2 low(x) * low(y) * low(x)",
+        rows: &PAIRS,
+        places: &[(1, 1), (1, 7), (2, 6), (2, 8)],
+    },
+    Answer {
+        name: "at least two of each group",
+        text: b"at_least 2 low(x) by y",
+        rows: &[(1, 1), (2, 1), (2, 1), (9, 2)],
+        places: &[(1, 1), (1, 4), (2, 2), (2, 3)],
+    },
+    Answer {
+        name: "cheapest of each city",
+        text: b"best low(x) by y",
+        rows: &[(10, 1), (20, 1), (30, 2), (30, 2)],
+        places: &[(1, 1), (1, 3), (1, 4)],
+    },
+    Answer {
+        name: "cheapest of each city, by a clause",
+        text: b"skyline of x MIN, y diff",
+        rows: &[(10, 1), (20, 1), (30, 2), (30, 2)],
+        places: &[(1, 1), (1, 3), (1, 4)],
+    },
+    Answer {
+        name: "one of equal rows in each group",
+        text: b"skyline of distinct x min, y diff",
+        rows: &[(10, 1), (20, 1), (10, 1), (30, 2), (30, 2), (10, 1)],
+        places: &[(1, 1), (1, 4)],
+    },
+    Answer {
+        name: "one of equal rows",
+        text: b"skyline of distinct x min, y min",
+        rows: &[(3, 3), (3, 3), (2, 4), (4, 2), (2, 4), (3, 3), (5, 5)],
+        places: &[(1, 1), (1, 3), (1, 4)],
+    },
+];
 
 #[test]
-fn at_least_two_of_each_group(rt: HostRuntime) -> Result<(), Fail> {
-    let rows = [(1, 1), (2, 1), (2, 1), (9, 2)];
-    let places = [(1, 1), (1, 4), (2, 2), (2, 3)];
-    check_answer(&rt, rt.alloc(), b"at_least 2 low(x) by y", &rows, &places)
-}
-
-#[test]
-fn cheapest_of_each_city(rt: HostRuntime) -> Result<(), Fail> {
-    let alloc = rt.alloc();
-    let rows = [(10, 1), (20, 1), (30, 2), (30, 2)];
-    let places = [(1, 1), (1, 3), (1, 4)];
-    check_answer(&rt, alloc, b"best low(x) by y", &rows, &places)?;
-    check_answer(&rt, alloc, b"skyline of x MIN, y diff", &rows, &places)
-}
-
-#[test]
-fn one_of_the_rows_that_are_equal_in_a_clause(rt: HostRuntime) -> Result<(), Fail> {
-    let alloc = rt.alloc();
-    let rows = [(10, 1), (20, 1), (10, 1), (30, 2), (30, 2), (10, 1)];
-    let places = [(1, 1), (1, 4)];
-    let text = b"skyline of distinct x min, y diff";
-    check_answer(&rt, alloc, text, &rows, &places)?;
-    let rows = [(3, 3), (3, 3), (2, 4), (4, 2), (2, 4), (3, 3), (5, 5)];
-    let places = [(1, 1), (1, 3), (1, 4)];
-    let text = b"skyline of distinct x min, y min";
-    check_answer(&rt, alloc, text, &rows, &places)
+fn answers_of_asks(rt: HostRuntime) -> Result<(), Fail> {
+    check_answers(&rt, rt.alloc(), &ANSWERS)
 }

@@ -1,11 +1,11 @@
 //! Levels, however the rows are cut into two pieces.
-ghost use Rattle.std.specs.Prelude.{◌≡◌, ◌++◌, [], IfOk, OnOk};
+ghost use Rattle.std.specs.Prelude.{◌≡◌, [], IfOk, OnOk};
 ghost use Rattle.pref_sky.specs.Levels.{HaveDifferentIds, entry_order, levels};
 
 use super::answers::ask_of;
 use super::fixtures::{LowBoth, LowInGroup, LowOnce, PAIRS, check_places, falling, numbered};
 use super::plain::add_plainly;
-use crate::same::{assert_same, assert_same_list};
+use crate::same::assert_same;
 use pref_sky::{Entry, Partial, Ranked, levels};
 use pref_table::TableFault;
 use pref_term::Dominance;
@@ -13,19 +13,21 @@ use std::alloc::{AllocError, Global};
 use std::process::Abort;
 use std::test::Fail;
 
-/// Adds two pieces to a partial result that holds nothing, and returns what the plain merge makes of the second one.
+/// Adds entries to a partial result that holds nothing, in two pieces that are cut there, and returns what the plain merge makes of
+/// the second one.
 pub(super) fn add_in_two<D: Dominance>(
     alloc: Global,
     dominance: &D,
     cut: u32,
     partial: &mut Partial,
-    front: &[Entry],
-    back: &[Entry],
+    entries: &[Entry],
+    at: usize,
 ) -> Result<Vec<Ranked>, AllocError>
     requires nothing { partial.old ≡ [] }
-    requires ids { HaveDifferentIds (front.now ++ back.now) }
-    ensures { OnOk result (partial.new ≡ levels (entry_order (D.order dominance.now)) (front.now ++ back.now) cut) }
+    requires ids { HaveDifferentIds entries.now }
+    ensures { OnOk result (partial.new ≡ levels (entry_order (D.order dominance.now)) entries.now cut) }
 {
+    let (front, back) = entries.split_at(at.min(entries.len()));
     partial.add(alloc, dominance, 2, cut, front)?;
     let plain = add_plainly(alloc, dominance, 2, cut, partial, back)?;
     partial.add(alloc, dominance, 2, cut, back)?;
@@ -42,8 +44,8 @@ fn check_held(
     whole: &[Ranked],
 ) -> Result<(), Fail> {
     let held = partial.ranked(alloc)?;
-    assert_same_list(rt, ("plain, cut at", at), &held, plain);
-    assert_same_list(rt, ("whole, cut at", at), &held, whole);
+    assert_same(rt, ("plain, cut at", at), held.as_slice(), plain);
+    assert_same(rt, ("whole, cut at", at), held.as_slice(), whole);
     Ok(())
 }
 
@@ -59,9 +61,8 @@ fn check_cutting<D: Dominance>(
 ) -> Result<(), Fail>
     requires { HaveDifferentIds entries.now }
 {
-    let (front, back) = entries.split_at(at.min(entries.len()));
     let mut partial = Partial::empty();
-    let plain = add_in_two(alloc, dominance, cut, &mut partial, front, back)?;
+    let plain = add_in_two(alloc, dominance, cut, &mut partial, entries, at)?;
     check_held(rt, alloc, at, &partial, plain.as_slice(), whole)
 }
 
@@ -78,7 +79,7 @@ pub(super) fn check_cuttings<D: Dominance>(
     requires { HaveDifferentIds entries.now }
 {
     let whole = levels(alloc, dominance, 64, cut, entries)?;
-    assert_same(rt, ("rows on levels up to", cut), &whole.len(), &count);
+    assert_same(rt, ("rows on levels up to", cut), whole.len(), count);
     for at in cuttings {
         check_cutting(rt, alloc, dominance, cut, entries, &whole, *at)?;
     }
@@ -163,13 +164,15 @@ fn levelled(alloc: Global) -> Result<Vec<Entry>, TableFault>
     numbered(alloc, &rows)
 }
 
+fn check_levelled(rt: &impl Abort, alloc: Global, text: &[u8]) -> Result<(), Fail> {
+    let ask = ask_of(alloc, text)?;
+    let entries = levelled(alloc)?;
+    check_cuttings(rt, alloc, &ask, 3, &entries, 220, &[300, 310])
+}
+
 /// By two columns, whose rows are kept in order, and by three parts: then so many rows are held that those which come are signed.
 #[test]
 fn three_levels_of_a_hundred_rows(rt: HostRuntime) -> Result<(), Fail> {
-    let alloc = rt.alloc();
-    let entries = levelled(alloc)?;
-    let two = ask_of(alloc, b"top_level 3 low(x) * low(y)")?;
-    check_cuttings(&rt, alloc, &two, 3, &entries, 220, &[300, 310])?;
-    let three = ask_of(alloc, b"top_level 3 low(x) * low(y) * low(x)")?;
-    check_cuttings(&rt, alloc, &three, 3, &entries, 220, &[300, 310])
+    check_levelled(&rt, rt.alloc(), b"top_level 3 low(x) * low(y)")?;
+    check_levelled(&rt, rt.alloc(), b"top_level 3 low(x) * low(y) * low(x)")
 }

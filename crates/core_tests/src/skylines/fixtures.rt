@@ -2,7 +2,7 @@
 ghost use Rattle.std.specs.Prelude.{IfOk};
 ghost use Rattle.pref_sky.specs.Levels.{HaveDifferentIds};
 
-use crate::same::assert_same_list;
+use crate::same::assert_same;
 use pref_sky::{Entry, Ranked};
 use pref_table::{Row, Schema, TableFault};
 use pref_term::Dominance;
@@ -131,7 +131,7 @@ pub(crate) fn check_ids<C: Debug + Copy>(
     ids: &[u64],
 ) -> Result<(), Fail> {
     let found = ids_of(alloc, entries)?;
-    assert_same_list(rt, case, found.as_slice(), ids);
+    assert_same(rt, case, found.as_slice(), ids);
     Ok(())
 }
 
@@ -152,6 +152,6 @@ pub(crate) fn check_places<C: Debug + Copy>(
     places: &[(u32, u64)],
 ) -> Result<(), Fail> {
     let found = places_of(alloc, ranked)?;
-    assert_same_list(rt, case, found.as_slice(), places);
+    assert_same(rt, case, found.as_slice(), places);
     Ok(())
 }

@@ -28,7 +28,7 @@ pub(super) fn check_passes<D: Dominance>(
 {
     let entries = numbered(alloc, rows)?;
     let (found, count) = best_rows_passes(alloc, dominance, window, &entries)?;
-    assert_same(rt, (rows, window), &count, &passes);
+    assert_same(rt, (rows, window), count, passes);
     check_ids(rt, alloc, (rows, window), &found, ids)
 }
 
@@ -41,7 +41,7 @@ fn check_each_offer<D: Dominance>(
 ) {
     for (entry, (dominance, outcome)) in entries.iter().zip(offers) {
         let returned = window.offer(*dominance, *entry);
-        assert_same(rt, ("id", entry.id), &returned, outcome);
+        assert_same(rt, ("id", entry.id), returned, *outcome);
     }
 }
 
@@ -88,7 +88,7 @@ pub(super) fn check_windows<D: Dominance>(
     requires { HaveDifferentIds entries.now }
 {
     let plain = ids_of(alloc, &best_rows_by_pairs(alloc, dominance, entries)?)?;
-    assert_same(rt, "best rows", &plain.len(), &count);
+    assert_same(rt, "best rows", plain.len(), count);
     for window in [1, 2, 27, 64, 1000] {
         check_window(rt, alloc, dominance, window, entries, plain.as_slice())?;
     }

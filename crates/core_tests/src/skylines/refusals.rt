@@ -7,7 +7,7 @@ ghost use Rattle.pref_sky.specs.declared.entry.Entry.{Entry};
 use super::answers::ask_of;
 use super::cuttings::add_in_two;
 use super::fixtures::{LowBoth, LowOnce, PAIRS, check_places, falling, numbered};
-use crate::same::{assert_same, assert_same_list};
+use crate::same::assert_same;
 use pref_sky::{Entry, Partial, Ranked, answer, levels};
 use pref_term::{Ask, Dominance};
 use std::alloc::Global;
@@ -23,7 +23,7 @@ fn check_held(
     held: &[Ranked],
 ) -> Result<(), Fail> {
     let found = partial.ranked(alloc)?;
-    assert_same_list(rt, time, found.as_slice(), held);
+    assert_same(rt, time, found.as_slice(), held);
     Ok(())
 }
 
@@ -43,7 +43,7 @@ fn add_again<D: Dominance>(
 {
     check_held(rt, alloc, "refused", partial, held)?;
     let again = partial.add(alloc, dominance, 1, 2, entries);
-    assert_same(rt, "again", &again.is_ok(), &true);
+    assert_same(rt, "again", again.is_ok(), true);
     again?;
     Ok(())
 }
@@ -216,10 +216,9 @@ fn check_refused_list<D: Dominance>(
     requires nothing { partial.old ≡ [] }
     requires ids { HaveDifferentIds entries.now }
 {
-    let (front, back) = entries.split_at(entries.len().min(4));
-    let held = add_in_two(alloc, dominance, cut, partial, front, back)?;
+    let held = add_in_two(alloc, dominance, cut, partial, entries, 4)?;
     let ranked = ranked_in_the_end(rt, alloc, partial);
-    assert_same_list(rt, "listed", &ranked, &held);
+    assert_same(rt, "listed", ranked.as_slice(), held.as_slice());
     Ok(())
 }
 
@@ -269,8 +268,7 @@ fn check_refused_answer(
     requires nothing { partial.old ≡ [] }
     requires ids { HaveDifferentIds entries.now }
 {
-    let (front, back) = entries.split_at(entries.len().min(4));
-    add_in_two(alloc, ask, ask.cut(), partial, front, back)?;
+    add_in_two(alloc, ask, ask.cut(), partial, entries, 4)?;
     let ranked = answer_in_the_end(rt, alloc, ask, partial)?;
     check_places(rt, alloc, "answer", &ranked, places)
 }

@@ -5,7 +5,7 @@ ghost use Rattle.pref_sky.specs.Levels.{HaveDifferentIds};
 use super::answers::ask_of;
 use super::fixtures::numbered;
 use super::groups::add_by_two;
-use crate::same::assert_same_list;
+use crate::same::assert_same;
 use pref_sky::{Entry, Partial, Ranked, levels};
 use pref_table::TableFault;
 use pref_term::{Ask, Dominance};
@@ -118,7 +118,7 @@ fn check_held_of<D: Dominance>(
     let (added, _) = entries.split_at(count.min(entries.len()));
     let wanted = levels_upto(alloc, dominance, cut, added)?;
     let found = partial.ranked(alloc)?;
-    assert_same_list(rt, (cut, count), &found, &wanted);
+    assert_same(rt, (cut, count), found.as_slice(), wanted.as_slice());
     Ok(())
 }
 
@@ -250,7 +250,7 @@ fn check_change(
     let (front, back) = entries.split_at(at.min(entries.len()));
     let before = levels(alloc, first.0, 64, first.1, front)?;
     let after = levels(alloc, second.0, 64, second.1, front)?;
-    assert_same_list(rt, "by either order", &before, &after);
+    assert_same(rt, "by either order", before.as_slice(), after.as_slice());
     add_by_two(alloc, first, second, partial, front, back)?;
     check_held_of(
         rt,

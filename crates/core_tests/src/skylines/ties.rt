@@ -2,7 +2,7 @@
 ghost use Rattle.std.specs.Prelude.{◌<◌, IfOk};
 ghost use Rattle.pref_sky.specs.Levels.{HaveDifferentIds};
 
-use super::answers::{ask_of, check_answer};
+use super::answers::{Answer, ask_of, check_answers};
 use super::fixtures::numbered;
 use super::passes::{check_offers, check_passes, check_windows};
 use pref_sky::{Entry, Offer};
@@ -55,23 +55,41 @@ fn ties_that_a_later_tie_displaces(rt: HostRuntime) -> Result<(), Fail> {
     check_passes(&rt, alloc, &rated, &rows, 2, &[4, 5, 6, 7], 3)
 }
 
+static LEVELS_OF_TIES: [Answer; 3] = [
+    Answer {
+        name: "six ties",
+        text: b"best high(x)",
+        rows: &RATED,
+        places: &[(1, 1), (1, 3), (1, 4), (1, 6), (1, 7), (1, 9)],
+    },
+    Answer {
+        name: "two levels of ties",
+        text: b"top_level 2 high(x)",
+        rows: &RATED,
+        places: &SIX_AND_TWO,
+    },
+    Answer {
+        name: "at least seven rows",
+        text: b"at_least 7 high(x)",
+        rows: &RATED,
+        places: &SIX_AND_TWO,
+    },
+];
+
+const SIX_AND_TWO: [(u32, u64); 8] = [
+    (1, 1),
+    (1, 3),
+    (1, 4),
+    (1, 6),
+    (1, 7),
+    (1, 9),
+    (2, 2),
+    (2, 8),
+];
+
 #[test]
 fn ties_on_each_level(rt: HostRuntime) -> Result<(), Fail> {
-    let alloc = rt.alloc();
-    let best = [(1, 1), (1, 3), (1, 4), (1, 6), (1, 7), (1, 9)];
-    let two_levels = [
-        (1, 1),
-        (1, 3),
-        (1, 4),
-        (1, 6),
-        (1, 7),
-        (1, 9),
-        (2, 2),
-        (2, 8),
-    ];
-    check_answer(&rt, alloc, b"best high(x)", &RATED, &best)?;
-    check_answer(&rt, alloc, b"top_level 2 high(x)", &RATED, &two_levels)?;
-    check_answer(&rt, alloc, b"at_least 7 high(x)", &RATED, &two_levels)
+    check_answers(&rt, rt.alloc(), &LEVELS_OF_TIES)
 }
 
 /// A thousand rows, of which all that are alike in the remainders by these numbers are equal.

@@ -11,30 +11,21 @@ fn read_in_the_end(rt: &impl Abort, alloc: Global, text: &[u8]) -> (Schema, Vec<
     match read_table(alloc, text) {
         Ok(table) => table,
         Err(fault) => {
-            assert_same(rt, "refused", &fault, &TableFault::OutOfMemory);
+            assert_same(rt, "refused", fault, TableFault::OutOfMemory);
             read_table(alloc, text).expect(rt, "memory")
         }
     }
-}
-
-fn check_columns(rt: &impl Abort, schema: &Schema) {
-    assert_same(rt, "width", &schema.width(), &2);
-    assert_same(rt, "city", &schema.index_of(b"city"), &Some(1));
-}
-
-/// There are five rows; the second and the last are looked at.
-fn check_rows(rt: &impl Abort, rows: &[Row]) {
-    assert_same(rt, "rows", &rows.len(), &5);
-    let cells = (rows.get(1).map(pair), rows.get(4).map(pair));
-    assert_same(rt, "cells", &cells, &(Some((-3, 4)), Some((9, 10))));
 }
 
 #[test]
 fn a_refused_reading_of_a_table_is_told_and_made_again(rt: HostRuntime) {
     let text = b"price,\"city\"\n1,2\n\"-3\",4\n5,6\n7,8\n9,10\n";
     let (schema, rows) = read_in_the_end(&rt, rt.alloc(), text);
-    check_columns(&rt, &schema);
-    check_rows(&rt, rows.as_slice());
+    let columns = (schema.width(), schema.index_of(b"city"));
+    assert_same(&rt, "width, city", columns, (2, Some(1)));
+    let cells = (rows.len(), rows.get(1).map(pair), rows.get(4).map(pair));
+    let wanted = (5, Some((-3, 4)), Some((9, 10)));
+    assert_same(&rt, "rows, second, last", cells, wanted);
 }
 
 /// A schema of these columns, made again where memory was refused.
@@ -42,7 +33,7 @@ fn schema_in_the_end(rt: &impl Abort, alloc: Global, names: &[&[u8]]) -> Schema 
     match Schema::new(alloc, names) {
         Ok(schema) => schema,
         Err(fault) => {
-            assert_same(rt, "refused", &fault, &TableFault::OutOfMemory);
+            assert_same(rt, "refused", fault, TableFault::OutOfMemory);
             Schema::new(alloc, names).expect(rt, "memory")
         }
     }
@@ -52,5 +43,5 @@ fn schema_in_the_end(rt: &impl Abort, alloc: Global, names: &[&[u8]]) -> Schema 
 fn a_refused_schema_is_told_and_made_again(rt: HostRuntime) {
     let names = [b"x".as_slice(), b"y".as_slice(), b"z".as_slice()];
     let schema = schema_in_the_end(&rt, rt.alloc(), names.as_slice());
-    assert_same(&rt, "z", &schema.index_of(b"z"), &Some(2));
+    assert_same(&rt, "z", schema.index_of(b"z"), Some(2));
 }

@@ -1,6 +1,6 @@
 //! Runs that stop where a request for memory is refused: they keep the replies before it.
 
-use crate::engine::fixtures::check_reply;
+use crate::engine::fixtures::check_replies;
 use crate::same::assert_same;
 use pref_core::{Part, Setup, replay_part};
 use pref_table::{Row, Schema};
@@ -40,11 +40,8 @@ static TURNS: [Turn; 4] = [
 /// The replies of a part are those of the first turns, and where it stopped some turns are left.
 fn are_first(rt: &impl Abort, alloc: Global, part: &Part, turns: &[Turn]) -> Result<(), Fail> {
     let is_short = part.replies.len() < turns.len();
-    assert_same(rt, "stopped", &part.stopped, &is_short);
-    for (number, (reply, turn)) in part.replies.iter().zip(turns).enumerate() {
-        check_reply(rt, alloc, number, reply, turn.2)?;
-    }
-    Ok(())
+    assert_same(rt, "stopped", part.stopped, is_short);
+    check_replies(rt, alloc, &part.replies, turns)
 }
 
 /// Whether turns came to their end. They are never refused, and the replies that there are belong to the first of them.
@@ -63,7 +60,7 @@ fn is_whole(
             Ok(!part.stopped)
         }
         Err(fault) => {
-            assert_same(rt, "refused", &Some(fault), &None);
+            assert_same(rt, "refused", Some(fault), None);
             Ok(false)
         }
     }
@@ -80,7 +77,7 @@ fn check_turns(
 ) -> Result<(), Fail> {
     if !is_whole(rt, alloc, setup, schema, opening, turns)? {
         let is_whole_then = is_whole(rt, alloc, setup, schema, opening, turns)?;
-        assert_same(rt, "made again", &is_whole_then, &true);
+        assert_same(rt, "made again", is_whole_then, true);
     }
     Ok(())
 }
