@@ -147,7 +147,7 @@ def layout(room, log):
 
 
 def join_tests(top):
-    """Makes the crates of tests and the program's arguments modules of one crate, `joined`, so that the libraries are compiled once."""
+    """Makes the crates of tests modules of one crate, `joined`, so that the libraries are compiled once."""
     source = top / "crates/joined/src"
     source.mkdir(parents=True)
     names = [crate.name for crate in sorted((top / "crates").glob("*_tests"))]
@@ -157,10 +157,9 @@ def join_tests(top):
         for file in [source / f"{name}.rt", *(source / name).rglob("*.rt")]:
             text = re.sub(r"^#!\[.*\n", "", file.read_text(), flags=re.MULTILINE)
             file.write_text(re.sub(r"\bcrate::", f"crate::{name}::", text))
-    shutil.copy(top / "crates/prefq/src/args.rt", source)
-    (source / "lib.rt").write_text("".join(f"mod {name};\n" for name in [*names, "args"]))
+    (source / "lib.rt").write_text("".join(f"mod {name};\n" for name in names))
     crates = (top / "crates.txt").read_text()
-    libraries = {word for line in re.findall(r"^(?:\w+_tests|prefq): (.*)$", crates, re.MULTILINE) for word in line.split()}
+    libraries = {word for line in re.findall(r"^\w+_tests: (.*)$", crates, re.MULTILINE) for word in line.split()}
     (top / "crates.txt").write_text(f"{crates}joined: {' '.join(sorted(libraries))}\n")
 
 

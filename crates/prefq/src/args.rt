@@ -197,23 +197,3 @@ pub fn read_args(alloc: Global, words: &[&str]) -> Result<Args, ArgsFault> {
         None => Err(ArgsFault::Refused),
     }
 }
-
-#[cfg(test)]
-mod tests {
-    use super::{ArgsFault, read_args};
-
-    #[test]
-    fn an_unknown_word_and_a_number_out_of_range_are_refused(rt: HostRuntime) {
-        let cases: [(&[&str], bool); 4] = [
-            (&["jump"], true),
-            (&["play", "--clients", "8"], false),
-            (&["play", "--clients", "9"], true),
-            (&["play", "--cap", "0"], true),
-        ];
-        for (words, wanted) in cases {
-            let asked = read_args(rt.alloc(), words);
-            let is_refused = matches!(asked, Err(ArgsFault::Refused));
-            assert_eq!(rt; is_refused, wanted, "at {words:?}");
-        }
-    }
-}
