@@ -1,7 +1,6 @@
 -- Whether a call is full, and the slots of its rows.
 use Rattle.pref_core.proofs.Common.{◌≡◌, ℕ, suc, ◌≤◌, true, List, [], ◌∷◌, map, length, Option, Some, None, refl, ap, arith, length-map, Version}
 use Rattle.pref_core.proofs.Common.{Call, Outcome, ended, begun, success_outcome, succeeds, outcome_of, Contents, begins, close, filled, grown, used}
-use Rattle.pref_core.proofs.Common.{same_outcome}
 use Rattle.pref_core.proofs.SlotsForAll.{filled_fits, count_grown}
 
 -- What is needed after a change that succeeds is no more than the capacity.

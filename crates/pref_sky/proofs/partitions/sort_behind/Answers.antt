@@ -1,5 +1,5 @@
 use Rattle.pref_sky.proofs.Common.{rules, ◌≡◌, ◌++◌, ◌-◌, length, vec_len, map, ◌∙◌, arith, with_items_is, IsNonDecreasingBy-from_sort_by_key, Ranked, at_level}
-use borrow.Rule.Slice.PartMut.{post_of, put_mid}
+use borrow.Rule.Slice.PartMut.{put_mid}
 use Rattle.pref_sky.proofs.Ranks.{sorted_behind}
 use Rattle.pref_sky.proofs.partitions.sort_behind.Goals as goal
 
