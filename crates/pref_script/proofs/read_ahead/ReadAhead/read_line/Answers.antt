@@ -16,3 +16,27 @@ pub returns-in-None-clause-fault : goal.returns-in-None-clause-fault
 returns-in-None-clause-fault g c =
     let none = rw (take_rest (unread c.read_on.new.self) c.args.from) at (rw c.as_slice.ensures at c.in-None.ensures) in
     IfErr-weaker c.last_end.result _ _ (λ why (is, ended). rw is (c.in_ok-read_on.ensures.ok, long_none (unread c.read_on.new.self) c.args.from (is_at_end c.read_on.new.self) none c.in_ok-read_on.ensures.long ended)) c.last_end.ensures.fault
+
+pub returns-in-Some-clause-behind : goal.returns-in-Some-clause-behind
+returns-in-Some-clause-behind g c = IfOk-weaker c.end_within.result _ _ (λ _ _. c.in_ok-read_on.ensures.ok) c.end_within.ensures.ok
+
+pub returns-in-None-clause-behind : goal.returns-in-None-clause-behind
+returns-in-None-clause-behind g c = IfOk-weaker c.last_end.result _ _ (λ _ _. c.in_ok-read_on.ensures.ok) c.last_end.ensures.ok
+
+pub returns-in-Some-clause-little : goal.returns-in-Some-clause-little
+returns-in-Some-clause-little g c = IfOk-weaker c.end_within.result _ _ (λ _ _. c.in_ok-read_on.ensures.little) c.end_within.ensures.ok
+
+pub returns-in-None-clause-little : goal.returns-in-None-clause-little
+returns-in-None-clause-little g c = IfOk-weaker c.last_end.result _ _ (λ _ _. c.in_ok-read_on.ensures.little) c.last_end.ensures.ok
+
+pub returns-in-Some-clause-most : goal.returns-in-Some-clause-most
+returns-in-Some-clause-most g c = IfOk-weaker c.end_within.result _ _ (λ _ (is, most). rw is most) c.end_within.ensures.ok
+
+pub returns-in-None-clause-most : goal.returns-in-None-clause-most
+returns-in-None-clause-most g c = IfOk-weaker c.last_end.result _ _ (λ _ (ended, is, most). most) c.last_end.ensures.ok
+
+pub returns-in-Some-clause-read : goal.returns-in-Some-clause-read
+returns-in-Some-clause-read g c = c.read_on.ensures.read
+
+pub returns-in-None-clause-read : goal.returns-in-None-clause-read
+returns-in-None-clause-read g c = c.read_on.ensures.read
