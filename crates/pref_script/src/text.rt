@@ -5,45 +5,76 @@ ghost use Rattle.pref_script.specs.Text.{◌<>◌, core_fault_text, level_line, 
 
 use crate::command::Refusal;
 use itoa::Buffer;
-use pref_core::{CoreFault, Reply};
+use pref_core::{Committed, CoreFault, Reply};
 use pref_sky::Ranked;
 use pref_table::{Row, TableFault};
 use pref_term::TermFault;
 use std::alloc::AllocError;
+
+/// Appends a number.
+fn push_number(out: &mut String, number: u64) -> Result<(), AllocError>
+    ensures { OnOk result (string_bytes out.new ≡ string_bytes out.old ++ decimal number) }
+{
+    let mut buffer = Buffer::new();
+    out.push_str(buffer.format(number))?;
+    Ok(())
+}
+
+/// Appends a text.
+fn push_text(out: &mut String, text: &str) -> Result<(), AllocError>
+    ensures { OnOk result (string_bytes out.new ≡ string_bytes out.old ++ text.now) }
+{
+    out.push_str(text)?;
+    Ok(())
+}
+
+/// Appends a text and the number behind it.
+fn push_text_of(out: &mut String, text: &str, number: u64) -> Result<(), AllocError>
+    ensures { OnOk result (string_bytes out.new ≡ string_bytes out.old ++ (text.now <> decimal number)) }
+{
+    out.push_str(text)?;
+    push_number(out, number)
+}
+
+/// Appends a text and the place of a cell behind it.
+fn push_text_at(out: &mut String, text: &str, row: u64, col: u64) -> Result<(), AllocError>
+    ensures { OnOk result (string_bytes out.new ≡ string_bytes out.old ++ (text.now <> decimal row <> codes " col " <> decimal col)) }
+{
+    push_text_of(out, text, row)?;
+    push_text_of(out, " col ", col)
+}
 
 /// Appends the number and the text of a fault of a table.
 pub fn push_table_fault(out: &mut String, fault: TableFault) -> Result<(), AllocError>
     ensures { OnOk result (string_bytes out.new ≡ string_bytes out.old ++ table_fault_text fault) }
 {
     match fault {
-        TableFault::NoColumns => write!(out, "1: no columns"),
-        TableFault::TooManyColumns => write!(out, "2: too many columns"),
-        TableFault::BadName { col } => write!(out, "3: bad name col {col}"),
-        TableFault::SameName { col } => write!(out, "4: same name col {col}"),
-        TableFault::Width { row } => write!(out, "5: width row {row}"),
-        TableFault::NotWhole { row, col } => write!(out, "6: not whole row {row} col {col}"),
-        TableFault::OutOfRange { row, col } => {
-            write!(out, "7: out of range row {row} col {col}")
-        }
-        TableFault::TooManyRows => write!(out, "8: too many rows"),
-        TableFault::OutOfMemory => write!(out, "9: out of memory"),
+        TableFault::NoColumns => push_text(out, "1: no columns"),
+        TableFault::TooManyColumns => push_text(out, "2: too many columns"),
+        TableFault::BadName { col } => push_text_of(out, "3: bad name col ", col),
+        TableFault::SameName { col } => push_text_of(out, "4: same name col ", col),
+        TableFault::Width { row } => push_text_of(out, "5: width row ", row),
+        TableFault::NotWhole { row, col } => push_text_at(out, "6: not whole row ", row, col),
+        TableFault::OutOfRange { row, col } => push_text_at(out, "7: out of range row ", row, col),
+        TableFault::TooManyRows => push_text(out, "8: too many rows"),
+        TableFault::OutOfMemory => push_text(out, "9: out of memory"),
     }
 }
 
 /// Appends the number and the text of a fault of a question.
-pub fn push_term_fault(out: &mut String, fault: &TermFault) -> Result<(), AllocError>
-    ensures { OnOk result (string_bytes out.new ≡ string_bytes out.old ++ term_fault_text fault.now) }
+pub fn push_term_fault(out: &mut String, fault: TermFault) -> Result<(), AllocError>
+    ensures { OnOk result (string_bytes out.new ≡ string_bytes out.old ++ term_fault_text fault) }
 {
     match fault {
-        TermFault::Unexpected { at } => write!(out, "1: unexpected at {at}"),
-        TermFault::UnknownColumn { at } => write!(out, "2: unknown column at {at}"),
-        TermFault::NumberRange { at } => write!(out, "3: number range at {at}"),
-        TermFault::TooDeep { at } => write!(out, "4: too deep at {at}"),
-        TermFault::TooLong => write!(out, "5: too long"),
-        TermFault::BadCount { at } => write!(out, "6: bad count at {at}"),
-        TermFault::NoMinOrMax => write!(out, "7: no min or max"),
-        TermFault::OutOfMemory => write!(out, "8: out of memory"),
-        TermFault::EmptyRange { at } => write!(out, "9: empty range at {at}"),
+        TermFault::Unexpected { at } => push_text_of(out, "1: unexpected at ", at),
+        TermFault::UnknownColumn { at } => push_text_of(out, "2: unknown column at ", at),
+        TermFault::NumberRange { at } => push_text_of(out, "3: number range at ", at),
+        TermFault::TooDeep { at } => push_text_of(out, "4: too deep at ", at),
+        TermFault::TooLong => push_text(out, "5: too long"),
+        TermFault::BadCount { at } => push_text_of(out, "6: bad count at ", at),
+        TermFault::NoMinOrMax => push_text(out, "7: no min or max"),
+        TermFault::OutOfMemory => push_text(out, "8: out of memory"),
+        TermFault::EmptyRange { at } => push_text_of(out, "9: empty range at ", at),
     }
 }
 
@@ -52,17 +83,17 @@ pub fn push_core_fault(out: &mut String, fault: CoreFault) -> Result<(), AllocEr
     ensures { OnOk result (string_bytes out.new ≡ string_bytes out.old ++ core_fault_text fault) }
 {
     match fault {
-        CoreFault::NoSuchClient => write!(out, "1: no such client"),
-        CoreFault::Spent => write!(out, "2: spent"),
-        CoreFault::QueryOpen => write!(out, "3: query open"),
-        CoreFault::NoQuery => write!(out, "4: no query"),
-        CoreFault::AllScanned => write!(out, "5: all scanned"),
-        CoreFault::NotDone { left } => write!(out, "6: not done left {left}"),
-        CoreFault::NoSuchRow { id } => write!(out, "7: no such row {id}"),
-        CoreFault::Full { needed } => write!(out, "8: full needed {needed}"),
-        CoreFault::OutOfMemory => write!(out, "9: out of memory"),
-        CoreFault::Twice { place } => write!(out, "12: twice place {place}"),
-        CoreFault::ChangeCount => write!(out, "13: change count"),
+        CoreFault::NoSuchClient => push_text(out, "1: no such client"),
+        CoreFault::Spent => push_text(out, "2: spent"),
+        CoreFault::QueryOpen => push_text(out, "3: query open"),
+        CoreFault::NoQuery => push_text(out, "4: no query"),
+        CoreFault::AllScanned => push_text(out, "5: all scanned"),
+        CoreFault::NotDone { left } => push_text_of(out, "6: not done left ", left),
+        CoreFault::NoSuchRow { id } => push_text_of(out, "7: no such row ", id),
+        CoreFault::Full { needed } => push_text_of(out, "8: full needed ", needed),
+        CoreFault::OutOfMemory => push_text(out, "9: out of memory"),
+        CoreFault::Twice { place } => push_text_of(out, "12: twice place ", place),
+        CoreFault::ChangeCount => push_text(out, "13: change count"),
     }
 }
 
@@ -78,7 +109,7 @@ fn push_refusal(out: &mut String, why: &Refusal) -> Result<(), AllocError>
         }
         Refusal::Question(fault) => {
             write!(out, " refused term ")?;
-            push_term_fault(out, fault)
+            push_term_fault(out, *fault)
         }
         Refusal::Changes(fault) => {
             write!(out, " refused commit ")?;
@@ -94,15 +125,6 @@ pub fn push_refused(out: &mut String, number: u64, why: &Refusal) -> Result<(), 
     write!(out, "line {number}")?;
     push_refusal(out, why)?;
     write!(out, "\n")
-}
-
-/// Appends a number.
-fn push_number(out: &mut String, number: u64) -> Result<(), AllocError>
-    ensures { OnOk result (string_bytes out.new ≡ string_bytes out.old ++ decimal number) }
-{
-    let mut buffer = Buffer::new();
-    out.push_str(buffer.format(number))?;
-    Ok(())
 }
 
 /// Appends a cell.
@@ -165,6 +187,54 @@ pub fn push_line(out: &mut String, client: u8, what: &str, number: u64) -> Resul
     Ok(())
 }
 
+/// Appends the line of a commit.
+fn push_committed(out: &mut String, client: u8, done: &Committed) -> Result<(), AllocError>
+    ensures { OnOk result (string_bytes out.new ≡ string_bytes out.old ++ reply_lines 0 client (Reply.Committed done.now)) }
+{
+    let Committed { changes, first } = done;
+    write!(out, "{client} committed {changes} first {first}\n")
+}
+
+/// Appends the line of an answer's size, and those of its rows.
+fn push_answer(
+    out: &mut String,
+    width: usize,
+    client: u8,
+    rows: &[Ranked],
+) -> Result<(), AllocError>
+    requires { width ≤ 16 }
+    ensures { OnOk result (string_bytes out.new ≡ string_bytes out.old ++ reply_lines width client (Reply.Answer rows.now)) }
+{
+    push_line(out, client, " answer ", rows.len() as u64)?;
+    push_levels(out, width, rows)
+}
+
+/// Appends the line of the end of a query without an answer.
+fn push_abandoned(out: &mut String, client: u8) -> Result<(), AllocError>
+    ensures { OnOk result (string_bytes out.new ≡ string_bytes out.old ++ reply_lines 0 client Reply.Abandoned) }
+{
+    push_number(out, u64::from(client))?;
+    push_text(out, " abandoned\n")
+}
+
+/// Appends the line of a row that was got.
+fn push_found(
+    out: &mut String,
+    width: usize,
+    client: u8,
+    id: u64,
+    row: &Row,
+) -> Result<(), AllocError>
+    requires { width ≤ 16 }
+    ensures { OnOk result (string_bytes out.new ≡ string_bytes out.old ++ reply_lines width client (Reply.Found id row.now)) }
+{
+    push_number(out, u64::from(client))?;
+    push_text_of(out, " row ", id)?;
+    push_text(out, ": ")?;
+    push_row(out, width, row)?;
+    push_text(out, "\n")
+}
+
 /// Appends the line of a client's act that is refused. It stays a call of its own, since it is rare.
 #[inline(never)]
 pub fn push_refused_act(out: &mut String, client: u8, why: CoreFault) -> Result<(), AllocError>
@@ -189,28 +259,12 @@ pub fn push_reply(
         Reply::Inserted(id) => push_line(out, client, " inserted ", *id),
         Reply::Updated(id) => push_line(out, client, " updated ", *id),
         Reply::Deleted(id) => push_line(out, client, " deleted ", *id),
-        Reply::Committed(done) => {
-            let changes = done.changes;
-            let first = done.first;
-            write!(out, "{client} committed {changes} first {first}\n")
-        }
+        Reply::Committed(done) => push_committed(out, client, done),
         Reply::Begun(blocks) => push_line(out, client, " begun ", u64::from(*blocks)),
         Reply::Left(blocks) => push_line(out, client, " left ", u64::from(*blocks)),
-        Reply::Answer(rows) => {
-            let rows = rows.as_slice();
-            push_line(out, client, " answer ", rows.len() as u64)?;
-            push_levels(out, width, rows)
-        }
-        Reply::Abandoned => write!(out, "{client} abandoned\n"),
-        Reply::Found(id, row) => {
-            push_number(out, u64::from(client))?;
-            out.push_str(" row ")?;
-            push_number(out, *id)?;
-            out.push_str(": ")?;
-            push_row(out, width, row)?;
-            out.push('\n')?;
-            Ok(())
-        }
+        Reply::Answer(rows) => push_answer(out, width, client, rows.as_slice()),
+        Reply::Abandoned => push_abandoned(out, client),
+        Reply::Found(id, row) => push_found(out, width, client, *id, row),
         Reply::Room(room) => push_line(out, client, " room ", u64::from(*room)),
         Reply::Refused(why) => push_refused_act(out, client, *why),
     }
