@@ -62,6 +62,42 @@ Its last lines are '1 answer 1' and 'level 1 id 2: 20'. With play and threads th
 was read, with live after each line.
 The commands and the question language are explained in docs/GUIDE.md.";
 
+/// The ways to run a script: the name of each, and its help.
+const RUNS: [(&str, &str); 3] = [
+    ("play", "Runs the script of standard input"),
+    (
+        "live",
+        "Runs the script of standard input, and replies to each line as it comes",
+    ),
+    (
+        "threads",
+        "Runs the script of standard input, each client on a thread of its own",
+    ),
+];
+
+/// The options of a setup: the name of each, the most that it takes, its default, and its help.
+const OPTIONS: [(&str, i64, &str, &str); 4] = [
+    ("clients", 8, "4", "How many clients there are, 1 to 8"),
+    (
+        "cap",
+        65_536,
+        "1024",
+        "How many versions of rows there is room for, 1 to 65536",
+    ),
+    (
+        "block",
+        65_536,
+        "1024",
+        "How many slots one scan reads, 1 to 65536",
+    ),
+    (
+        "window",
+        65_536,
+        "64",
+        "How many rows are compared at a time, 1 to 65536",
+    ),
+];
+
 /// An option that takes a whole number from 1 on.
 fn number_option<'a>(
     alloc: Global,
@@ -84,58 +120,33 @@ fn run_command<'a>(
     name: &'a str,
     about: &'a str,
 ) -> Result<Command<'a>, AllocError> {
-    Command::new(alloc, name)
-        .about(about)
-        .arg(number_option(
-            alloc,
-            "clients",
-            8,
-            "4",
-            "How many clients there are, 1 to 8",
-        ))?
-        .arg(number_option(
-            alloc,
-            "cap",
-            65_536,
-            "1024",
-            "How many versions of rows there is room for, 1 to 65536",
-        ))?
-        .arg(number_option(
-            alloc,
-            "block",
-            65_536,
-            "1024",
-            "How many slots one scan reads, 1 to 65536",
-        ))?
-        .arg(number_option(
-            alloc,
-            "window",
-            65_536,
-            "64",
-            "How many rows are compared at a time, 1 to 65536",
-        ))
+    let mut command = Command::new(alloc, name).about(about);
+    for (name, most, default, help) in OPTIONS {
+        command = command.arg(number_option(alloc, name, most, default, help))?;
+    }
+    Ok(command)
+}
+
+/// The program without its subcommands.
+fn bare_program<'a>(alloc: Global) -> Result<Command<'a>, AllocError> {
+    Ok(
+        Command::new(alloc, "prefq")
+            .no_binary_name(true)
+            .bin_name("prefq")?
+            .version(VERSION)
+            .about(
+                "Runs a script over a table of whole numbers: clients change rows and ask for the best ones",
+            )
+            .after_help(AFTER_HELP),
+    )
 }
 
 fn program<'a>(alloc: Global) -> Result<Command<'a>, AllocError> {
-    Command::new(alloc, "prefq")
-        .no_binary_name(true)
-        .bin_name("prefq")?
-        .version(VERSION)
-        .about(
-            "Runs a script over a table of whole numbers: clients change rows and ask for the best ones",
-        )
-        .after_help(AFTER_HELP)
-        .subcommand(run_command(alloc, "play", "Runs the script of standard input")?)?
-        .subcommand(run_command(
-            alloc,
-            "live",
-            "Runs the script of standard input, and replies to each line as it comes",
-        )?)?
-        .subcommand(run_command(
-            alloc,
-            "threads",
-            "Runs the script of standard input, each client on a thread of its own",
-        )?)
+    let mut program = bare_program(alloc)?;
+    for (name, about) in RUNS {
+        program = program.subcommand(run_command(alloc, name, about)?)?;
+    }
+    Ok(program)
 }
 
 /// The setup where no options are given: 4 clients, 1024 slots in blocks of 1024, a window of 64.
