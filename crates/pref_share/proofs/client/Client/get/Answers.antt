@@ -1,6 +1,6 @@
-use Rattle.pref_share.proofs.Common.{rules, refl, sym, ◌≡◌, ◌∙◌, state_at, row_after}
+use Rattle.pref_share.proofs.Common.{rules, refl, sym, subst, ◌≡◌, ◌∙◌, first_contents, state_at, row_after, Knows}
 use Rattle.pref_share.proofs.HistoryLaws.{left_stands}
-use Rattle.pref_share.proofs.StandingLaws.{sees}
+use Rattle.pref_share.proofs.StandingLaws.{sees, stands_seen}
 use Rattle.pref_share.proofs.client.Client.get.Goals.{Joined-row, in-Some-row, in-None}
 use Rattle.pref_share.proofs.client.Client.get.Given.{Over}
 use Rattle.pref_share.proofs.client.Client.get.Goals as goal
@@ -29,3 +29,21 @@ returns-clause-refused g c =
       | in-Some-row w ↦ rw w.result-is search rules
       | in-None w ↦ rw w.result-is (rw (← c.self.view_is) (refl, sees o _ _ read.0 read.1 refl refl refl, sym (is_row g c) ∙ w.in-None.is))
     ]
+
+pub read-found-requires-clause-knows : goal.read-found-requires-clause-knows
+read-found-requires-clause-knows g c = c.self.invariant.0
+
+pub read-found-requires-clause-legal : goal.read-found-requires-clause-legal
+read-found-requires-clause-legal g c = c.self.invariant.2.legal
+
+pub invariant_of-self : goal.invariant_of-self
+invariant_of-self g c = (subst (Knows (first_contents g.J.BoardBrand.opening) g.J.BoardBrand.book) (sym c.read-found.ensures.view) c.self.invariant.0, c.self.invariant.1, c.self.invariant.2)
+
+pub returns-in_default-clause-refused : goal.returns-in_default-clause-refused
+returns-in_default-clause-refused g c = c.self.view_is
+
+pub invariant_of-self-2 : goal.invariant_of-self-2
+invariant_of-self-2 g c =
+    let o = g.J.BoardBrand.opening in
+    let read = c.in-Some.ensures.found in
+    (subst (Knows (first_contents o) g.J.BoardBrand.book) (sym c.read-found.ensures.view) c.self.invariant.0, c.self.invariant.1, stands_seen o _ _ _ _ _ c.self.invariant.2 read.0 read.1)

@@ -1,4 +1,4 @@
-use Rattle.pref_share.proofs.Common.{rules, ◌≡◌, suc, ◌++◌, List, map, Option, Result, Some, refl, sym, subst, ap, ◌∙◌, Vec, IsPrefix, Op, CoreFault, next_block, Contents, Opening, IsLegalFrom}
+use Rattle.pref_share.proofs.Common.{rules, arith, ◌≡◌, suc, ◌++◌, List, map, Option, Result, Some, refl, sym, subst, ap, ◌∙◌, Vec, IsPrefix, Op, CoreFault, next_block, Contents, Opening, IsLegalFrom}
 use Rattle.pref_share.proofs.Common.{calls_at, contents_at, state_at, first_contents, Asking, Standing, IsInUse, Knows, HasMore, Stands}
 use Rattle.pref_sky.specs.declared.entry.Entry.{Entry}
 use Rattle.pref_sky.specs.Levels.{HaveDifferentIds, entry_of}
@@ -91,3 +91,63 @@ returns-then-block-self-clause-refused g c =
     let more : HasMore (record { number = s.number; counter = s.counter; seen = s.seen; query = s.asking }) = (c.left.result, record { asking = _; is_open = query; left_is = c.left.ensures; some = search rules }) in
     let in_use = subst (λ (q : Option Asking). IsInUse o (record { number = s.number; counter = s.counter; seen = s.seen; query = q }) (suc s.counter) c.in_use.new.self) (sym c.in-Some.is) c.in_use.ensures.sees in
     rw c.in_use.ensures.fault (rw (← c.self.view_is) (more, in_use))
+
+pub invariant_of-self : goal.invariant_of-self
+invariant_of-self g c = c.self.invariant
+
+pub returns-in_default-clause-refused : goal.returns-in_default-clause-refused
+returns-in_default-clause-refused g c = rw (← c.self.view_is) (c.in_default.is, refl)
+
+pub invariant_of-self-then-left-eq0 : goal.invariant_of-self-then-left-eq0
+invariant_of-self-then-left-eq0 g c =
+    let s = c.self.inside in
+    (c.self.invariant.0, c.self.invariant.1, subst (λ (q : Option Asking). Stands g.J.BoardBrand.opening s.number s.counter s.seen q) c.in-Some.is c.self.invariant.2)
+
+pub returns-then-left-eq0-clause-refused : goal.returns-then-left-eq0-clause-refused
+returns-then-left-eq0-clause-refused g c =
+    let s = c.self.inside in
+    let query : s.asking ≡ Some (record { scan = c.asking.inside.query; at_begin = c.asking.inside.at_begin }) = c.in-Some.is ∙ ap Some (sym c.asking.view_is) in
+    rw (← c.self.view_is) (record { asking = _; is_open = query; done = sym c.left.ensures ∙ c.if-left-eq0.true }, λ i. record { number = s.number; counter = s.counter; seen = s.seen; query = sym c.in-Some.is i })
+
+pub read-found-requires-clause-knows : goal.read-found-requires-clause-knows
+read-found-requires-clause-knows g c = c.self.invariant.0
+
+pub read-found-requires-clause-legal : goal.read-found-requires-clause-legal
+read-found-requires-clause-legal g c = c.self.invariant.2.legal
+
+pub invariant_of-self-in_default-found : goal.invariant_of-self-in_default-found
+invariant_of-self-in_default-found g c =
+    let s = c.self.inside in (
+      subst (Knows (first_contents g.J.BoardBrand.opening) g.J.BoardBrand.book) (sym c.read-found.ensures.view) c.self.invariant.0,
+      c.self.invariant.1,
+      subst (λ (q : Option Asking). Stands g.J.BoardBrand.opening s.number s.counter s.seen q) c.in-Some.is c.self.invariant.2,
+    )
+
+pub returns-in_default-found-clause-refused : goal.returns-in_default-found-clause-refused
+returns-in_default-found-clause-refused g c =
+    let s = c.self.inside in
+    let query : s.asking ≡ Some (record { scan = c.asking.inside.query; at_begin = c.asking.inside.at_begin }) = c.in-Some.is ∙ ap Some (sym c.asking.view_is) in
+    rw (← c.self.view_is) ((c.left.result, record { asking = _; is_open = query; left_is = c.left.ensures; some = omega arith }), λ i. record { number = s.number; counter = s.counter; seen = s.seen; query = sym c.in-Some.is i })
+
+pub invariant_of-self-then-block-self : goal.invariant_of-self-then-block-self
+invariant_of-self-then-block-self g c =
+    let s = c.self.inside in (
+      subst (Knows (first_contents g.J.BoardBrand.opening) g.J.BoardBrand.book) (sym c.read-found.ensures.view) c.self.invariant.0,
+      c.self.invariant.1,
+      subst (λ (q : Option Asking). Stands g.J.BoardBrand.opening s.number s.counter s.seen q) c.in-Some.is c.self.invariant.2,
+    )
+
+pub invariant_of-self-in_default-shown : goal.invariant_of-self-in_default-shown
+invariant_of-self-in_default-shown g c =
+    let o = g.J.BoardBrand.opening in
+    let found = c.in-Some-found.ensures.found in (
+      subst (Knows (first_contents o) g.J.BoardBrand.book) (sym c.read-found.ensures.view) c.self.invariant.0,
+      c.self.invariant.1,
+      stands_seen o _ _ _ _ _ (subst (λ (q : Option Asking). Stands o c.self.inside.number c.self.inside.counter c.self.inside.seen q) c.in-Some.is c.self.invariant.2) found.0 found.1,
+    )
+
+pub returns-in_default-shown-clause-refused : goal.returns-in_default-shown-clause-refused
+returns-in_default-shown-clause-refused g c =
+    let found = c.in-Some-found.ensures.found in
+    let query : c.self.inside.asking ≡ Some (record { scan = c.asking.inside.query; at_begin = c.asking.inside.at_begin }) = c.in-Some.is ∙ ap Some (sym c.asking.view_is) in
+    rw (← c.self.view_is) ((c.left.result, record { asking = _; is_open = query; left_is = c.left.ensures; some = omega arith }), sees g.J.BoardBrand.opening _ _ found.0 found.1 refl refl (sym c.in-Some.is))
