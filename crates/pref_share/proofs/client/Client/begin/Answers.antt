@@ -1,6 +1,6 @@
 use Rattle.pref_share.proofs.Common.{◌≡◌, suc, ◌+◌, Option, Some, sym, subst, ap, ◌∙◌, arith, begin, Asking, Standing, IsJoined, MayJoin, Stands}
 use Rattle.pref_core.specs.declared.call.Call.TheVariants.{Begin}
-use Rattle.pref_share.proofs.StandingLaws.{stands_begun}
+use Rattle.pref_share.proofs.StandingLaws.{counter_small, stands_begun}
 use Rattle.pref_share.proofs.client.Client.begin.Goals as goal
 
 pub invariant_of-self : goal.invariant_of-self
@@ -14,3 +14,9 @@ invariant_of-self g c =
     let scan : c.begin-query.result ≡ begin c.args.ask j.stamp o.limits = c.begin-query.ensures ∙ ap (begin c.args.ask j.stamp) c.self.invariant.1 in
     let asking : Some (record { scan = c.begin-query.result; at_begin = c.again-begun.result }) ≡ Some (record { scan = begin c.args.ask j.stamp o.limits; at_begin = j.seen }) = λ i. Some (record { scan = scan i; at_begin = c.again-begun.ensures.same i }) in
     (c.self.invariant.0, c.self.invariant.1, subst (λ (q : Option Asking). Stands o s.number (s.counter + 1) j.seen q) (sym asking) (stands_begun o mine j.field-0-1 j.seen j.stamp (s.counter + 1) c.args.ask c.self.invariant.2 joined up))
+
+pub overflow_add-self : goal.overflow_add-self
+overflow_add-self g c = omega (arith, counter_small g.J.BoardBrand.opening c.self.inside.number c.self.inside.counter c.self.inside.seen c.self.inside.asking c.self.invariant.2)
+
+pub in_use-requires : goal.in_use-requires
+in_use-requires g c = subst (MayJoin g.J.BoardBrand.opening c.args.self.now c.begin-2.result) c.in-Ok-Ahead.field-0-is c.in-Ok-Ahead.ensures.joins

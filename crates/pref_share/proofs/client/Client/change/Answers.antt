@@ -1,5 +1,5 @@
 use Rattle.pref_share.proofs.Common.{◌≡◌, suc, ◌+◌, None, refl, sym, subst, ap, ◌∙◌, arith, rules, Standing, own_refusal, IsJoined, MayJoin}
-use Rattle.pref_share.proofs.StandingLaws.{stands_changed, joins, change_told}
+use Rattle.pref_share.proofs.StandingLaws.{counter_small, stands_changed, joins, change_told}
 use Rattle.pref_share.proofs.client.Client.change.Goals as goal
 
 pub invariant_of-self : goal.invariant_of-self
@@ -23,3 +23,14 @@ returns-in-Joined g c =
     let up : s.counter + 1 ≡ suc s.counter = omega arith in
     let returned = change_told o mine _ c.args.call j.outcome c.outcome_or_refusal.result c.outcome_or_refusal.ensures (joins o mine _ c.args.call j.outcome j.seen j.stamp accepted joined refl up refl) refl in
     record { changed = rw (← c.self.view_is) returned.0; success_outcome = search rules; refused = rw (← c.self.view_is) returned.1 }
+
+pub overflow_add-self : goal.overflow_add-self
+overflow_add-self g c = omega (arith, counter_small g.J.BoardBrand.opening c.self.inside.number c.self.inside.counter c.self.inside.seen c.self.inside.asking c.self.invariant.2)
+
+pub in_use-requires : goal.in_use-requires
+in_use-requires g c = subst (MayJoin g.J.BoardBrand.opening c.args.self.now c.args.call) c.in-Ahead.is c.in_ok-seen.ensures.joins
+
+pub returns-in-Ahead-clause-refused : goal.returns-in-Ahead-clause-refused
+returns-in-Ahead-clause-refused g c =
+    let accepted : own_refusal c.args.self.now c.args.call ≡ None = ap (own_refusal c.args.self.now) (sym c.lend.ensures) ∙ sym c.refusal.ensures ∙ c.in_default.is in
+    rw c.in_use.ensures.fault (accepted, c.in_use.ensures.sees)
