@@ -1,4 +1,5 @@
-use Rattle.pref_share.proofs.Common.{◌≡◌, ◌++◌, ◌∷◌, [], ◌∙◌, List, None, ap, inl, rules, sym, append_assoc, map-append, All-push, into_iter_items, Worked}
+use Rattle.pref_share.proofs.Common.{◌≡◌, ◌++◌, ◌∷◌, [], ◌∙◌, List, None, ap, arith, inl, inr, length, map, refl, rules, subst, sym, All, append_assoc, map-append, All-push, into_iter_items, Worked}
+use Rattle.pref_share.proofs.PrefixLaws.{whole_at_end}
 use Rattle.pref_share.proofs.run.tasks_of.Goals as goal
 
 pub loop-worked-preserved : goal.loop-worked-preserved
@@ -21,3 +22,19 @@ returns-in-Some-stopped-clause-first g c = inl (record {
   went_on = c.loop-worked.invariant.1;
   stopped = search rules;
 })
+
+pub returns-then-is_err-clause-first : goal.returns-then-is_err-clause-first
+returns-then-is_err-clause-first g c = inr refl
+
+pub returns-clause-all : goal.returns-clause-all
+returns-clause-all g c =
+    let now = c.loop-worked.invariant in
+    let none : length (into_iter_items c.loop-worked.worked-iterator) ≡ 0 = sym c.loop-worked.worked-iterator.rest.ok.0 ∙ c.in-None.ensures.steps.0 in
+    now.0 ∙ ap (map (λ worked. worked.task)) (whole_at_end c.loop-worked.yielded _ c.args.all.items now.2 none)
+
+pub returns-clause-done : goal.returns-clause-done
+returns-clause-done g c =
+    let now = c.loop-worked.invariant in
+    let it = c.loop-worked.worked-iterator in
+    let none : length (into_iter_items it) ≡ 0 = omega (arith, c.in-None.ensures.steps.0) in
+    subst (All (λ (worked : Worked g.row.J.Denot g.row.T.Denot). worked.stopped ≡ None)) (whole_at_end c.loop-worked.yielded _ c.args.all.items now.2 none) now.1
