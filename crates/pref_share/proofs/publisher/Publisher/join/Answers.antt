@@ -81,3 +81,15 @@ returns-clause-joined g c =
     let plan = planned o c.self.inside.history c.published_store-store.result.now c.args.client c.lend-lent.result (op_of c.in-Ok.op) c.self.invariant.0 left c.in-Ok.ensures.state in
     subst (λ (l : List Op). IsAppended o l c.args.client c.args.call c.in-Ok.op.outcome c.add.new.self) c.self.view_is
     (record { op = op_of c.in-Ok.op; by = plan.0; what = plan.1 ∙ c.lend-lent.ensures; outcome = refl; may = plan.2; ends = c.add.ensures })
+
+pub look_up-requires : goal.look_up-requires
+look_up-requires g c =
+    let o = g.J.BoardBrand.opening in
+    let left : c.published_store-store.result.now ≡ contents_at o c.self.inside.history = rw (c.published_store-store.ensures, c.deref.ensures) (published_left o g.J.BoardBrand.book (manually_drop_value c.self.inside.writer).desk.shown.value c.self.inside.history c.self.invariant.3 c.self.invariant.2) in
+    subst (λ (s : Contents). IsIndexOf s c.self.inside.index) (sym left) c.self.invariant.1
+
+pub reindex-requires-clause-index : goal.reindex-requires-clause-index
+reindex-requires-clause-index g c =
+    let o = g.J.BoardBrand.opening in
+    let left : c.published_store-store.result.now ≡ contents_at o c.self.inside.history = rw (c.published_store-store.ensures, c.deref.ensures) (published_left o g.J.BoardBrand.book (manually_drop_value c.self.inside.writer).desk.shown.value c.self.inside.history c.self.invariant.3 c.self.invariant.2) in
+    subst (λ (s : Contents). IsIndexOf s c.self.inside.index) (sym left) c.self.invariant.1
