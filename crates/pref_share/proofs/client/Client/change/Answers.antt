@@ -1,4 +1,5 @@
-use Rattle.pref_share.proofs.Common.{◌≡◌, suc, ◌+◌, None, refl, sym, subst, ap, ◌∙◌, arith, rules, Standing, own_refusal, IsJoined, MayJoin}
+use Rattle.pref_share.proofs.Common.{◌≡◌, suc, ◌+◌, None, refl, sym, subst, ap, ◌∙◌, arith, rules, Standing, own_refusal, Core, OutOfMemory, IsJoined, MayJoin, RefusesChange}
+use Rattle.pref_share.proofs.RefusalReplies.{passed_on}
 use Rattle.pref_share.proofs.StandingLaws.{counter_small, stands_changed, joins, change_told}
 use Rattle.pref_share.proofs.client.Client.change.Goals as goal
 
@@ -29,6 +30,14 @@ overflow_add-self g c = omega (arith, counter_small g.J.BoardBrand.opening c.sel
 
 pub in_use-requires : goal.in_use-requires
 in_use-requires g c = subst (MayJoin g.J.BoardBrand.opening c.args.self.now c.args.call) c.in-Ahead.is c.in_ok-seen.ensures.joins
+
+pub join-requires : goal.join-requires
+join-requires g c = ap (own_refusal c.args.self.now) (sym c.lend.ensures) ∙ sym c.refusal.ensures ∙ c.in_default.is
+
+pub returns-in_err-seen-clause-refused : goal.returns-in_err-seen-clause-refused
+returns-in_err-seen-clause-refused g c =
+    let accepted : own_refusal c.args.self.now c.args.call ≡ None = ap (own_refusal c.args.self.now) (sym c.lend.ensures) ∙ sym c.refusal.ensures ∙ c.in_default.is in
+    passed_on c.from_residual.result (Core OutOfMemory) (λ fault. RefusesChange g.J.BoardBrand.opening c.args.self.now c.args.call fault c.args.self.now) c.from_residual.ensures.1 (c.in_err-seen.ensures.memory, accepted, refl)
 
 pub returns-in-Ahead-clause-refused : goal.returns-in-Ahead-clause-refused
 returns-in-Ahead-clause-refused g c =
