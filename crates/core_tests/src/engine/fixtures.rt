@@ -97,10 +97,7 @@ pub(crate) fn call_of(schema: &Schema, does: Does) -> Result<Call, Fail> {
 
 /// The value of a row of a store.
 pub(crate) fn value_of(store: &Store, id: u64) -> Option<i64> {
-    match store.get(id) {
-        Some(row) => Some(row.cell(0)),
-        None => None,
-    }
+    store.get(id).map(|row| row.cell(0))
 }
 
 /// A machine with these rows.

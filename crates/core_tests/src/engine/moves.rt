@@ -13,67 +13,59 @@ struct Case {
     name: &'static str,
     /// The value of each row with which the table is opened.
     opening: &'static [i64],
-    /// A client each, and what it does.
-    calls: &'static [(u8, Does)],
+    /// A client each, and what it does: the calls that other cases begin with too, and its own.
+    calls: [&'static [(u8, Does)]; 2],
     /// The slot of the last call's new row.
     slot: Option<u32>,
     /// The value of each of these rows.
     rows: &'static [(u64, Option<i64>)],
 }
 
-/// A row moves when client 2 updates it beside client 1's query. The home of row 4 is that of row 1.
+/// Row 1 moves: client 2 updates it beside client 1's query.
+const MOVE_ROW_1: &[(u8, Does)] = &[(1, Begins), (2, Updates(1, 5))];
+
+/// Rows 1 and 4 have one home.
+const SHARE_A_HOME: &[(u8, Does)] = &[
+    (1, Inserts(5)),
+    (1, Deletes(2)),
+    (1, Inserts(5)),
+    (1, Deletes(3)),
+    (1, Inserts(6)),
+];
+
 static CASES: [Case; 5] = [
     Case {
         name: "a moved row is found",
         opening: &[4, 6],
-        calls: &[(1, Begins), (2, Updates(1, 5))],
+        calls: [MOVE_ROW_1, &[]],
         slot: Some(2),
         rows: &[(1, Some(5)), (2, Some(6))],
     },
     Case {
         name: "a moved row is deleted",
         opening: &[4, 6],
-        calls: &[(1, Begins), (2, Updates(1, 5)), (2, Deletes(1))],
+        calls: [MOVE_ROW_1, &[(2, Deletes(1))]],
         slot: None,
         rows: &[(1, None), (2, Some(6))],
     },
     Case {
         name: "a moved row is at its home once it is updated without a query",
         opening: &[4, 6],
-        calls: &[
-            (1, Begins),
-            (2, Updates(1, 5)),
-            (1, Abandons),
-            (2, Updates(1, 7)),
-        ],
+        calls: [MOVE_ROW_1, &[(1, Abandons), (2, Updates(1, 7))]],
         slot: Some(0),
         rows: &[(1, Some(7)), (2, Some(6))],
     },
     Case {
         name: "two rows of one home are found",
         opening: &[4],
-        calls: &[
-            (1, Inserts(5)),
-            (1, Deletes(2)),
-            (1, Inserts(5)),
-            (1, Deletes(3)),
-            (1, Inserts(6)),
-        ],
+        calls: [SHARE_A_HOME, &[]],
         slot: Some(1),
         rows: &[(1, Some(4)), (4, Some(6)), (7, None)],
     },
     Case {
         name: "two moved rows of one home are found",
         opening: &[4],
-        calls: &[
-            (1, Inserts(5)),
-            (1, Deletes(2)),
-            (1, Inserts(5)),
-            (1, Deletes(3)),
-            (1, Inserts(6)),
-            (1, Begins),
-            (2, Updates(1, 7)),
-        ],
+        calls: [SHARE_A_HOME, &[(1, Begins), (2, Updates(1, 7))]],
         slot: Some(2),
         rows: &[(1, Some(7)), (4, Some(6)), (3, None)],
     },
@@ -93,7 +85,7 @@ fn check_slot(
     case: &Case,
 ) -> Result<(), Fail> {
     let mut slot = None;
-    for (client, does) in case.calls {
+    for (client, does) in case.calls[0].iter().chain(case.calls[1]) {
         slot = done(schema, store, *client, *does)?;
     }
     assert_same(rt, case.name, slot, case.slot);
