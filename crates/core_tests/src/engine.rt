@@ -13,68 +13,17 @@ mod refusals;
 mod replies;
 
 use crate::same::assert_same;
-use fixtures::check_run;
+use fixtures::check_runs;
 use pref_core::{Act, CoreFault, Event, RankedList, Reply, Setup, replay, replay_part};
 use pref_table::Row;
 use std::alloc::Global;
 use std::process::Abort;
 use std::test::Fail;
-use test_runs::{
-    A_DELETED_ROW_IS_STILL_ANSWERED, A_FULL_TABLE_TAKES_AN_UPDATE,
-    A_QUERY_ANSWERS_THE_TABLE_AT_ITS_BEGIN, A_REFUSED_INSERT_USES_NO_ID,
-    AN_EMPTY_TABLE_IS_SCANNED_IN_TWO_BLOCKS, AN_OPEN_QUERY_KEEPS_ITS_VERSION,
-    EIGHT_CLIENTS_ASK_AT_EIGHT_STAMPS, REFUSALS_COME_IN_THEIR_ORDER, ROOM_IS_EXACT,
-    TWO_UPDATES_UNDER_A_QUERY_LEAVE_ONE_SLOT, rows_of, setup_of,
-};
+use test_runs::{rows_of, runs_of_single_changes, setup_of};
 
 #[test]
-fn a_query_answers_the_table_at_its_begin(rt: HostRuntime) -> Result<(), Fail> {
-    check_run(&rt, rt.alloc(), &A_QUERY_ANSWERS_THE_TABLE_AT_ITS_BEGIN)
-}
-
-#[test]
-fn an_empty_table_is_scanned_in_two_blocks(rt: HostRuntime) -> Result<(), Fail> {
-    check_run(&rt, rt.alloc(), &AN_EMPTY_TABLE_IS_SCANNED_IN_TWO_BLOCKS)
-}
-
-#[test]
-fn a_deleted_row_is_still_answered(rt: HostRuntime) -> Result<(), Fail> {
-    check_run(&rt, rt.alloc(), &A_DELETED_ROW_IS_STILL_ANSWERED)
-}
-
-#[test]
-fn room_is_exact(rt: HostRuntime) -> Result<(), Fail> {
-    check_run(&rt, rt.alloc(), &ROOM_IS_EXACT)
-}
-
-#[test]
-fn a_full_table_takes_an_update(rt: HostRuntime) -> Result<(), Fail> {
-    check_run(&rt, rt.alloc(), &A_FULL_TABLE_TAKES_AN_UPDATE)
-}
-
-#[test]
-fn refusals_come_in_their_order(rt: HostRuntime) -> Result<(), Fail> {
-    check_run(&rt, rt.alloc(), &REFUSALS_COME_IN_THEIR_ORDER)
-}
-
-#[test]
-fn a_refused_insert_uses_no_id(rt: HostRuntime) -> Result<(), Fail> {
-    check_run(&rt, rt.alloc(), &A_REFUSED_INSERT_USES_NO_ID)
-}
-
-#[test]
-fn two_updates_under_a_query_leave_one_slot(rt: HostRuntime) -> Result<(), Fail> {
-    check_run(&rt, rt.alloc(), &TWO_UPDATES_UNDER_A_QUERY_LEAVE_ONE_SLOT)
-}
-
-#[test]
-fn eight_clients_ask_at_eight_stamps(rt: HostRuntime) -> Result<(), Fail> {
-    check_run(&rt, rt.alloc(), &EIGHT_CLIENTS_ASK_AT_EIGHT_STAMPS)
-}
-
-#[test]
-fn an_open_query_keeps_its_version(rt: HostRuntime) -> Result<(), Fail> {
-    check_run(&rt, rt.alloc(), &AN_OPEN_QUERY_KEEPS_ITS_VERSION)
+fn single_changes_are_answered(rt: HostRuntime) -> Result<(), Fail> {
+    check_runs(&rt, rt.alloc(), runs_of_single_changes())
 }
 
 /// This many events in which client 1 asks for room.

@@ -5,7 +5,7 @@ use pref_core::Setup;
 use std::alloc::{AllocError, Global};
 use std::process::Abort;
 use std::test::Fail;
-use test_runs::{COMMITS, Changes, Does, Run, SINGLE_CHANGES, Turn};
+use test_runs::{Changes, Does, Run, Turn, runs_of_commits, runs_of_single_changes};
 
 fn push_change(script: &mut String, change: Changes) -> Result<(), AllocError> {
     match change {
@@ -110,10 +110,10 @@ fn check_runs(rt: &impl Abort, alloc: Global, runs: &[Run]) -> Result<(), Fail> 
 
 #[test]
 fn single_changes_print_what_their_turns_say(rt: HostRuntime) -> Result<(), Fail> {
-    check_runs(&rt, rt.alloc(), &SINGLE_CHANGES)
+    check_runs(&rt, rt.alloc(), runs_of_single_changes())
 }
 
 #[test]
 fn commits_print_what_their_turns_say(rt: HostRuntime) -> Result<(), Fail> {
-    check_runs(&rt, rt.alloc(), &COMMITS)
+    check_runs(&rt, rt.alloc(), runs_of_commits())
 }

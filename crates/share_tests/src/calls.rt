@@ -13,8 +13,8 @@ use std::process::Abort;
 use std::sync::Wait;
 use std::test::Fail;
 use test_runs::{
-    AN_OPEN_QUERY_KEEPS_ITS_VERSION, Does, REFUSED_CALLS_HAVE_NOT_JOINED, Run, SINGLE_CHANGES,
-    Turn, act_of, refused_text, reply_text,
+    AN_OPEN_QUERY_KEEPS_ITS_VERSION, Does, REFUSED_CALLS_HAVE_NOT_JOINED, Run, Turn, act_of,
+    refused_text, reply_text, runs_of_single_changes,
 };
 
 /// The reply to a call of a client that there is not.
@@ -100,7 +100,7 @@ pub fn check_runs(rt: &(impl Wait + Abort + AllocGlobal), runs: &[Run]) -> Resul
 /// The clients of a board, one call after the other.
 #[test]
 fn rows_by_clients(rt: HostRuntime) -> Result<(), Fail> {
-    check_runs(&rt, &SINGLE_CHANGES)
+    check_runs(&rt, runs_of_single_changes())
 }
 
 #[test]

@@ -7,7 +7,7 @@ use crate::acts::Does::{
 use crate::run::Run;
 
 /// Each run with what it shows.
-pub static COMMITS: [Run; 13] = [
+static COMMITS: [Run; 13] = [
     // A query sees a whole commit or nothing of it.
     Run {
         clients: 4,
@@ -330,3 +330,8 @@ pub static COMMITS: [Run; 13] = [
         ],
     },
 ];
+
+/// Runs with commits of several changes. A function, since a proof pays for all that a `static` holds wherever one is named.
+pub fn runs_of_commits() -> &'static [Run] {
+    &COMMITS
+}

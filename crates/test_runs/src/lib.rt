@@ -14,13 +14,10 @@ pub use acts::{
     Changes, Does, act, act_of, begin_act, change, changes_of, columns, commit_act, row, row_of,
     rows_of, setup_of,
 };
-pub use commits::COMMITS;
+pub use commits::runs_of_commits;
 pub use run::{Run, Turn, event_of, events_of};
 pub use single_changes::{
-    A_DELETED_ROW_IS_STILL_ANSWERED, A_FULL_TABLE_TAKES_AN_UPDATE,
-    A_QUERY_ANSWERS_THE_TABLE_AT_ITS_BEGIN, A_REFUSED_INSERT_USES_NO_ID, A_ROW_IS_UPDATED,
-    AN_EMPTY_TABLE_IS_SCANNED_IN_TWO_BLOCKS, AN_OPEN_QUERY_KEEPS_ITS_VERSION,
-    EIGHT_CLIENTS_ASK_AT_EIGHT_STAMPS, REFUSALS_COME_IN_THEIR_ORDER, REFUSED_CALLS_HAVE_NOT_JOINED,
-    ROOM_IS_EXACT, SINGLE_CHANGES, TWO_UPDATES_UNDER_A_QUERY_LEAVE_ONE_SLOT,
+    A_DELETED_ROW_IS_STILL_ANSWERED, A_ROW_IS_UPDATED, AN_OPEN_QUERY_KEEPS_ITS_VERSION,
+    REFUSED_CALLS_HAVE_NOT_JOINED, runs_of_single_changes,
 };
 pub use texts::{answer_text, refused_text, reply_text};

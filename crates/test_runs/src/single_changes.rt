@@ -5,7 +5,7 @@ use crate::acts::Does::{
 };
 use crate::run::Run;
 
-pub const A_QUERY_ANSWERS_THE_TABLE_AT_ITS_BEGIN: Run = Run {
+const A_QUERY_ANSWERS_THE_TABLE_AT_ITS_BEGIN: Run = Run {
     clients: 4,
     capacity: 1024,
     block: 1024,
@@ -23,7 +23,7 @@ pub const A_QUERY_ANSWERS_THE_TABLE_AT_ITS_BEGIN: Run = Run {
     ],
 };
 
-pub const AN_EMPTY_TABLE_IS_SCANNED_IN_TWO_BLOCKS: Run = Run {
+const AN_EMPTY_TABLE_IS_SCANNED_IN_TWO_BLOCKS: Run = Run {
     clients: 4,
     capacity: 4,
     block: 2,
@@ -56,7 +56,7 @@ pub const A_DELETED_ROW_IS_STILL_ANSWERED: Run = Run {
     ],
 };
 
-pub const ROOM_IS_EXACT: Run = Run {
+const ROOM_IS_EXACT: Run = Run {
     clients: 4,
     capacity: 2,
     block: 2,
@@ -71,7 +71,7 @@ pub const ROOM_IS_EXACT: Run = Run {
     ],
 };
 
-pub const A_FULL_TABLE_TAKES_AN_UPDATE: Run = Run {
+const A_FULL_TABLE_TAKES_AN_UPDATE: Run = Run {
     clients: 4,
     capacity: 2,
     block: 2,
@@ -86,7 +86,7 @@ pub const A_FULL_TABLE_TAKES_AN_UPDATE: Run = Run {
     ],
 };
 
-pub const REFUSALS_COME_IN_THEIR_ORDER: Run = Run {
+const REFUSALS_COME_IN_THEIR_ORDER: Run = Run {
     clients: 4,
     capacity: 2,
     block: 1,
@@ -107,7 +107,7 @@ pub const REFUSALS_COME_IN_THEIR_ORDER: Run = Run {
     ],
 };
 
-pub const A_REFUSED_INSERT_USES_NO_ID: Run = Run {
+const A_REFUSED_INSERT_USES_NO_ID: Run = Run {
     clients: 4,
     capacity: 2,
     block: 1,
@@ -126,7 +126,7 @@ pub const A_REFUSED_INSERT_USES_NO_ID: Run = Run {
     ],
 };
 
-pub const TWO_UPDATES_UNDER_A_QUERY_LEAVE_ONE_SLOT: Run = Run {
+const TWO_UPDATES_UNDER_A_QUERY_LEAVE_ONE_SLOT: Run = Run {
     clients: 4,
     capacity: 3,
     block: 3,
@@ -203,7 +203,7 @@ pub const A_ROW_IS_UPDATED: Run = Run {
 
 /// Client K begins after K - 1 updates of the one row, and is answered with the row as it was then, while the slots of
 /// the others are needed and used.
-pub const EIGHT_CLIENTS_ASK_AT_EIGHT_STAMPS: Run = Run {
+const EIGHT_CLIENTS_ASK_AT_EIGHT_STAMPS: Run = Run {
     clients: 8,
     capacity: 9,
     block: 9,
@@ -245,8 +245,7 @@ pub const EIGHT_CLIENTS_ASK_AT_EIGHT_STAMPS: Run = Run {
     ],
 };
 
-/// All of these runs.
-pub static SINGLE_CHANGES: [Run; 12] = [
+static SINGLE_CHANGES: [Run; 12] = [
     A_QUERY_ANSWERS_THE_TABLE_AT_ITS_BEGIN,
     AN_EMPTY_TABLE_IS_SCANNED_IN_TWO_BLOCKS,
     A_DELETED_ROW_IS_STILL_ANSWERED,
@@ -260,3 +259,8 @@ pub static SINGLE_CHANGES: [Run; 12] = [
     A_ROW_IS_UPDATED,
     EIGHT_CLIENTS_ASK_AT_EIGHT_STAMPS,
 ];
+
+/// All of these runs. A function, since a proof pays for all that a `static` holds wherever one is named.
+pub fn runs_of_single_changes() -> &'static [Run] {
+    &SINGLE_CHANGES
+}

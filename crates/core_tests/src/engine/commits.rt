@@ -1,6 +1,6 @@
 //! Commits of several changes.
 
-use super::fixtures::check_run;
+use super::fixtures::check_runs;
 use crate::same::assert_same;
 use pref_core::{Change, Commit, CoreFault};
 use pref_table::Schema;
@@ -8,7 +8,7 @@ use std::alloc::Global;
 use std::process::Abort;
 use std::test::Fail;
 use test_runs::Changes::{self, Adds, Removes, Sets};
-use test_runs::{COMMITS, Run, changes_of, columns, row_of};
+use test_runs::{changes_of, columns, row_of, runs_of_commits};
 
 /// Lists of changes, and the refusal that each meets.
 static LISTS: [(&[Changes], Option<CoreFault>); 10] = [
@@ -95,15 +95,7 @@ fn what_is_no_commit_is_refused(rt: HostRuntime) -> Result<(), Fail> {
     check_refusals(&rt, alloc, &columns(alloc)?, &LISTS)
 }
 
-/// A loop over a list that is lent, since a proof pays for all that a loop over a `static` reads.
-fn check_runs(rt: &impl Abort, alloc: Global, runs: &[Run]) -> Result<(), Fail> {
-    for run in runs {
-        check_run(rt, alloc, run)?;
-    }
-    Ok(())
-}
-
 #[test]
 fn a_commit_is_made_whole_or_refused(rt: HostRuntime) -> Result<(), Fail> {
-    check_runs(&rt, rt.alloc(), &COMMITS)
+    check_runs(&rt, rt.alloc(), runs_of_commits())
 }

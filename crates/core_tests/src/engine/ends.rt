@@ -130,10 +130,10 @@ fn check_orders(
     orders: &[&[Turn]],
 ) -> Result<(), Fail> {
     let setup = setup_of(8, capacity, capacity, 64)?;
-    for order in orders {
+    for (number, order) in orders.iter().enumerate() {
         let mut turns = Vec::from_slice(alloc, begun)?;
         turns.extend_from_slice(*order)?;
-        check_turns(rt, alloc, setup, values, &turns)?;
+        check_turns(rt, alloc, number, setup, values, &turns)?;
     }
     Ok(())
 }
@@ -151,5 +151,12 @@ fn three_queries_end_in_each_order(rt: HostRuntime) -> Result<(), Fail> {
 #[test]
 fn a_query_that_keeps_nothing_ends_beside_kept_versions(rt: HostRuntime) -> Result<(), Fail> {
     let setup = setup_of(8, 8, 8, 64)?;
-    check_turns(&rt, rt.alloc(), setup, &[5, 6, 7], &KEEPS_NOTHING)
+    check_turns(
+        &rt,
+        rt.alloc(),
+        "keeps nothing",
+        setup,
+        &[5, 6, 7],
+        &KEEPS_NOTHING,
+    )
 }

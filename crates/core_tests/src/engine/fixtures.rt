@@ -4,32 +4,34 @@ use crate::same::assert_same;
 use pref_core::{Call, Machine, Reply, Setup, Store, replay};
 use pref_table::Schema;
 use std::alloc::Global;
+use std::fmt::Debug;
 use std::process::Abort;
 use std::test::Fail;
 use test_runs::{Does, Run, Turn, columns, events_of, reply_text, row, rows_of, setup_of};
 
-/// A reply is what the turn of this number says.
-pub(crate) fn check_reply(
+/// The reply in a case is the one that is wanted.
+pub(crate) fn check_reply<C: Debug + Copy>(
     rt: &impl Abort,
     alloc: Global,
-    number: usize,
+    case: C,
     reply: &Reply,
     wanted: &str,
 ) -> Result<(), Fail> {
     let returned = reply_text(alloc, reply)?;
-    assert_same(rt, number, returned.as_str(), wanted);
+    assert_same(rt, case, returned.as_str(), wanted);
     Ok(())
 }
 
-/// The replies are those of the first turns.
-pub(crate) fn check_replies(
+/// The replies in a case are those of the first turns.
+pub(crate) fn check_replies<C: Debug + Copy>(
     rt: &impl Abort,
     alloc: Global,
+    case: C,
     replies: &[Reply],
     turns: &[Turn],
 ) -> Result<(), Fail> {
     for (number, (reply, turn)) in replies.iter().zip(turns).enumerate() {
-        check_reply(rt, alloc, number, reply, turn.2)?;
+        check_reply(rt, alloc, (case, number), reply, turn.2)?;
     }
     Ok(())
 }
@@ -41,26 +43,31 @@ fn replies_to(
     values: &[i64],
     turns: &[Turn],
 ) -> Result<Vec<Reply>, Fail> {
+    let opening = rows_of(alloc, values)?;
     let events = events_of(alloc, &columns(alloc)?, turns)?;
-    Ok(replay(alloc, setup, &rows_of(alloc, values)?, events)?)
+    Ok(replay(alloc, setup, &opening, events)?)
 }
 
-/// The replies to turns over a table with these rows are those of the turns.
-pub(crate) fn check_turns(
+/// The replies to the turns of a case over a table with these rows are those of the turns.
+pub(crate) fn check_turns<C: Debug + Copy>(
     rt: &impl Abort,
     alloc: Global,
+    case: C,
     setup: Setup,
     values: &[i64],
     turns: &[Turn],
 ) -> Result<(), Fail> {
     let replies = replies_to(alloc, setup, values, turns)?;
-    assert_same(rt, "replies", replies.len(), turns.len());
-    check_replies(rt, alloc, &replies, turns)
+    assert_same(rt, (case, "replies"), replies.len(), turns.len());
+    check_replies(rt, alloc, case, &replies, turns)
 }
 
-/// The replies to a run are those of its turns.
-pub(crate) fn check_run(rt: &impl Abort, alloc: Global, run: &Run) -> Result<(), Fail> {
-    check_turns(rt, alloc, run.setup()?, run.opening, run.turns)
+/// The replies to runs are those of their turns.
+pub(crate) fn check_runs(rt: &impl Abort, alloc: Global, runs: &[Run]) -> Result<(), Fail> {
+    for (number, run) in runs.iter().enumerate() {
+        check_turns(rt, alloc, number, run.setup()?, run.opening, run.turns)?;
+    }
+    Ok(())
 }
 
 /// A store of three slots with these rows, for two clients.

@@ -41,7 +41,7 @@ static TURNS: [Turn; 4] = [
 fn are_first(rt: &impl Abort, alloc: Global, part: &Part, turns: &[Turn]) -> Result<(), Fail> {
     let is_short = part.replies.len() < turns.len();
     assert_same(rt, "stopped", part.stopped, is_short);
-    check_replies(rt, alloc, &part.replies, turns)
+    check_replies(rt, alloc, "first replies", &part.replies, turns)
 }
 
 /// Whether turns came to their end. They are never refused, and the replies that there are belong to the first of them.
@@ -94,18 +94,11 @@ fn check_run(rt: &impl Abort, alloc: Global, run: &Run) -> Result<(), Fail> {
     )
 }
 
+/// While a row is updated, and while slots are used again.
 #[test]
-fn a_stopped_run_keeps_its_first_replies_while_slots_are_used_again(
-    rt: HostRuntime,
-) -> Result<(), Fail> {
+fn a_stopped_run_keeps_its_first_replies(rt: HostRuntime) -> Result<(), Fail> {
+    check_run(&rt, rt.alloc(), &A_ROW_IS_UPDATED)?;
     check_run(&rt, rt.alloc(), &A_DELETED_ROW_IS_STILL_ANSWERED)
-}
-
-#[test]
-fn a_stopped_run_keeps_its_first_replies_while_a_row_is_updated(
-    rt: HostRuntime,
-) -> Result<(), Fail> {
-    check_run(&rt, rt.alloc(), &A_ROW_IS_UPDATED)
 }
 
 fn opening_rows(alloc: Global, schema: &Schema) -> Result<Vec<Row>, Fail> {
