@@ -13,17 +13,18 @@ use test_runs::{columns, row, rows_of, setup_of};
 fn calls(alloc: Global, schema: &Schema) -> Result<Vec<(Call, BoxedCall)>, Fail> {
     let new = row(schema, 5)?;
     let commit = Commit::of(&[Change::Remove(1), Change::Add(new)])?;
-    let mut calls = Vec::new(alloc);
-    calls.push((Call::Insert(new), BoxedCall::insert(new)))?;
-    calls.push((Call::Update(2, new), BoxedCall::update(2, new)))?;
-    calls.push((Call::Begin, BoxedCall::begin()))?;
     let boxed = BoxedCommit::new(alloc, commit)?;
-    calls.push((Call::Commit(commit), BoxedCall::commit(boxed)))?;
-    calls.push((Call::Finish, BoxedCall::finish()))?;
-    calls.push((Call::Delete(3), BoxedCall::delete(3)))?;
-    calls.push((Call::Begin, BoxedCall::begin()))?;
-    calls.push((Call::Abandon, BoxedCall::abandon()))?;
-    Ok(calls)
+    let calls = [
+        (Call::Insert(new), BoxedCall::insert(new)),
+        (Call::Update(2, new), BoxedCall::update(2, new)),
+        (Call::Begin, BoxedCall::begin()),
+        (Call::Commit(commit), BoxedCall::commit(boxed)),
+        (Call::Finish, BoxedCall::finish()),
+        (Call::Delete(3), BoxedCall::delete(3)),
+        (Call::Begin, BoxedCall::begin()),
+        (Call::Abandon, BoxedCall::abandon()),
+    ];
+    Ok(Vec::from_array(alloc, calls)?)
 }
 
 /// The stamp, how many calls client 1 has made, the room, and the value of row 2.
@@ -60,6 +61,20 @@ fn is_done_alike(
     Ok(())
 }
 
+/// The same for each call.
+fn are_done_alike(
+    rt: &impl Abort,
+    alloc: Global,
+    schema: &Schema,
+    store: &mut Store,
+    other: &mut Store,
+) -> Result<(), Fail> {
+    for (number, (call, boxed)) in calls(alloc, schema)?.into_iter().enumerate() {
+        is_done_alike(rt, number, (store, other), call, boxed)?;
+    }
+    Ok(())
+}
+
 #[test]
 fn an_op_with_its_call_in_a_box_is_done_alike(rt: HostRuntime) -> Result<(), Fail> {
     let alloc = rt.alloc();
@@ -67,8 +82,5 @@ fn an_op_with_its_call_in_a_box_is_done_alike(rt: HostRuntime) -> Result<(), Fai
     let setup = setup_of(2, 4, 2, 1)?;
     let mut store = Store::new(alloc, &setup, &rows_of(alloc, &[4, 6])?)?;
     let mut other = store.copy(alloc)?;
-    for (number, (call, boxed)) in calls(alloc, &schema)?.into_iter().enumerate() {
-        is_done_alike(&rt, number, (&mut store, &mut other), call, boxed)?;
-    }
-    Ok(())
+    are_done_alike(&rt, alloc, &schema, &mut store, &mut other)
 }
