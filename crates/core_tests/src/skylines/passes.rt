@@ -101,7 +101,8 @@ fn passes_of_small_tables(rt: HostRuntime) -> Result<(), Fail> {
     check_passes(&rt, alloc, &LowBoth, &[], 1, &[], 0)?;
     check_passes(&rt, alloc, &LowBoth, &HOTELS, 1, &[1, 2, 3], 3)?;
     check_passes(&rt, alloc, &LowBoth, &HOTELS, 64, &[1, 2, 3], 1)?;
-    check_passes(&rt, alloc, &LowBoth, &[(5, 5), (9, 1), (1, 1)], 1, &[3], 2)
+    check_passes(&rt, alloc, &LowBoth, &[(5, 5), (9, 1), (1, 1)], 1, &[3], 2)?;
+    check_passes(&rt, alloc, &LowBoth, &[(1, 2), (1, 2)], 1, &[1, 2], 2)
 }
 
 #[test]
@@ -115,11 +116,6 @@ fn offers_to_a_full_window(rt: HostRuntime) -> Result<(), Fail> {
         (&LowBoth, Offer::Dropped),
     ];
     check_offers(&rt, rt.alloc(), 1, &rows, &offers)
-}
-
-#[test]
-fn equal_rows_are_all_best(rt: HostRuntime) -> Result<(), Fail> {
-    check_passes(&rt, rt.alloc(), &LowBoth, &[(1, 2), (1, 2)], 1, &[1, 2], 2)
 }
 
 /// A thousand rows, of which 143 are best by [`LowBoth`].

@@ -121,79 +121,85 @@ fn a_refused_add_of_twins_changes_nothing_and_is_made_again(rt: HostRuntime) -> 
     check_refused(&rt, alloc, &LowOnce, &entries, 3)
 }
 
-/// Rows in parts by their groups: what is planned for the first of them is not made where the last one's plan is refused.
-#[test]
-fn a_refused_add_to_several_groups_changes_nothing_and_is_made_again(
-    rt: HostRuntime,
-) -> Result<(), Fail> {
-    let alloc = rt.alloc();
-    let rows = [(5, 1), (5, 2), (7, 3), (4, 1), (9, 2), (3, 3), (2, 1)];
-    let entries = numbered(alloc, &rows)?;
-    let ask = ask_of(alloc, b"top_level 2 low(x) by y")?;
-    check_refused(&rt, alloc, &ask, &entries, 3)
+/// Rows that come in two pieces, by the order of a text.
+struct Refused {
+    text: &'static str,
+    rows: &'static [(i64, i64)],
+    at: usize,
 }
 
-/// One chain: some rows join a level, others are a new one before, between or behind those that are held.
-#[test]
-fn a_refused_add_to_one_chain_changes_nothing_and_is_made_again(
-    rt: HostRuntime,
-) -> Result<(), Fail> {
-    let alloc = rt.alloc();
-    let rows = [
-        (5, 1),
-        (7, 1),
-        (5, 2),
-        (6, 1),
-        (5, 3),
-        (4, 9),
-        (7, 2),
-        (4, 8),
-    ];
-    let entries = numbered(alloc, &rows)?;
-    let ask = ask_of(alloc, b"top_level 2 low(x)")?;
-    check_refused(&rt, alloc, &ask, &entries, 4)
+static REFUSED: [Refused; 4] = [
+    // Rows in parts by their groups: what is planned for the first of them is not made where the last one's plan is refused.
+    Refused {
+        text: "top_level 2 low(x) by y",
+        rows: &[(5, 1), (5, 2), (7, 3), (4, 1), (9, 2), (3, 3), (2, 1)],
+        at: 3,
+    },
+    // One chain: some rows join a level, others are a new one before, between or behind those that are held.
+    Refused {
+        text: "top_level 2 low(x)",
+        rows: &[
+            (5, 1),
+            (7, 1),
+            (5, 2),
+            (6, 1),
+            (5, 3),
+            (4, 9),
+            (7, 2),
+            (4, 8),
+        ],
+        at: 4,
+    },
+    // A product behind a chain, whose second piece moves the first one down.
+    Refused {
+        text: "top_level 2 between(y, 3, 9) & (low(x) * low(y))",
+        rows: &[
+            (5, 5),
+            (6, 4),
+            (6, 6),
+            (7, 3),
+            (4, 5),
+            (5, 4),
+            (1, 30),
+            (3, 9),
+        ],
+        at: 4,
+    },
+    // A product within groups, of which one is new in the second piece.
+    Refused {
+        text: "top_level 2 low(x) * around(x, 7) by y",
+        rows: &[
+            (5, 1),
+            (9, 1),
+            (7, 2),
+            (8, 1),
+            (6, 2),
+            (2, 3),
+            (7, 1),
+            (7, 2),
+        ],
+        at: 4,
+    },
+];
+
+fn check_refused_case(rt: &impl Abort, alloc: Global, case: &Refused) -> Result<(), Fail> {
+    let entries = numbered(alloc, case.rows)?;
+    let ask = ask_of(alloc, case.text.as_bytes())?;
+    check_refused(rt, alloc, &ask, &entries, case.at)
 }
 
-/// A product behind a chain, whose second piece moves the first one down.
-#[test]
-fn a_refused_add_to_a_product_behind_a_chain_changes_nothing_and_is_made_again(
-    rt: HostRuntime,
-) -> Result<(), Fail> {
-    let alloc = rt.alloc();
-    let rows = [
-        (5, 5),
-        (6, 4),
-        (6, 6),
-        (7, 3),
-        (4, 5),
-        (5, 4),
-        (1, 30),
-        (3, 9),
-    ];
-    let entries = numbered(alloc, &rows)?;
-    let ask = ask_of(alloc, b"top_level 2 between(y, 3, 9) & (low(x) * low(y))")?;
-    check_refused(&rt, alloc, &ask, &entries, 4)
+fn check_refused_cases(rt: &impl Abort, alloc: Global, cases: &[Refused]) -> Result<(), Fail> {
+    for case in cases {
+        check_refused_case(rt, alloc, case)?;
+    }
+    Ok(())
 }
 
-/// A product within groups, of which one is new in the second piece.
 #[test]
-fn a_refused_add_to_a_product_within_groups_changes_nothing_and_is_made_again(
+fn a_refused_add_by_a_question_changes_nothing_and_is_made_again(
     rt: HostRuntime,
 ) -> Result<(), Fail> {
-    let alloc = rt.alloc();
-    let rows = [
-        (5, 1),
-        (9, 1),
-        (7, 2),
-        (8, 1),
-        (6, 2),
-        (2, 3),
-        (7, 1),
-        (7, 2),
-    ];
-    let entries = numbered(alloc, &rows)?;
-    let ask = ask_of(alloc, b"top_level 2 low(x) * around(x, 7) by y")?;
-    check_refused(&rt, alloc, &ask, &entries, 4)
+    check_refused_cases(&rt, rt.alloc(), &REFUSED)
 }
 
 /// What is held, listed again where that was refused.
@@ -222,21 +228,32 @@ fn check_refused_list<D: Dominance>(
     Ok(())
 }
 
-#[test]
-fn a_refused_list_is_made_again(rt: HostRuntime) -> Result<(), Fail> {
-    let alloc = rt.alloc();
-    let entries = numbered(alloc, &PAIRS)?;
-    for text in [
-        b"best low(x)".as_slice(),
-        b"best low(x) * low(y)".as_slice(),
-        b"best low(x) by y".as_slice(),
-        b"skyline of distinct x min, y min".as_slice(),
-    ] {
-        let ask = ask_of(alloc, text)?;
+fn check_refused_lists(
+    rt: &impl Abort,
+    alloc: Global,
+    texts: &[&str],
+    entries: &[Entry],
+) -> Result<(), Fail>
+    requires { HaveDifferentIds entries.now }
+{
+    for text in texts {
+        let ask = ask_of(alloc, text.as_bytes())?;
         let mut partial = Partial::empty();
-        check_refused_list(&rt, alloc, &ask, 3, &mut partial, &entries)?;
+        check_refused_list(rt, alloc, &ask, 3, &mut partial, entries)?;
     }
     Ok(())
+}
+
+#[test]
+fn a_refused_list_is_made_again(rt: HostRuntime) -> Result<(), Fail> {
+    let texts = [
+        "best low(x)",
+        "best low(x) * low(y)",
+        "best low(x) by y",
+        "skyline of distinct x min, y min",
+    ];
+    let entries = numbered(rt.alloc(), &PAIRS)?;
+    check_refused_lists(&rt, rt.alloc(), &texts, &entries)
 }
 
 /// An answer, made again where it was refused: what is held must have stayed.

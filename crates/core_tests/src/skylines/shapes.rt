@@ -103,12 +103,12 @@ fn levels_upto<D: Dominance>(
     levels(alloc, dominance, 300, most, entries)
 }
 
-/// What is held, once the first so many entries came, is their levels.
+/// What is held by an order up to a cut, once the first so many entries came, is their levels.
 fn check_held_of<D: Dominance>(
     rt: &impl Abort,
     alloc: Global,
-    dominance: &D,
-    cut: u32,
+    case: &str,
+    order: (&D, u32),
     partial: &Partial,
     entries: &[Entry],
     count: usize,
@@ -116,9 +116,10 @@ fn check_held_of<D: Dominance>(
     requires { HaveDifferentIds entries.now }
 {
     let (added, _) = entries.split_at(count.min(entries.len()));
-    let wanted = levels_upto(alloc, dominance, cut, added)?;
+    let wanted = levels_upto(alloc, order.0, order.1, added)?;
     let found = partial.ranked(alloc)?;
-    assert_same(rt, (cut, count), found.as_slice(), wanted.as_slice());
+    let place = (case, order.1, count);
+    assert_same(rt, place, found.as_slice(), wanted.as_slice());
     Ok(())
 }
 
@@ -126,8 +127,8 @@ fn check_held_of<D: Dominance>(
 fn check_in_blocks<D: Dominance>(
     rt: &impl Abort,
     alloc: Global,
-    dominance: &D,
-    cut: u32,
+    case: &str,
+    order: (&D, u32),
     partial: &mut Partial,
     entries: &[Entry],
     block: usize,
@@ -141,11 +142,11 @@ fn check_in_blocks<D: Dominance>(
     'each_block: while !rest.is_empty() {
         let left = rest.len();
         let (front, back) = rest.split_at(block.min(left));
-        partial.add(alloc, dominance, 64, cut, front)?;
+        partial.add(alloc, order.0, 64, order.1, front)?;
         rest = back;
         if rest.is_empty() || (half < left && rest.len() <= half) {
             let count = entries.len().saturating_sub(rest.len());
-            check_held_of(rt, alloc, dominance, cut, partial, entries, count)?;
+            check_held_of(rt, alloc, case, order, partial, entries, count)?;
         }
     }
     Ok(())
@@ -155,6 +156,7 @@ fn check_in_blocks<D: Dominance>(
 fn check_entries(
     rt: &impl Abort,
     alloc: Global,
+    text: &str,
     ask: &Ask,
     entries: &[Entry],
     turn: usize,
@@ -165,72 +167,45 @@ fn check_entries(
     for (place, cut) in CUTS.iter().enumerate() {
         let block = BLOCKS[(turn * 3 + place) % 5];
         let mut partial = Partial::empty();
-        check_in_blocks(rt, alloc, ask, *cut, &mut partial, entries, block)?;
+        check_in_blocks(rt, alloc, text, (ask, *cut), &mut partial, entries, block)?;
     }
     Ok(())
 }
 
 /// Rows of each shape, by the order of this text.
-fn check_shapes(rt: &impl Abort, alloc: Global, text: &[u8]) -> Result<(), Fail> {
-    let ask = ask_of(alloc, text)?;
+fn check_shapes(rt: &impl Abort, alloc: Global, text: &str) -> Result<(), Fail> {
+    let ask = ask_of(alloc, text.as_bytes())?;
     for (turn, shape) in SHAPES.iter().enumerate() {
         let entries = of_shape(alloc, *shape)?;
-        check_entries(rt, alloc, &ask, &entries, turn)?;
+        check_entries(rt, alloc, text, &ask, &entries, turn)?;
     }
     Ok(())
 }
 
-#[test]
-fn a_product_of_two_columns(rt: HostRuntime) -> Result<(), Fail> {
-    check_shapes(&rt, rt.alloc(), b"best low(x) * low(y)")
+/// The same by the order of each text.
+fn check_texts(rt: &impl Abort, alloc: Global, texts: &[&str]) -> Result<(), Fail> {
+    for text in texts {
+        check_shapes(rt, alloc, text)?;
+    }
+    Ok(())
 }
 
-#[test]
-fn the_converse_of_a_product(rt: HostRuntime) -> Result<(), Fail> {
-    check_shapes(&rt, rt.alloc(), b"best -(low(x) * low(y))")
-}
+const TEXTS: [&str; 9] = [
+    "best low(x) * low(y)",
+    "best -(low(x) * low(y))",
+    // A product behind a chain, and one before a chain.
+    "best between(y, 12, 20) & (low(x) * high(y))",
+    "best (between(x, 5, 9) * between(y, 12, 20)) & high(x)",
+    "best low(x) * around(x, 7) by y",
+    "skyline of distinct x min, y min",
+    "best low(x)",
+    "best high(y) & low(x)",
+    "skyline of distinct x min, y diff",
+];
 
 #[test]
-fn a_product_behind_a_chain(rt: HostRuntime) -> Result<(), Fail> {
-    check_shapes(
-        &rt,
-        rt.alloc(),
-        b"best between(y, 12, 20) & (low(x) * high(y))",
-    )
-}
-
-#[test]
-fn a_product_before_a_chain(rt: HostRuntime) -> Result<(), Fail> {
-    check_shapes(
-        &rt,
-        rt.alloc(),
-        b"best (between(x, 5, 9) * between(y, 12, 20)) & high(x)",
-    )
-}
-
-#[test]
-fn a_product_within_groups(rt: HostRuntime) -> Result<(), Fail> {
-    check_shapes(&rt, rt.alloc(), b"best low(x) * around(x, 7) by y")
-}
-
-#[test]
-fn a_product_that_keeps_one_of_equal_rows(rt: HostRuntime) -> Result<(), Fail> {
-    check_shapes(&rt, rt.alloc(), b"skyline of distinct x min, y min")
-}
-
-#[test]
-fn one_column(rt: HostRuntime) -> Result<(), Fail> {
-    check_shapes(&rt, rt.alloc(), b"best low(x)")
-}
-
-#[test]
-fn one_column_behind_another(rt: HostRuntime) -> Result<(), Fail> {
-    check_shapes(&rt, rt.alloc(), b"best high(y) & low(x)")
-}
-
-#[test]
-fn one_column_within_groups_that_keeps_one_of_equal_rows(rt: HostRuntime) -> Result<(), Fail> {
-    check_shapes(&rt, rt.alloc(), b"skyline of distinct x min, y diff")
+fn rows_of_each_shape(rt: HostRuntime) -> Result<(), Fail> {
+    check_texts(&rt, rt.alloc(), &TEXTS)
 }
 
 /// To a partial result that holds nothing the first entries are added by one order, by which they have the same levels as by the
@@ -255,89 +230,160 @@ fn check_change(
     check_held_of(
         rt,
         alloc,
-        second.0,
-        second.1,
+        "changed",
+        second,
         partial,
         entries,
         entries.len(),
     )
 }
 
-/// These rows by the first order, and rows of few values behind them by the second one, each up to a cut.
-fn check_changed(
-    rt: &impl Abort,
-    alloc: Global,
-    first: (&[u8], u32),
-    second: (&[u8], u32),
-    front: &[(i64, i64)],
-) -> Result<(), Fail> {
-    let mut rows = Vec::from_slice(alloc, front)?;
+/// Rows by a first order, and rows of few values behind them by a second one, each up to a cut.
+struct Change {
+    first: (&'static str, u32),
+    second: (&'static str, u32),
+    front: &'static [(i64, i64)],
+}
+
+fn check_changed(rt: &impl Abort, alloc: Global, case: &Change) -> Result<(), Fail> {
+    let mut rows = Vec::from_slice(alloc, case.front)?;
     push_shape(&mut rows, Shape::FewValues)?;
     let entries = numbered(alloc, &rows)?;
-    let before = ask_of(alloc, first.0)?;
-    let after = ask_of(alloc, second.0)?;
+    let before = ask_of(alloc, case.first.0.as_bytes())?;
+    let after = ask_of(alloc, case.second.0.as_bytes())?;
     let mut partial = Partial::empty();
     check_change(
         rt,
         alloc,
-        (&before, first.1),
-        (&after, second.1),
+        (&before, case.first.1),
+        (&after, case.second.1),
         &mut partial,
         &entries,
-        front.len(),
+        case.front.len(),
     )
 }
 
-const PRODUCT: &[u8] = b"best low(x) * low(y)";
-
-const CHAIN: &[u8] = b"best low(x) & low(y)";
-
-const ONCE: &[u8] = b"skyline of distinct x min, y min";
-
-const IN_GROUPS: &[u8] = b"best low(x) by y";
-
-/// Two rows of each of two levels, by the product and by the chain of its parts.
-#[test]
-fn another_question_after_the_first(rt: HostRuntime) -> Result<(), Fail> {
-    let alloc = rt.alloc();
-    let rows = [(1, 1), (1, 1), (3, 3), (3, 3)];
-    check_changed(&rt, alloc, (PRODUCT, 3), (CHAIN, 3), &rows)?;
-    check_changed(&rt, alloc, (CHAIN, 3), (PRODUCT, 3), &rows)?;
-    let walked = b"best (low(x) * low(y)) & layered(x, {1}, {2, 3})";
-    check_changed(&rt, alloc, (PRODUCT, 3), (walked, 3), &rows)?;
-    check_changed(&rt, alloc, (walked, 3), (CHAIN, 3), &rows)
-}
-
-/// No two of the first rows are equal.
-#[test]
-fn one_of_equal_rows_is_kept_from_then_on(rt: HostRuntime) -> Result<(), Fail> {
-    let alloc = rt.alloc();
-    let rows = [(2, 1), (1, 2), (3, 3)];
-    check_changed(&rt, alloc, (PRODUCT, 3), (ONCE, 3), &rows)?;
-    check_changed(&rt, alloc, (ONCE, 3), (PRODUCT, 3), &rows)
-}
-
-/// The first rows are of one group, or each is alone in its group and they tie.
-#[test]
-fn other_groups_after_the_first(rt: HostRuntime) -> Result<(), Fail> {
-    let alloc = rt.alloc();
-    let chain = b"best low(x)";
-    let of_one = [(1, 2), (3, 2), (2, 2)];
-    check_changed(&rt, alloc, (IN_GROUPS, 4), (chain, 4), &of_one)?;
-    check_changed(&rt, alloc, (chain, 4), (IN_GROUPS, 4), &of_one)?;
-    let alone = [(1, 2), (2, 0), (3, 1)];
-    let of_x = b"best low(y) by x";
-    check_changed(&rt, alloc, (IN_GROUPS, 4), (of_x, 4), &alone)
-}
-
-/// The first rows have two levels, and so the same ones up to either cut.
-#[test]
-fn another_cut_after_the_first(rt: HostRuntime) -> Result<(), Fail> {
-    let alloc = rt.alloc();
-    let rows = [(1, 3), (3, 1), (3, 3)];
-    for text in [PRODUCT, CHAIN, ONCE, IN_GROUPS] {
-        check_changed(&rt, alloc, (text, 6), (text, 3), &rows)?;
-        check_changed(&rt, alloc, (text, 3), (text, 6), &rows)?;
+fn check_changes(rt: &impl Abort, alloc: Global, cases: &[Change]) -> Result<(), Fail> {
+    for case in cases {
+        check_changed(rt, alloc, case)?;
     }
     Ok(())
+}
+
+const PRODUCT: &str = "best low(x) * low(y)";
+
+const CHAIN: &str = "best low(x) & low(y)";
+
+const WALKED: &str = "best (low(x) * low(y)) & layered(x, {1}, {2, 3})";
+
+const ONCE: &str = "skyline of distinct x min, y min";
+
+const IN_GROUPS: &str = "best low(x) by y";
+
+const ONE_COLUMN: &str = "best low(x)";
+
+/// Two rows of each of two levels, by the product and by the chain of its parts.
+const TWO_OF_EACH: &[(i64, i64)] = &[(1, 1), (1, 1), (3, 3), (3, 3)];
+
+const NO_TWO_EQUAL: &[(i64, i64)] = &[(2, 1), (1, 2), (3, 3)];
+
+const OF_ONE_GROUP: &[(i64, i64)] = &[(1, 2), (3, 2), (2, 2)];
+
+/// Each is alone in its group, and they tie.
+const ALONE: &[(i64, i64)] = &[(1, 2), (2, 0), (3, 1)];
+
+/// They have two levels, and so the same ones up to either cut.
+const TWO_LEVELS: &[(i64, i64)] = &[(1, 3), (3, 1), (3, 3)];
+
+static CHANGES: [Change; 17] = [
+    Change {
+        first: (PRODUCT, 3),
+        second: (CHAIN, 3),
+        front: TWO_OF_EACH,
+    },
+    Change {
+        first: (CHAIN, 3),
+        second: (PRODUCT, 3),
+        front: TWO_OF_EACH,
+    },
+    Change {
+        first: (PRODUCT, 3),
+        second: (WALKED, 3),
+        front: TWO_OF_EACH,
+    },
+    Change {
+        first: (WALKED, 3),
+        second: (CHAIN, 3),
+        front: TWO_OF_EACH,
+    },
+    Change {
+        first: (PRODUCT, 3),
+        second: (ONCE, 3),
+        front: NO_TWO_EQUAL,
+    },
+    Change {
+        first: (ONCE, 3),
+        second: (PRODUCT, 3),
+        front: NO_TWO_EQUAL,
+    },
+    Change {
+        first: (IN_GROUPS, 4),
+        second: (ONE_COLUMN, 4),
+        front: OF_ONE_GROUP,
+    },
+    Change {
+        first: (ONE_COLUMN, 4),
+        second: (IN_GROUPS, 4),
+        front: OF_ONE_GROUP,
+    },
+    Change {
+        first: (IN_GROUPS, 4),
+        second: ("best low(y) by x", 4),
+        front: ALONE,
+    },
+    Change {
+        first: (PRODUCT, 6),
+        second: (PRODUCT, 3),
+        front: TWO_LEVELS,
+    },
+    Change {
+        first: (PRODUCT, 3),
+        second: (PRODUCT, 6),
+        front: TWO_LEVELS,
+    },
+    Change {
+        first: (CHAIN, 6),
+        second: (CHAIN, 3),
+        front: TWO_LEVELS,
+    },
+    Change {
+        first: (CHAIN, 3),
+        second: (CHAIN, 6),
+        front: TWO_LEVELS,
+    },
+    Change {
+        first: (ONCE, 6),
+        second: (ONCE, 3),
+        front: TWO_LEVELS,
+    },
+    Change {
+        first: (ONCE, 3),
+        second: (ONCE, 6),
+        front: TWO_LEVELS,
+    },
+    Change {
+        first: (IN_GROUPS, 6),
+        second: (IN_GROUPS, 3),
+        front: TWO_LEVELS,
+    },
+    Change {
+        first: (IN_GROUPS, 3),
+        second: (IN_GROUPS, 6),
+        front: TWO_LEVELS,
+    },
+];
+
+#[test]
+fn another_question_after_the_first(rt: HostRuntime) -> Result<(), Fail> {
+    check_changes(&rt, rt.alloc(), &CHANGES)
 }

@@ -105,12 +105,29 @@ fn remainders(alloc: Global, by_x: u32, by_y: u32) -> Result<Vec<Entry>, TableFa
     numbered(alloc, &rows)
 }
 
+/// By windows of every size this many of such rows are best.
+fn check_remainders(
+    rt: &impl Abort,
+    alloc: Global,
+    by_x: u32,
+    by_y: u32,
+    text: &[u8],
+    count: usize,
+) -> Result<(), Fail>
+    requires x { 0 < by_x }
+    requires y { 0 < by_y }
+{
+    let entries = remainders(alloc, by_x, by_y)?;
+    check_windows(rt, alloc, &ask_of(alloc, text)?, &entries, count)
+}
+
+/// The second time ten of each of a hundred rows, of which all are in the front: by any window one of each is best.
 #[test]
 fn many_ties_by_windows_of_every_size(rt: HostRuntime) -> Result<(), Fail> {
-    let alloc = rt.alloc();
-    let entries = remainders(alloc, 5, 7)?;
-    let ask = ask_of(alloc, b"best high(x) * around(y, 3)")?;
-    check_windows(&rt, alloc, &ask, &entries, 28)
+    let ties = b"best high(x) * around(y, 3)";
+    let once = b"skyline of distinct x min, y max";
+    check_remainders(&rt, rt.alloc(), 5, 7, ties, 28)?;
+    check_remainders(&rt, rt.alloc(), 100, 100, once, 100)
 }
 
 /// By y all three are the same, so the window takes the first two, of which the second dominates the first by x.
@@ -125,13 +142,4 @@ fn an_offer_by_another_order(rt: HostRuntime) -> Result<(), Fail> {
         (&by_x, Offer::Dropped),
     ];
     check_offers(&rt, alloc, 3, &[(2, 0), (1, 0), (2, 0)], &offers)
-}
-
-/// Ten times each of a hundred rows, of which all are in the front: by any window one of each is best.
-#[test]
-fn one_of_many_equal_rows_by_any_window(rt: HostRuntime) -> Result<(), Fail> {
-    let alloc = rt.alloc();
-    let entries = remainders(alloc, 100, 100)?;
-    let ask = ask_of(alloc, b"skyline of distinct x min, y max")?;
-    check_windows(&rt, alloc, &ask, &entries, 100)
 }

@@ -5,7 +5,7 @@ use Rattle.core_tests.proofs.skylines.shapes.check_in_blocks.Given as goal
 
 -- what is held are the levels of those that came
 abbrev pub invariant-each_block : goal.invariant-each_block
-invariant-each_block g l = (done : List Entry) × (l.fn.entries ≡ done ++ l.rest) × (l.partial ≡ levels (entry_order (g.D.Dominance.order l.dominance)) done l.cut)
+invariant-each_block g l = (done : List Entry) × (l.fn.entries ≡ done ++ l.rest) × (l.partial ≡ levels (entry_order (g.D.Dominance.order l.order.0.now)) done l.order.1)
 
 abbrev pub decreases-each_block : goal.decreases-each_block
 decreases-each_block g l = length l.rest
