@@ -43,29 +43,10 @@ fn marks_quotes_and_line_ends(rt: HostRuntime) -> Result<(), Fail> {
     check_rows(&rt, rows.as_slice())
 }
 
-const RECORDS: [(&str, usize, Option<(i64, i64)>); 7] = [
-    ("x\n\n1\n", 1, Some((1, 0))),
-    ("a,b\n1,\"2\"\r3,4", 2, Some((1, 2))),
-    ("a\n\"5", 1, Some((5, 0))),
-    ("\"price\",\"rating\"\n-10,3\n20,5\n", 2, Some((-10, 3))),
-    (" a\t, b \n1,2\r\n", 1, Some((1, 2))),
-    ("\u{FEFF}\u{FEFF}\u{FEFF}a\n1\n", 1, Some((1, 0))),
-    ("a", 0, None),
-];
-
 /// How many rows a table text has, and the first two cells of the first.
 fn count_and_first(alloc: Global, text: &[u8]) -> Result<(usize, Option<(i64, i64)>), TableFault> {
     let (_, rows) = read_table(alloc, text)?;
     Ok((rows.len(), rows.first().map(pair)))
-}
-
-#[test]
-fn records_as_csv_reads_them(rt: HostRuntime) -> Result<(), Fail> {
-    for (text, count, first) in &RECORDS {
-        let found = count_and_first(rt.alloc(), text.as_bytes())?;
-        assert_same(&rt, *text, found, (*count, *first));
-    }
-    Ok(())
 }
 
 /// The first two cells of each row.
@@ -78,7 +59,8 @@ fn pairs_of(alloc: Global, text: &[u8]) -> Result<Vec<(i64, i64)>, TableFault> {
     Ok(pairs)
 }
 
-const TABLES: [(&str, &[(i64, i64)]); 13] = [
+/// Rows of plain digits are read another way than the rows behind the first other line.
+const TABLES: [(&str, &[(i64, i64)]); 20] = [
     ("a,b\n1,2\n-3,+4\n", &[(1, 2), (-3, 4)]),
     ("a,b\n1,2\n\"3\",4\n5,6", &[(1, 2), (3, 4), (5, 6)]),
     ("a,b\n1,2\n3,4\r\n5,6\r\n", &[(1, 2), (3, 4), (5, 6)]),
@@ -98,16 +80,30 @@ const TABLES: [(&str, &[(i64, i64)]); 13] = [
         "\"a\",b,c,d,e,f,g,h,i,j,k,l,m,n,o,p\n1,2,3,4,5,6,7,8,9,10,11,12,13,14,15,\"16\"\n",
         &[(1, 2)],
     ),
+    ("x\n\n1\n", &[(1, 0)]),
+    ("a,b\n1,\"2\"\r3,4", &[(1, 2), (3, 4)]),
+    ("a\n\"5", &[(5, 0)]),
+    ("\"price\",\"rating\"\n-10,3\n20,5\n", &[(-10, 3), (20, 5)]),
+    (" a\t, b \n1,2\r\n", &[(1, 2)]),
+    ("\u{FEFF}\u{FEFF}\u{FEFF}a\n1\n", &[(1, 0)]),
+    ("a", &[]),
 ];
 
-/// Rows of plain digits are read another way than the rows behind the first other line.
-#[test]
-fn plain_rows_before_others(rt: HostRuntime) -> Result<(), Fail> {
-    for (text, wanted) in &TABLES {
-        let found = pairs_of(rt.alloc(), text.as_bytes())?;
-        assert_same(&rt, *text, found.as_slice(), wanted);
+fn check_tables(
+    rt: &impl Abort,
+    alloc: Global,
+    cases: &[(&str, &[(i64, i64)])],
+) -> Result<(), Fail> {
+    for (text, wanted) in cases {
+        let found = pairs_of(alloc, text.as_bytes())?;
+        assert_same(rt, *text, found.as_slice(), *wanted);
     }
     Ok(())
+}
+
+#[test]
+fn records_as_csv_reads_them(rt: HostRuntime) -> Result<(), Fail> {
+    check_tables(&rt, rt.alloc(), &TABLES)
 }
 
 const FAULTS_BEHIND_PLAIN_ROWS: [(&str, TableFault); 9] = [
@@ -131,11 +127,6 @@ fn check_refused(rt: &impl Abort, alloc: Global, cases: &[(&str, TableFault)]) {
         let found = fault_of(alloc, text.as_bytes());
         assert_same(rt, *text, found, Some(*fault));
     }
-}
-
-#[test]
-fn faults_behind_plain_rows(rt: HostRuntime) {
-    check_refused(&rt, rt.alloc(), &FAULTS_BEHIND_PLAIN_ROWS);
 }
 
 const REFUSED: [(&str, TableFault); 18] = [
@@ -197,6 +188,7 @@ const WIDE: [(&str, TableFault); 9] = [
 fn refused_texts(rt: HostRuntime) {
     check_refused(&rt, rt.alloc(), &REFUSED);
     check_refused(&rt, rt.alloc(), &WIDE);
+    check_refused(&rt, rt.alloc(), &FAULTS_BEHIND_PLAIN_ROWS);
 }
 
 /// Adds a line to a text this many times.
@@ -216,13 +208,14 @@ fn text_of(alloc: Global, lines: &[(&str, usize)]) -> Result<Vec<u8>, AllocError
     Ok(text)
 }
 
-/// A table text has the most rows that a table can have, and with one more line too many.
+/// A text of these lines has the most rows that a table can have, and with one more line too many.
 fn check_last_row(
     rt: &impl Abort,
     alloc: Global,
-    text: &mut Vec<u8>,
+    lines: &[(&str, usize)],
     line: &[u8],
 ) -> Result<(), Fail> {
+    let mut text = text_of(alloc, lines)?;
     let (count, _) = count_and_first(alloc, text.as_slice())?;
     assert_same(rt, "the last row", count, 65_536);
     text.extend_from_slice(line)?;
@@ -231,18 +224,13 @@ fn check_last_row(
     Ok(())
 }
 
+/// Also where the last rows are behind plain ones.
 #[test]
 fn the_row_after_the_last_is_too_many(rt: HostRuntime) -> Result<(), Fail> {
-    let lines = [("a\n", 1), ("-12\n", 65_536)];
-    let mut text = text_of(rt.alloc(), &lines)?;
-    check_last_row(&rt, rt.alloc(), &mut text, b"1,2\n")
-}
-
-#[test]
-fn rows_behind_many_plain_ones_count_on(rt: HostRuntime) -> Result<(), Fail> {
-    let lines = [("a\n", 1), ("7\n", 65_534), ("\"8\"\n9\n", 1)];
-    let mut text = text_of(rt.alloc(), &lines)?;
-    check_last_row(&rt, rt.alloc(), &mut text, b"10\n")
+    let signed = [("a\n", 1), ("-12\n", 65_536)];
+    check_last_row(&rt, rt.alloc(), &signed, b"1,2\n")?;
+    let plain_first = [("a\n", 1), ("7\n", 65_534), ("\"8\"\n9\n", 1)];
+    check_last_row(&rt, rt.alloc(), &plain_first, b"10\n")
 }
 
 /// The longest name and a short one.

@@ -58,40 +58,33 @@ fn whole_numbers(rt: HostRuntime) {
     }
 }
 
-/// The fault of a field in a line, and that in a text.
-const NO_NUMBER: [TableFault; 2] = [
-    TableFault::NotWhole { row: 0, col: 1 },
-    TableFault::NotWhole { row: 1, col: 1 },
+const NO_NUMBERS: [&str; 12] = [
+    "-", "+", " ", "--1", "+-1", "- 1", "1-", "1 2", "1.", "0x1", "-:", "1/",
 ];
 
-const PAST_A_CELL: [TableFault; 2] = [
-    TableFault::OutOfRange { row: 0, col: 1 },
-    TableFault::OutOfRange { row: 1, col: 1 },
-];
+const PAST_A_CELL: [&str; 2] = ["9223372036854775808", "-9223372036854775809"];
 
-const NO_CELLS: [(&str, [TableFault; 2]); 14] = [
-    ("-", NO_NUMBER),
-    ("+", NO_NUMBER),
-    (" ", NO_NUMBER),
-    ("--1", NO_NUMBER),
-    ("+-1", NO_NUMBER),
-    ("- 1", NO_NUMBER),
-    ("1-", NO_NUMBER),
-    ("1 2", NO_NUMBER),
-    ("1.", NO_NUMBER),
-    ("0x1", NO_NUMBER),
-    ("-:", NO_NUMBER),
-    ("1/", NO_NUMBER),
-    ("9223372036854775808", PAST_A_CELL),
-    ("-9223372036854775809", PAST_A_CELL),
-];
+/// Fields that are refused, each with this fault in a line and that in a text.
+fn check_no_cells(
+    rt: &impl Abort,
+    alloc: Global,
+    fields: &[&str],
+    in_line: TableFault,
+    in_text: TableFault,
+) {
+    for field in fields {
+        check_cells(rt, alloc, field, Err(in_line), Err(in_text));
+    }
+}
 
 #[test]
 fn fields_that_are_no_cells(rt: HostRuntime) {
-    for (field, faults) in &NO_CELLS {
-        let [in_line, in_text] = *faults;
-        check_cells(&rt, rt.alloc(), field, Err(in_line), Err(in_text));
-    }
+    let in_line = TableFault::NotWhole { row: 0, col: 1 };
+    let in_text = TableFault::NotWhole { row: 1, col: 1 };
+    check_no_cells(&rt, rt.alloc(), &NO_NUMBERS, in_line, in_text);
+    let in_line = TableFault::OutOfRange { row: 0, col: 1 };
+    let in_text = TableFault::OutOfRange { row: 1, col: 1 };
+    check_no_cells(&rt, rt.alloc(), &PAST_A_CELL, in_line, in_text);
 }
 
 const LINES: [(&str, Result<[i64; 2], TableFault>); 12] = [
