@@ -147,6 +147,8 @@ const REFUSED: [(&str, TermFault); 17] = [
 #[test]
 fn refused_at_their_token(rt: HostRuntime) {
     check_refused(&rt, rt.alloc(), &X, &REFUSED);
+    check_refused(&rt, rt.alloc(), &X, &layers::REFUSED);
+    check_refused(&rt, rt.alloc(), &X, &ranges::REFUSED);
 }
 
 #[test]

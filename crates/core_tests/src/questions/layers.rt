@@ -1,5 +1,5 @@
 //! Questions with sets in layers: where they are wrong, and that the first set that holds a value counts.
-use super::{X, check_refused, check_standings, row_over, set_of};
+use super::{X, check_standings, row_over, set_of};
 use crate::same::assert_same;
 use pref_table::Row;
 use pref_term::{NumberSets, Relation, Term, TermFault, compare};
@@ -7,7 +7,8 @@ use std::alloc::{AllocError, Global};
 use std::process::Abort;
 use std::test::Fail;
 
-const REFUSED: [(&str, TermFault); 19] = [
+/// A set is read to its brace.
+pub(super) const REFUSED: [(&str, TermFault); 19] = [
     ("best layered(x)", TermFault::Unexpected { at: 14 }),
     ("best layered(x, )", TermFault::Unexpected { at: 16 }),
     ("best layered(x, {})", TermFault::Unexpected { at: 17 }),
@@ -34,11 +35,6 @@ const REFUSED: [(&str, TermFault); 19] = [
     ("best pos(x, {1})", TermFault::Unexpected { at: 12 }),
     ("best pos(x, 1}", TermFault::Unexpected { at: 13 }),
 ];
-
-#[test]
-fn a_set_is_read_to_its_brace(rt: HostRuntime) {
-    check_refused(&rt, rt.alloc(), &X, &REFUSED);
-}
 
 const TWO: &str = "best layered(x, {2, 3}, {5})";
 

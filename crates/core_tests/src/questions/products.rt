@@ -8,7 +8,7 @@ use std::alloc::Global;
 use std::process::Abort;
 use std::test::Fail;
 
-const FACTORS: [(&str, [i64; 3], [i64; 3], Relation); 15] = [
+const FACTORS: [(&str, [i64; 3], [i64; 3], Relation); 19] = [
     ("best low(x)", [2, 0, 0], [1, 0, 0], Relation::Worse),
     ("best -high(x)", [1, 0, 0], [2, 0, 0], Relation::Better),
     ("best -low(x)", [1, 0, 0], [2, 0, 0], Relation::Worse),
@@ -84,42 +84,36 @@ const FACTORS: [(&str, [i64; 3], [i64; 3], Relation); 15] = [
         [1, 8, 4],
         Relation::Neither,
     ),
+    // A set, or a priority.
+    (
+        "best low(x) * pos(y, 2, 5)",
+        [1, 2, 0],
+        [1, 3, 0],
+        Relation::Better,
+    ),
+    (
+        "best low(x) * pos(y, 2, 5)",
+        [1, 3, 0],
+        [2, 5, 0],
+        Relation::Neither,
+    ),
+    (
+        "best low(x) * (low(y) & low(z))",
+        [1, 1, 9],
+        [1, 2, 0],
+        Relation::Better,
+    ),
+    (
+        "best -(low(x) & low(y)) * low(z)",
+        [1, 1, 0],
+        [0, 2, 0],
+        Relation::Better,
+    ),
 ];
 
 #[test]
 fn factors_of_each_kind(rt: HostRuntime) -> Result<(), Fail> {
     check_standings(&rt, rt.alloc(), &FACTORS)
-}
-
-#[test]
-fn products_with_a_set_or_a_priority(rt: HostRuntime) -> Result<(), Fail> {
-    let cases = [
-        (
-            "best low(x) * pos(y, 2, 5)",
-            [1, 2, 0],
-            [1, 3, 0],
-            Relation::Better,
-        ),
-        (
-            "best low(x) * pos(y, 2, 5)",
-            [1, 3, 0],
-            [2, 5, 0],
-            Relation::Neither,
-        ),
-        (
-            "best low(x) * (low(y) & low(z))",
-            [1, 1, 9],
-            [1, 2, 0],
-            Relation::Better,
-        ),
-        (
-            "best -(low(x) & low(y)) * low(z)",
-            [1, 1, 0],
-            [0, 2, 0],
-            Relation::Better,
-        ),
-    ];
-    check_standings(&rt, rt.alloc(), &cases)
 }
 
 /// All pairs of these rows.

@@ -1,9 +1,10 @@
 //! Questions with a range: where it is empty, and how far rows lie outside it.
-use super::{X, check_refused, check_standings};
+use super::check_standings;
 use pref_term::{Relation, TermFault};
 use std::test::Fail;
 
-const REFUSED: [(&str, TermFault); 14] = [
+/// An empty range is told at its right end.
+pub(super) const REFUSED: [(&str, TermFault); 14] = [
     ("best between(x, 5, 4)", TermFault::EmptyRange { at: 19 }),
     ("best between(x, 5, -5)", TermFault::EmptyRange { at: 19 }),
     ("best between(x, -5, - 6)", TermFault::EmptyRange { at: 20 }),
@@ -33,11 +34,6 @@ const REFUSED: [(&str, TermFault); 14] = [
 ];
 
 /// Reported at the right end, when its digits are read; a number out of range is reported before.
-#[test]
-fn an_empty_range_is_told_at_its_right_end(rt: HostRuntime) {
-    check_refused(&rt, rt.alloc(), &X, &REFUSED);
-}
-
 const STANDINGS: [(&str, [i64; 3], [i64; 3], Relation); 11] = [
     (
         "best between(x, 5, 9)",
