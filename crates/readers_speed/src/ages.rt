@@ -4,9 +4,10 @@ ghost use Rattle.std.specs.Prelude.{◌≡◌};
 
 use crate::random::Random;
 use pref_core::Setup;
-use pref_share::{Board, BoardBrand, BoardName, Client, open_board};
+use pref_share::{Board, BoardBrand, BoardName, Client, ShareFault, open_board};
 use pref_table::{Row, Schema};
 use std::alloc::{AllocError, Global};
+use std::io;
 use std::sync::Wait;
 use std::time::{Clock, Instant};
 
@@ -16,22 +17,14 @@ pub const SLOTS: u32 = 30_000;
 /// How many rows it holds all the time.
 pub const ROWS: usize = 20_000;
 
+/// The ages that are measured, in changes.
+const AGES: [u64; 4] = [0, 100_000, 1_000_000, 10_000_000];
+
 /// How many changes, or gets, a time is taken over.
 const SAMPLE: u64 = 100_000;
 
-/// An id that no row ever had.
+/// The first of the ids that no row ever had.
 const NEVER: u64 = 1 << 63;
-
-/// Nanoseconds that each took, of a table that had this many changes.
-#[derive(Clone, Copy)]
-pub struct Age {
-    pub changes: u64,
-    /// None where nothing has changed yet.
-    pub change: Option<u64>,
-    pub get: u64,
-    pub get_of_deleted: u64,
-    pub get_of_unknown: u64,
-}
 
 /// How many rounds of all rows gets are timed in.
 const ROUNDS: u64 = 10;
@@ -50,9 +43,9 @@ struct Table<'a, J: BoardBrand, R> {
 }
 
 /// Nanoseconds from then until now for each of this many.
-fn nanoseconds(rt: &impl Clock, start: Instant, times: u64) -> anyhow::Result<u64> {
+fn nanoseconds(rt: &impl Clock, start: Instant, times: u64) -> io::Result<u64> {
     let nanoseconds = start.elapsed(rt)?.as_nanos() / u128::from(times.max(1));
-    Ok(u64::try_from(nanoseconds)?)
+    Ok(u64::try_from(nanoseconds).unwrap_or(u64::MAX))
 }
 
 /// How many of these ids a get finds.
@@ -80,82 +73,112 @@ fn get<J: BoardBrand>(
             "gets find other rows than there are"
         );
     }
-    nanoseconds(rt, start, ROUNDS.saturating_mul(ids.len() as u64))
+    Ok(nanoseconds(rt, start, ROUNDS.saturating_mul(ids.len() as u64))?)
 }
 
-impl<'a, J: BoardBrand, R: Wait + Clock + AllocGlobal> Table<'a, J, R> {
+/// Prints what a change cost in a table that had this many.
+fn print_change(rt: &impl Print, changes: u64, change: u64) -> io::Result<()> {
+    println!(rt; "after {changes} changes: {change} ns a change")
+}
+
+/// Prints what a get cost of a row, of a deleted one and of one that never was, in a table that had this many changes.
+fn print_gets(
+    rt: &impl Print,
+    changes: u64,
+    get: u64,
+    of_deleted: u64,
+    of_unknown: u64,
+) -> io::Result<()> {
+    println!(rt;
+        "after {changes} changes: {get} ns a get of a row, {of_deleted} of a deleted one, {of_unknown} of one that never was"
+    )
+}
+
+/// A row leaves and another comes, whose id is given.
+fn exchange<J: BoardBrand, R: Wait + AllocGlobal>(
+    rt: &R,
+    board: &Board<J>,
+    client: &mut Client<J>,
+    id: u64,
+    row: Row,
+) -> Result<u64, ShareFault> {
+    client.delete(rt, rt.alloc(), board, id)?;
+    client.insert(rt, rt.alloc(), board, row)
+}
+
+impl<'a, J: BoardBrand, R: Wait + Clock + Print + AllocGlobal> Table<'a, J, R> {
     /// A row at random leaves and another comes: two changes.
     fn replace(&mut self) -> anyhow::Result<()> {
         let place = self.random.id() as usize % ROWS;
-        let (Some(id), Some(deleted)) = (self.ids.get_mut(place), self.deleted.get_mut(place))
-        else {
-            return Ok(());
-        };
         let row = self.random.row(self.schema)?;
-        let alloc = self.rt.alloc();
-        self.client.delete(self.rt, alloc, self.board, *id)?;
-        *deleted = *id;
-        *id = self.client.insert(self.rt, alloc, self.board, row)?;
-        self.changes = self.changes.saturating_add(2);
+        if let Some(id) = self.ids.get_mut(place)
+            && let Some(deleted) = self.deleted.get_mut(place)
+        {
+            *deleted = *id;
+            *id = exchange(self.rt, self.board, self.client, *id, row)?;
+            self.changes = self.changes.saturating_add(2);
+        }
         Ok(())
     }
 
-    /// Nanoseconds of a change, over this many, if any.
-    fn change(&mut self, changes: u64) -> anyhow::Result<Option<u64>> {
-        if changes == 0 {
-            return Ok(None);
-        }
+    /// Nanoseconds of a change, over this many.
+    fn change(&mut self, changes: u64) -> anyhow::Result<u64> {
         let start = Instant::now(self.rt)?;
         for _ in 0..changes / 2 {
             self.replace()?;
         }
-        Ok(Some(nanoseconds(self.rt, start, changes)?))
+        Ok(nanoseconds(self.rt, start, changes)?)
     }
 
-    /// The table, aged by this many changes: the last [`SAMPLE`] of them are timed.
-    fn age(&mut self, changes: u64, unknown: &[u64]) -> anyhow::Result<Age> {
+    /// Ages the table until it had this many changes, and prints what the last [`SAMPLE`] of them cost.
+    fn age(&mut self, changes: u64) -> anyhow::Result<()> {
         self.change(changes.saturating_sub(self.changes).saturating_sub(SAMPLE))?;
-        let change = self.change(changes.saturating_sub(self.changes).min(SAMPLE))?;
-        Ok(Age {
-            changes: self.changes,
-            change,
-            get: get(self.rt, self.client, &self.ids, ROWS)?,
-            get_of_deleted: get(self.rt, self.client, &self.deleted, 0)?,
-            get_of_unknown: get(self.rt, self.client, unknown, 0)?,
-        })
+        let sample = changes.saturating_sub(self.changes);
+        if sample > 0 {
+            let change = self.change(sample)?;
+            print_change(self.rt, self.changes, change)?;
+        }
+        Ok(())
     }
 
-    /// The table at these ages, each a number of changes.
-    fn ages(&mut self, ages: &[u64], unknown: &[u64]) -> anyhow::Result<Vec<Age>> {
-        let mut measured = Vec::new(self.rt.alloc());
-        for changes in ages {
-            measured.push(self.age(*changes, unknown)?)?;
+    /// Prints what gets cost.
+    fn print_gets(&mut self, unknown: &[u64]) -> anyhow::Result<()> {
+        let row = get(self.rt, self.client, &self.ids, ROWS)?;
+        let deleted = get(self.rt, self.client, &self.deleted, 0)?;
+        let unknown = get(self.rt, self.client, unknown, 0)?;
+        Ok(print_gets(self.rt, self.changes, row, deleted, unknown)?)
+    }
+
+    /// Prints what a change and a get cost at each age.
+    fn print_ages(&mut self, unknown: &[u64]) -> anyhow::Result<()> {
+        for changes in AGES {
+            self.age(changes)?;
+            self.print_gets(unknown)?;
         }
-        Ok(measured)
+        Ok(())
     }
 }
 
-/// This many ids, from the first on.
-fn ids_from(alloc: Global, first: u64, count: usize) -> Result<Vec<u64>, AllocError> {
+/// As many ids as there are rows, from the first on.
+fn ids_from(alloc: Global, first: u64) -> Result<Vec<u64>, AllocError> {
     let mut ids = Vec::new(alloc);
-    for at in 0..count as u64 {
+    for at in 0..ROWS as u64 {
         ids.push(first.wrapping_add(at))?;
     }
     Ok(ids)
 }
 
-/// The client's table at these ages, each a number of changes.
-fn at_ages<J: BoardBrand, R: Wait + Clock + AllocGlobal>(
+/// Prints what a change and a get cost in the client's table.
+fn print_ages<J: BoardBrand, R: Wait + Clock + Print + AllocGlobal>(
     rt: &R,
     board: &Board<J>,
     schema: &Schema,
     client: &mut Client<J>,
-    ages: &[u64],
-) -> anyhow::Result<Vec<Age>> {
-    let ids = ids_from(rt.alloc(), 1, ROWS)?;
-    let unknown = ids_from(rt.alloc(), NEVER, ROWS)?;
+) -> anyhow::Result<()> {
+    let ids = ids_from(rt.alloc(), 1)?;
+    let unknown = ids_from(rt.alloc(), NEVER)?;
     // None is deleted yet.
-    let deleted = ids_from(rt.alloc(), NEVER, ROWS)?;
+    let deleted = ids_from(rt.alloc(), NEVER)?;
     let mut table = Table {
         rt,
         board,
@@ -166,25 +189,24 @@ fn at_ages<J: BoardBrand, R: Wait + Clock + AllocGlobal>(
         ids,
         deleted,
     };
-    table.ages(ages, &unknown)
+    table.print_ages(&unknown)
 }
 
-/// A new table of one client at these ages, each a number of changes.
-pub fn measure<J: BoardBrand, R: Wait + Clock + AllocGlobal>(
+/// Prints what a change and a get cost in a new table of one client.
+pub fn measure<J: BoardBrand, R: Wait + Clock + Print + AllocGlobal>(
     rt: &R,
     name: BoardName,
     schema: &Schema,
     rows: &[Row],
     setup: Setup,
-    ages: &[u64],
-) -> anyhow::Result<Vec<Age>>
+) -> anyhow::Result<()>
     requires book { name.seen.book ≡ J.book }
     requires opening { J.opening ≡ record { limits = setup; rows = rows.now } }
 {
     let (board, mut clients) = open_board::<J, R>(rt, rt.alloc(), name, setup, rows)?;
     let measured = match clients.as_mut_slice() {
-        [client, ..] => at_ages(rt, &board, schema, client, ages),
-        [] => Ok(Vec::new(rt.alloc())),
+        [client, ..] => print_ages(rt, &board, schema, client),
+        [] => Ok(()),
     };
     board.close(rt);
     measured

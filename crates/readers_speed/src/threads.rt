@@ -13,8 +13,8 @@ use std::thread::{self, Threads};
 use std::time::{Clock, Duration, Instant};
 
 /// What a client does again and again.
-#[derive(Clone, Copy, Debug, PartialEq, Eq)]
-pub enum Does {
+#[derive(Clone, Copy)]
+enum Does {
     Gets,
     Updates,
     /// Begins a query, scans its one block, which is the whole table, and abandons it.
@@ -46,11 +46,32 @@ impl Plan {
     }
 }
 
-/// How often a client did it.
+/// How often each was done.
 #[derive(Clone, Copy)]
 pub struct Tally {
-    pub does: Does,
-    pub times: u64,
+    pub gets: u64,
+    pub updates: u64,
+    pub scans: u64,
+}
+
+impl Tally {
+    /// Nothing was done yet.
+    pub const NONE: Tally = Tally {
+        gets: 0,
+        updates: 0,
+        scans: 0,
+    };
+
+    /// What a client does was done this often, and nothing else.
+    fn of(does: Does, times: u64) -> Tally {
+        let mut tally = Tally::NONE;
+        match does {
+            Does::Gets => tally.gets = times,
+            Does::Updates => tally.updates = times,
+            Does::Scans => tally.scans = times,
+        }
+        tally
+    }
 }
 
 /// How many gets are made between two looks at the clock.
@@ -58,14 +79,20 @@ const GETS: u64 = 256;
 
 /// The sum of all numbers of a row, which are 0 and up.
 fn sum(row: &Row) -> i64 {
-    (0..16).fold(0i64, |sum, column| sum.wrapping_add(row.cell(column)))
+    let mut sum = 0i64;
+    for column in 0..16 {
+        sum = sum.wrapping_add(row.cell(column));
+    }
+    sum
 }
 
 /// How many gets found a row. All its numbers are looked at: their sum is 1 or more.
 fn gets<J: BoardBrand>(client: &mut Client<J>, random: &mut Random) -> u64 {
     let mut found = 0u64;
     for _ in 0..GETS {
-        if client.get(random.id()).is_ok_and(|row| sum(&row) > 0) {
+        if let Ok(row) = client.get(random.id())
+            && sum(&row) > 0
+        {
             found = found.saturating_add(1);
         }
     }
@@ -118,10 +145,12 @@ impl<'a, J: BoardBrand, R: Wait + Clock + AllocGlobal> Run<'a, J, R> {
             return times;
         };
         for _ in 0..u64::MAX {
-            if !start.elapsed(self.rt).is_ok_and(|elapsed| elapsed < span) {
-                break;
+            match start.elapsed(self.rt) {
+                Ok(elapsed) if elapsed < span => {
+                    times = times.saturating_add(self.once(client, &mut random, does));
+                }
+                _ => break,
             }
-            times = times.saturating_add(self.once(client, &mut random, does));
         }
         times
     }
@@ -130,7 +159,7 @@ impl<'a, J: BoardBrand, R: Wait + Clock + AllocGlobal> Run<'a, J, R> {
     fn work(&self, mut client: Client<J>) -> Tally {
         let does = self.plan.does(client.number());
         let times = self.times(&mut client, does);
-        Tally { does, times }
+        Tally::of(does, times)
     }
 }
 
