@@ -8,6 +8,8 @@ use pref_share::{Board, BoardBrand, BoardName, Client, Gate, ShareFault, open_bo
 use pref_table::Row;
 use pref_term::Ask;
 use std::alloc::Global;
+use std::io::Print;
+use std::marker::Brand;
 use std::process::Abort;
 use std::sync::Wait;
 use std::test::Fail;
@@ -61,6 +63,43 @@ pub fn begin_low<J: BoardBrand, R: Wait + Abort>(
     client: &mut Client<J>,
 ) -> Result<u32, Fail> {
     Ok(begin(rt, alloc, board, client, best_low(alloc)?))
+}
+
+/// What is done with the clients of a new board.
+pub trait Play {
+    fn play<J: BoardBrand, R: Wait + Print + Abort + AllocGlobal>(
+        &self,
+        rt: &R,
+        board: &Board<J>,
+        clients: &mut Vec<Client<J>>,
+    ) -> Result<(), Fail>;
+}
+
+/// Opens a board, does this with its clients, and closes it.
+fn play_and_close<J: BoardBrand, R: Wait + Print + Abort + AllocGlobal, P: Play>(
+    rt: &R,
+    name: BoardName,
+    setup: Setup,
+    rows: &[Row],
+    play: &P,
+) -> Result<(), Fail>
+    requires book { name.seen.book ≡ J.book }
+    requires opening { J.opening ≡ record { limits = setup; rows = rows.now } }
+{
+    let (board, mut clients) = open_board::<J, R>(rt, rt.alloc(), name, setup, rows)?;
+    let played = play.play(rt, &board, &mut clients);
+    board.close(rt);
+    played
+}
+
+/// Does this with the clients of a new board, whose table has these opening rows.
+pub fn play_on_a_new_board(
+    rt: &(impl Wait + Print + Abort + AllocGlobal),
+    setup: Setup,
+    rows: &[Row],
+    play: &impl Play,
+) -> Result<(), Fail> {
+    play_and_close::<Brand, _, _>(rt, BoardName::new(), setup, rows, play)
 }
 
 /// The replies to all clients of a new board, each on a thread of its own.

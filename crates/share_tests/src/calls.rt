@@ -1,14 +1,10 @@
 //! Clients of one board, one call after the other.
 
-ghost use Rattle.std.specs.Prelude.{◌≡◌};
-
-use crate::boards::{begin_low, first_two};
+use crate::boards::{Play, begin_low, first_two, play_on_a_new_board};
 use crate::same::assert_same;
-use pref_core::Setup;
-use pref_share::{Board, BoardBrand, BoardName, Client, ShareFault, open_board};
-use pref_table::Row;
+use pref_share::{Board, BoardBrand, Client, ShareFault};
 use std::alloc::Global;
-use std::marker::Brand;
+use std::io::Print;
 use std::process::Abort;
 use std::sync::Wait;
 use std::test::Fail;
@@ -55,42 +51,35 @@ fn check_turns<J: BoardBrand, R: Wait + Abort>(
     Ok(())
 }
 
-/// The same of a new board.
-fn played<J: BoardBrand, R: Wait + Abort>(
-    rt: &R,
-    alloc: Global,
-    name: BoardName,
-    setup: Setup,
-    rows: &[Row],
-    turns: &[Turn],
-) -> Result<(), Fail>
-    requires book { name.seen.book ≡ J.book }
-    requires opening { J.opening ≡ record { limits = setup; rows = rows.now } }
-{
-    let Ok((board, mut clients)) = open_board::<J, R>(rt, alloc, name, setup, rows) else {
-        panic!(rt; "it opens");
-    };
-    let checked = check_turns(rt, alloc, &board, &mut clients, turns);
-    board.close(rt);
-    checked
+/// The clients do what turns say.
+#[derive(Drop)]
+struct Turns<'a> {
+    turns: &'a [Turn],
+}
+
+impl<'a> Play for Turns<'a> {
+    fn play<J: BoardBrand, R: Wait + Print + Abort + AllocGlobal>(
+        &self,
+        rt: &R,
+        board: &Board<J>,
+        clients: &mut Vec<Client<J>>,
+    ) -> Result<(), Fail> {
+        check_turns(rt, rt.alloc(), board, clients, self.turns)
+    }
 }
 
 /// What is returned to the clients of a new board is what the turns of a run say.
-fn check_run(rt: &(impl Wait + Abort + AllocGlobal), run: &Run) -> Result<(), Fail> {
-    let alloc = rt.alloc();
-    let opening = run.opening_rows(alloc)?;
-    played::<Brand, _>(
-        rt,
-        alloc,
-        BoardName::new(),
-        run.setup()?,
-        &opening,
-        run.turns,
-    )
+fn check_run(rt: &(impl Wait + Print + Abort + AllocGlobal), run: &Run) -> Result<(), Fail> {
+    let opening = run.opening_rows(rt.alloc())?;
+    let turns = run.turns;
+    play_on_a_new_board(rt, run.setup()?, &opening, &Turns { turns })
 }
 
 /// A loop over a list that is lent, since a proof pays for all that a loop over a `static` reads.
-pub fn check_runs(rt: &(impl Wait + Abort + AllocGlobal), runs: &[Run]) -> Result<(), Fail> {
+pub fn check_runs(
+    rt: &(impl Wait + Print + Abort + AllocGlobal),
+    runs: &[Run],
+) -> Result<(), Fail> {
     for run in runs {
         check_run(rt, run)?;
     }
@@ -108,55 +97,33 @@ fn refused_calls_have_not_joined(rt: HostRuntime) -> Result<(), Fail> {
     check_run(&rt, &REFUSED_CALLS_HAVE_NOT_JOINED)
 }
 
-/// How many blocks the begin of the second client returns, who is the last. What is returned to the first once the second was dropped is
-/// what the turns say.
-fn begun_and_checked<J: BoardBrand, R: Wait + Abort>(
-    rt: &R,
-    alloc: Global,
-    board: &Board<J>,
-    clients: &mut Vec<Client<J>>,
-    turns: &[Turn],
-) -> Result<u32, Fail> {
-    let (_first, last) = first_two(rt, clients);
-    let blocks = begin_low(rt, alloc, board, last)?;
-    drop(clients.pop());
-    check_turns(rt, alloc, board, clients, turns)?;
-    Ok(blocks)
+/// The second client, who is the last, begins a query of one block and is dropped. What is returned to the first then is what the turns
+/// say.
+#[derive(Drop)]
+struct DroppedOpen<'a> {
+    turns: &'a [Turn],
 }
 
-/// The same on a new board.
-fn begun_on_a_new_board<J: BoardBrand, R: Wait + Abort>(
-    rt: &R,
-    alloc: Global,
-    name: BoardName,
-    setup: Setup,
-    rows: &[Row],
-    turns: &[Turn],
-) -> Result<u32, Fail>
-    requires book { name.seen.book ≡ J.book }
-    requires opening { J.opening ≡ record { limits = setup; rows = rows.now } }
-{
-    let (board, mut clients) = open_board::<J, R>(rt, alloc, name, setup, rows)?;
-    let begun = begun_and_checked(rt, alloc, &board, &mut clients, turns);
-    board.close(rt);
-    begun
+impl<'a> Play for DroppedOpen<'a> {
+    fn play<J: BoardBrand, R: Wait + Print + Abort + AllocGlobal>(
+        &self,
+        rt: &R,
+        board: &Board<J>,
+        clients: &mut Vec<Client<J>>,
+    ) -> Result<(), Fail> {
+        let (_first, last) = first_two(rt, clients);
+        let blocks = begin_low(rt, rt.alloc(), board, last)?;
+        assert_same(rt, "a client that is dropped", &blocks, &1);
+        drop(clients.pop());
+        check_turns(rt, rt.alloc(), board, clients, self.turns)
+    }
 }
 
 /// The query of a client that is dropped stays open: the other is returned what it is where the query is never ended.
 #[test]
 fn dropped_open(rt: HostRuntime) -> Result<(), Fail> {
-    let alloc = rt.alloc();
     let run = &AN_OPEN_QUERY_KEEPS_ITS_VERSION;
-    let opening = run.opening_rows(alloc)?;
+    let opening = run.opening_rows(rt.alloc())?;
     let (_begin, turns) = run.turns.split_first().ok_or("a begin")?;
-    let blocks = begun_on_a_new_board::<Brand, _>(
-        &rt,
-        alloc,
-        BoardName::new(),
-        run.setup()?,
-        &opening,
-        turns,
-    )?;
-    assert_same(&rt, "a client that is dropped", &blocks, &1);
-    Ok(())
+    play_on_a_new_board(&rt, run.setup()?, &opening, &DroppedOpen { turns })
 }

@@ -3,12 +3,13 @@
 ghost use Rattle.std.specs.Prelude.{◌≡◌};
 
 use crate::acts::three_rows;
-use crate::boards::{begin_low, first_two};
+use crate::boards::{Play, begin_low, first_two, play_on_a_new_board};
 use crate::same::assert_same;
 use pref_core::Setup;
 use pref_share::{Board, BoardBrand, BoardName, Client, ShareFault, open_board};
 use pref_table::Row;
 use std::alloc::Global;
+use std::io::Print;
 use std::marker::Brand;
 use std::process::Abort;
 use std::sync::Wait;
@@ -16,7 +17,7 @@ use std::test::Fail;
 use test_runs::setup_of;
 
 /// What three reads return.
-type Reads = (
+type Returned = (
     Result<Row, ShareFault>,
     Result<u32, ShareFault>,
     Result<u32, ShareFault>,
@@ -24,7 +25,7 @@ type Reads = (
 
 /// The row of id 1, the room, and the blocks that are left after a scan. There is no handle here that may wait, and taking a lock
 /// needs one, so reads that took a lock would not compile.
-fn read<J: BoardBrand>(alloc: Global, client: &mut Client<J>) -> Reads {
+fn read<J: BoardBrand>(alloc: Global, client: &mut Client<J>) -> Returned {
     (client.get(1), client.room(), client.scan(alloc))
 }
 
@@ -34,44 +35,37 @@ fn begin_and_read<J: BoardBrand, R: Wait + Abort>(
     alloc: Global,
     board: &Board<J>,
     client: &mut Client<J>,
-) -> Result<Reads, Fail> {
+) -> Result<Returned, Fail> {
     begin_low(rt, alloc, board, client)?;
     Ok(read(alloc, client))
 }
 
-/// What a client with an open query reads.
-fn read_of_an_open_board<J: BoardBrand, R: Wait + Abort>(
-    rt: &R,
-    alloc: Global,
-    name: BoardName,
-    setup: Setup,
-    rows: &[Row],
-) -> Result<Reads, Fail>
-    requires book { name.seen.book ≡ J.book }
-    requires opening { J.opening ≡ record { limits = setup; rows = rows.now } }
-{
-    let (board, mut clients) = open_board::<J, R>(rt, alloc, name, setup, rows)?;
-    let (client, _other) = first_two(rt, &mut clients);
-    let returned = begin_and_read(rt, alloc, &board, client);
-    board.close(rt);
-    returned
+/// The first client begins a query of a table whose first row is this, and reads.
+#[derive(Drop)]
+struct Reads {
+    first: Row,
+}
+
+impl Play for Reads {
+    fn play<J: BoardBrand, R: Wait + Print + Abort + AllocGlobal>(
+        &self,
+        rt: &R,
+        board: &Board<J>,
+        clients: &mut Vec<Client<J>>,
+    ) -> Result<(), Fail> {
+        let (client, _other) = first_two(rt, clients);
+        let returned = begin_and_read(rt, rt.alloc(), board, client)?;
+        let wanted = (Ok(self.first), Ok(1), Ok(1));
+        assert_same(rt, "an open board", &returned, &wanted);
+        Ok(())
+    }
 }
 
 #[test]
 fn reads_of_an_open_board(rt: HostRuntime) -> Result<(), Fail> {
-    let alloc = rt.alloc();
-    let opening = three_rows(alloc, (5, 4, 6))?;
-    let setup = setup_of(2, 4, 2, 64)?;
-    let returned = read_of_an_open_board::<Brand, _>(
-        &rt,
-        alloc,
-        BoardName::new(),
-        setup,
-        &opening,
-    )?;
-    let wanted = (Ok(opening[0]), Ok(1), Ok(1));
-    assert_same(&rt, "an open board", &returned, &wanted);
-    Ok(())
+    let opening = three_rows(rt.alloc(), (5, 4, 6))?;
+    let first = opening[0];
+    play_on_a_new_board(&rt, setup_of(2, 4, 2, 64)?, &opening, &Reads { first })
 }
 
 /// What a client with an open query reads after its board was closed, and how much it has seen then.
@@ -81,7 +75,7 @@ fn read_of_a_closed_board<J: BoardBrand, R: Wait + Abort>(
     name: BoardName,
     setup: Setup,
     rows: &[Row],
-) -> Result<(Reads, u64), Fail>
+) -> Result<(Returned, u64), Fail>
     requires book { name.seen.book ≡ J.book }
     requires opening { J.opening ≡ record { limits = setup; rows = rows.now } }
 {

@@ -4,7 +4,7 @@
 ghost use Rattle.std.specs.Prelude.{◌≡◌};
 
 use crate::acts::{best_low, lists_of, lists_text, three_rows};
-use crate::boards::{Open, first_two, replies_of_a_run};
+use crate::boards::{Open, Play, first_two, play_on_a_new_board, replies_of_a_run};
 use crate::same::assert_same;
 use pref_core::{Act, BoxedCommit, Change, Commit, Committed, CoreFault, Reply, Setup};
 use pref_share::{BeginFault, Board, BoardBrand, BoardName, Client, ShareFault, open_board};
@@ -12,6 +12,7 @@ use pref_sky::Ranked;
 use pref_table::Row;
 use pref_term::Ask;
 use std::alloc::Global;
+use std::io::Print;
 use std::marker::Brand;
 use std::process::Abort;
 use std::sync::Wait;
@@ -167,31 +168,29 @@ fn change_and_hear<J: BoardBrand, R: Wait + Abort>(
     assert_same(rt, "what is heard", &other.get(1), &Ok(*row));
 }
 
-fn changed_and_heard<J: BoardBrand, R: Wait + Abort>(
-    rt: &R,
-    alloc: Global,
-    name: BoardName,
-    setup: Setup,
-    rows: &[Row],
-    row: &Row,
-) -> Result<(), ShareFault>
-    requires book { name.seen.book ≡ J.book }
-    requires opening { J.opening ≡ record { limits = setup; rows = rows.now } }
-{
-    let (board, mut clients) = open_board::<J, R>(rt, alloc, name, setup, rows)?;
-    let (client, other) = first_two(rt, &mut clients);
-    change_and_hear(rt, alloc, &board, client, other, row);
-    board.close(rt);
-    Ok(())
+/// The rows of a table become this one, and another client hears of it.
+#[derive(Drop)]
+struct Changes {
+    row: Row,
 }
 
-fn changes_refused_then_again(rt: &(impl Wait + Abort + AllocGlobal)) -> Result<(), Fail> {
-    let alloc = rt.alloc();
-    let opening = [row_of(alloc, 5)?];
-    let changed = row_of(alloc, 6)?;
-    let setup = setup_of(2, 18, 6, 64)?;
-    changed_and_heard::<Brand, _>(rt, alloc, BoardName::new(), setup, &opening, &changed)?;
-    Ok(())
+impl Play for Changes {
+    fn play<J: BoardBrand, R: Wait + Print + Abort + AllocGlobal>(
+        &self,
+        rt: &R,
+        board: &Board<J>,
+        clients: &mut Vec<Client<J>>,
+    ) -> Result<(), Fail> {
+        let (client, other) = first_two(rt, clients);
+        change_and_hear(rt, rt.alloc(), board, client, other, &self.row);
+        Ok(())
+    }
+}
+
+fn changes_refused_then_again(rt: &(impl Wait + Print + Abort + AllocGlobal)) -> Result<(), Fail> {
+    let opening = [row_of(rt.alloc(), 5)?];
+    let row = row_of(rt.alloc(), 6)?;
+    play_on_a_new_board(rt, setup_of(2, 18, 6, 64)?, &opening, &Changes { row })
 }
 
 /// The commit of removes of the eight oldest rows of a table of 18, in whose place eight new ones came this often.
@@ -256,30 +255,28 @@ fn replace_eight_rows<J: BoardBrand, R: Wait + Abort>(
     Ok(())
 }
 
-fn replaced<J: BoardBrand, R: Wait + Abort>(
-    rt: &R,
-    alloc: Global,
-    name: BoardName,
-    setup: Setup,
-    rows: &[Row],
+/// Eight rows come in the place of others by this commit, again and again.
+#[derive(Drop)]
+struct Replaces {
     adds: Commit,
-) -> Result<(), Fail>
-    requires book { name.seen.book ≡ J.book }
-    requires opening { J.opening ≡ record { limits = setup; rows = rows.now } }
-{
-    let (board, mut clients) = open_board::<J, R>(rt, alloc, name, setup, rows)?;
-    let (client, _other) = first_two(rt, &mut clients);
-    let returned = replace_eight_rows(rt, alloc, &board, client, adds);
-    board.close(rt);
-    returned
 }
 
-fn a_commit_refused_then_again(rt: &(impl Wait + Abort + AllocGlobal)) -> Result<(), Fail> {
-    let alloc = rt.alloc();
-    let opening = [row_of(alloc, 5)?; 18];
-    let adds = Commit::of(&[Change::Add(row_of(alloc, 6)?); 8])?;
-    let setup = setup_of(2, 18, 6, 64)?;
-    replaced::<Brand, _>(rt, alloc, BoardName::new(), setup, &opening, adds)
+impl Play for Replaces {
+    fn play<J: BoardBrand, R: Wait + Print + Abort + AllocGlobal>(
+        &self,
+        rt: &R,
+        board: &Board<J>,
+        clients: &mut Vec<Client<J>>,
+    ) -> Result<(), Fail> {
+        let (client, _other) = first_two(rt, clients);
+        replace_eight_rows(rt, rt.alloc(), board, client, self.adds)
+    }
+}
+
+fn a_commit_refused_then_again(rt: &(impl Wait + Print + Abort + AllocGlobal)) -> Result<(), Fail> {
+    let opening = [row_of(rt.alloc(), 5)?; 18];
+    let adds = Commit::of(&[Change::Add(row_of(rt.alloc(), 6)?); 8])?;
+    play_on_a_new_board(rt, setup_of(2, 18, 6, 64)?, &opening, &Replaces { adds })
 }
 
 /// Begins a query of two blocks, and abandons it.
@@ -326,39 +323,33 @@ fn abandon_and_ask<J: BoardBrand, R: Wait + Abort>(
     Ok(ask_in_the_end(rt, alloc, board, client, best_low(alloc)?))
 }
 
-fn answered<J: BoardBrand, R: Wait + Abort>(
-    rt: &R,
-    alloc: Global,
-    name: BoardName,
-    setup: Setup,
-    rows: &[Row],
-) -> Result<Vec<Ranked>, Fail>
-    requires book { name.seen.book ≡ J.book }
-    requires opening { J.opening ≡ record { limits = setup; rows = rows.now } }
-{
-    let (board, mut clients) = open_board::<J, R>(rt, alloc, name, setup, rows)?;
-    let (client, _other) = first_two(rt, &mut clients);
-    let ranked = abandon_and_ask(rt, alloc, &board, client);
-    board.close(rt);
-    ranked
+/// Asserts an answer.
+fn check_answer(rt: &impl Abort, alloc: Global, answer: &[Ranked]) -> Result<(), Fail> {
+    let text = answer_text(alloc, answer)?;
+    let wanted = "answer 1\nlevel 1 id 2: 4";
+    assert_same(rt, "an answer", &text.as_str(), &wanted);
+    Ok(())
 }
 
-fn a_query_refused_then_again(rt: &(impl Wait + Abort + AllocGlobal)) -> Result<(), Fail> {
-    let alloc = rt.alloc();
-    let opening = three_rows(alloc, (5, 4, 6))?;
-    let setup = setup_of(2, 4, 2, 64)?;
-    let name = BoardName::new();
-    let text = answer_text(
-        alloc,
-        &answered::<Brand, _>(rt, alloc, name, setup, &opening)?,
-    )?;
-    assert_same(
-        rt,
-        "an answer",
-        &text.as_str(),
-        &"answer 1\nlevel 1 id 2: 4",
-    );
-    Ok(())
+/// A client abandons a query, and asks it again.
+struct Asks;
+
+impl Play for Asks {
+    fn play<J: BoardBrand, R: Wait + Print + Abort + AllocGlobal>(
+        &self,
+        rt: &R,
+        board: &Board<J>,
+        clients: &mut Vec<Client<J>>,
+    ) -> Result<(), Fail> {
+        let (client, _other) = first_two(rt, clients);
+        let answer = abandon_and_ask(rt, rt.alloc(), board, client)?;
+        check_answer(rt, rt.alloc(), &answer)
+    }
+}
+
+fn a_query_refused_then_again(rt: &(impl Wait + Print + Abort + AllocGlobal)) -> Result<(), Fail> {
+    let opening = three_rows(rt.alloc(), (5, 4, 6))?;
+    play_on_a_new_board(rt, setup_of(2, 4, 2, 64)?, &opening, &Asks)
 }
 
 /// Each call of a client, again where memory was refused.

@@ -2,12 +2,13 @@
 
 ghost use Rattle.std.specs.Prelude.{◌≡◌};
 
-use crate::boards::first_two;
+use crate::boards::{Play, first_two, play_on_a_new_board};
 use crate::same::assert_same;
 use pref_core::Setup;
 use pref_share::{Board, BoardBrand, BoardName, Client, ShareFault, Word, open_board};
 use pref_table::Row;
 use std::alloc::Global;
+use std::io::Print;
 use std::marker::Brand;
 use std::process::Abort;
 use std::sync::Wait;
@@ -93,30 +94,25 @@ fn seen_as_it_goes<J: BoardBrand, R: Wait>(
     Ok((before, heard, hearer.seen()))
 }
 
-/// The same of the first client of a new board, who hears the second.
-fn seen_on_a_new_board<J: BoardBrand, R: Wait + Abort>(
-    rt: &R,
-    alloc: Global,
-    name: BoardName,
-    setup: Setup,
-    rows: &[Row],
-) -> Result<(u64, u64, u64), ShareFault>
-    requires book { name.seen.book ≡ J.book }
-    requires opening { J.opening ≡ record { limits = setup; rows = rows.now } }
-{
-    let (board, mut clients) = open_board::<J, R>(rt, alloc, name, setup, rows)?;
-    let (first, second) = first_two(rt, &mut clients);
-    let seen = seen_as_it_goes(rt, alloc, &board, first, second);
-    board.close(rt);
-    seen
+/// The first client, who hears the second, sees more and more.
+struct SeesMore;
+
+impl Play for SeesMore {
+    fn play<J: BoardBrand, R: Wait + Print + Abort + AllocGlobal>(
+        &self,
+        rt: &R,
+        board: &Board<J>,
+        clients: &mut Vec<Client<J>>,
+    ) -> Result<(), Fail> {
+        let (first, second) = first_two(rt, clients);
+        let seen = seen_as_it_goes(rt, rt.alloc(), board, first, second)?;
+        assert_same(rt, "calls", &seen, &(0, 1, 2));
+        Ok(())
+    }
 }
 
 #[test]
 fn a_word_is_heard(rt: HostRuntime) -> Result<(), Fail> {
-    let alloc = rt.alloc();
-    let opening = [row_of(alloc, 5)?];
-    let setup = setup_of(2, 4, 4, 64)?;
-    let seen = seen_on_a_new_board::<Brand, _>(&rt, alloc, BoardName::new(), setup, &opening)?;
-    assert_same(&rt, "calls", &seen, &(0, 1, 2));
-    Ok(())
+    let opening = [row_of(rt.alloc(), 5)?];
+    play_on_a_new_board(&rt, setup_of(2, 4, 4, 64)?, &opening, &SeesMore)
 }
