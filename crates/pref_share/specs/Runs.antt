@@ -1,5 +1,5 @@
 -- Acts of clients on threads, and when they with their replies are one run of the sequential table. (this project)
-use Rattle.std.specs.Prelude.{◌≡◌, ℕ, suc, ◌<◌, true, List, [], ◌∷◌, ◌++◌, length, slice_get, Option, Some, None, Result, Ok, Err, MatchResult, ◌⊎◌}
+use Rattle.std.specs.Prelude.{◌≡◌, ℕ, suc, ◌<◌, Bool, true, false, List, [], ◌∷◌, ◌++◌, length, slice_get, Option, Some, None, Result, Ok, Err, MatchResult, ◌⊎◌}
 use Rattle.std.specs.Option.{option_map}
 use Rattle.std.specs.Global.{Vec}
 use mathlib.Core.List.{IsPrefix}
@@ -130,6 +130,13 @@ abbrev pub reply_or_stop : ShareFault → Result Reply ShareFault
 reply_or_stop (Core OutOfMemory) = Err (Core OutOfMemory)
 reply_or_stop (Core fault) = Ok (Refused fault)
 reply_or_stop fault = Err fault
+
+-- whether an act changes one row
+abbrev pub changes_one_row : Act → Bool
+changes_one_row (Insert row) = true
+changes_one_row (Update id row) = true
+changes_one_row (Delete id) = true
+changes_one_row other = false
 
 -- an act, done, or why it stops the client
 abbrev pub Performs : Opening → Standing → Act → Result Reply ShareFault → Standing → Type 0

@@ -1,7 +1,7 @@
 //! One act of a client, by its calls, and the reply to it. What the table refuses is a reply.
 
-ghost use Rattle.std.specs.Prelude.{◌≡◌, IfOk, IfErr};
-ghost use Rattle.pref_share.specs.Runs.{Performs, StepsTo, reply_or_stop};
+ghost use Rattle.std.specs.Prelude.{◌≡◌, false, IfOk, IfErr};
+ghost use Rattle.pref_share.specs.Runs.{Performs, StepsTo, changes_one_row, reply_or_stop};
 
 use crate::board::Board;
 use crate::book::BoardBrand;
@@ -52,7 +52,8 @@ fn reply_to_refusal(fault: ShareFault) -> Result<Reply, ShareFault>
     }
 }
 
-/// The reply where the client's call is not refused.
+/// The reply where the client's call is not refused. Most acts change one row, and are answered here. The others are
+/// answered out of line, since a function clears the room for the result of each of its calls, whichever act comes.
 fn answer<J: BoardBrand, R: Wait>(
     rt: &R,
     alloc: Global,
@@ -74,6 +75,26 @@ fn answer<J: BoardBrand, R: Wait>(
             client.delete(rt, alloc, board, id)?;
             Ok(Reply::Deleted(id))
         }
+        other => answer_other(rt, alloc, board, client, other),
+    }
+}
+
+/// The same for an act that is no change of one row.
+#[inline(never)]
+fn answer_other<J: BoardBrand, R: Wait>(
+    rt: &R,
+    alloc: Global,
+    board: &Board<J>,
+    client: &mut Client<J>,
+    act: Act,
+) -> Result<Reply, ShareFault>
+    requires { changes_one_row act ≡ false }
+    ensures answered { IfOk result (λ reply. StepsTo J.opening client.old act reply client.new) }
+    ensures refused { IfErr result (λ fault. Performs J.opening client.old act (reply_or_stop fault) client.new) }
+{
+    let _seen = client.seen();
+    match act {
+        Act::Insert(_) | Act::Update(_, _) | Act::Delete(_) => unreachable!(),
         Act::Commit(commit) => {
             let returned = client.commit(rt, alloc, board, commit)?;
             Ok(Reply::Committed(returned))
