@@ -37,9 +37,9 @@ returns-in-Ok-Joined-clause-begun g c =
     let accepted : own_refusal mine Begin ≡ None = subst (λ (x : Standing). own_refusal x Begin ≡ None) (sym c.self.view_is) (ap (own_refusal c.args.self.now) (sym c.begin.ensures) ∙ sym c.refusal.ensures ∙ c.in_default.is) in
     let up : s.counter + 1 ≡ suc s.counter = omega arith in
     let scan : c.begin-query.result ≡ begin c.args.ask (state_at o j.seen).commits o.limits = c.begin-query.ensures ∙ (λ i. begin c.args.ask (joined.commits i) (c.self.invariant.1 i)) in
-    let told : Joins o mine Begin j.field-0-1 new = joins o mine new Begin j.field-0-1 j.seen j.stamp accepted joined refl up refl in
+    let call : Joins o mine Begin j.field-0-1 new = joins o mine new Begin j.field-0-1 j.seen j.stamp accepted joined refl up refl in
     rw (← c.self.view_is) (record {
-      joins = subst (λ (returned : Outcome). Joins o mine Begin returned new) told.reply told;
+      joins = subst (λ (returned : Outcome). Joins o mine Begin returned new) call.reply call;
       query = (λ i. Some (record { scan = scan i; at_begin = c.again-begun.ensures.same i }));
       left_is = c.blocks-in-Ok-Joined.ensures.value ∙ ap blocks c.self.invariant.1;
     })
