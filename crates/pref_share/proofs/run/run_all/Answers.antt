@@ -2,6 +2,7 @@ use Rattle.pref_share.proofs.Common.{sendable, ◌≡◌, List, ap, arith, lengt
 use Rattle.pref_share.proofs.InterleavingsLaws.{joint_runs_are_sequential, length-newcomers}
 use Rattle.pref_share.proofs.ReportsLaws.{joint_of_lists}
 use Rattle.pref_share.proofs.SendLaws.{listed_send}
+use Rattle.std.proofs.lemmas.Result.{IfOk-from_err}
 use Rattle.pref_share.proofs.run.run_all.Goals as goal
 
 pub run_tasks-requires-send-T : goal.run_tasks-requires-send-T
@@ -19,3 +20,21 @@ returns-clause-sequential g c =
     let many : length c.args.acts.items ≡ o.limits.clients = omega (arith, c.args.acts.ok.0, c.args.clients.ok.0, c.requires.lists, ap length c.requires.clients, length-newcomers o.limits.clients) in
     joint_runs_are_sequential o c.args.acts.items c.in_ok-replies.replies.items many
     (subst (λ (clients : List Standing). IsJointRun o clients c.args.acts.items c.in_ok-replies.replies.items) c.requires.clients (returns-clause-joint g c))
+
+pub returns-in_err-tasks-clause-joint : goal.returns-in_err-tasks-clause-joint
+returns-in_err-tasks-clause-joint g c = IfOk-from_err c.from_residual.result _ c.from_residual.ensures.0
+
+pub returns-in_err-tasks-clause-sequential : goal.returns-in_err-tasks-clause-sequential
+returns-in_err-tasks-clause-sequential g c = IfOk-from_err c.from_residual.result _ c.from_residual.ensures.0
+
+pub returns-in_err-done-clause-joint : goal.returns-in_err-done-clause-joint
+returns-in_err-done-clause-joint g c = IfOk-from_err c.from_residual-in_err-done.result _ c.from_residual-in_err-done.ensures.0
+
+pub returns-in_err-done-clause-sequential : goal.returns-in_err-done-clause-sequential
+returns-in_err-done-clause-sequential g c = IfOk-from_err c.from_residual-in_err-done.result _ c.from_residual-in_err-done.ensures.0
+
+pub returns-in_err-replies-clause-joint : goal.returns-in_err-replies-clause-joint
+returns-in_err-replies-clause-joint g c = IfOk-from_err c.from_residual-in_err-replies.result _ c.from_residual-in_err-replies.ensures.0
+
+pub returns-in_err-replies-clause-sequential : goal.returns-in_err-replies-clause-sequential
+returns-in_err-replies-clause-sequential g c = IfOk-from_err c.from_residual-in_err-replies.result _ c.from_residual-in_err-replies.ensures.0

@@ -1,4 +1,5 @@
-use Rattle.pref_share.proofs.Common.{◌<◌, ◌^◌, [], length, subst, sym, sendable}
+use Rattle.pref_share.proofs.Common.{arith, ℕ, Bool, ◌<◌, ◌^◌, [], length, get_or, subst, sym, sendable, IfOk, DidTask}
+use Rattle.std.proofs.lemmas.Result.{IfOk-weaker}
 use denote.Param.SendFields.{declared_send, variants_send, as_row_send}
 use Rattle.pref_share.specs.declared.run.Job.{Job}
 use Rattle.pref_share.proofs.SendLaws.{client_send}
@@ -17,3 +18,15 @@ map_vec-requires-after_bounds g c = λ κs within i job lt is. (
   subst (λ (j : Job g.row.J.Denot g.row.T.Denot). g.T.Task.took j.task j.task []) (sym is) (c.requires.fresh i job lt),
   subst (λ (j : Job g.row.J.Denot g.row.T.Denot). length (g.T.Task.left j.task) < 2 ^ 63) (sym is) (c.requires.few i job lt),
 )
+
+pub returns-clause-len : goal.returns-clause-len
+returns-clause-len g c = c.map_vec.ensures.len
+
+pub returns-clause-each : goal.returns-clause-each
+returns-clause-each g c =
+    let o = g.J.BoardBrand.opening in
+    let says : ℕ → ℕ → Bool → Type 0 = g.G.Gate.says c.args.gate.now in
+    IfOk-weaker c.map_vec.result _ _ (λ all gives i job d lt.
+    let within : i < length c.args.jobs.items = omega (arith, lt, c.args.jobs.ok.0) in
+    let given = (gives i d within).1 in
+    subst (λ (j : Job g.row.J.Denot g.row.T.Denot). IfOk (get_or all.items i d) (DidTask o says (g.T.Task.took j.task) j.client (g.T.Task.left j.task))) (sym (given.job_is job)) given.call.met) c.map_vec.ensures.each

@@ -1,6 +1,7 @@
 use Rattle.pref_share.proofs.Common.{◌≡◌, suc, ◌+◌, None, refl, sym, subst, ap, ◌∙◌, arith, rules, Standing, own_refusal, Core, OutOfMemory, IsJoined, MayJoin, RefusesChange}
 use Rattle.pref_share.proofs.RefusalReplies.{passed_on}
 use Rattle.pref_share.proofs.StandingLaws.{counter_small, stands_changed, joins, change_told}
+use Rattle.std.proofs.lemmas.Result.{IfOk-from_err}
 use Rattle.pref_share.proofs.client.Client.change.Goals as goal
 
 pub invariant_of-self : goal.invariant_of-self
@@ -43,3 +44,9 @@ pub returns-in-Ahead-clause-refused : goal.returns-in-Ahead-clause-refused
 returns-in-Ahead-clause-refused g c =
     let accepted : own_refusal c.args.self.now c.args.call ≡ None = ap (own_refusal c.args.self.now) (sym c.lend.ensures) ∙ sym c.refusal.ensures ∙ c.in_default.is in
     rw c.in_use.ensures.fault (accepted, c.in_use.ensures.sees)
+
+pub returns-in_err-seen-clause-changed : goal.returns-in_err-seen-clause-changed
+returns-in_err-seen-clause-changed g c = IfOk-from_err c.from_residual.result _ c.from_residual.ensures.0
+
+pub returns-in_err-seen-clause-success_outcome : goal.returns-in_err-seen-clause-success_outcome
+returns-in_err-seen-clause-success_outcome g c = IfOk-from_err c.from_residual.result _ c.from_residual.ensures.0

@@ -6,6 +6,7 @@ use Rattle.pref_core.specs.Indexes.{IsIndexOf}
 use Rattle.pref_share.specs.declared.published.Stamp.{Stamp}
 use Rattle.pref_share.proofs.HistoryLaws.{ran-append, planned, unplanned}
 use Rattle.pref_share.proofs.ViewsLaws.{published_left, published_next}
+use Rattle.std.proofs.lemmas.Result.{IfOk-from_err}
 use Rattle.pref_share.proofs.publisher.Publisher.join.Goals as goal
 
 pub returns-in-Err-clause-refused : goal.returns-in-Err-clause-refused
@@ -93,3 +94,6 @@ reindex-requires-clause-index g c =
     let o = g.J.BoardBrand.opening in
     let left : c.published_store-store.result.now ≡ contents_at o c.self.inside.history = rw (c.published_store-store.ensures, c.deref.ensures) (published_left o g.J.BoardBrand.book (manually_drop_value c.self.inside.writer).desk.shown.value c.self.inside.history c.self.invariant.3 c.self.invariant.2) in
     subst (λ (s : Contents). IsIndexOf s c.self.inside.index) (sym left) c.self.invariant.1
+
+pub returns-in_err-reindex-clause-joined : goal.returns-in_err-reindex-clause-joined
+returns-in_err-reindex-clause-joined g c = IfOk-from_err c.from_residual.result _ c.from_residual.ensures.0
