@@ -103,3 +103,7 @@ published_next o book x s op history is legal same stands may ends len in_book =
       len = len;
       in_book = in_book;
     }
+
+-- a seat whose view stays knows what it knew
+pub still_knows : {opening : Contents} {book : Book} {old new : View} → new ≡ old → Knows opening book old → Knows opening book new
+still_knows {opening} {book} same knows = subst (Knows opening book) (sym same) knows

@@ -1,6 +1,7 @@
-use Rattle.pref_share.proofs.Common.{rules, refl, sym, subst, ◌≡◌, ◌∙◌, first_contents, state_at, row_after, Knows}
+use Rattle.pref_share.proofs.Common.{rules, refl, sym, ◌≡◌, ◌∙◌, state_at, row_after}
 use Rattle.pref_share.proofs.HistoryLaws.{left_stands}
 use Rattle.pref_share.proofs.StandingLaws.{sees, stands_seen}
+use Rattle.pref_share.proofs.ViewsLaws.{still_knows}
 use Rattle.pref_share.proofs.client.Client.get.Goals.{Joined-row, in-Some-row, in-None}
 use Rattle.pref_share.proofs.client.Client.get.Given.{Over}
 use Rattle.pref_share.proofs.client.Client.get.Goals as goal
@@ -37,13 +38,12 @@ pub read-found-requires-clause-legal : goal.read-found-requires-clause-legal
 read-found-requires-clause-legal g c = c.self.invariant.2.legal
 
 pub invariant_of-self : goal.invariant_of-self
-invariant_of-self g c = (subst (Knows (first_contents g.J.BoardBrand.opening) g.J.BoardBrand.book) (sym c.read-found.ensures.view) c.self.invariant.0, c.self.invariant.1, c.self.invariant.2)
+invariant_of-self g c = (still_knows c.read-found.ensures.view c.self.invariant.0, c.self.invariant.1, c.self.invariant.2)
 
 pub returns-in_default-clause-refused : goal.returns-in_default-clause-refused
 returns-in_default-clause-refused g c = c.self.view_is
 
 pub invariant_of-self-2 : goal.invariant_of-self-2
 invariant_of-self-2 g c =
-    let o = g.J.BoardBrand.opening in
     let read = c.in-Some.ensures.found in
-    (subst (Knows (first_contents o) g.J.BoardBrand.book) (sym c.read-found.ensures.view) c.self.invariant.0, c.self.invariant.1, stands_seen o _ _ _ _ _ c.self.invariant.2 read.0 read.1)
+    (still_knows c.read-found.ensures.view c.self.invariant.0, c.self.invariant.1, stands_seen g.J.BoardBrand.opening _ _ _ _ _ c.self.invariant.2 read.0 read.1)

@@ -1,10 +1,11 @@
 use Rattle.pref_share.proofs.Common.{rules, arith, ◌≡◌, suc, ◌++◌, List, map, Option, Result, Some, refl, sym, subst, ap, ◌∙◌, Vec, IsPrefix, Op, CoreFault, next_block, Contents, Opening, IsLegalFrom}
-use Rattle.pref_share.proofs.Common.{calls_at, contents_at, state_at, first_contents, Asking, Standing, IsInUse, Knows, HasMore, Stands}
+use Rattle.pref_share.proofs.Common.{calls_at, contents_at, state_at, Asking, Standing, IsInUse, HasMore, Stands}
 use Rattle.pref_sky.specs.declared.entry.Entry.{Entry}
 use Rattle.pref_sky.specs.Levels.{HaveDifferentIds, entry_of}
 use Rattle.pref_core.specs.Scans.{Scan, Reads, IsAdded}
 use Rattle.pref_share.proofs.HistoryLaws.{left_stands}
 use Rattle.pref_share.proofs.StandingLaws.{ahead, even, next_new, stands_seen, stands_scanned, sees}
+use Rattle.pref_share.proofs.ViewsLaws.{still_knows}
 use Rattle.pref_share.proofs.client.Client.scan.Given.{Over}
 use Rattle.pref_share.proofs.client.Client.scan.Goals.{After-deref}
 use Rattle.pref_share.proofs.client.Client.scan.Goals as goal
@@ -55,7 +56,7 @@ pub invariant_of-self-in-Ok-add : goal.invariant_of-self-in-Ok-add
 invariant_of-self-in-Ok-add g c =
     let r = is_read g (goal.at.invariant_of-self-in-Ok-add g c).After-deref in
     let added = subst (λ (l : List Entry). IsAdded c.asking.inside.query l c.add.new.self) r.is c.in-Ok-add.ensures.1 in
-    (subst (Knows (first_contents g.J.BoardBrand.opening) g.J.BoardBrand.book) (sym c.read-found.ensures.view) c.self.invariant.0, c.self.invariant.1, stands_scanned g.J.BoardBrand.opening _ _ _ _ _ c.add.new.self r.stands r.further r.legal r.alone added)
+    (still_knows c.read-found.ensures.view c.self.invariant.0, c.self.invariant.1, stands_scanned g.J.BoardBrand.opening _ _ _ _ _ c.add.new.self r.stands r.further r.legal r.alone added)
 
 pub returns-in-Ok-add-clause-scanned : goal.returns-in-Ok-add-clause-scanned
 returns-in-Ok-add-clause-scanned g c =
@@ -70,7 +71,7 @@ invariant_of-self-2 g c =
     let s = c.self.inside in
     let r = is_read g (goal.at.invariant_of-self-2 g c).After-deref in
     let kept : c.add.new.self ≡ c.asking.inside.query = c.in-Err.ensures.0 in (
-      subst (Knows (first_contents o) g.J.BoardBrand.book) (sym c.read-found.ensures.view) c.self.invariant.0,
+      still_knows c.read-found.ensures.view c.self.invariant.0,
       c.self.invariant.1,
       subst (λ (x : Scan). Stands o s.number s.counter c.in-Some-found.now (Some (record { scan = x; at_begin = c.asking.inside.at_begin }))) (sym kept) (stands_seen o _ _ _ _ _ r.stands r.further r.legal),
     )
@@ -118,7 +119,7 @@ read-found-requires-clause-legal g c = c.self.invariant.2.legal
 pub invariant_of-self-in_default-found : goal.invariant_of-self-in_default-found
 invariant_of-self-in_default-found g c =
     let s = c.self.inside in (
-      subst (Knows (first_contents g.J.BoardBrand.opening) g.J.BoardBrand.book) (sym c.read-found.ensures.view) c.self.invariant.0,
+      still_knows c.read-found.ensures.view c.self.invariant.0,
       c.self.invariant.1,
       subst (λ (q : Option Asking). Stands g.J.BoardBrand.opening s.number s.counter s.seen q) c.in-Some.is c.self.invariant.2,
     )
@@ -132,7 +133,7 @@ returns-in_default-found-clause-refused g c =
 pub invariant_of-self-then-block-self : goal.invariant_of-self-then-block-self
 invariant_of-self-then-block-self g c =
     let s = c.self.inside in (
-      subst (Knows (first_contents g.J.BoardBrand.opening) g.J.BoardBrand.book) (sym c.read-found.ensures.view) c.self.invariant.0,
+      still_knows c.read-found.ensures.view c.self.invariant.0,
       c.self.invariant.1,
       subst (λ (q : Option Asking). Stands g.J.BoardBrand.opening s.number s.counter s.seen q) c.in-Some.is c.self.invariant.2,
     )
@@ -141,7 +142,7 @@ pub invariant_of-self-in_default-shown : goal.invariant_of-self-in_default-shown
 invariant_of-self-in_default-shown g c =
     let o = g.J.BoardBrand.opening in
     let found = c.in-Some-found.ensures.found in (
-      subst (Knows (first_contents o) g.J.BoardBrand.book) (sym c.read-found.ensures.view) c.self.invariant.0,
+      still_knows c.read-found.ensures.view c.self.invariant.0,
       c.self.invariant.1,
       stands_seen o _ _ _ _ _ (subst (λ (q : Option Asking). Stands o c.self.inside.number c.self.inside.counter c.self.inside.seen q) c.in-Some.is c.self.invariant.2) found.0 found.1,
     )
