@@ -16,20 +16,11 @@ fn push_number(out: &mut String, number: u64) -> Result<(), AllocError>
     ensures { OnOk result (string_bytes out.new ≡ string_bytes out.old ++ decimal number) }
 {
     let mut buffer = Buffer::new();
-    out.push_str(buffer.format(number))?;
-    Ok(())
-}
-
-/// Appends a text.
-fn push_text(out: &mut String, text: &str) -> Result<(), AllocError>
-    ensures { OnOk result (string_bytes out.new ≡ string_bytes out.old ++ text.now) }
-{
-    out.push_str(text)?;
-    Ok(())
+    out.push_str(buffer.format(number))
 }
 
 /// Appends a text and the number behind it.
-fn push_text_of(out: &mut String, text: &str, number: u64) -> Result<(), AllocError>
+fn push_text_and_number(out: &mut String, text: &str, number: u64) -> Result<(), AllocError>
     ensures { OnOk result (string_bytes out.new ≡ string_bytes out.old ++ (text.now <> decimal number)) }
 {
     out.push_str(text)?;
@@ -37,11 +28,11 @@ fn push_text_of(out: &mut String, text: &str, number: u64) -> Result<(), AllocEr
 }
 
 /// Appends a text and the place of a cell behind it.
-fn push_text_at(out: &mut String, text: &str, row: u64, col: u64) -> Result<(), AllocError>
+fn push_text_and_place(out: &mut String, text: &str, row: u64, col: u64) -> Result<(), AllocError>
     ensures { OnOk result (string_bytes out.new ≡ string_bytes out.old ++ (text.now <> decimal row <> codes " col " <> decimal col)) }
 {
-    push_text_of(out, text, row)?;
-    push_text_of(out, " col ", col)
+    push_text_and_number(out, text, row)?;
+    push_text_and_number(out, " col ", col)
 }
 
 /// Appends the number and the text of a fault of a table.
@@ -49,15 +40,25 @@ pub fn push_table_fault(out: &mut String, fault: TableFault) -> Result<(), Alloc
     ensures { OnOk result (string_bytes out.new ≡ string_bytes out.old ++ table_fault_text fault) }
 {
     match fault {
-        TableFault::NoColumns => push_text(out, "1: no columns"),
-        TableFault::TooManyColumns => push_text(out, "2: too many columns"),
-        TableFault::BadName { col } => push_text_of(out, "3: bad name col ", col),
-        TableFault::SameName { col } => push_text_of(out, "4: same name col ", col),
-        TableFault::Width { row } => push_text_of(out, "5: width row ", row),
-        TableFault::NotWhole { row, col } => push_text_at(out, "6: not whole row ", row, col),
-        TableFault::OutOfRange { row, col } => push_text_at(out, "7: out of range row ", row, col),
-        TableFault::TooManyRows => push_text(out, "8: too many rows"),
-        TableFault::OutOfMemory => push_text(out, "9: out of memory"),
+        TableFault::NoColumns => out.push_str("1: no columns"),
+        TableFault::TooManyColumns => out.push_str("2: too many columns"),
+        TableFault::BadName { col } => push_text_and_number(out, "3: bad name col ", col),
+        TableFault::SameName { col } => push_text_and_number(out, "4: same name col ", col),
+        TableFault::Width { row } => push_text_and_number(out, "5: width row ", row),
+        TableFault::NotWhole { row, col } => push_text_and_place(
+            out,
+            "6: not whole row ",
+            row,
+            col,
+        ),
+        TableFault::OutOfRange { row, col } => push_text_and_place(
+            out,
+            "7: out of range row ",
+            row,
+            col,
+        ),
+        TableFault::TooManyRows => out.push_str("8: too many rows"),
+        TableFault::OutOfMemory => out.push_str("9: out of memory"),
     }
 }
 
@@ -66,15 +67,15 @@ pub fn push_term_fault(out: &mut String, fault: TermFault) -> Result<(), AllocEr
     ensures { OnOk result (string_bytes out.new ≡ string_bytes out.old ++ term_fault_text fault) }
 {
     match fault {
-        TermFault::Unexpected { at } => push_text_of(out, "1: unexpected at ", at),
-        TermFault::UnknownColumn { at } => push_text_of(out, "2: unknown column at ", at),
-        TermFault::NumberRange { at } => push_text_of(out, "3: number range at ", at),
-        TermFault::TooDeep { at } => push_text_of(out, "4: too deep at ", at),
-        TermFault::TooLong => push_text(out, "5: too long"),
-        TermFault::BadCount { at } => push_text_of(out, "6: bad count at ", at),
-        TermFault::NoMinOrMax => push_text(out, "7: no min or max"),
-        TermFault::OutOfMemory => push_text(out, "8: out of memory"),
-        TermFault::EmptyRange { at } => push_text_of(out, "9: empty range at ", at),
+        TermFault::Unexpected { at } => push_text_and_number(out, "1: unexpected at ", at),
+        TermFault::UnknownColumn { at } => push_text_and_number(out, "2: unknown column at ", at),
+        TermFault::NumberRange { at } => push_text_and_number(out, "3: number range at ", at),
+        TermFault::TooDeep { at } => push_text_and_number(out, "4: too deep at ", at),
+        TermFault::TooLong => out.push_str("5: too long"),
+        TermFault::BadCount { at } => push_text_and_number(out, "6: bad count at ", at),
+        TermFault::NoMinOrMax => out.push_str("7: no min or max"),
+        TermFault::OutOfMemory => out.push_str("8: out of memory"),
+        TermFault::EmptyRange { at } => push_text_and_number(out, "9: empty range at ", at),
     }
 }
 
@@ -83,17 +84,17 @@ pub fn push_core_fault(out: &mut String, fault: CoreFault) -> Result<(), AllocEr
     ensures { OnOk result (string_bytes out.new ≡ string_bytes out.old ++ core_fault_text fault) }
 {
     match fault {
-        CoreFault::NoSuchClient => push_text(out, "1: no such client"),
-        CoreFault::Spent => push_text(out, "2: spent"),
-        CoreFault::QueryOpen => push_text(out, "3: query open"),
-        CoreFault::NoQuery => push_text(out, "4: no query"),
-        CoreFault::AllScanned => push_text(out, "5: all scanned"),
-        CoreFault::NotDone { left } => push_text_of(out, "6: not done left ", left),
-        CoreFault::NoSuchRow { id } => push_text_of(out, "7: no such row ", id),
-        CoreFault::Full { needed } => push_text_of(out, "8: full needed ", needed),
-        CoreFault::OutOfMemory => push_text(out, "9: out of memory"),
-        CoreFault::Twice { place } => push_text_of(out, "12: twice place ", place),
-        CoreFault::ChangeCount => push_text(out, "13: change count"),
+        CoreFault::NoSuchClient => out.push_str("1: no such client"),
+        CoreFault::Spent => out.push_str("2: spent"),
+        CoreFault::QueryOpen => out.push_str("3: query open"),
+        CoreFault::NoQuery => out.push_str("4: no query"),
+        CoreFault::AllScanned => out.push_str("5: all scanned"),
+        CoreFault::NotDone { left } => push_text_and_number(out, "6: not done left ", left),
+        CoreFault::NoSuchRow { id } => push_text_and_number(out, "7: no such row ", id),
+        CoreFault::Full { needed } => push_text_and_number(out, "8: full needed ", needed),
+        CoreFault::OutOfMemory => out.push_str("9: out of memory"),
+        CoreFault::Twice { place } => push_text_and_number(out, "12: twice place ", place),
+        CoreFault::ChangeCount => out.push_str("13: change count"),
     }
 }
 
@@ -132,8 +133,7 @@ fn push_cell(out: &mut String, cell: i64) -> Result<(), AllocError>
     ensures { OnOk result (string_bytes out.new ≡ string_bytes out.old ++ signed_decimal cell) }
 {
     let mut buffer = Buffer::new();
-    out.push_str(buffer.format(cell))?;
-    Ok(())
+    out.push_str(buffer.format(cell))
 }
 
 /// Appends the cells of a row below the width, with commas between them.
@@ -161,8 +161,7 @@ fn push_level(out: &mut String, width: usize, ranked: &Ranked) -> Result<(), All
     push_number(out, ranked.id)?;
     out.push_str(": ")?;
     push_row(out, width, &ranked.row)?;
-    out.push('\n')?;
-    Ok(())
+    out.push('\n')
 }
 
 /// Appends the lines of the rows in an answer.
@@ -183,8 +182,7 @@ pub fn push_line(out: &mut String, client: u8, what: &str, number: u64) -> Resul
     push_number(out, u64::from(client))?;
     out.push_str(what)?;
     push_number(out, number)?;
-    out.push('\n')?;
-    Ok(())
+    out.push('\n')
 }
 
 /// Appends the line of a commit.
@@ -214,7 +212,7 @@ fn push_abandoned(out: &mut String, client: u8) -> Result<(), AllocError>
     ensures { OnOk result (string_bytes out.new ≡ string_bytes out.old ++ reply_lines 0 client Reply.Abandoned) }
 {
     push_number(out, u64::from(client))?;
-    push_text(out, " abandoned\n")
+    out.push_str(" abandoned\n")
 }
 
 /// Appends the line of a row that was got.
@@ -229,10 +227,10 @@ fn push_found(
     ensures { OnOk result (string_bytes out.new ≡ string_bytes out.old ++ reply_lines width client (Reply.Found id row.now)) }
 {
     push_number(out, u64::from(client))?;
-    push_text_of(out, " row ", id)?;
-    push_text(out, ": ")?;
+    push_text_and_number(out, " row ", id)?;
+    out.push_str(": ")?;
     push_row(out, width, row)?;
-    push_text(out, "\n")
+    out.push_str("\n")
 }
 
 /// Appends the line of a client's act that is refused. It stays a call of its own, since it is rare.
