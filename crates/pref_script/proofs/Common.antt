@@ -23,16 +23,16 @@ pub use Rattle.pref_core.specs.declared.event.Act.{Act}
 pub use Rattle.pref_core.specs.declared.event.Event.{Event}
 pub use Rattle.pref_core.specs.declared.fault.CoreFault.{CoreFault}
 pub use Rattle.pref_script.proofs.ExitFacts.{exits}
-pub use Rattle.pref_script.specs.ClientParts.{AcceptsLeft, AllAccepted, AllGiven, AreParts, ArePartsUpTo, HasReplied, IsAccepted, IsFound, IsGiven, IsPart, NamesNone, acts_in, acts_left, lines_in, lines_left}
+pub use Rattle.pref_script.specs.ClientParts.{AcceptsLeft, AllAccepted, AllGiven, AreParts, ArePartsUpTo, HasReplied, IsAccepted, IsGiven, IsPart, NamesNone, acts_in, acts_left}
 pub use Rattle.pref_script.specs.Commands.{Command, command_of, commands_in, event_of, of_changes, piece_change, refused, runs}
-pub use Rattle.pref_script.specs.Forms.{Said}
+pub use Rattle.pref_script.specs.Forms.{Said, said_by_client}
 pub use Rattle.pref_script.specs.HeardScript.{HeardScript, Hears, HearsNone, IsBlock, LacksBlock, OpensLive, ReadsBlock}
 pub use Rattle.pref_script.specs.Live.{EndsWithLine, HeardNone, IsHeard, IsTooLong, NoneLeft, RanLive, ShowsFault, StopsEarly, StopsInLine, PrintsNext, Turns}
 pub use Rattle.pref_script.specs.LiveTable.{IsOpened, OpeningFault, PrintsLine, names_of, next_number, running_of}
 pub use Rattle.pref_script.specs.Output.{Script, ScriptFault, PrintsOutput, fault_text, in_bytes, output, output_of, script_with}
 pub use Rattle.pref_script.specs.Pieces.{are_changes, is_semicolon, pieces_of}
 pub use Rattle.pref_script.specs.ReadAhead.{IsLineAt, IsLittle, IsLong, IsWhole, LineFault, NoLineFeed, ReadBehind, ReadOnce, ReadSome, between, is_at_end, most_ahead, unread}
-pub use Rattle.pref_script.specs.Reading.{IsDigitsWord, IsOpeningOf, Reads, core_fault, first_refusal, pieces_left, said_by_client, share_fault, table_fault}
+pub use Rattle.pref_script.specs.Reading.{IsDigitsWord, IsOpeningOf, Reads, core_fault, first_refusal, pieces_left, share_fault, table_fault}
 pub use Rattle.pref_script.specs.Run.{NothingWritten, Sink, Source, Wrote, WroteAll, WroteBeginning, sink_of, source_of}
 pub use Rattle.pref_script.specs.Script.{Parts, block_lines, is_end_line, is_line_feed, is_table_line, parts_of, with_line_feeds, without_line_end}
 pub use Rattle.pref_script.specs.Text.{level_line, level_lines, refused_line, reply_lines, row_text}

@@ -10,7 +10,6 @@ pub mod CommitFacts
 pub mod TextFacts
 pub mod OutputFacts
 pub mod PlayFacts
-pub mod ClientFacts
 pub mod ThreadsFacts
 pub mod LineFacts
 pub mod BlockFacts

@@ -1,9 +1,9 @@
--- A client's part of a script, one line at a time.
-use Rattle.pref_script.proofs.Common.{◌≡◌, ◌≢◌, ◌∙◌, ℕ, suc, ◌+◌, ◌<◌, ◌≤◌, ◌^◌, false, List, [], ◌∷◌, ◌++◌, length, map, slice_get, Some, Ok, refl, sym}
-use Rattle.pref_script.proofs.Common.{ap, arith, append_assoc, inl, inr, string_bytes, All, Vec, append-nil, length-append, Event, AcceptsLeft, AllAccepted, AreParts, ArePartsUpTo}
-use Rattle.pref_script.proofs.Common.{HasReplied, IsAccepted, IsFound, IsGiven, AllGiven, IsPart, AreActs, acts_in, acts_left, accepted_events, act_of, commands_in, commands_of}
-use Rattle.pref_script.proofs.Common.{event_of, client_named, said_in, raw_lines, without_line_end, reply_lines, texts, clients_lines, unowned_lines, Part}
-use Rattle.pref_script.proofs.Common.{◌==◌, NamesNone, cases_lt, drop, drop_all, drop_more, eqb-false, eqb-true, get_or, get_or_append_left, length-set, lines_in, lines_left, map-append, range_with_len, set, vec_len, Act}
+-- A client's part of a script, one command at a time.
+use Rattle.pref_script.proofs.Common.{◌≡◌, ◌≢◌, ◌∙◌, ℕ, suc, ◌+◌, ◌<◌, ◌≤◌, ◌^◌, true, false, List, [], ◌∷◌, ◌++◌, length, map, slice_get, Result, Some, None, Ok, Err, refl, sym}
+use Rattle.pref_script.proofs.Common.{ap, arith, append_assoc, inl, inr, string_bytes, list_all, All, Vec, append-nil, length-append, Event, AcceptsLeft, AllAccepted, AreParts, ArePartsUpTo}
+use Rattle.pref_script.proofs.Common.{HasReplied, IsAccepted, IsGiven, AllGiven, IsPart, AreActs, acts_in, acts_left, accepted_events, act_of, commands_in, commands_of, Refusal}
+use Rattle.pref_script.proofs.Common.{is_blank, prefix_len, event_of, client_named, said_in, word_of, raw_lines, without_line_end, reply_lines, texts, clients_lines, unowned_lines, Part}
+use Rattle.pref_script.proofs.Common.{◌==◌, NamesNone, cases_lt, cond, drop, drop_all, drop_more, eq-eqb, eqb-false, eqb-true, get_or, get_or_append_left, length-set, map-append, range_with_len, set, vec_len, Act}
 use Rattle.std.proofs.lemmas.List.Sums.{count_by-le-length, length-filter}
 use Rattle.std.proofs.lemmas.List.Elements.{filter-append}
 use Rattle.std.proofs.lemmas.Bool.{cases_Bool}
@@ -17,39 +17,61 @@ use Rattle.pref_core.specs.declared.event.Reply.{Reply}
 use Rattle.pref_share.specs.Interleavings.{acts_of}
 use Rattle.pref_share.specs.Reports.{AreTaken}
 use Rattle.pref_share.proofs.RunsLaws.{there}
-use Rattle.pref_script.specs.ClientParts.{IsWhole, acts_found}
-use Rattle.pref_script.specs.declared.parts.Found.{Found}
-use Rattle.pref_script.proofs.CommandFacts.{accepted_events-append, events-any_number, events-in, events-of_lines, lines-few, unowned-blank, unowned-own}
+use Rattle.pref_script.specs.ClientParts.{AreAccepted, IsCommandOf, IsWhole, act_in, acts_by, commands_left, event_by}
+use Rattle.pref_script.specs.Commands.{event_said}
+use Rattle.pref_script.proofs.CommandFacts.{accepted_events-append, event_in, events-any_number, events-in, events-of_lines, lines-few, unowned-blank, unowned-own}
 use Rattle.pref_script.proofs.TextFacts.{texts-append}
-use Rattle.pref_script.specs.declared.parts.Found.TheVariants as found
 
 -- the event of a line is of the client that it names
 pub event-named : (names : List (List ℕ)) (line : List ℕ) (event : Event) → event_of names line ≡ Ok event → client_named line ≡ Some event.client
 unfolding act_of said_in client_named
 event-named names line event is = grind (arith)
 
+-- a line of blanks names no client
+all_blanks : (line : List ℕ) → list_all is_blank line ≡ true → prefix_len is_blank line ≡ length line
+all_blanks [] blank = refl
+all_blanks (byte ∷ rest) blank = grind (arith, all_blanks rest)
+
+blank-unnamed : (line : List ℕ) → list_all is_blank line ≡ true → client_named line ≡ None
+unfolding client_named word_of
+blank-unnamed line blank = rw (drop_all (prefix_len is_blank line) line (omega (arith, all_blanks line blank))) refl
+
 -- a line that does not name the client
 first-unnamed : (names : List (List ℕ)) (client : ℕ) (line : List ℕ) → client_named line ≢ Some client → acts_of client (accepted_events (commands_in names 0 line)) ≡ []
 first-unnamed names client line other = grind (arith, events-in, event-named)
 
--- the act of the first line comes before those of the lines behind it
+-- one event is an act of its client alone
+acts-own : (event : Event) (client : ℕ) → event.client ≡ client → acts_of client (event ∷ []) ≡ event.act ∷ []
+acts-own event client e = ap (λ own. map (λ (x : Event). x.act) (cond own (event ∷ []) [])) (eq-eqb event.client client e)
+
+-- the acts of a client in a line that names it are those of its command
+acts-event : (client : ℕ) (said : Result Event Refusal) → ((event : Event) → said ≡ Ok event → event.client ≡ client) → acts_of client (event_in said false) ≡ act_in said
+acts-event client (Ok event) own = acts-own event client (own event refl)
+acts-event client (Err why) own = refl
+
+first-named : (names : List (List ℕ)) (client : ℕ) (line command : List ℕ) → IsCommandOf client line command → acts_of client (accepted_events (commands_in names 0 line)) ≡ act_in (event_by names client command)
+first-named names client line command is =
+    let own : (event : Event) → event_of names line ≡ Ok event → event.client ≡ client = λ event said. grind (arith, event-named names line event said, is.named) in
+    grind (arith, events-in names 0 line, blank-unnamed line, acts-event client (event_of names line) own, is)
+
+-- the acts of the first line come before those of the lines behind it
 acts-line : (names : List (List ℕ)) (client : ℕ) (raw : List ℕ) (more : List (List ℕ))
     → acts_in names client (raw ∷ more) ≡ acts_of client (accepted_events (commands_in names 0 (without_line_end raw))) ++ acts_in names client more
 unfolding commands_of
 acts-line names client raw more = grind (arith, accepted_events-append, events-any_number, filter-append, map-append)
 
--- a line that does not name the client is nothing to it, among others
-acts-unnamed : (names : List (List ℕ)) (client : ℕ) (before : List (List ℕ)) (raw : List ℕ) (left : List (List ℕ)) → client_named (without_line_end raw) ≢ Some client
-    → acts_in names client (before ++ raw ∷ left) ≡ acts_in names client (before ++ left)
-acts-unnamed names client [] raw left other = acts-line names client raw left ∙ ap (λ (acts : List Act). acts ++ acts_in names client left) (first-unnamed names client (without_line_end raw) other)
-acts-unnamed names client (first ∷ before) raw left other = grind (arith, acts-line, acts-unnamed names client before raw left other)
+-- one command more
+acts-push : (names : List (List ℕ)) (client : ℕ) (commands : List (List ℕ)) (command : List ℕ) → acts_by names client (commands ++ command ∷ []) ≡ acts_by names client commands ++ act_in (event_by names client command)
+acts-push names client [] command = append-nil (act_in (event_by names client command))
+acts-push names client (first ∷ more) command = grind (arith, acts-push names client more command, append_assoc)
 
-accepted-unnamed : (names : List (List ℕ)) (client : ℕ) (before : List (List ℕ)) (raw : List ℕ) (left : List (List ℕ)) → client_named (without_line_end raw) ≢ Some client
-    → AllAccepted names client (before ++ left) → AllAccepted names client (before ++ raw ∷ left)
-accepted-unnamed names client [] raw left other all = (λ named. absurd (other named), all)
-accepted-unnamed names client (first ∷ before) raw left other all = (all.0, accepted-unnamed names client before raw left other all.1)
+accepted-push : (names : List (List ℕ)) (client : ℕ) (commands : List (List ℕ)) (command : List ℕ) → AreAccepted names client (commands ++ command ∷ [])
+    → AreAccepted names client commands × ((event : Event) × (event_by names client command ≡ Ok event))
+accepted-push names client [] command all = (tt, all.0)
+accepted-push names client (first ∷ more) command all =
+    let (before, last) = accepted-push names client more command all.1 in ((all.0, before), last)
 
--- The part has gone through lines, of which these are the acts.
+-- The part has gone through commands, of which these are the acts.
 pub record HasGone (old new : Part) (past : List Act) : Type 0 where
   pub client : new.client ≡ old.client
   pub schema : new.schema.now ≡ old.schema.now
@@ -58,65 +80,79 @@ pub record HasGone (old new : Part) (past : List Act) : Type 0 where
   pub refused : new.refused ≡ false → old.refused ≡ false
   pub accepted : new.refused ≡ false → AcceptsLeft new → AcceptsLeft old
 
--- one line more
-pub gone-line : (old now new : Part) (raw line : List ℕ) (what : Found) → HasGone old now [] → lines_left now ≡ raw ∷ lines_left new → line ≡ without_line_end raw → IsFound now.schema.now now.client line what
-    → new.client ≡ now.client → new.schema.now ≡ now.schema.now → string_bytes new.text ≡ string_bytes now.text → (new.refused ≡ false → (now.refused ≡ false) × (what ≡ found.Refused → ⊥)) → HasGone old new (acts_found what)
-gone-line old now new raw line what gone cut is found client schema text clean = grind (arith, acts-line)
+-- one command more: it is an act, or refused
+pub gone-act : (old now new : Part) (command : List ℕ) (event : Event) → HasGone old now [] → commands_left now ≡ command ∷ commands_left new → event_by now.schema.now now.client command ≡ Ok event
+    → new.client ≡ now.client → new.schema.now ≡ now.schema.now → string_bytes new.text ≡ string_bytes now.text → new.refused ≡ now.refused → HasGone old new (event.act ∷ [])
+gone-act old now new command event gone cut said client schema text same = grind (arith)
+
+pub gone-refused : (old now new : Part) (command : List ℕ) (why : Refusal) → HasGone old now [] → commands_left now ≡ command ∷ commands_left new → event_by now.schema.now now.client command ≡ Err why
+    → new.client ≡ now.client → new.schema.now ≡ now.schema.now → string_bytes new.text ≡ string_bytes now.text → new.refused ≡ true → HasGone old new []
+gone-refused old now new command why gone cut said client schema text refused = grind (arith)
 
 -- the replies to a part stay
 pub returned-on : (first old new : Part) (acts : List Act) (replies : List Reply) → HasReplied first old replies → HasGone old new acts → HasReplied first new replies
 returned-on first old new acts replies returned gone = grind (arith)
 
--- the next line of a part, and no line
-pub line-next : (part : Part) (raw : Bor (List ℕ)) → part.read < vec_len part.lines → raw ≡ get_or part.lines.items part.read raw → lines_left part ≡ raw.now ∷ map (λ (r : Bor (List ℕ)). r.now) (drop (part.read + 1) part.lines.items)
-line-next part raw some is = grind (arith, drop_more)
+-- the next command of a part, and no command
+pub command-next : (part : Part) (command : Bor (List ℕ)) → part.read < vec_len part.commands → command ≡ get_or part.commands.items part.read command
+    → commands_left part ≡ command.now ∷ map (λ (c : Bor (List ℕ)). c.now) (drop (part.read + 1) part.commands.items)
+command-next part command some is = grind (arith, drop_more)
 
-pub lines-none : (part : Part) → vec_len part.lines ≤ part.read → lines_left part ≡ []
-lines-none part none = grind (arith, drop_all)
+pub commands-none : (part : Part) → vec_len part.commands ≤ part.read → commands_left part ≡ []
+commands-none part none = grind (arith, drop_all)
 
 -- a client has no more acts than its lines have bytes
 pub acts-short : (names : List (List ℕ)) (client : ℕ) (text : List ℕ) → length (acts_in names client (raw_lines text)) ≤ length text
 acts-short names client text = grind (arith, length-map, length-filter, count_by-le-length, events-of_lines names 0 (raw_lines text), lines-few text)
 
 -- a reply more
-pub returned-more : (first old new : Part) (replies : List Reply) (reply : Reply) → HasReplied first old replies → new.client ≡ old.client → new.schema.now ≡ old.schema.now → lines_left new ≡ lines_left old → new.refused ≡ old.refused
+pub returned-more : (first old new : Part) (replies : List Reply) (reply : Reply) → HasReplied first old replies → new.client ≡ old.client → new.schema.now ≡ old.schema.now → commands_left new ≡ commands_left old → new.refused ≡ old.refused
     → string_bytes new.text ≡ string_bytes old.text ++ reply_lines (length old.schema.now) old.client reply → HasReplied first new (replies ++ reply ∷ [])
 unfolding texts
 returned-more first old new replies reply returned client schema left refused wrote = grind (arith, append_assoc, append-nil, texts-append)
 
--- the parts of clients before they have lines, and one part more
-pub are-more : (names raws : List (List ℕ)) (parts : List Part) (part : Part) → ArePartsUpTo names raws raws parts → part.schema.now ≡ names → part.client ≡ suc (length parts) → lines_left part ≡ [] → part.read ≡ 0
+-- the parts of clients before they have commands, and one part more
+pub are-more : (names raws : List (List ℕ)) (parts : List Part) (part : Part) → ArePartsUpTo names raws raws parts → part.schema.now ≡ names → part.client ≡ suc (length parts) → commands_left part ≡ [] → part.read ≡ 0
     → string_bytes part.text ≡ [] → ArePartsUpTo names raws raws (parts ++ part ∷ [])
-are-more names raws parts part are schema client lines read returned place other here = elim (cases_lt place (length parts)) [
+are-more names raws parts part are schema client commands read returned place other here = elim (cases_lt place (length parts)) [
   | inl inside ↦ are place other (slice_get_read parts (length parts) place other refl inside (grind (arith, get_or_from_slice_get (parts ++ part ∷ []) place other other here, get_or_append_left parts (part ∷ []) other place inside)))
   | inr past ↦ grind (arith, past, slice_get_within (parts ++ part ∷ []) place other here, length-append parts (part ∷ []), get_or_push parts part part place, get_or_from_slice_get (parts ++ part ∷ []) place other part here)
 ]
 
--- a line more
-pub lines-push : (old new : List (Bor (List ℕ))) (raw : Bor (List ℕ)) → new ≡ old ++ raw ∷ [] → map (λ (r : Bor (List ℕ)). r.now) new ≡ map (λ (r : Bor (List ℕ)). r.now) old ++ raw.now ∷ []
-lines-push old new raw pushed = ap (map (λ (r : Bor (List ℕ)). r.now)) pushed ∙ map-append (λ (r : Bor (List ℕ)). r.now) old (raw ∷ [])
-
--- a line is given to the part of the client that it names
+-- a line that does not name the client is nothing to its part
 part-next : (names raws left : List (List ℕ)) (raw : List ℕ) (client : ℕ) (part : Part) → IsPart names raws (raw ∷ left) client part → client_named (without_line_end raw) ≢ Some client → IsPart names raws left client part
 part-next names raws left raw client part is other =
-    let accepts : AllAccepted names client (lines_left part ++ left) → AllAccepted names client (lines_left part ++ raw ∷ left) = accepted-unnamed names client (lines_left part) raw left other in
-    grind (arith, acts-unnamed names client (lines_left part) raw left other)
+    let accepts : AllAccepted names client left → AllAccepted names client (raw ∷ left) = λ all. (λ named. absurd (other named), all) in
+    grind (arith, acts-line names client raw left, first-unnamed names client (without_line_end raw) other)
 
 pub given-nobody : (names raws left : List (List ℕ)) (raw : List ℕ) (parts : List Part) → NamesNone (length parts) (without_line_end raw) → ArePartsUpTo names raws (raw ∷ left) parts → ArePartsUpTo names raws left parts
 given-nobody names raws left raw parts nobody are place part here = part-next names raws left raw (suc place) part (are place part here) (nobody place (slice_get_within parts place part here))
 
--- no line of a part was read
-lines-unread : (part : Part) → part.read ≡ 0 → lines_left part ≡ lines_in part
-lines-unread part unread = ap (λ (n : ℕ). map (λ (r : Bor (List ℕ)). r.now) (drop n part.lines.items)) unread
+-- the command of a line that names the client is given to its part
+commands-push : (old new : Part) (command : Bor (List ℕ)) → old.read ≡ 0 → new.read ≡ old.read → new.commands.items ≡ old.commands.items ++ command ∷ [] → commands_left new ≡ commands_left old ++ command.now ∷ []
+commands-push old new command unread same pushed = rw (same, unread, pushed) (map-append (λ (c : Bor (List ℕ)). c.now) old.commands.items (command ∷ []))
 
-pub given-here : (names raws left : List (List ℕ)) (raw : List ℕ) (parts : List Part) (place : ℕ) (old new : Part) → place < length parts → old ≡ get_or parts place old → client_named (without_line_end raw) ≡ Some (suc place)
-    → new.schema.now ≡ old.schema.now → new.client ≡ old.client → lines_in new ≡ lines_in old ++ raw ∷ [] → new.read ≡ old.read → string_bytes new.text ≡ string_bytes old.text
-    → ArePartsUpTo names raws (raw ∷ left) parts → ArePartsUpTo names raws left (set parts place new)
-given-here names raws left raw parts place old new inside held named schema client lines read text are spot part here = elim (cases_Bool (spot == place)) [
-  | inl e ↦ grind (arith, eqb-true spot place e, get_or-set_at parts place spot new new, get_or_from_slice_get (set parts place new) spot part new here, was, whole)
+part-given : (names raws left : List (List ℕ)) (raw command : List ℕ) (client : ℕ) (old new : Part) → IsPart names raws (raw ∷ left) client old → IsCommandOf client (without_line_end raw) command
+    → new.schema.now ≡ old.schema.now → new.client ≡ old.client → commands_left new ≡ commands_left old ++ command ∷ [] → new.read ≡ old.read → string_bytes new.text ≡ string_bytes old.text → IsPart names raws left client new
+part-given names raws left raw command client old new was of schema number commands read text = record {
+  schema = schema ∙ was.schema;
+  number = number ∙ was.number;
+  acts = grind (arith, acts-push names client (commands_left old) command, acts-line names client raw left, first-named names client (without_line_end raw) command of, append_assoc);
+  accepted = λ here rest.
+      let (before, last) = accepted-push names client (commands_left old) command (rw (schema ∙ was.schema, number ∙ was.number, commands) at here) in
+      was.accepted (rw (was.schema, was.number) before) (λ _. (last.0, ap (event_said names) of.said ∙ last.1), rest);
+  unread = read ∙ was.unread;
+  returned = text ∙ was.returned;
+}
+
+pub given-here : (names raws left : List (List ℕ)) (raw : List ℕ) (command : Bor (List ℕ)) (parts : List Part) (place : ℕ) (old new : Part) → place < length parts → old ≡ get_or parts place old
+    → IsCommandOf (suc place) (without_line_end raw) command.now → new.schema.now ≡ old.schema.now → new.client ≡ old.client → new.commands.items ≡ old.commands.items ++ command ∷ [] → new.read ≡ old.read
+    → string_bytes new.text ≡ string_bytes old.text → ArePartsUpTo names raws (raw ∷ left) parts → ArePartsUpTo names raws left (set parts place new)
+given-here names raws left raw command parts place old new inside held of schema client pushed read text are spot part here = elim (cases_Bool (spot == place)) [
+  | inl e ↦ grind (arith, eqb-true spot place e, get_or-set_at parts place spot new new, get_or_from_slice_get (set parts place new) spot part new here, given)
   | inr e ↦
       let stays : part ≡ get_or parts spot part = grind (arith, get_or_from_slice_get (set parts place new) spot part part here, get_or-set_other parts place spot new part (eqb-false spot place e)) in
-      part-next names raws left raw (suc spot) part (are spot part (slice_get_read parts (length parts) spot part refl within stays)) (λ its. grind (arith, eqb-false spot place e, named, its))
+      part-next names raws left raw (suc spot) part (are spot part (slice_get_read parts (length parts) spot part refl within stays)) (λ its. grind (arith, eqb-false spot place e, of.named, its))
 ]
   where
     within : spot < length parts
@@ -125,12 +161,13 @@ given-here names raws left raw parts place old new inside held named schema clie
     was : IsPart names raws (raw ∷ left) (suc place) old
     was = are place old (slice_get_read parts (length parts) place old refl inside held)
 
-    whole : lines_left old ++ raw ∷ left ≡ lines_left new ++ left
-    whole = grind (arith, lines-unread old was.unread, lines-unread new (read ∙ was.unread), append_assoc (lines_in old) (raw ∷ []) left, lines)
+    given : IsPart names raws left (suc place) new
+    given = part-given names raws left raw command.now (suc place) old new was of schema client (commands-push old new command was.unread read pushed) read text
 
 -- all lines were given to the parts: these are the acts of each
 pub part-acts : (names raws : List (List ℕ)) (client : ℕ) (part : Part) → IsPart names raws [] client part → acts_left part ≡ acts_in names client raws
-part-acts names raws client part is = rw (is.schema, is.number) (ap (acts_in names client) (sym (append-nil (lines_left part))) ∙ is.acts)
+unfolding commands_of accepted_events
+part-acts names raws client part is = sym (append-nil (acts_left part)) ∙ is.acts
 
 pub parts-few : (names : List (List ℕ)) (text : List ℕ) (parts : List Part) → length text < 2 ^ 63 → AreParts names (raw_lines text) parts → All (λ part. length (acts_left part) < 2 ^ 63) parts
 parts-few names text parts short are i d within = grind (arith, part-acts names (raw_lines text) (suc i) (get_or parts i d) (are i (get_or parts i d) (slice_get-get_or parts i d within)), acts-short names (suc i) text)
@@ -185,14 +222,17 @@ whole-accepts names text parts done replies are taken all place inside =
     let (first, first_at) = there parts place (omega (arith, inside, taken.tasks_done)) in
     let (part, part_at) = there done place inside in
     let (returned, returned_at, has) = taken.each place first part first_at part_at in
-    let whole = all place part inside in
-    grind (arith, are place first first_at, get_or_from_slice_get done place part part part_at, whole, lines-none part, has, append-nil (lines_left first))
+    let whole : IsWhole part = grind (arith, get_or_from_slice_get done place part part part_at, all place part inside) in
+    (are place first first_at).accepted (has.accepted whole.accepted (rw (commands-none part (omega (arith, whole.through))) tt)) tt
 
 -- a line that was given to a part, and that is not refused, is none of nobody's
 unowned-given : (clients width : ℕ) (names : List (List ℕ)) (number : ℕ) (raw : List ℕ) → IsGiven clients raw → ((place : ℕ) → place < clients → IsAccepted names (suc place) (without_line_end raw))
     → unowned_lines clients width (commands_in names number (without_line_end raw)) ≡ []
 unowned-given clients width names number raw (inl blank) accept = sym (unowned-blank clients width names number (without_line_end raw) [] blank)
-unowned-given clients width names number raw (inr (place, inside, named)) accept = grind (arith, unowned-blank clients width names number (without_line_end raw) [], unowned-own clients width names number (without_line_end raw) [] place)
+unowned-given clients width names number raw (inr (place, inside, named)) accept =
+    let line = without_line_end raw in
+    let (event, is) = accept place inside named in
+    sym (unowned-own clients width names number line [] place event is (grind (arith, event-named names line event is, named)) inside)
 
 all-given : (clients width : ℕ) (names : List (List ℕ)) (number : ℕ) (raws : List (List ℕ)) → AllGiven clients raws → ((place : ℕ) → place < clients → AllAccepted names (suc place) raws)
     → unowned_lines clients width (commands_of names number raws) ≡ []

@@ -1,5 +1,5 @@
 -- The forms of a command line. (this project)
-use Rattle.std.specs.Prelude.{ℕ, List, Option, Some, None, if◌then◌else◌, codes}
+use Rattle.std.specs.Prelude.{ℕ, List, Option, Some, None, if◌then◌else◌, codes, option_map}
 use Rattle.std.specs.Str.{bytes_eq}
 use Rattle.pref_table.specs.Number.{after_blanks}
 use Rattle.pref_script.specs.Pieces.{ChangeSaid, change_said, change_said_by, change_verb_of}
@@ -61,13 +61,21 @@ said_by verb.Get rest = do
   Some (gets id)
 said_by verb.Room rest = alone rooms rest
 
--- what follows the word `as`: the client's number, a verb and what follows it
+-- what a command says, which is what follows the client's number: a verb and what follows it
+abbrev pub said_of : List ℕ → Option Said
+said_of command = do
+  verb ← verb_of (word_of command)
+  said_by verb (after_word command)
+
+-- the same, with the client that gives the command
+abbrev pub said_by_client : ℕ → List ℕ → Option (ℕ × Said)
+said_by_client client command = option_map (λ what. (client, what)) (said_of command)
+
+-- what follows the word `as`: the client's number and a command
 abbrev pub said_after_as : List ℕ → Option (ℕ × Said)
 said_after_as rest = do
   client ← word_number 255 (word_of rest)
-  verb ← verb_of (word_of (after_word rest))
-  what ← said_by verb (after_word (after_word rest))
-  Some (client, what)
+  said_by_client client (after_word rest)
 
 -- the client of a command line and what it says, where it has the form of one
 unfoldable pub said_in : List ℕ → Option (ℕ × Said)

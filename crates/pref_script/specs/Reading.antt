@@ -10,9 +10,8 @@ use Rattle.pref_core.specs.declared.fault.CoreFault.{CoreFault}
 use Rattle.pref_core.specs.declared.fault.CoreFault.TheVariants as core
 use Rattle.pref_share.specs.declared.fault.ShareFault.{ShareFault}
 use Rattle.pref_share.specs.declared.fault.ShareFault.TheVariants as share
-use Rattle.pref_script.specs.Forms.{Said, said_by, verb_of}
 use Rattle.pref_script.specs.Pieces.{are_changes, pieces_of}
-use Rattle.pref_script.specs.Words.{◌>>=◌, after_word, word_number, word_of}
+use Rattle.pref_script.specs.Words.{word_number, word_of}
 use Rattle.pref_script.specs.Script.{Parts, parts_of, raw_lines}
 use Rattle.pref_script.specs.declared.command.Refusal.{Refusal}
 use Rattle.pref_script.specs.declared.command.Refusal.TheVariants.{NotCommand}
@@ -38,13 +37,6 @@ pub record IsDigitsWord (text : List ℕ) (value count : ℕ) : Type 0 where
 -- a word that is no number of 64 bits
 abbrev pub HasNoNumber : List ℕ → Type 0
 HasNoNumber word = (most : ℕ) → most < 2 ^ 64 → word_number most word ≡ None
-
--- what is said by what follows a client's number
-abbrev pub said_by_client : ℕ → List ℕ → Option (ℕ × Said)
-said_by_client client rest = do
-  verb ← verb_of (word_of rest)
-  what ← said_by verb (after_word rest)
-  Some (client, what)
 
 -- the pieces that are left of a commit's text
 abbrev pub pieces_left : Option (List ℕ) → List (List ℕ)

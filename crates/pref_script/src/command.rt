@@ -2,14 +2,14 @@
 ghost use Rattle.std.specs.Prelude.{◌≡◌, Ok, Some};
 ghost use Rattle.pref_term.specs.Asked.{asked};
 ghost use Rattle.pref_script.specs.Commands.{change_of, event_of, event_said, of_question};
-ghost use Rattle.pref_script.specs.Forms.{begins, changes, commits, said};
+ghost use Rattle.pref_script.specs.Forms.{begins, changes, commits, said, said_by_client};
 ghost use Rattle.pref_script.specs.Pieces.{change_said};
 ghost use Rattle.pref_script.specs.Reading.{Reads};
 ghost use Rattle.pref_script.specs.declared.command.Refusal.TheVariants.{Values};
 ghost use Rattle.pref_script.specs.declared.command.Stop.TheVariants.{Refused};
 
 use crate::commits::read_commit;
-use crate::forms::{Form, read_form};
+use crate::forms::{Form, cut_client, read_form};
 use crate::pieces::ChangeForm;
 use pref_core::{Act, BoxedCommit, Change, CoreFault, Event};
 use pref_table::{Schema, TableFault, read_row};
@@ -138,15 +138,30 @@ fn form_event(alloc: Global, schema: &Schema, client: u8, form: Form<'_>) -> Res
     Ok(Event { client, act })
 }
 
-/// The event of a command line, which is given without its end.
+/// The event of a client's command, which is what follows the client's number in a command line.
 ///
 /// Refused for its form first, then for its values, its pieces or its question; whether there is such a client is not
 /// tested. Takes memory for a question and for a commit.
+pub fn read_command(
+    alloc: Global,
+    schema: &Schema,
+    client: u8,
+    command: &[u8],
+) -> Result<Event, Stop>
+    ensures { Reads result (event_said schema.now (said_by_client client command.now)) }
+{
+    match read_form(command) {
+        Some(form) => form_event(alloc, schema, client, form),
+        None => Err(Stop::Refused(Refusal::NotCommand)),
+    }
+}
+
+/// The event of a command line, which is given without its end. Refused for its form first, as [`read_command`] is.
 pub fn read_event(alloc: Global, schema: &Schema, line: &[u8]) -> Result<Event, Stop>
     ensures { Reads result (event_of schema.now line.now) }
 {
-    let Some((client, form)) = read_form(line) else {
-        return Err(Stop::Refused(Refusal::NotCommand));
-    };
-    form_event(alloc, schema, client, form)
+    match cut_client(line) {
+        Some((client, command)) => read_command(alloc, schema, client, command),
+        None => Err(Stop::Refused(Refusal::NotCommand)),
+    }
 }

@@ -1,7 +1,6 @@
 //! The forms of a command line.
 ghost use Rattle.std.specs.Prelude.{◌≡◌, MatchOption, None, Some, option_map};
-ghost use Rattle.pref_script.specs.Forms.{client_named, said, said_by, said_in, verb_of};
-ghost use Rattle.pref_script.specs.Reading.{said_by_client};
+ghost use Rattle.pref_script.specs.Forms.{client_named, said, said_by, said_by_client, said_in, said_of, verb_of};
 ghost use Rattle.pref_script.specs.Words.{after_word, alone as alone_of, word_of};
 
 use crate::pieces::{ChangeForm, ChangeVerb, change_form, cut_change};
@@ -90,7 +89,7 @@ fn verb_form(verb: Verb, rest: &[u8]) -> Option<Form<'_>>
     }
 }
 
-/// The client of a command line that begins with the word `as`, and what follows its number.
+/// The client that a line names by the word `as` and a number, and the command behind that.
 #[inline(never)]
 #[tactic(auto, unfolding(crate::specs::Forms::said_in, crate::specs::Forms::client_named))]
 fn cut_any_client(line: &[u8]) -> Option<(u8, &[u8])>
@@ -102,9 +101,9 @@ fn cut_any_client(line: &[u8]) -> Option<(u8, &[u8])>
     Some((client as u8, rest))
 }
 
-/// The client of a command line, and what follows its number. Most lines begin by `as`, one blank, one digit and one blank: that is
-/// tested first.
-fn cut_client(line: &[u8]) -> Option<(u8, &[u8])>
+/// The client that a line names, and its command, which is what follows the client's number and may be anything. Most lines begin by
+/// `as`, one blank, one digit and one blank: that is tested first.
+pub fn cut_client(line: &[u8]) -> Option<(u8, &[u8])>
     ensures said { MatchOption result (said_in line.now ≡ None) (λ cut. said_in line.now ≡ said_by_client cut.0 cut.1.now) }
     ensures named { option_map (λ cut. cut.0) result ≡ client_named line.now }
 {
@@ -120,20 +119,10 @@ fn cut_client(line: &[u8]) -> Option<(u8, &[u8])>
     cut_any_client(line)
 }
 
-/// The client that a line names, whether or not the line has the form of a command.
-pub fn client_named(line: &[u8]) -> Option<u8>
-    ensures { result ≡ client_named line.now }
+/// What a command says, where it has the form of one: what follows the client's number in a command line.
+pub fn read_form(command: &[u8]) -> Option<Form<'_>>
+    ensures { option_map said result ≡ said_of command.now }
 {
-    let (client, _) = cut_client(line)?;
-    Some(client)
-}
-
-/// The client of a command line and what the line says, where it has the form of one.
-pub fn read_form(line: &[u8]) -> Option<(u8, Form<'_>)>
-    ensures { option_map (λ read. (read.0, said read.1)) result ≡ said_in line.now }
-{
-    let (client, rest) = cut_client(line)?;
-    let (verb, rest) = cut_verb(rest)?;
-    let form = verb_form(verb, rest)?;
-    Some((client, form))
+    let (verb, rest) = cut_verb(command)?;
+    verb_form(verb, rest)
 }

@@ -1,12 +1,11 @@
-//! What each client of a script does on a thread of its own: its lines, one after the other.
-ghost use Rattle.std.specs.Prelude.{◌≡◌, ◌<◌, ◌++◌, ◌∷◌, [], true, length, string_bytes, suc, All, IfOk, MatchOption, OnOk, Some};
-ghost use Rattle.pref_script.specs.ClientParts.{AllGiven, ArePartsUpTo, AreParts, IsFound, IsGiven, IsWhole, NamesNone};
-ghost use Rattle.pref_script.specs.Forms.{client_named};
+//! What each client of a script does on a thread of its own: its commands, one after the other.
+ghost use Rattle.std.specs.Prelude.{◌≡◌, ◌<◌, ◌++◌, ◌∷◌, [], true, length, string_bytes, suc, All, IfOk, MatchOption, OnOk};
+ghost use Rattle.pref_script.specs.ClientParts.{AllGiven, ArePartsUpTo, AreParts, IsCommandOf, IsGiven, IsWhole, NamesNone};
 ghost use Rattle.pref_script.specs.Script.{raw_lines};
 ghost use Rattle.pref_script.specs.Text.{texts};
 
-use crate::command::{Stop, read_event};
-use crate::forms::client_named;
+use crate::command::{Stop, read_command};
+use crate::forms::cut_client;
 use crate::script::{cut_line, is_blank_line, line_text};
 use crate::text::push_reply;
 use pref_core::{Act, Reply};
@@ -14,24 +13,24 @@ use pref_share::Task;
 use pref_table::Schema;
 use std::alloc::{AllocError, Global};
 
-/// A client's part of a script: the command lines that name the client, how many of them were read, the lines of the replies so far,
-/// and whether a line that was read is refused.
+/// A client's part of a script: its commands, which are what follows its number in the lines that name it, how many of them were
+/// read, the lines of the replies so far, and whether a command that was read is refused.
 #[derive(Drop)]
 pub struct Part<'script> {
     schema: &'script Schema,
     client: u8,
-    lines: Vec<&'script [u8]>,
+    commands: Vec<&'script [u8]>,
     read: usize,
     text: String,
     refused: bool,
 }
 
 impl Part<'_> {
-    /// Whether all lines that name the client were its acts, and none is left.
+    /// Whether all commands were acts, and none is left.
     fn is_whole(&self) -> bool
         ensures { result ≡ true → IsWhole self.now }
     {
-        self.read == self.lines.len() && !self.refused
+        self.read == self.commands.len() && !self.refused
     }
 }
 
@@ -43,13 +42,13 @@ impl Task for Part<'_> {
     ghost took = { HasReplied };
 
     fn next(&mut self, alloc: Global) -> Result<Option<Act>, AllocError> {
-        while self.read < self.lines.len() {
-            let raw = self.lines[self.read];
+        while self.read < self.commands.len() {
+            let command = self.commands[self.read];
             self.read += 1;
-            match read_line(alloc, self.schema, self.client, line_text(raw))? {
-                Found::Nothing => {}
-                Found::Refused => self.refused = true,
-                Found::Act(act) => return Ok(Some(act)),
+            match read_command(alloc, self.schema, self.client, command) {
+                Ok(event) => return Ok(Some(event.act)),
+                Err(Stop::Refused(_)) => self.refused = true,
+                Err(Stop::OutOfMemory) => return Err(AllocError),
             }
         }
         Ok(None)
@@ -60,33 +59,7 @@ impl Task for Part<'_> {
     }
 }
 
-/// What a line of a script is to one client.
-#[derive(Drop)]
-pub enum Found {
-    /// Blank, or another client's event.
-    Nothing,
-    /// It is refused.
-    Refused,
-    /// The client's act.
-    Act(Act),
-}
-
-/// Reads a line for a client, where it names that client.
-fn read_line(alloc: Global, schema: &Schema, client: u8, line: &[u8]) -> Result<Found, AllocError>
-    ensures { IfOk result (IsFound schema.now client line.now) }
-{
-    if is_blank_line(line) {
-        return Ok(Found::Nothing);
-    }
-    match read_event(alloc, schema, line) {
-        Ok(event) if event.client != client => Ok(Found::Nothing),
-        Ok(event) => Ok(Found::Act(event.act)),
-        Err(Stop::Refused(_)) => Ok(Found::Refused),
-        Err(Stop::OutOfMemory) => Err(AllocError),
-    }
-}
-
-/// The part of each of this many clients, before it has lines.
+/// The part of each of this many clients, before it has commands.
 fn empty_parts(alloc: Global, schema: &Schema, clients: u8) -> Result<Vec<Part<'_>>, AllocError>
     ensures count { IfOk result (λ parts. length parts.items ≡ clients) }
     ensures parts { IfOk result (λ parts. (raws : _) → ArePartsUpTo schema.now raws raws parts.items) }
@@ -96,7 +69,7 @@ fn empty_parts(alloc: Global, schema: &Schema, clients: u8) -> Result<Vec<Part<'
         parts.push(Part {
             schema,
             client: client + 1,
-            lines: Vec::new(alloc),
+            commands: Vec::new(alloc),
             read: 0,
             text: String::new(alloc),
             refused: false,
@@ -105,19 +78,22 @@ fn empty_parts(alloc: Global, schema: &Schema, clients: u8) -> Result<Vec<Part<'
     Ok(parts)
 }
 
-/// The place of the client that a line names among this many clients, where it is one of them.
-fn place_named(clients: usize, line: &[u8]) -> Option<usize>
-    ensures { MatchOption result (NamesNone clients line.now) (λ place. (place < clients) × (client_named line.now ≡ Some (suc place))) }
+/// The place of the client that a line names among this many clients, and its command, where it is one of them.
+fn cut_place(clients: usize, line: &[u8]) -> Option<(usize, &[u8])>
+    ensures { MatchOption result (NamesNone clients line.now)
+        (λ cut. (cut.0 < clients) × IsCommandOf (suc cut.0) line.now cut.1.now) }
 {
-    let number = usize::from(client_named(line)?);
+    let (client, command) = cut_client(line)?;
+    let number = usize::from(client);
     if 0 < number && number <= clients {
-        Some(number - 1)
+        Some((number - 1, command))
     } else {
         None
     }
 }
 
-/// Gives a line to the part of the client that it names, where it is one of these. Returns whether the line went there, or is blank.
+/// Gives what a line says to the part of the client that it names, where it is one of these. Returns whether that was done, or the line
+/// is blank.
 fn give_line<'script>(
     parts: &mut Vec<Part<'script>>,
     raw: &'script [u8],
@@ -127,14 +103,14 @@ fn give_line<'script>(
     ensures given { IfOk result (λ given. given ≡ true → IsGiven (length parts.old.items) raw.now) }
 {
     let line = line_text(raw);
-    if let Some(place) = place_named(parts.len(), line) {
-        parts[place].lines.push(raw)?;
+    if let Some((place, command)) = cut_place(parts.len(), line) {
+        parts[place].commands.push(command)?;
         return Ok(true);
     }
     Ok(is_blank_line(line))
 }
 
-/// The part of each of this many clients, before its first line is read, and whether each line that is not blank went to one of them.
+/// The part of each of this many clients, before its first command is read, and whether each line that is not blank went to one of them.
 pub fn client_parts<'script>(
     alloc: Global,
     schema: &'script Schema,

@@ -1,14 +1,14 @@
-use Rattle.pref_script.proofs.Common.{◌∙◌, ap, arith, refl, sym, Part, client_named}
-use Rattle.pref_script.proofs.PartFacts.{given-here, given-nobody, lines-push}
+use Rattle.pref_script.proofs.Common.{◌∙◌, ap, arith, refl, Part, client_named}
+use Rattle.pref_script.proofs.PartFacts.{given-here, given-nobody}
 use Rattle.pref_script.proofs.parts.give_line.Goals as goal
 
 pub returns-in-Some-clause-parts : goal.returns-in-Some-clause-parts
 returns-in-Some-clause-parts c = λ names raws left are.
     let parts = c.args.parts.now in
     let old = c.index_mut.result.now in
-    let new : Part = record { schema = old.schema; client = old.client; lines = c.push.new.self; read = old.read; text = old.text; refused = old.refused } in
-    given-here names raws left c.args.raw.now parts.items c.in-Some.place old new (omega (arith, c.in-Some.ensures.0, c.len.ensures, parts.ok.0)) c.index_mut.ensures.value
-    (ap client_named (sym c.line_text-line.ensures) ∙ c.in-Some.ensures.1) refl refl (lines-push old.lines.items c.push.new.self.items c.args.raw c.in_ok-push.ensures.items) refl refl are
+    let new : Part = record { schema = old.schema; client = old.client; commands = c.push.new.self; read = old.read; text = old.text; refused = old.refused } in
+    given-here names raws left c.args.raw.now c.in-Some.command parts.items c.in-Some.place old new (omega (arith, c.in-Some.ensures.0, c.len.ensures, parts.ok.0)) c.index_mut.ensures.value
+    (rw c.line_text-line.ensures at c.in-Some.ensures.1) refl refl c.in_ok-push.ensures.items refl refl are
 
 pub returns-clause-parts : goal.returns-clause-parts
 returns-clause-parts c = λ names raws left are.

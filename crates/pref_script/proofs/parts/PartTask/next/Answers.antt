@@ -1,24 +1,18 @@
-use Rattle.pref_script.proofs.Common.{◌∙◌, ◌∷◌, ◌+◌, [], accepted_events, acts_in, ap, arith, commands_of, refl, Part}
-use Rattle.pref_script.proofs.PartFacts.{gone-line, lines-none, line-next, returned-on}
-use Rattle.pref_script.specs.declared.parts.Found.TheVariants as found
+use Rattle.pref_script.proofs.Common.{◌∙◌, ◌∷◌, ◌+◌, [], ap, arith, refl, Part}
+use Rattle.pref_script.specs.ClientParts.{acts_by}
+use Rattle.pref_script.proofs.PartFacts.{command-next, commands-none, gone-act, gone-refused, returned-on}
 use Rattle.pref_script.proofs.parts.PartTask.next.Goals as goal
-
-pub loop-self-preserved-in-Nothing : goal.loop-self-preserved-in-Nothing
-loop-self-preserved-in-Nothing c =
-    gone-line _ _ _ _ _ found.Nothing c.loop-self.invariant (line-next c.loop-self.self _ (omega (arith, c.loop-self-test.true, c.len.ensures)) c.index-raw.ensures) c.line_text.ensures (rw c.in-Nothing.is at c.in_ok-read_line.ensures) refl refl refl (λ none. (none, λ same. cc same))
 
 pub loop-self-preserved : goal.loop-self-preserved
 loop-self-preserved c =
-    gone-line _ _ _ _ _ found.Refused c.loop-self.invariant (line-next c.loop-self.self _ (omega (arith, c.loop-self-test.true, c.len.ensures)) c.index-raw.ensures) c.line_text.ensures (rw c.in-Refused.is at c.in_ok-read_line.ensures) refl refl refl (λ none. cc none)
+    gone-refused _ _ _ _ _ c.loop-self.invariant (command-next c.loop-self.self _ (omega (arith, c.loop-self-test.true, c.len.ensures)) c.index-command.ensures) (rw c.in-Err-Refused.field-0-is at c.in-Err-Refused.ensures) refl refl refl refl
 
-pub returns-in-Act : goal.returns-in-Act
-returns-in-Act c =
+pub returns-in-Ok : goal.returns-in-Ok
+returns-in-Ok c =
     let now = c.loop-self.self in
-    let new : Part = record { schema = now.schema; client = now.client; lines = now.lines; read = now.read + 1; text = now.text; refused = now.refused } in
-    let gone = gone-line _ now new _ _ (found.Act c.in-Act.act) c.loop-self.invariant (line-next now _ (omega (arith, c.loop-self-test.true, c.len.ensures)) c.index-raw.ensures) c.line_text.ensures (rw c.in-Act.is at c.in_ok-read_line.ensures) refl refl refl
-    (λ none. (none, λ same. cc same)) in
-    record { next = gone.acts; same = λ first replies returned. returned-on first _ new (c.in-Act.act ∷ []) replies returned gone }
+    let new : Part = record { schema = now.schema; client = now.client; commands = now.commands; read = now.read + 1; text = now.text; refused = now.refused } in
+    let gone = gone-act _ now new _ c.in-Ok.event c.loop-self.invariant (command-next now _ (omega (arith, c.loop-self-test.true, c.len.ensures)) c.index-command.ensures) c.in-Ok.ensures refl refl refl refl in
+    record { next = gone.acts; same = λ first replies returned. returned-on first _ new (c.in-Ok.event.act ∷ []) replies returned gone }
 
 pub returns-clause-next : goal.returns-clause-next
-unfolding commands_of accepted_events
-returns-clause-next c = c.loop-self.invariant.acts ∙ ap (acts_in _ _) (lines-none c.loop-self.self (omega arith))
+returns-clause-next c = c.loop-self.invariant.acts ∙ ap (acts_by _ _) (commands-none c.loop-self.self (omega arith))

@@ -6,4 +6,4 @@ abbrev pub invariant-loop-self : goal.invariant-loop-self
 invariant-loop-self l = HasGone l.initial.self l.self []
 
 abbrev pub decreases-loop-self : goal.decreases-loop-self
-decreases-loop-self l = vec_len l.self.lines - l.self.read
+decreases-loop-self l = vec_len l.self.commands - l.self.read
