@@ -1,12 +1,13 @@
 -- The slots of a change that are known by a look at them alone.
-use Rattle.pref_core.proofs.Common.{◌≡◌, ℕ, suc, ◌+◌, ◌≤◌, Bool, true, false, not, ◌&&◌, cond, eqb, List, [], ◌∷◌, ◌++◌, length, take, drop, Option, Some, None, is_some, slice_get, ◌⊎◌}
+use Rattle.pref_core.proofs.Common.{◌≡◌, ℕ, suc, ◌+◌, ◌≤◌, Bool, true, false, not, ◌&&◌, cond, eqb, List, [], ◌∷◌, ◌++◌, length, take, drop, Option, Some, None, is_some, IfSome, slice_get, ◌⊎◌}
 use Rattle.pref_core.proofs.Common.{inl, inr, ⊎_elim, refl, sym, ap, ap₂, ◌∙◌, subst, arith, eqb-true, or_from, or_left, true≢false, append-nil, Call, Op, Change, Add}
-use Rattle.pref_core.proofs.Common.{Set, Remove, Version, Row, ended_by, begun_by, begins_any, row_at, IsPlaceOf, IsKept, FitAtOnce, are_free, frees_at, uses_of, filled, is_free, is_next}
+use Rattle.pref_core.proofs.Common.{Set, Remove, Version, Row, ended_by, begun_by, begins_any, row_at, IsKept, FitAtOnce, FitsNext, are_free, frees_at, uses_of, filled, is_free, is_next}
 use Rattle.pref_core.proofs.Common.{slots_after, used, free_at, Contents, begins, visible, begun, changes_of, ended, is_change, is_formed, missing}
 use Rattle.pref_core.proofs.Common.{Line, among, false_from_ne_true, drop_all}
+use Rattle.std.specs.Option.{option_eq}
 use Rattle.pref_core.proofs.ChangesLaws.{AreApart, among_append, among_inside, drop_at, ended_so_far, formed_apart, take_at}
 use Rattle.pref_core.proofs.ChosenSlots.{ChosenUpTo, all_chosen, closed_slots, outcome_fits, stamps_next}
-use Rattle.pref_core.proofs.ChangeCounts.{ended_next, one_begins}
+use Rattle.pref_core.proofs.ChangeCounts.{ended_next, named_at, one_begins}
 use Rattle.pref_core.proofs.FilledLaws.{fills_free}
 use Rattle.pref_core.proofs.FreedLaws.{free_closed, frees_closed, row_taken}
 use Rattle.pref_core.proofs.PlanLaws.{plan_is_not_full}
@@ -116,15 +117,21 @@ fits_set contents call slots at used id row place kept formed here is stands fre
     not_taken e = grind (arith, row_taken, before)
 
 -- .. and one that is removed needs none.
-pub fits_removed : (contents : Contents) (call : Call) (slots : List ℕ) (at used id : ℕ) (place : Option ℕ) → IsKept contents → slice_get (changes_of call) at ≡ Some (Remove id) → IsPlaceOf contents.stamp id contents.slots place → is_some place ≡ true
+pub fits_removed : (contents : Contents) (call : Call) (slots : List ℕ) (at used id place : ℕ) → IsKept contents → slice_get (changes_of call) at ≡ Some (Remove id) → row_at contents.stamp id contents.slots place ≡ true
     → FitsUpTo contents call slots at used → FitsUpTo contents call slots (at + 1) used
-fits_removed contents call slots at used id None kept here stands some h = absurd (cc)
-fits_removed contents call slots at used id (Some place) kept here stands some h = record {
+fits_removed contents call slots at used id place kept here stands h = record {
   there = there_one contents call slots kept at used (Remove id) here h id place refl stands;
   free = h.free;
   taken = λ other a. weaker contents call slots kept at used (Remove id) here h other (h.taken other a);
   long = λ next_id. length_one contents call slots kept at used (Remove id) here h false refl next_id;
 }
+
+-- Each of them is a change that fits in the next slot.
+pub fits_change : (contents : Contents) (call : Call) (slots : List ℕ) (at used after : ℕ) (change : Change) → IsKept contents → is_formed call ≡ true → slice_get (changes_of call) at ≡ Some change → FitsNext contents slots used change after
+    → FitsUpTo contents call slots at used → FitsUpTo contents call slots (at + 1) after
+fits_change contents call slots at used after (Add row) kept formed here n h = subst (FitsUpTo contents call slots (at + 1)) (sym n.4) (fits_added contents call slots at used row n.0 kept here n.1 n.2 n.3 h)
+fits_change contents call slots at used after (Set id row) kept formed here n h = subst (FitsUpTo contents call slots (at + 1)) (sym n.4) (fits_set contents call slots at used id row n.0 kept formed here n.1 n.2 (n.3 (ended call) (named_at (changes_of call) at (Set id row) id here refl)) h)
+fits_change contents call slots at used after (Remove id) kept formed here n h = subst (FitsUpTo contents call slots (at + 1)) (sym n.2) (fits_removed contents call slots at used id n.0 kept here n.1 h)
 
 pub fits_all : (contents : Contents) (call : Call) (slots : List ℕ) (at used : ℕ) → is_change call ≡ true → is_formed call ≡ true → length (changes_of call) ≤ at → length slots ≡ used → FitsUpTo contents call slots at used → FitAtOnce contents call slots
 fits_all contents call slots at used c formed done long h = chosen_at_once contents call slots c formed there (go (filled (stamps_next contents) (suc contents.stamp) slots (begun contents.next_id call) closed) refl fits)
@@ -149,6 +156,18 @@ fits_all contents call slots at used c formed done long h = chosen_at_once conte
 
     go : (o : Option (List (Option Version))) → filled (stamps_next contents) (suc contents.stamp) slots (begun contents.next_id call) closed ≡ o → is_some o ≡ true → ChosenUpTo contents call [] slots
     go o e some = grind (arith, append-nil)
+
+-- None is used before the first change, ..
+pub fits_none : (contents : Contents) (call : Call) (slots : List ℕ) → FitsUpTo contents call slots 0 0
+fits_none contents call slots = record { there = refl; free = refl; taken = λ place a. absurd (true≢false (sym a)); long = λ next_id. omega arith }
+
+-- .. so a lone one fits where the slot that it takes is the only one.
+pub fits_lone : (contents : Contents) (call : Call) (slots : List ℕ) (change : Change) (used : Option ℕ) → IsKept contents → is_change call ≡ true → is_formed call ≡ true → changes_of call ≡ change ∷ []
+    → IfSome used (λ after. FitsNext contents slots 0 change after) → option_eq eqb used (Some (length slots)) ≡ true → FitAtOnce contents call slots
+fits_lone contents call slots change None kept c formed one n all = absurd (true≢false (sym all))
+fits_lone contents call slots change (Some used) kept c formed one n all =
+    let long = ap length one in
+    fits_all contents call slots 1 used c formed (omega arith) (sym (eqb-true used (length slots) all)) (fits_change contents call slots 0 0 used change kept formed (ap (λ l. slice_get l 0) one) n (fits_none contents call slots))
 
 -- Its slots fit an op of it that is next.
 pub next_fits : (contents : Contents) (op : Op) → FitAtOnce contents op.call op.slots → is_next contents op ≡ (is_next contents op && is_some (slots_after contents op))

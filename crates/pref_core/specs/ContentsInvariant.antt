@@ -1,11 +1,11 @@
 -- No public contract cites this.
 -- What a store keeps beside its slots, so that no change looks through them.
-use Rattle.std.specs.Prelude.{◌≡◌, ◌+◌, ◌^◌, ◌<◌, ◌≤◌, ◌&&◌, ◌||◌, ℕ, suc, List, [], ◌∷◌, ◌++◌, map, length, Bool, true, false, not, Option, Some, None, is_some, option_map, slice_get, slice_set, Result, MatchResult}
+use Rattle.std.specs.Prelude.{◌≡◌, ◌+◌, ◌^◌, ◌<◌, ◌≤◌, ◌&&◌, ◌||◌, ℕ, suc, List, [], ◌∷◌, ◌++◌, map, length, take, Bool, true, false, not, Option, Some, None, is_some, option_map, slice_get, slice_set, Result, MatchResult}
 use Rattle.std.specs.List.{count_by, AllByRecursion}
 use Rattle.pref_core.specs.declared.store.version.Version.{Version}
 use Rattle.pref_core.specs.declared.call.Call.{Call}
 use Rattle.pref_core.specs.declared.changes.Change.{Change}
-use Rattle.pref_core.specs.declared.changes.Change.TheVariants.{Set}
+use Rattle.pref_core.specs.declared.changes.Change.TheVariants.{Add, Set, Remove}
 use Rattle.pref_core.specs.declared.store.slot_sets.SlotUse.{SlotUse}
 use Rattle.pref_sky.specs.declared.entry.Entry.{Entry}
 use Rattle.pref_core.specs.Rows.{Row}
@@ -75,6 +75,12 @@ pub record FitAtOnce (contents : Contents) (call : Call) (slots : List ℕ) : Ty
   pub outcome : success_outcome contents.next_id call ≡ outcome_at contents call
   pub placed : is_some (placed contents call slots (outcome_at contents call)) ≡ true
   pub formed : is_formed call ≡ true
+
+-- A change fits at once, by a look at the next slot alone, and so many slots are used then: a row may be added in one that is free, set in the one where it stands if nothing needs what is there, and removed where it is there.
+abbrev pub FitsNext : Contents → List ℕ → ℕ → Change → ℕ → Type 0
+FitsNext contents slots used (Add row) after = (place : ℕ) × (slice_get slots used ≡ Some place) × (free_at (uses_of contents) place ≡ true) × (among (take used slots) place ≡ false) × (after ≡ used + 1)
+FitsNext contents slots used (Set id row) after = (place : ℕ) × (slice_get slots used ≡ Some place) × (row_at contents.stamp id contents.slots place ≡ true) × ((ids : List ℕ) → among ids id ≡ true → frees_at (begins contents.callers) ids (contents.stamp + 1) contents.slots place ≡ true) × (after ≡ used + 1)
+FitsNext contents slots used (Remove id) after = (place : ℕ) × (row_at contents.stamp id contents.slots place ≡ true) × (after ≡ used)
 
 -- each of these places is free, and none comes twice or is one of the earlier ones
 abbrev pub are_free : List ℕ → List (Option Version) → List ℕ → List ℕ → Bool

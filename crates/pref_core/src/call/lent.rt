@@ -1,6 +1,6 @@
 //! Calls whose rows are lent, and what a call asks of a store.
 
-ghost use Rattle.std.specs.Prelude.{◌≡◌, ◌∷◌, ◌<◌, ◌≤◌, ℕ, Some, IfSome, true, length, slice_get};
+ghost use Rattle.std.specs.Prelude.{◌≡◌, [], ◌∷◌, ◌<◌, ◌≤◌, ℕ, Some, IfSome, true, length, slice_get};
 
 use crate::call::{Call, QueryState};
 use crate::changes::{Commit, LentChange, added_by, begun_by};
@@ -143,6 +143,21 @@ impl<'a> LentCall<'a> {
             Lent::Begin => Call::Begin,
             Lent::Finish => Call::Finish,
             Lent::Abandon => Call::Abandon,
+        }
+    }
+
+    /// The change of a call that is one change, and no commit of it.
+    #[inline(always)]
+    pub(crate) fn lone(&self) -> Option<LentChange<'a>>
+        ensures change { IfSome result (λ change. changes_of self.now ≡ change_of change ∷ []) }
+        ensures succeeds { IfSome result (λ change. is_change self.now ≡ true) }
+        ensures formed { IfSome result (λ change. is_formed self.now ≡ true) }
+    {
+        match self.0 {
+            Lent::Insert(row) => Some(LentChange::Add(row)),
+            Lent::Update(id, row) => Some(LentChange::Set(id, row)),
+            Lent::Delete(id) => Some(LentChange::Remove(id)),
+            Lent::Commit(_) | Lent::Begin | Lent::Finish | Lent::Abandon => None,
         }
     }
 

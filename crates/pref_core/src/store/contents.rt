@@ -85,6 +85,7 @@ impl Contents {
     }
 
     /// The place of the row of this id in the table: by an index where there is one, else by the chain of its home.
+    #[inline(always)]
     pub(crate) fn place_of(&self, index: Option<&Index>, id: u64) -> Option<u32>
         requires { IfSome index (λ index. IsIndexOf self.now index.now) }
         ensures { IsPlaceOf self.now.stamp id self.now.slots result }

@@ -15,6 +15,7 @@ use crate::store::planning::success_outcome;
 
 impl Store {
     /// Whether an op is legal next: its call, number and outcome, and its slots.
+    #[inline(always)]
     pub(crate) fn is_legal(&self, op: &Planned<'_>) -> bool
         ensures { result ≡ (is_next self.now (op_of op.now) && is_some (slots_after self.now (op_of op.now))) }
     {
@@ -22,6 +23,13 @@ impl Store {
             let outcome = success_outcome(self.contents.next_id, op.call);
             return self.contents.is_next(outcome, op);
         }
+        self.is_legal_anew(op)
+    }
+
+    /// The same by a plan of the call.
+    fn is_legal_anew(&self, op: &Planned<'_>) -> bool
+        ensures { result ≡ (is_next self.now (op_of op.now) && is_some (slots_after self.now (op_of op.now))) }
+    {
         let freed = self.freed_places(None, op.call);
         let outcome = self.contents.outcome(&freed, op.call);
         self.contents.is_next(outcome, op) && self.contents.fits(&freed, op)
@@ -30,6 +38,7 @@ impl Store {
 
 impl Contents {
     /// Whether the call, its number and its outcome are legal next, by what becomes of the call here.
+    #[inline(always)]
     fn is_next(&self, outcome: Outcome, op: &Planned<'_>) -> bool
         requires outcome { outcome ≡ outcome_at self.now op.now.call.now }
         requires formed { is_formed op.now.call.now ≡ true }

@@ -2,8 +2,9 @@
 
 ghost use Rattle.std.specs.Prelude.{ℕ, IfSome, IfNone, Some, true, false, is_some, length, ◌≡◌, ◌<◌, ◌⊎◌};
 ghost use Rattle.pref_core.specs.Indexes.{IsIndexOf};
-ghost use Rattle.pref_core.specs.ContentsInvariant.{IsKept, IsFreed, FindsFreed, FitAtOnce, is_open, uses_of};
+ghost use Rattle.pref_core.specs.ContentsInvariant.{IsKept, IsFreed, FindsFreed, FitAtOnce, FitsNext, is_open, uses_of};
 ghost use Rattle.pref_core.specs.IdChains.{home_of};
+ghost use Rattle.pref_core.specs.LentCalls.{change_of};
 ghost use Rattle.pref_core.specs.Operations.{outcome_at, placed, used, grown, Plans, PlansIn};
 ghost use Rattle.pref_core.specs.Planned.{op_or_fault};
 ghost use Rattle.pref_core.specs.SlotSets.{free_at};
@@ -186,8 +187,9 @@ impl Contents {
         home
     }
 
-    /// Whether these are slots for the rows that a call begins, by a look at them alone: an added row may have a free
-    /// one, and a row that is set the one where it stands, if no open query needs what is there.
+    /// Whether these are slots for the rows that a call begins, by a look at them alone. A lone change is looked at
+    /// without a loop.
+    #[inline(always)]
     pub(crate) fn fit_at_once(
         &self,
         index: Option<&Index>,
@@ -199,22 +201,53 @@ impl Contents {
         ensures { result ≡ true → FitAtOnce self.now call.now slots.now }
     {
         let slots = slots.as_slice();
+        match call.lone() {
+            Some(change) => self.used_after(index, change, slots, 0) == Some(slots.len()),
+            None => self.all_fit_at_once(index, call, slots),
+        }
+    }
+
+    /// The same for all changes of a call, one after the other.
+    fn all_fit_at_once(&self, index: Option<&Index>, call: &LentCall<'_>, slots: &[u32]) -> bool
+        requires kept { IsKept self.now }
+        requires index { IfSome index (λ index. IsIndexOf self.now index.now) }
+        ensures { result ≡ true → FitAtOnce self.now call.now slots.now }
+    {
         let mut used = 0;
         for at in 0..call.count() {
-            match (call.change(at), slots.get(used)) {
-                (LentChange::Add(_), Some(place))
-                    if self.places.is_free(*place) && !is_listed(&slots[..used], *place) => {
-                    used += 1;
-                }
-                (LentChange::Set(id, _), Some(place))
-                    if self.slots.stands_at(*place, id) && self.frees(*place) => {
-                    used += 1;
-                }
-                (LentChange::Remove(id), _) if self.place_of(index, id).is_some() => {}
-                _ => return false,
+            match self.used_after(index, call.change(at), slots, used) {
+                Some(after) => used = after,
+                None => return false,
             }
         }
         call.is_change() && used == slots.len()
+    }
+
+    /// How many slots are used after a change, by how many are before it, where it fits at once: an added row may have
+    /// the next slot if that is free, and a row that is set the one where it stands, if no open query needs what is
+    /// there.
+    #[inline(always)]
+    fn used_after(
+        &self,
+        index: Option<&Index>,
+        change: LentChange<'_>,
+        slots: &[u32],
+        used: usize,
+    ) -> Option<usize>
+        requires kept { IsKept self.now }
+        requires index { IfSome index (λ index. IsIndexOf self.now index.now) }
+        ensures { IfSome result (λ after. FitsNext self.now slots.now used (change_of change.entry) after) }
+    {
+        match (change, slots.get(used)) {
+            (LentChange::Add(_), Some(place))
+                if self.places.is_free(*place) && !is_listed(&slots[..used], *place) => Some(
+                used + 1,
+            ),
+            (LentChange::Set(id, _), Some(place))
+                if self.slots.stands_at(*place, id) && self.frees(*place) => Some(used + 1),
+            (LentChange::Remove(id), _) if self.place_of(index, id).is_some() => Some(used),
+            _ => None,
+        }
     }
 
     /// The outcome of a call that gets a number, by the slots that its ended rows leave free.

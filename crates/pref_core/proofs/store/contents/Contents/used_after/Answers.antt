@@ -1,0 +1,27 @@
+use Rattle.pref_core.proofs.Common.{◌+◌, Some, refl, sym, ap, ◌∙◌, subst, arith, ltb-true, slice_get-get_or, Contents, FitsNext, free_at, row_at, uses_of, change_of, Add, Set}
+use Rattle.pref_core.proofs.BoundsLaws.{stamp-small}
+use Rattle.pref_core.proofs.store.contents.Contents.used_after.Goals as goal
+
+pub frees-requires : goal.frees-requires
+frees-requires c = let small = stamp-small c.args.self.now c.requires.kept.bounded in omega arith
+
+pub returns-in-Add-Some : goal.returns-in-Add-Some
+returns-in-Add-Some c =
+    let place = c.in-Add-Some.place.now in
+    let slot = slice_get-get_or c.args.slots.now c.args.used place (ltb-true _ _ (sym c.in-Add-Some.ensures.lookup.0)) ∙ ap Some (sym c.in-Add-Some.ensures.lookup.1) in
+    let uses = c.self.invariant.listed ∙ ap uses_of c.self.view_is in
+    let fits : FitsNext c.args.self.now c.args.slots.now c.args.used (Add c.in-Add-Some.field-0-0.now) (c.args.used + 1) =
+    (place, slot, ap (λ z. free_at z place) (sym uses) ∙ sym c.is_free.ensures ∙ c.if-is_free.true, sym c.is_listed.ensures ∙ c.if-not-is_listed.true, refl) in
+    subst (λ change. FitsNext c.args.self.now c.args.slots.now c.args.used (change_of change) (c.args.used + 1)) (sym c.in-Add-Some.is-0) fits
+
+pub returns-in-Set-Some : goal.returns-in-Set-Some
+returns-in-Set-Some c =
+    let place = c.in-Set-Some.place.now in
+    let id = c.in-Set-Some.id in
+    let slot = slice_get-get_or c.args.slots.now c.args.used place (ltb-true _ _ (sym c.in-Set-Some.ensures.lookup.0)) ∙ ap Some (sym c.in-Set-Some.ensures.lookup.1) in
+    let stamp = ap (λ (s : Contents). s.stamp) c.self.view_is in
+    let slots = ap (λ (s : Contents). s.slots) c.self.view_is in
+    let stands = sym (λ i. row_at (stamp i) id (slots i) place) ∙ sym c.stands_at.ensures ∙ c.if-stands_at.true in
+    let fits : FitsNext c.args.self.now c.args.slots.now c.args.used (Set id c.in-Set-Some.field-1-0.now) (c.args.used + 1) =
+    (place, slot, stands, λ ids named. sym (c.frees.ensures.row ids id named stands) ∙ c.if-frees.true, refl) in
+    subst (λ change. FitsNext c.args.self.now c.args.slots.now c.args.used (change_of change) (c.args.used + 1)) (sym c.in-Set-Some.is-0) fits
