@@ -109,6 +109,7 @@ impl IdChains {
 }
 
 /// The last home or place before this id on the chain of its home.
+#[inline(always)]
 fn before(next: &[u32], slots: &StampedSlots, id: u64) -> u32
     requires { AreLinks (ids_of slots.now.stamp slots.now.slots) next.now }
     ensures before { IsBefore (2 ^ 64) (length slots.now.slots) (home_of (length slots.now.slots)) (id_at (ids_of slots.now.stamp slots.now.slots)) id result }

@@ -101,23 +101,13 @@ impl StampedSlots {
         (id.saturating_sub(1) % self.slots.len() as u64) as u32
     }
 
-    /// The id of the row that is at a place in the table.
-    fn id_at(&self, place: u32) -> Option<u64>
-        ensures { result ≡ id_at (ids_of self.now.stamp self.now.slots) place }
-    {
-        match self.slots.get(place as usize) {
-            Some(Some(version)) if version.is_visible_at(self.stamp) => Some(version.id),
-            _ => None,
-        }
-    }
-
     /// Whether a row of a greater id is at the place in the table.
     pub(crate) fn is_above(&self, place: u32, id: u64) -> bool
         ensures { result ≡ is_above id (id_at (ids_of self.now.stamp self.now.slots) place) }
     {
-        match self.id_at(place) {
-            Some(other) => id < other,
-            None => false,
+        match self.slots.get(place as usize) {
+            Some(Some(version)) => id < version.id && version.is_visible_at(self.stamp),
+            _ => false,
         }
     }
 
