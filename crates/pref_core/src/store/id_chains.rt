@@ -63,6 +63,7 @@ impl IdChains {
     }
 
     /// The place of the row of this id in the table.
+    #[inline(always)]
     pub(crate) fn find(&self, slots: &StampedSlots, id: u64) -> Option<u32>
         requires { AreLinks (ids_of slots.now.stamp slots.now.slots) self.now }
         ensures { IsPlaceOf slots.now.stamp id slots.now.slots result }
