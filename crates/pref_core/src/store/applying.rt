@@ -14,7 +14,9 @@
 //! another leaves. All takes constant time, but that a query's end goes over the places that were kept for it alone.
 
 ghost use Rattle.std.specs.Prelude.{map, true, false, is_some, [], ◌∷◌, Some, None, slice_set, IfSome, ◌≡◌, ◌+◌, ◌^◌, ◌<◌};
+ghost use Rattle.pref_core.specs.Changes.{ended_by, begun_by};
 ghost use Rattle.pref_core.specs.Indexes.{row_at};
+ghost use Rattle.pref_core.specs.LentCalls.{change_of};
 ghost use Rattle.pref_core.specs.ContentsInvariant.{IsKept, AreFresh, KeepSlots, replaced, with_slots};
 ghost use Rattle.pref_core.specs.Operations.{close, is_free, filled, is_next, refusal_at, slots_after, stepped, callers_after};
 ghost use Rattle.pref_core.specs.Planned.{op_of};
@@ -61,12 +63,17 @@ impl Contents {
         let first = self.next_id;
         self.slots.advance();
         self.next_id += op.call.added();
-        match self.kept_slot(op) {
-            Some((id, row, place)) => self.replace(id, row, place),
-            None if self.keeps_slots(op) => self.replace_rows(op),
-            None => {
+        let slots = op.slots.as_slice();
+        match (self.kept_slot(op), op.call.lone()) {
+            (Some((id, row, place)), _) => self.replace(id, row, place),
+            (None, Some(change)) => {
+                self.end_one(change);
+                self.begin_lone(first, change, slots);
+            }
+            (None, None) if self.keeps_slots(op) => self.replace_rows(op),
+            (None, None) => {
                 self.end_rows(op.call);
-                self.begin_rows(first, op);
+                self.begin_rows(first, op.call, slots);
             }
         }
     }
@@ -125,9 +132,17 @@ impl Contents {
         ensures { self.new ≡ with_slots (map (close (ended call.now) self.old.stamp) self.old.slots) self.old }
     {
         for at in 0..call.count() {
-            if let Some(id) = call.change(at).ended() {
-                self.end_row(id);
-            }
+            self.end_one(call.change(at));
+        }
+    }
+
+    /// Ends the row that a change ends.
+    #[inline(always)]
+    fn end_one(&mut self, change: LentChange<'_>)
+        ensures { self.new ≡ with_slots (map (close (ended_by (change_of change.entry ∷ [])) self.old.stamp) self.old.slots) self.old }
+    {
+        if let Some(id) = change.ended() {
+            self.end_row(id);
         }
     }
 
@@ -144,24 +159,36 @@ impl Contents {
         self.places.put(place, SlotUse::Live, next_use);
     }
 
-    /// Begins all rows that the op's call begins, each in its slot; added ones get the ids from this one on.
-    fn begin_rows(&mut self, first: u64, op: &Planned<'_>)
-        requires fits { is_some (filled (stamps self.old) self.old.stamp op.now.slots (begun first op.now.call.now) self.old.slots) ≡ true }
-        requires fresh { AreFresh self.old.next_id (visible self.old.stamp self.old.slots) (begun first op.now.call.now) }
+    /// Begins all rows that the call begins, each in its slot; added ones get the ids from this one on.
+    fn begin_rows(&mut self, first: u64, call: &LentCall<'_>, slots: &[u32])
+        requires fits { is_some (filled (stamps self.old) self.old.stamp slots.now (begun first call.now) self.old.slots) ≡ true }
+        requires fresh { AreFresh self.old.next_id (visible self.old.stamp self.old.slots) (begun first call.now) }
         requires small { first < 2 ^ 63 }
-        ensures slots { filled (stamps self.old) self.old.stamp op.now.slots (begun first op.now.call.now) self.old.slots ≡ Some self.new.slots }
+        ensures slots { filled (stamps self.old) self.old.stamp slots.now (begun first call.now) self.old.slots ≡ Some self.new.slots }
         ensures rest { self.new ≡ with_slots self.new.slots self.old }
     {
-        let slots = op.slots.as_slice();
         let mut next_id = first;
         let mut used = 0;
-        for at in 0..op.call.count() {
-            let change = op.call.change(at);
+        for at in 0..call.count() {
+            let change = call.change(at);
             if let Some((id, row)) = change.begun(next_id) {
                 self.begin_row(id, row, slots[used]);
                 used += 1;
             }
             next_id += change.added();
+        }
+    }
+
+    /// Begins the row that a change begins, where it is the only one, in the only slot.
+    #[inline(always)]
+    fn begin_lone(&mut self, first: u64, change: LentChange<'_>, slots: &[u32])
+        requires fits { is_some (filled (stamps self.old) self.old.stamp slots.now (begun_by first (change_of change ∷ [])) self.old.slots) ≡ true }
+        requires fresh { AreFresh self.old.next_id (visible self.old.stamp self.old.slots) (begun_by first (change_of change ∷ [])) }
+        ensures slots { filled (stamps self.old) self.old.stamp slots.now (begun_by first (change_of change.entry ∷ [])) self.old.slots ≡ Some self.new.slots }
+        ensures rest { self.new ≡ with_slots self.new.slots self.old }
+    {
+        if let Some((id, row)) = change.begun(first) {
+            self.begin_row(id, row, slots[0]);
         }
     }
 

@@ -7,16 +7,16 @@ use Rattle.pref_core.proofs.store.contents.Contents.begin_rows.Goals as goal
 
 -- the rows behind the one that begins
 abbrev rest : In-Some → List Entry
-rest c = begun_by (c.loop-at.next_id + added_by ((change_of c.change-change.result) ∷ [])) (drop (c.loop-at.at + 1) (changes_of c.args.op.now.call.now))
+rest c = begun_by (c.loop-at.next_id + added_by ((change_of c.change-change.result) ∷ [])) (drop (c.loop-at.at + 1) (changes_of c.args.call.now))
 
 abbrev all : In-Some → Option (List (Option Version))
-all c = filled (stamps c.args.self.now) c.args.self.now.stamp c.args.op.now.slots (begun c.args.first c.args.op.now.call.now) c.args.self.now.slots
+all c = filled (stamps c.args.self.now) c.args.self.now.stamp c.args.slots.now (begun c.args.first c.args.call.now) c.args.self.now.slots
 
-next : (c : In-Some) → BeginsNext c.args.self.now c.loop-at.self c.as_slice-slots.result.now c.loop-at.used (record { id = c.in-Some.id; row = c.in-Some.row.now }) (rest c) (all c)
+next : (c : In-Some) → BeginsNext c.args.self.now c.loop-at.self c.args.slots.now c.loop-at.used (record { id = c.in-Some.id; row = c.in-Some.row.now }) (rest c) (all c)
 next c =
-    let is = begun_at c.loop-at.next_id (changes_of c.args.op.now.call.now) c.loop-at.at (change_of c.change-change.result) c.change-change.ensures ∙ ap (λ l. l ++ rest c) c.in-Some.ensures.some in
-    begins_next c.args.self.now c.loop-at.self c.as_slice-slots.result.now c.loop-at.used (record { id = c.in-Some.id; row = c.in-Some.row.now }) (rest c) (all c)
-    (subst (λ l. BegunUpTo c.args.self.now c.loop-at.self (drop c.loop-at.used c.as_slice-slots.result.now) l (all c)) is c.loop-at.invariant.begun)
+    let is = begun_at c.loop-at.next_id (changes_of c.args.call.now) c.loop-at.at (change_of c.change-change.result) c.change-change.ensures ∙ ap (λ l. l ++ rest c) c.in-Some.ensures.some in
+    begins_next c.args.self.now c.loop-at.self c.args.slots.now c.loop-at.used (record { id = c.in-Some.id; row = c.in-Some.row.now }) (rest c) (all c)
+    (subst (λ l. BegunUpTo c.args.self.now c.loop-at.self (drop c.loop-at.used c.args.slots.now) l (all c)) is c.loop-at.invariant.begun)
 
 pub bounds-slots-used : goal.bounds-slots-used
 bounds-slots-used c = (next (goal.at.bounds-slots-used c).In-Some).inside
@@ -33,10 +33,10 @@ begin_row-requires-clause-low c = (next (goal.at.begin_row-requires-clause-low c
 pub loop-at-preserved : goal.loop-at-preserved
 loop-at-preserved c =
     let start = c.args.self.now in
-    let changes = changes_of c.args.op.now.call.now in
+    let changes = changes_of c.args.call.now in
     let rest = begun_by (c.loop-at.next_id + added_by ((change_of c.change-change.result) ∷ [])) (drop (c.loop-at.at + 1) changes) in
-    let all = filled (stamps start) start.stamp c.args.op.now.slots (begun c.args.first c.args.op.now.call.now) start.slots in
-    let slots = c.as_slice-slots.result.now in
+    let all = filled (stamps start) start.stamp c.args.slots.now (begun c.args.first c.args.call.now) start.slots in
+    let slots = c.args.slots.now in
     let used = c.loop-at.used in
     let from = begun_at c.loop-at.next_id changes c.loop-at.at (change_of c.change-change.result) c.change-change.ensures in
     let one = added_one (change_of c.change-change.result) in
@@ -66,7 +66,7 @@ loop-at-preserved c =
 pub returns-clause-slots : goal.returns-clause-slots
 returns-clause-slots c =
     let now = c.args.self.now in
-    let left = drop c.loop-at.used c.as_slice-slots.result.now in
-    let all = filled (stamps now) now.stamp c.args.op.now.slots (begun c.args.first c.args.op.now.call.now) now.slots in
+    let left = drop c.loop-at.used c.args.slots.now in
+    let all = filled (stamps now) now.stamp c.args.slots.now (begun c.args.first c.args.call.now) now.slots in
     fills_end now.next_id now.stamp (begins now.callers) left c.loop-at.self.slots all
-    (subst (λ l. FillsRest now.next_id now.stamp (begins now.callers) left (begun_by c.loop-at.next_id l) c.loop-at.self.slots all) (drop_all c.loop-at.at (changes_of c.args.op.now.call.now) (omega arith)) c.loop-at.invariant.begun.fills)
+    (subst (λ l. FillsRest now.next_id now.stamp (begins now.callers) left (begun_by c.loop-at.next_id l) c.loop-at.self.slots all) (drop_all c.loop-at.at (changes_of c.args.call.now) (omega arith)) c.loop-at.invariant.begun.fills)
