@@ -1,4 +1,4 @@
-use Rattle.pref_script.proofs.Common.{arith, length-append, IfOk-weaker, take_rest, is_at_end, unread}
+use Rattle.pref_script.proofs.Common.{arith, exits, length-append, IfOk-weaker, take_rest, is_at_end, unread}
 use Rattle.std.proofs.lemmas.Result.{IfErr-weaker}
 use Rattle.pref_script.proofs.LineFacts.{last_at, long_none, long_some, whole_at}
 use Rattle.pref_script.proofs.read_ahead.ReadAhead.read_line.Goals as goal
@@ -40,3 +40,18 @@ returns-in-Some-clause-read g c = c.read_on.ensures.read
 
 pub returns-in-None-clause-read : goal.returns-in-None-clause-read
 returns-in-None-clause-read g c = c.read_on.ensures.read
+
+pub returns-in_err-read_on-clause-behind : goal.returns-in_err-read_on-clause-behind
+returns-in_err-read_on-clause-behind g c = rw (exits c.from_residual.result c.from_residual.ensures.1) tt
+
+pub returns-in_err-read_on-clause-line : goal.returns-in_err-read_on-clause-line
+returns-in_err-read_on-clause-line g c = rw (exits c.from_residual.result c.from_residual.ensures.1) tt
+
+pub returns-in_err-read_on-clause-inside : goal.returns-in_err-read_on-clause-inside
+returns-in_err-read_on-clause-inside g c = rw (exits c.from_residual.result c.from_residual.ensures.1) tt
+
+pub returns-in_err-read_on-clause-most : goal.returns-in_err-read_on-clause-most
+returns-in_err-read_on-clause-most g c = rw (exits c.from_residual.result c.from_residual.ensures.1) tt
+
+pub returns-in_err-read_on-clause-little : goal.returns-in_err-read_on-clause-little
+returns-in_err-read_on-clause-little g c = rw (exits c.from_residual.result c.from_residual.ensures.1) tt

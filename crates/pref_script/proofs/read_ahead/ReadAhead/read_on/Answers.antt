@@ -1,4 +1,4 @@
-use Rattle.pref_script.proofs.Common.{◌∙◌, ap, arith, length, rules, sym, take_rest, unread}
+use Rattle.pref_script.proofs.Common.{◌∙◌, ap, arith, exits, length, rules, sym, take_rest, unread}
 use Rattle.pref_script.proofs.LineFacts.{behind_more, little_behind, none_found, none_more, once_more}
 use Rattle.pref_script.proofs.read_ahead.ReadAhead.read_on.Goals as goal
 
@@ -32,3 +32,21 @@ returns-then-self-clause-ok g c = behind_more _ _ _ _ _ _ c.loop-seen.invariant.
 
 pub returns-then-self-clause-little : goal.returns-then-self-clause-little
 returns-then-self-clause-little g c = λ _. little_behind _ _ _ _ c.args.from c.in_ok-read_more.ensures.ok c.loop-seen.invariant.none (grind arith) c.in_ok-read_more.ensures.few
+
+pub returns-in_err-read_more-clause-ok : goal.returns-in_err-read_more-clause-ok
+returns-in_err-read_more-clause-ok g c = rw (exits c.from_residual.result c.from_residual.ensures.1) tt
+
+pub returns-in_err-read_more-clause-long : goal.returns-in_err-read_more-clause-long
+returns-in_err-read_more-clause-long g c = rw (exits c.from_residual.result c.from_residual.ensures.1) tt
+
+pub returns-in_err-read_more-clause-little : goal.returns-in_err-read_more-clause-little
+returns-in_err-read_more-clause-little g c = rw (exits c.from_residual.result c.from_residual.ensures.1) tt
+
+pub returns-in_err-read_more-clause-fault : goal.returns-in_err-read_more-clause-fault
+returns-in_err-read_more-clause-fault g c = rw (exits c.from_residual.result c.from_residual.ensures.1) c.in_err-read_more.ensures.fault
+
+pub returns-clause-ok : goal.returns-clause-ok
+returns-clause-ok g c = c.loop-seen.invariant.behind
+
+pub returns-clause-little : goal.returns-clause-little
+returns-clause-little g c = c.loop-seen.invariant.little
