@@ -208,41 +208,37 @@ fn rows_of_each_shape(rt: HostRuntime) -> Result<(), Fail> {
     check_texts(&rt, rt.alloc(), &TEXTS)
 }
 
-/// To a partial result that holds nothing the first entries are added by one order, by which they have the same levels as by the
-/// other one, and the others by that: then it holds the levels by that of all.
-fn check_change(
-    rt: &impl Abort,
-    alloc: Global,
-    first: (&Ask, u32),
-    second: (&Ask, u32),
-    partial: &mut Partial,
-    entries: &[Entry],
-    at: usize,
-) -> Result<(), Fail>
-    requires nothing { partial.old ≡ [] }
-    requires ids { HaveDifferentIds entries.now }
-{
-    let (front, back) = entries.split_at(at.min(entries.len()));
-    let before = levels(alloc, first.0, 64, first.1, front)?;
-    let after = levels(alloc, second.0, 64, second.1, front)?;
-    assert_same(rt, "by either order", before.as_slice(), after.as_slice());
-    add_by_two(alloc, first, second, partial, front, back)?;
-    check_held_of(
-        rt,
-        alloc,
-        "changed",
-        second,
-        partial,
-        entries,
-        entries.len(),
-    )
-}
-
 /// Rows by a first order, and rows of few values behind them by a second one, each up to a cut.
 struct Change {
     first: (&'static str, u32),
     second: (&'static str, u32),
     front: &'static [(i64, i64)],
+}
+
+/// To a partial result that holds nothing the first entries are added by one order, by which they have the same levels as by the
+/// other one, and the others by that: then it holds the levels by that of all.
+fn check_change(
+    rt: &impl Abort,
+    alloc: Global,
+    case: &Change,
+    first: &Ask,
+    second: &Ask,
+    partial: &mut Partial,
+    entries: &[Entry],
+) -> Result<(), Fail>
+    requires nothing { partial.old ≡ [] }
+    requires ids { HaveDifferentIds entries.now }
+{
+    let first = (first, case.first.1);
+    let second = (second, case.second.1);
+    let (front, back) = entries.split_at(case.front.len().min(entries.len()));
+    let before = levels(alloc, first.0, 64, first.1, front)?;
+    let after = levels(alloc, second.0, 64, second.1, front)?;
+    let orders = (case.first.0, case.second.0);
+    assert_same(rt, orders, before.as_slice(), after.as_slice());
+    add_by_two(alloc, first, second, partial, front, back)?;
+    let count = entries.len();
+    check_held_of(rt, alloc, case.second.0, second, partial, entries, count)
 }
 
 fn check_changed(rt: &impl Abort, alloc: Global, case: &Change) -> Result<(), Fail> {
@@ -252,15 +248,7 @@ fn check_changed(rt: &impl Abort, alloc: Global, case: &Change) -> Result<(), Fa
     let before = ask_of(alloc, case.first.0.as_bytes())?;
     let after = ask_of(alloc, case.second.0.as_bytes())?;
     let mut partial = Partial::empty();
-    check_change(
-        rt,
-        alloc,
-        (&before, case.first.1),
-        (&after, case.second.1),
-        &mut partial,
-        &entries,
-        case.front.len(),
-    )
+    check_change(rt, alloc, case, &before, &after, &mut partial, &entries)
 }
 
 fn check_changes(rt: &impl Abort, alloc: Global, cases: &[Change]) -> Result<(), Fail> {
