@@ -1,7 +1,6 @@
 //! The tests of pref_share, through its public items.
 //!
-//! They are in a crate of their own because a crate that holds tests is proved twice. The task that they run, `inserts`, stands outside
-//! `cfg(test)`, since a must-fail edit is tried without the tests.
+//! They are in a crate of their own because a crate that holds tests is proved twice.
 #![tactic(auto)]
 
 #[cfg(test)]
@@ -12,7 +11,8 @@ mod boards;
 mod calls;
 #[cfg(test)]
 mod commits;
-pub mod inserts;
+#[cfg(test)]
+mod inserts;
 #[cfg(test)]
 mod pairs;
 #[cfg(test)]
