@@ -36,6 +36,7 @@ use pref_table::Row;
 
 impl Contents {
     /// A legal op, done.
+    #[inline(always)]
     pub(crate) fn step(&mut self, op: &Planned<'_>)
         requires kept { IsKept self.old }
         requires next { is_next self.old (op_of op.now) ≡ true }
@@ -51,6 +52,7 @@ impl Contents {
 
     /// A commit: where it only sets rows, and these stay in their slots, they are replaced there; else all rows end
     /// that are to end, and then others begin in the slots that are free.
+    #[inline(always)]
     fn commit(&mut self, op: &Planned<'_>)
         requires kept { IsKept self.old }
         requires next { is_next self.old (op_of op.now) ≡ true }
@@ -206,6 +208,7 @@ impl Contents {
 
     /// The client has made one call more. Where it ends a query, each ended version that it kept goes to another open
     /// query that needs it, or its slot is free.
+    #[inline(always)]
     fn count(&mut self, client: u8, call: &LentCall<'_>)
         requires { refusal_at self.old client call.now ≡ None }
         ensures { self.new ≡ record { slots = self.old.slots; stamp = self.old.stamp; next_id = self.old.next_id; callers = callers_after self.old.stamp self.old.callers client call.now } }
