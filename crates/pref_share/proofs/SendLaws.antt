@@ -15,7 +15,6 @@ use Rattle.pref_term.proofs.term.Numbers.TheSendSync as numbers
 use Rattle.pref_term.proofs.ask.Mode.TheSendSync as modes
 use Rattle.pref_term.proofs.chains.Chains.TheSendSync as chains
 use Rattle.pref_term.proofs.key.Key.TheSendSync as keys
-use Rattle.pref_term.proofs.key.Score.TheSendSync as scores
 use Rattle.pref_term.specs.contracts.ask.Ask as ask
 use Rattle.pref_term.specs.contracts.term.Term as term
 use Rattle.pref_sky.proofs.partial.Partial.TheSendSync as partials
@@ -38,7 +37,7 @@ pub term_send : IsSend (term.the_field).row
 term_send = knot.send-Term (search sendable) (search sendable) numbers.the_send number_sets.the_send (λ h s. boxes.the_send h global.the_row _ s heap.the_send frees)
 
 pub ask_send : IsSend ask.the_row
-ask_send = search (sendable, declared_send, as_row_send, term_send, options.the_send, boxes.the_send, chains.the_send, keys.the_send, scores.the_send, number_sets.the_send, numbers.the_send, modes.the_send, vectors.the_send, heap.the_send, frees) depth 18
+ask_send = search (sendable, declared_send, as_row_send, term_send, options.the_send, boxes.the_send, chains.the_send, keys.the_send, modes.the_send, vectors.the_send, heap.the_send, frees) depth 18
 
 pub act_send : IsSend act.the_row
 act_send = search (sendable, variants_send, as_row_send, ask_send, rows.the_send, boxed_commits.the_send) depth 14
@@ -61,7 +60,7 @@ client_inside J N = declared_send (client_fields.the_type J N) (
   (
     search (sendable, as_row_send),
     (
-      search (sendable, as_row_send, setups.the_send),
+      search (sendable, setups.the_send),
       (
         search (sendable, as_row_send, prefixes.the_send),
         (

@@ -1,4 +1,4 @@
-use Rattle.pref_share.proofs.Common.{◌≡◌, ◌∙◌, ◌+◌, ◌<◌, ◌≤◌, ℕ, List, arith, get_or, length, set, subst, sym, Worked, Settles}
+use Rattle.pref_share.proofs.Common.{◌≡◌, ◌∙◌, ◌+◌, ◌<◌, ◌≤◌, ℕ, List, arith, get_or, length, refl, set, subst, sym, Worked, Settles}
 use Rattle.std.proofs.lemmas.Grind.{common_steps}
 use Rattle.pref_share.proofs.run.reconcile_each.Goals as goal
 
@@ -17,3 +17,9 @@ loop-worked-preserved g c =
     let (settled, kept) =
     one_more (λ (old new : Worked g.row.J.Denot g.row.T.Denot). Settles o c.args.publisher.now old new) c.args.all.now c.loop-worked.all c.loop-worked.worked-index c.worked-item.result c.reconcile.new.worked c.loop-worked.auto.all c.loop-worked-test.true c.worked-item.is here h.1 h.2 in
     (c.reconcile.ensures.same ∙ h.0, settled, kept)
+
+pub loop-worked-init : goal.loop-worked-init
+loop-worked-init g c = (refl, λ i d less. absurd (omega arith), λ i d le. refl)
+
+pub returns-clause-settled : goal.returns-clause-settled
+returns-clause-settled g c = λ i d less. c.loop-worked.invariant.1 i d (omega (arith, less, c.loop-worked-test.false, c.loop-worked.auto.all))

@@ -1,5 +1,6 @@
-use Rattle.pref_share.proofs.Common.{sendable, ◌≡◌, List, ap, arith, length, sym, subst, IsJointRun, Standing}
+use Rattle.pref_share.proofs.Common.{sendable, ◌≡◌, List, ap, arith, inl, length, refl, sym, subst, IsJointRun, Standing, Core, OutOfMemory}
 use Rattle.pref_share.proofs.InterleavingsLaws.{joint_runs_are_sequential, length-newcomers}
+use Rattle.pref_share.proofs.RefusalReplies.{passed_on}
 use Rattle.pref_share.proofs.ReportsLaws.{joint_of_lists}
 use Rattle.pref_share.proofs.SendLaws.{listed_send}
 use Rattle.std.proofs.lemmas.Result.{IfOk-from_err}
@@ -27,14 +28,24 @@ returns-in_err-tasks-clause-joint g c = IfOk-from_err c.from_residual.result _ c
 pub returns-in_err-tasks-clause-sequential : goal.returns-in_err-tasks-clause-sequential
 returns-in_err-tasks-clause-sequential g c = IfOk-from_err c.from_residual.result _ c.from_residual.ensures.0
 
+pub returns-in_err-tasks-clause-refused : goal.returns-in_err-tasks-clause-refused
+returns-in_err-tasks-clause-refused g c = passed_on c.from_residual.result (Core OutOfMemory) _ c.from_residual.ensures.1 (inl refl)
+
 pub returns-in_err-done-clause-joint : goal.returns-in_err-done-clause-joint
 returns-in_err-done-clause-joint g c = IfOk-from_err c.from_residual-in_err-done.result _ c.from_residual-in_err-done.ensures.0
 
 pub returns-in_err-done-clause-sequential : goal.returns-in_err-done-clause-sequential
 returns-in_err-done-clause-sequential g c = IfOk-from_err c.from_residual-in_err-done.result _ c.from_residual-in_err-done.ensures.0
 
+pub returns-in_err-done-clause-refused : goal.returns-in_err-done-clause-refused
+returns-in_err-done-clause-refused g c =
+    passed_on c.from_residual-in_err-done.result c.in_err-done.field-0.0 _ c.from_residual-in_err-done.ensures.1 (c.in_err-done.ensures.refused c.args.acts.items (sym c.in_ok-tasks.ensures.acts))
+
 pub returns-in_err-replies-clause-joint : goal.returns-in_err-replies-clause-joint
 returns-in_err-replies-clause-joint g c = IfOk-from_err c.from_residual-in_err-replies.result _ c.from_residual-in_err-replies.ensures.0
 
 pub returns-in_err-replies-clause-sequential : goal.returns-in_err-replies-clause-sequential
 returns-in_err-replies-clause-sequential g c = IfOk-from_err c.from_residual-in_err-replies.result _ c.from_residual-in_err-replies.ensures.0
+
+pub returns-in_err-replies-clause-refused : goal.returns-in_err-replies-clause-refused
+returns-in_err-replies-clause-refused g c = passed_on c.from_residual-in_err-replies.result (Core OutOfMemory) _ c.from_residual-in_err-replies.ensures.1 (inl refl)
