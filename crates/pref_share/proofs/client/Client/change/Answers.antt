@@ -1,6 +1,6 @@
 use Rattle.pref_share.proofs.Common.{◌≡◌, suc, ◌+◌, None, refl, sym, subst, ap, ◌∙◌, arith, rules, Standing, own_refusal, Core, OutOfMemory, IsJoined, MayJoin, RefusesChange}
 use Rattle.pref_share.proofs.RefusalReplies.{passed_on}
-use Rattle.pref_share.proofs.StandingLaws.{counter_small, stands_changed, joins, change_told}
+use Rattle.pref_share.proofs.StandingLaws.{counter_small, stands_changed, joins, change_told, success_told}
 use Rattle.std.proofs.lemmas.Result.{IfOk-from_err}
 use Rattle.pref_share.proofs.client.Client.change.Goals as goal
 
@@ -23,8 +23,13 @@ returns-in-Joined g c =
     let joined : IsJoined o mine c.args.call j.outcome j.seen j.stamp = subst (λ (x : Standing). IsJoined o x c.args.call j.outcome j.seen j.stamp) (sym c.self.view_is) (subst (MayJoin o c.args.self.now c.args.call) j.is c.in_ok-seen.ensures.joins) in
     let accepted : own_refusal mine c.args.call ≡ None = subst (λ (x : Standing). own_refusal x c.args.call ≡ None) (sym c.self.view_is) (ap (own_refusal c.args.self.now) (sym c.lend.ensures) ∙ sym c.refusal.ensures ∙ c.in_default.is) in
     let up : s.counter + 1 ≡ suc s.counter = omega arith in
-    let returned = change_told o mine _ c.args.call j.outcome c.outcome_or_refusal.result c.outcome_or_refusal.ensures (joins o mine _ c.args.call j.outcome j.seen j.stamp accepted joined refl up refl) refl in
-    record { changed = rw (← c.self.view_is) returned.0; success_outcome = search rules; refused = rw (← c.self.view_is) returned.1 }
+    let call = joins o mine _ c.args.call j.outcome j.seen j.stamp accepted joined refl up refl in
+    let returned = change_told o mine _ c.args.call j.outcome c.outcome_or_refusal.result c.outcome_or_refusal.ensures call refl in
+    record {
+      changed = rw (← c.self.view_is) returned.0;
+      success_outcome = success_told o mine _ c.args.call j.outcome c.outcome_or_refusal.result c.outcome_or_refusal.ensures call c.requires.change;
+      refused = rw (← c.self.view_is) returned.1;
+    }
 
 pub overflow_add-self : goal.overflow_add-self
 overflow_add-self g c = omega (arith, counter_small g.J.BoardBrand.opening c.self.inside.number c.self.inside.counter c.self.inside.seen c.self.inside.asking c.self.invariant.2)
