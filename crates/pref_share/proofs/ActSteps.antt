@@ -66,7 +66,7 @@ pub has_room : (o : Opening) (s t : Standing) (room : ℕ) → Sees o s t → ro
 has_room o s t room sees is = grind (arith, stays)
 
 -- a change is not refused for the query
-never : (b : Bool) (call : Call) → is_change call ≡ true → refusal_by_query b call ≡ None
+pub never : (b : Bool) (call : Call) → is_change call ≡ true → refusal_by_query b call ≡ None
 never b call change = grind (arith)
 
 own_refused : (limits : Limits) (system : System) (client : ℕ) (member : Member) (act : Act) (call : Call) (fault : CoreFault) (q : Option Open) → call_of act ≡ Some call → refusal_of (Some member.calls) (is_some q) call ≡ Some fault → step_of limits system client member act q ≡ refused fault system

@@ -1,5 +1,5 @@
-use Rattle.pref_share.proofs.Common.{◌≡◌, suc, ◌+◌, None, refl, sym, subst, ap, ◌∙◌, arith, rules, Standing, own_refusal, Core, OutOfMemory, IsJoined, MayJoin, RefusesChange}
-use Rattle.pref_share.proofs.RefusalReplies.{passed_on}
+use Rattle.pref_share.proofs.Common.{◌≡◌, suc, ◌+◌, None, refl, sym, subst, ap, ◌∙◌, arith, Standing, own_refusal, Core, OutOfMemory, IsJoined, MayJoin, RefusesChange}
+use Rattle.pref_share.proofs.RefusalReplies.{passed_on, refuses_change}
 use Rattle.pref_share.proofs.StandingLaws.{counter_small, stands_changed, joins, change_told, success_told}
 use Rattle.std.proofs.lemmas.Result.{IfOk-from_err}
 use Rattle.pref_share.proofs.client.Client.change.Goals as goal
@@ -39,6 +39,10 @@ in_use-requires g c = subst (MayJoin g.J.BoardBrand.opening c.args.self.now c.ar
 
 pub join-requires : goal.join-requires
 join-requires g c = ap (own_refusal c.args.self.now) (sym c.lend.ensures) ∙ sym c.refusal.ensures ∙ c.in_default.is
+
+pub returns-in-Some-clause-refused : goal.returns-in-Some-clause-refused
+returns-in-Some-clause-refused g c =
+    refuses_change g.J.BoardBrand.opening c.args.self.now c.args.call c.in-Some.fault c.requires.change (ap (own_refusal c.args.self.now) (sym c.lend.ensures) ∙ sym c.refusal.ensures ∙ c.in-Some.is)
 
 pub returns-in_err-seen-clause-refused : goal.returns-in_err-seen-clause-refused
 returns-in_err-seen-clause-refused g c =

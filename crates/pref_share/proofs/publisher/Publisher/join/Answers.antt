@@ -1,12 +1,14 @@
 use Rattle.pref_share.proofs.Common.{nat_lt, Some, true, ◌⊎◌, inl, ◌≡◌, ◌∷◌, List, [], length, drop, fold, sym, subst, ◌∙◌, ap, refl, manually_drop_value, Op, op_of, added, refusal, applied, Contents}
 use Rattle.pref_share.proofs.Common.{first_contents, contents_at, state_at, Published, stamped, HoldsHistory}
-use Rattle.pref_share.proofs.Common.{IsAppended, OutOfMemory}
+use Rattle.pref_share.proofs.Common.{IsAppended, OutOfMemory, Bool, ℕ, Option, None, cond, arith, inr, is_change, missing, ended, begins_row, ◌&&◌, outcome, Added, Done, NoRow, NoRoom}
+use Rattle.pref_core.specs.State.{needed_after}
+use Rattle.pref_core.specs.declared.call.Outcome.{Outcome}
 use Rattle.pref_core.specs.Planned.{boxed_op}
-use Rattle.pref_core.specs.Indexes.{IsIndexOf}
+use Rattle.pref_core.specs.Indexes.{IsIndexOf, adds}
 use Rattle.pref_share.specs.declared.published.Stamp.{Stamp}
 use Rattle.pref_share.proofs.HistoryLaws.{ran-append, planned, unplanned}
 use Rattle.pref_share.proofs.ViewsLaws.{published_left, published_next}
-use Rattle.std.proofs.lemmas.Result.{IfOk-from_err}
+use Rattle.std.proofs.lemmas.Result.{IfOk-from_err, err_from_is_err_and}
 use Rattle.pref_share.proofs.publisher.Publisher.join.Goals as goal
 
 pub returns-in-Err-clause-refused : goal.returns-in-Err-clause-refused
@@ -94,6 +96,22 @@ reindex-requires-clause-index g c =
     let o = g.J.BoardBrand.opening in
     let left : c.published_store-store.result.now ≡ contents_at o c.self.inside.history = rw (c.published_store-store.ensures, c.deref.ensures) (published_left o g.J.BoardBrand.book (manually_drop_value c.self.inside.writer).desk.shown.value c.self.inside.history c.self.invariant.3 c.self.invariant.2) in
     subst (λ (s : Contents). IsIndexOf s c.self.inside.index) (sym left) c.self.invariant.1
+
+adds_rows : (change : Bool) (lost : Option ℕ) (full some : Bool) (size next_id : ℕ) → adds (cond change (elim lost as (λ _. Outcome) [ Some id ↦ NoRow id | None ↦ cond full (NoRoom size) (cond some (Added next_id) Done) ]) Done) ≡ true → some ≡ true
+adds_rows change lost full some size next_id e = grind (arith)
+
+pub returns-in_err-reindex-clause-refused : goal.returns-in_err-reindex-clause-refused
+returns-in_err-reindex-clause-refused g c =
+    let o = g.J.BoardBrand.opening in
+    let left : c.published_store-store.result.now ≡ contents_at o c.self.inside.history = rw (c.published_store-store.ensures, c.deref.ensures) (published_left o g.J.BoardBrand.book (manually_drop_value c.self.inside.writer).desk.shown.value c.self.inside.history c.self.invariant.3 c.self.invariant.2) in
+    let (by, what, may) = planned o c.self.inside.history c.published_store-store.result.now c.args.client c.lend-lent.result (op_of c.in-Ok.op) c.self.invariant.0 left c.in-Ok.ensures.state in
+    let state = state_at o c.self.inside.history in
+    let capacity = length (contents_at o c.self.inside.history).slots in
+    let call = c.args.call in
+    let is : c.in-Ok.op.outcome ≡ outcome capacity state call = may.next.outcome ∙ ap (outcome capacity state) (what ∙ c.lend-lent.ensures) in
+    let some = adds_rows (is_change call) (missing (ended call) state.table) (begins_row call && nat_lt capacity (needed_after state call)) (nat_lt 0 (added call)) (needed_after state call) state.next_id (ap adds (sym is) ∙ c.in_err-reindex.ensures.refused) in
+    let p = err_from_is_err_and c.from_residual.result c.from_residual.ensures.1 in
+    rw (p.1, p.2) (inr (refl, some))
 
 pub returns-in_err-reindex-clause-joined : goal.returns-in_err-reindex-clause-joined
 returns-in_err-reindex-clause-joined g c = IfOk-from_err c.from_residual.result _ c.from_residual.ensures.0
