@@ -1,5 +1,5 @@
 use Rattle.pref_share.proofs.Common.{nat_lt, Some, true, ◌⊎◌, inl, ◌≡◌, ◌∷◌, List, [], length, drop, fold, sym, subst, ◌∙◌, ap, refl, manually_drop_value, Op, op_of, added, refusal, applied, Contents}
-use Rattle.pref_share.proofs.Common.{first_contents, contents_at, state_at, Published, stamped, HoldsHistory}
+use Rattle.pref_share.proofs.Common.{first_contents, MayFollow, contents_at, state_at, Published, stamped, HoldsHistory}
 use Rattle.pref_share.proofs.Common.{IsAppended, OutOfMemory, Bool, ℕ, Option, None, cond, arith, inr, is_change, missing, ended, begins_row, ◌&&◌, outcome, Added, Done, NoRow, NoRoom}
 use Rattle.pref_core.specs.State.{needed_after}
 use Rattle.pref_core.specs.declared.call.Outcome.{Outcome}
@@ -9,19 +9,35 @@ use Rattle.pref_share.specs.declared.published.Stamp.{Stamp}
 use Rattle.pref_share.proofs.HistoryLaws.{ran-append, planned, unplanned}
 use Rattle.pref_share.proofs.ViewsLaws.{published_left, published_next}
 use Rattle.std.proofs.lemmas.Result.{IfOk-from_err, err_from_is_err_and}
+use Rattle.pref_share.proofs.publisher.Publisher.join.Given.{Over}
+use Rattle.pref_share.proofs.publisher.Publisher.join.Goals.{After-published_store-store, In-Ok}
 use Rattle.pref_share.proofs.publisher.Publisher.join.Goals as goal
+
+-- the published store is what the history leaves
+store_left : (g : Over) (c : After-published_store-store g) → c.published_store-store.result.now ≡ contents_at g.J.BoardBrand.opening c.self.inside.history
+store_left g c = rw (c.published_store-store.ensures, c.deref.ensures) (published_left g.J.BoardBrand.opening g.J.BoardBrand.book (manually_drop_value c.self.inside.writer).desk.shown.value c.self.inside.history c.self.invariant.3 c.self.invariant.2)
+
+-- what was planned is the call of the arguments, and may follow the history
+plan : (g : Over) (c : In-Ok g) → c.published_store-store.result.now ≡ contents_at g.J.BoardBrand.opening c.self.inside.history
+    → (c.in-Ok.op.client ≡ c.args.client) × (c.in-Ok.op.call.now ≡ c.args.call) × MayFollow g.J.BoardBrand.opening c.self.inside.history (op_of c.in-Ok.op)
+plan g c left =
+    let (by, what, may) = planned g.J.BoardBrand.opening c.self.inside.history c.published_store-store.result.now c.args.client c.lend-lent.result (op_of c.in-Ok.op) c.self.invariant.0 left c.in-Ok.ensures.state in
+    (by, what ∙ c.lend-lent.ensures, may)
+
+-- a call whose outcome is that it added a row adds one
+adds_rows : (change : Bool) (lost : Option ℕ) (full some : Bool) (size next_id : ℕ) → adds (cond change (elim lost as (λ _. Outcome) [ Some id ↦ NoRow id | None ↦ cond full (NoRoom size) (cond some (Added next_id) Done) ]) Done) ≡ true → some ≡ true
+adds_rows change lost full some size next_id e = grind (arith)
 
 pub returns-in-Err-clause-refused : goal.returns-in-Err-clause-refused
 returns-in-Err-clause-refused g c =
     let o = g.J.BoardBrand.opening in
-    let left : c.published_store-store.result.now ≡ contents_at o c.self.inside.history = rw (c.published_store-store.ensures, c.deref.ensures) (published_left o g.J.BoardBrand.book (manually_drop_value c.self.inside.writer).desk.shown.value c.self.inside.history c.self.invariant.3 c.self.invariant.2) in
+    let left = store_left g (goal.at.returns-in-Err-clause-refused g c).After-published_store-store in
     subst (λ (l : List Op). (refusal (state_at o l) c.args.client c.args.call ≡ Some c.in-Err.fault) ⊎ ((c.in-Err.fault ≡ OutOfMemory) × (nat_lt 0 (added c.args.call) ≡ true))) c.self.view_is
     (inl (ap (refusal (state_at o c.self.inside.history) c.args.client) (sym c.lend-lent.ensures) ∙ unplanned o c.self.inside.history c.published_store-store.result.now c.args.client c.lend-lent.result c.in-Err.fault c.self.invariant.0 left c.in-Err.ensures.state))
 
 pub invariant_of-self : goal.invariant_of-self
 invariant_of-self g c =
-    let o = g.J.BoardBrand.opening in
-    let left : c.published_store-store.result.now ≡ contents_at o c.self.inside.history = rw (c.published_store-store.ensures, c.deref.ensures) (published_left o g.J.BoardBrand.book (manually_drop_value c.self.inside.writer).desk.shown.value c.self.inside.history c.self.invariant.3 c.self.invariant.2) in (
+    let left = store_left g (goal.at.invariant_of-self g c).After-published_store-store in (
       c.self.invariant.0,
       subst (λ (s : Contents). IsIndexOf s c.reindex.new.index) left c.in_err-reindex.ensures.same,
       c.self.invariant.2,
@@ -31,21 +47,16 @@ invariant_of-self g c =
     )
 
 pub add-requires : goal.add-requires
-add-requires g c =
-    let o = g.J.BoardBrand.opening in
-    let left : c.published_store-store.result.now ≡ contents_at o c.self.inside.history = rw (c.published_store-store.ensures, c.deref.ensures) (published_left o g.J.BoardBrand.book (manually_drop_value c.self.inside.writer).desk.shown.value c.self.inside.history c.self.invariant.3 c.self.invariant.2) in
-    (planned o c.self.inside.history c.published_store-store.result.now c.args.client c.lend-lent.result (op_of c.in-Ok.op) c.self.invariant.0 left c.in-Ok.ensures.state).2
+add-requires g c = (plan g (goal.at.add-requires g c).In-Ok (store_left g (goal.at.add-requires g c).After-published_store-store)).2
 
 pub replace_with-requires : goal.replace_with-requires
 replace_with-requires g c =
     let o = g.J.BoardBrand.opening in
-    let left : c.published_store-store.result.now ≡ contents_at o c.self.inside.history = rw (c.published_store-store.ensures, c.deref.ensures) (published_left o g.J.BoardBrand.book (manually_drop_value c.self.inside.writer).desk.shown.value c.self.inside.history c.self.invariant.3 c.self.invariant.2) in
     let x = (manually_drop_value c.self.inside.writer).desk.shown.value in
     let op = c.in-Ok.op in
     let stamp : Stamp = record { op = record { client = op.client; number = op.number; call = c.args.call; slots = op.slots; outcome = op.outcome }; len = c.len.result; seen = c.witness.result } in
-    let plan = planned o c.self.inside.history c.published_store-store.result.now c.args.client c.lend-lent.result (op_of op) c.self.invariant.0 left c.in-Ok.ensures.state in
-    let call : op.call.now ≡ c.args.call = plan.1 ∙ c.lend-lent.ensures in
-    let boxed : op_of op ≡ boxed_op stamp.op = λ i. record { client = op.client; number = op.number; call = call i; slots = op.slots; outcome = op.outcome } in
+    let plan = plan g (goal.at.replace_with-requires g c).In-Ok (store_left g (goal.at.replace_with-requires g c).After-published_store-store) in
+    let boxed : op_of op ≡ boxed_op stamp.op = λ i. record { client = op.client; number = op.number; call = plan.1 i; slots = op.slots; outcome = op.outcome } in
     let log : stamp.seen.log ≡ c.add.new.self = c.witness.ensures.log ∙ c.whole-seen.ensures.same in
     let stands : HoldsHistory (first_contents o) g.J.BoardBrand.book (stamped x stamp) =
     published_next o g.J.BoardBrand.book x stamp (op_of op) c.self.inside.history boxed c.self.invariant.0 c.self.invariant.2 c.self.invariant.3 plan.2 (log ∙ c.add.ensures) (c.len.ensures.length ∙ ap length (sym c.witness.ensures.log)) c.witness.ensures.book in
@@ -54,13 +65,12 @@ replace_with-requires g c =
 pub invariant_of-self-2 : goal.invariant_of-self-2
 invariant_of-self-2 g c =
     let o = g.J.BoardBrand.opening in
-    let left : c.published_store-store.result.now ≡ contents_at o c.self.inside.history = rw (c.published_store-store.ensures, c.deref.ensures) (published_left o g.J.BoardBrand.book (manually_drop_value c.self.inside.writer).desk.shown.value c.self.inside.history c.self.invariant.3 c.self.invariant.2) in
+    let left = store_left g (goal.at.invariant_of-self-2 g c).After-published_store-store in
     let x = (manually_drop_value c.self.inside.writer).desk.shown.value in
     let op = c.in-Ok.op in
     let stamp : Stamp = record { op = record { client = op.client; number = op.number; call = c.args.call; slots = op.slots; outcome = op.outcome }; len = c.len.result; seen = c.witness.result } in
-    let plan = planned o c.self.inside.history c.published_store-store.result.now c.args.client c.lend-lent.result (op_of op) c.self.invariant.0 left c.in-Ok.ensures.state in
-    let call : op.call.now ≡ c.args.call = plan.1 ∙ c.lend-lent.ensures in
-    let boxed : op_of op ≡ boxed_op stamp.op = λ i. record { client = op.client; number = op.number; call = call i; slots = op.slots; outcome = op.outcome } in
+    let plan = plan g (goal.at.invariant_of-self-2 g c).In-Ok left in
+    let boxed : op_of op ≡ boxed_op stamp.op = λ i. record { client = op.client; number = op.number; call = plan.1 i; slots = op.slots; outcome = op.outcome } in
     let log : stamp.seen.log ≡ c.add.new.self = c.witness.ensures.log ∙ c.whole-seen.ensures.same in
     let stands : HoldsHistory (first_contents o) g.J.BoardBrand.book (stamped x stamp) =
     published_next o g.J.BoardBrand.book x stamp (op_of op) c.self.inside.history boxed c.self.invariant.0 c.self.invariant.2 c.self.invariant.3 plan.2 (log ∙ c.add.ensures) (c.len.ensures.length ∙ ap length (sym c.witness.ensures.log)) c.witness.ensures.book in
@@ -80,35 +90,28 @@ invariant_of-self-2 g c =
 pub returns-clause-joined : goal.returns-clause-joined
 returns-clause-joined g c =
     let o = g.J.BoardBrand.opening in
-    let left : c.published_store-store.result.now ≡ contents_at o c.self.inside.history = rw (c.published_store-store.ensures, c.deref.ensures) (published_left o g.J.BoardBrand.book (manually_drop_value c.self.inside.writer).desk.shown.value c.self.inside.history c.self.invariant.3 c.self.invariant.2) in
-    let plan = planned o c.self.inside.history c.published_store-store.result.now c.args.client c.lend-lent.result (op_of c.in-Ok.op) c.self.invariant.0 left c.in-Ok.ensures.state in
+    let plan = plan g (goal.at.returns-clause-joined g c).In-Ok (store_left g (goal.at.returns-clause-joined g c).After-published_store-store) in
     subst (λ (l : List Op). IsAppended o l c.args.client c.args.call c.in-Ok.op.outcome c.add.new.self) c.self.view_is
-    (record { op = op_of c.in-Ok.op; by = plan.0; what = plan.1 ∙ c.lend-lent.ensures; outcome = refl; may = plan.2; ends = c.add.ensures })
+    (record { op = op_of c.in-Ok.op; by = plan.0; what = plan.1; outcome = refl; may = plan.2; ends = c.add.ensures })
 
 pub look_up-requires : goal.look_up-requires
 look_up-requires g c =
-    let o = g.J.BoardBrand.opening in
-    let left : c.published_store-store.result.now ≡ contents_at o c.self.inside.history = rw (c.published_store-store.ensures, c.deref.ensures) (published_left o g.J.BoardBrand.book (manually_drop_value c.self.inside.writer).desk.shown.value c.self.inside.history c.self.invariant.3 c.self.invariant.2) in
+    let left = store_left g (goal.at.look_up-requires g c).After-published_store-store in
     subst (λ (s : Contents). IsIndexOf s c.self.inside.index) (sym left) c.self.invariant.1
 
 pub reindex-requires-clause-index : goal.reindex-requires-clause-index
 reindex-requires-clause-index g c =
-    let o = g.J.BoardBrand.opening in
-    let left : c.published_store-store.result.now ≡ contents_at o c.self.inside.history = rw (c.published_store-store.ensures, c.deref.ensures) (published_left o g.J.BoardBrand.book (manually_drop_value c.self.inside.writer).desk.shown.value c.self.inside.history c.self.invariant.3 c.self.invariant.2) in
+    let left = store_left g (goal.at.reindex-requires-clause-index g c).After-published_store-store in
     subst (λ (s : Contents). IsIndexOf s c.self.inside.index) (sym left) c.self.invariant.1
-
-adds_rows : (change : Bool) (lost : Option ℕ) (full some : Bool) (size next_id : ℕ) → adds (cond change (elim lost as (λ _. Outcome) [ Some id ↦ NoRow id | None ↦ cond full (NoRoom size) (cond some (Added next_id) Done) ]) Done) ≡ true → some ≡ true
-adds_rows change lost full some size next_id e = grind (arith)
 
 pub returns-in_err-reindex-clause-refused : goal.returns-in_err-reindex-clause-refused
 returns-in_err-reindex-clause-refused g c =
     let o = g.J.BoardBrand.opening in
-    let left : c.published_store-store.result.now ≡ contents_at o c.self.inside.history = rw (c.published_store-store.ensures, c.deref.ensures) (published_left o g.J.BoardBrand.book (manually_drop_value c.self.inside.writer).desk.shown.value c.self.inside.history c.self.invariant.3 c.self.invariant.2) in
-    let (by, what, may) = planned o c.self.inside.history c.published_store-store.result.now c.args.client c.lend-lent.result (op_of c.in-Ok.op) c.self.invariant.0 left c.in-Ok.ensures.state in
+    let plan = plan g (goal.at.returns-in_err-reindex-clause-refused g c).In-Ok (store_left g (goal.at.returns-in_err-reindex-clause-refused g c).After-published_store-store) in
     let state = state_at o c.self.inside.history in
     let capacity = length (contents_at o c.self.inside.history).slots in
     let call = c.args.call in
-    let is : c.in-Ok.op.outcome ≡ outcome capacity state call = may.next.outcome ∙ ap (outcome capacity state) (what ∙ c.lend-lent.ensures) in
+    let is : c.in-Ok.op.outcome ≡ outcome capacity state call = plan.2.next.outcome ∙ ap (outcome capacity state) plan.1 in
     let some = adds_rows (is_change call) (missing (ended call) state.table) (begins_row call && nat_lt capacity (needed_after state call)) (nat_lt 0 (added call)) (needed_after state call) state.next_id (ap adds (sym is) ∙ c.in_err-reindex.ensures.refused) in
     let p = err_from_is_err_and c.from_residual.result c.from_residual.ensures.1 in
     rw (p.1, p.2) (inr (refl, some))
