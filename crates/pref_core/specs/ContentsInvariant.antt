@@ -76,7 +76,8 @@ pub record FitAtOnce (contents : Contents) (call : Call) (slots : List ℕ) : Ty
   pub placed : is_some (placed contents call slots (outcome_at contents call)) ≡ true
   pub formed : is_formed call ≡ true
 
--- A change fits at once, by a look at the next slot alone, and so many slots are used then: a row may be added in one that is free, set in the one where it stands if nothing needs what is there, and removed where it is there.
+-- A change fits at once, by a look at the next slot alone, and so many slots are used then: a row may be added in one that is free, set in the
+-- one where it stands if nothing needs what is there, and removed where it is there.
 abbrev pub FitsNext : Contents → List ℕ → ℕ → Change → ℕ → Type 0
 FitsNext contents slots used (Add row) after = (place : ℕ) × (slice_get slots used ≡ Some place) × (free_at (uses_of contents) place ≡ true) × (among (take used slots) place ≡ false) × (after ≡ used + 1)
 FitsNext contents slots used (Set id row) after = (place : ℕ) × (slice_get slots used ≡ Some place) × (row_at contents.stamp id contents.slots place ≡ true) × ((ids : List ℕ) → among ids id ≡ true → frees_at (begins contents.callers) ids (contents.stamp + 1) contents.slots place ≡ true) × (after ≡ used + 1)

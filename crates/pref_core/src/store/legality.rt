@@ -26,7 +26,7 @@ impl Store {
         self.is_legal_anew(op)
     }
 
-    /// The same by a plan of the call.
+    /// Whether an op is legal next, by a plan of its call.
     fn is_legal_anew(&self, op: &Planned<'_>) -> bool
         ensures { result ≡ (is_next self.now (op_of op.now) && is_some (slots_after self.now (op_of op.now))) }
     {

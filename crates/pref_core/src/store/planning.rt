@@ -207,7 +207,7 @@ impl Contents {
         }
     }
 
-    /// The same for all changes of a call, one after the other.
+    /// Whether these are slots for the rows of a call's changes, one after the other.
     fn all_fit_at_once(&self, index: Option<&Index>, call: &LentCall<'_>, slots: &[u32]) -> bool
         requires kept { IsKept self.now }
         requires index { IfSome index (λ index. IsIndexOf self.now index.now) }
