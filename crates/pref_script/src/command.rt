@@ -150,18 +150,20 @@ pub fn read_command(
 ) -> Result<Event, Stop>
     ensures { Reads result (event_said schema.now (said_by_client client command.now)) }
 {
-    match read_form(command) {
-        Some(form) => form_event(alloc, schema, client, form),
-        None => Err(Stop::Refused(Refusal::NotCommand)),
-    }
+    let Some(form) = read_form(command) else {
+        return Err(Stop::Refused(Refusal::NotCommand));
+    };
+    form_event(alloc, schema, client, form)
 }
 
 /// The event of a command line, which is given without its end. Refused for its form first, as [`read_command`] is.
+/// It is made a part of its callers: as a call of its own it copies the event once more.
+#[inline(always)]
 pub fn read_event(alloc: Global, schema: &Schema, line: &[u8]) -> Result<Event, Stop>
     ensures { Reads result (event_of schema.now line.now) }
 {
-    match cut_client(line) {
-        Some((client, command)) => read_command(alloc, schema, client, command),
-        None => Err(Stop::Refused(Refusal::NotCommand)),
-    }
+    let Some((client, command)) = cut_client(line) else {
+        return Err(Stop::Refused(Refusal::NotCommand));
+    };
+    read_command(alloc, schema, client, command)
 }
