@@ -79,7 +79,7 @@ fn answer<J: BoardBrand, R: Wait>(
     }
 }
 
-/// The same for an act that is no change of one row.
+/// The reply to an act that is no change of one row, where the client's call is not refused.
 #[inline(never)]
 fn answer_other<J: BoardBrand, R: Wait>(
     rt: &R,
