@@ -1,4 +1,4 @@
-//! A task of the tests.
+//! A task of the tests. It is no test itself, so that must-fail edits can be made to it.
 
 ghost use Rattle.std.specs.Prelude.{◌<◌, ◌^◌, length};
 ghost use Rattle.std.specs.Vec.Iter.{into_iter_items};
@@ -11,9 +11,9 @@ use std::vec::IntoIter;
 
 /// Inserts rows, and keeps the ids that they get: 0 for a row that is refused.
 #[derive(Drop)]
-pub(crate) struct Inserts {
-    pub(crate) rows: IntoIter<Row>,
-    pub(crate) ids: Vec<u64>,
+pub struct Inserts {
+    pub rows: IntoIter<Row>,
+    pub ids: Vec<u64>,
     ghost few: { length (into_iter_items rows) < 2 ^ 63 },
 }
 

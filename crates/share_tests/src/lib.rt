@@ -1,6 +1,7 @@
 //! The tests of pref_share, through its public items.
 //!
-//! They are in a crate of their own because a crate that holds tests is proved twice.
+//! They are in a crate of their own because a crate that holds tests is proved twice. The task that they run, `inserts`, stands outside
+//! `cfg(test)`, since a must-fail edit is tried without the tests.
 #![tactic(auto)]
 
 #[cfg(test)]
@@ -11,8 +12,7 @@ mod boards;
 mod calls;
 #[cfg(test)]
 mod commits;
-#[cfg(test)]
-mod inserts;
+pub mod inserts;
 #[cfg(test)]
 mod pairs;
 #[cfg(test)]
