@@ -1,19 +1,17 @@
 #!/usr/bin/env python3
 """Shows what a change and a get cost, at any age of a table whose rows come and go, in one thread and on a board.
 
-    ages.py PREFQ_BINARY [--instructions] [--readers READERS_SPEED_BINARY] [--rounds N]
+    ages.py PREFQ_BINARY [--instructions] [--rounds N]
 
 Prints
 - the cost of a change after so many changes (random deletes and inserts in 30,000 slots, 7/8 of them in use): of 100,000 more
   changes, less what the script without these takes; by `play`, by `threads`, and the ratio threads/play;
-- the cost of a get of a row at its home, of one that had to move, of a deleted id and of one that was never given, in ratio to the first;
-- with `--readers`, what readers_speed prints of a writer alone, and of a change and a get after up to 10,000,000 changes.
+- the cost of a get of a row at its home, of one that had to move, of a deleted id and of one that was never given, in ratio to the first.
 Costs are microseconds of processor time, the medians of the rounds (5 where not said), and with `--instructions` numbers of
 instructions, by callgrind: no noise, a few minutes."""
 import argparse
 import os
 import statistics
-import subprocess
 
 import runs
 import workloads
@@ -72,17 +70,10 @@ def print_gets(costs, unit):
         print(f"| {KINDS[kind]} | {number(play)} | {ratio(play, found['home'][0])} | {number(threads)} | {ratio(threads, found['home'][1])} |")
 
 
-def print_readers(binary):
-    for title, words in (("a writer alone, for 2 seconds", ["0", "1", "0", "2000"]), ("ages", ["ages"])):
-        print(f"\nreaders_speed, {title}:", flush=True)
-        subprocess.run([os.path.abspath(binary), *words], check=True)
-
-
 def main():
     parser = argparse.ArgumentParser(description=__doc__, formatter_class=argparse.RawDescriptionHelpFormatter)
     parser.add_argument("binary")
     parser.add_argument("--instructions", action="store_true")
-    parser.add_argument("--readers")
     parser.add_argument("--rounds", type=int, default=5)
     args = parser.parse_args()
     runs.build()
@@ -91,8 +82,6 @@ def main():
     unit = "instructions" if args.instructions else "microseconds"
     print_changes(costs, unit)
     print_gets(costs, unit)
-    if args.readers:
-        print_readers(args.readers)
 
 
 if __name__ == "__main__":

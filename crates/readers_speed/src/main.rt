@@ -1,14 +1,12 @@
-//! How many gets, updates and scans the clients of one board do in a second, each on a thread of its own; and what a change and a
-//! get cost in a table whose rows come and go.
+//! How many gets, updates and scans the clients of one board do in a second, each on a thread of its own.
 #![tactic(auto)]
 
-mod ages;
 mod random;
 mod threads;
 
 ghost use Rattle.std.specs.Prelude.{◌≤◌, ◌+◌, IfSome};
 
-use anyhow::{Context, Result};
+use anyhow::Result;
 use pref_core::Setup;
 use pref_share::BoardName;
 use pref_table::{Row, Schema, TableFault};
@@ -22,8 +20,7 @@ use std::{env, io};
 use threads::{Plan, Tally, measure};
 
 const USAGE: &str =
-    "readers_speed READERS WRITERS SCANNERS MILLISECONDS: 1 to 8 clients of 40000 rows in 65536 slots
-readers_speed ages: a change and a get in 30000 slots, after up to 10000000 changes";
+    "readers_speed READERS WRITERS SCANNERS MILLISECONDS: 1 to 8 clients of 40000 rows in 65536 slots";
 
 /// What these words ask for.
 fn plan_of(words: &[String]) -> Option<Plan>
@@ -44,10 +41,10 @@ fn plan_of(words: &[String]) -> Option<Plan>
     })
 }
 
-fn opening_rows(alloc: Global, schema: &Schema, count: u64) -> Result<Vec<Row>, TableFault> {
+fn opening_rows(alloc: Global, schema: &Schema) -> Result<Vec<Row>, TableFault> {
     let mut random = Random(0);
     let mut rows = Vec::new(alloc);
-    for _ in 0..count {
+    for _ in 0..ROWS {
         rows.push(random.row(schema)?)?;
     }
     Ok(rows)
@@ -70,22 +67,16 @@ fn print_rate(rt: &impl Print, what: &str, times: u64, milliseconds: u32) -> io:
     println!(rt; "{what} a second: {rate}")
 }
 
-/// Prints what a change and a get cost in a table whose rows come and go.
-fn print_costs(rt: &(impl Wait + Clock + Print + AllocGlobal), schema: &Schema) -> Result<()> {
-    let setup = Setup::new(1, ages::SLOTS, 65_536, 64).context("a setup of one client")?;
-    let rows = opening_rows(rt.alloc(), schema, ages::ROWS as u64)?;
-    ages::measure::<Brand, _>(rt, BoardName::new(), schema, &rows, setup)
-}
-
 /// Prints how much the clients of a plan do in a second.
 fn print_rates(
     rt: &(impl Threads + Wait + Clock + Print + AllocGlobal + Sync),
-    schema: &Schema,
     plan: Plan,
 ) -> Result<()> {
     let milliseconds = plan.milliseconds;
-    let rows = opening_rows(rt.alloc(), schema, ROWS)?;
-    let tallies = measure::<Brand, _>(rt, BoardName::new(), schema, &rows, plan)?;
+    let names = [b"a".as_slice(), b"b", b"c", b"d", b"e", b"f"];
+    let schema = Schema::new(rt.alloc(), names.as_slice())?;
+    let rows = opening_rows(rt.alloc(), &schema)?;
+    let tallies = measure::<Brand, _>(rt, BoardName::new(), &schema, &rows, plan)?;
     let total = total(&tallies);
     print_rate(rt, "Gets", total.gets, milliseconds)?;
     print_rate(rt, "Updates", total.updates, milliseconds)?;
@@ -98,15 +89,8 @@ fn run(
     rt: &(impl Threads + Wait + Clock + Print + AllocGlobal + Sync),
     words: &[String],
 ) -> Result<()> {
-    let names = [b"a".as_slice(), b"b", b"c", b"d", b"e", b"f"];
-    let schema = Schema::new(rt.alloc(), names.as_slice())?;
-    if let [word] = words
-        && word.as_str() == "ages"
-    {
-        return print_costs(rt, &schema);
-    }
     match plan_of(words) {
-        Some(plan) => print_rates(rt, &schema, plan),
+        Some(plan) => print_rates(rt, plan),
         None => Ok(rt.println(USAGE)?),
     }
 }
