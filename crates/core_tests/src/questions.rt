@@ -339,7 +339,7 @@ fn read_off(ask: &Ask, a: &Row, b: &Row) -> (bool, bool, bool, bool) {
     )
 }
 
-/// The same by the text of a question over the columns x and y.
+/// Reads two rows off by the text of a question over the columns x and y.
 fn read_off_text(
     alloc: Global,
     text: &[u8],

@@ -36,7 +36,7 @@ fn print_answer(rt: &impl Print, client: u8, answer: &RankedList) -> io::Result<
     Ok(())
 }
 
-/// What the clients do.
+/// Runs two clients, one call after the other.
 fn run_clients(rt: &impl Print, alloc: Global, table: &mut Machine, schema: &Schema) -> Result<()> {
     let blocks = begin(alloc, table, schema, 1)?;
     let hotel = Row::of(schema, &[55, 1])?;

@@ -126,7 +126,7 @@ pub struct Op {
     pub call: Call,
     /// The slots of the versions that begin, in the order of the changes that begin them.
     pub slots: SlotList,
-    /// What becomes of the call.
+    /// The outcome of the call.
     pub outcome: Outcome,
 }
 

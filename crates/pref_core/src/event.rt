@@ -1,4 +1,4 @@
-//! What a client may do, and the replies to it.
+//! The acts of a client, and the replies to them.
 
 ghost use Rattle.std.specs.Prelude.{◌≡◌, IfOk};
 

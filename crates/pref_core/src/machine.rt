@@ -408,7 +408,7 @@ fn committed_of(next_id: u64, commit: &Commit) -> Committed
     }
 }
 
-/// What a change returns by its outcome.
+/// The result of a change, by its outcome.
 fn result_of(outcome: Outcome) -> Result<(), CoreFault>
     ensures { (done : Reply) → as_reply (λ _. done) result ≡ reply_for outcome done }
 {

@@ -51,9 +51,9 @@ use std::marker::Model;
 /// at its open query's begin. Contracts see them as they are, and not the lists beside them that spare a look at each
 /// slot.
 ///
-/// What a store represents, a state of the sequential table, is said by `StandsFor`. [`Store::plan`] finds what
-/// becomes of a call and [`Store::apply`] does it; [`ops_are_history`](crate::laws::ops_are_history) says that what was
-/// applied so is a legal history.
+/// `StandsFor` says which state of the sequential table a store represents. [`Store::plan`] finds the outcome of a call
+/// and [`Store::apply`] does it; [`ops_are_history`](crate::laws::ops_are_history) says that ops applied so are a legal
+/// history.
 pub struct Store {
     contents: Contents,
 }

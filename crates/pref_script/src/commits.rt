@@ -24,7 +24,7 @@ fn refusal_before(why: Stop, rest: Option<&[u8]>) -> Stop
 
 /// The commit of a text whose pieces are between semicolons, in one pass. Takes no memory, however many pieces there are.
 ///
-/// That a piece has not the form of a change comes before any refused values, and these before the number of the changes and their ids.
+/// A piece that has not the form of a change is refused before any values, and these before the number of the changes and their ids.
 #[tactic(auto, unfolding(crate::specs::Commands::commit_said))]
 pub fn read_commit(schema: &Schema, text: &[u8]) -> Result<Commit, Stop>
     ensures { Reads result (commit_said schema.now text.now) }

@@ -82,7 +82,7 @@ impl From<CoreFault> for RunFault {
     }
 }
 
-/// What stopped the clients as a fault of the run.
+/// The fault that stopped the clients, as a fault of the run.
 impl From<ShareFault> for RunFault {
     ghost from_gives = { λ why fault. fault ≡ share_fault why };
 

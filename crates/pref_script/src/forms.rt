@@ -119,7 +119,7 @@ pub fn cut_client(line: &[u8]) -> Option<(u8, &[u8])>
     cut_any_client(line)
 }
 
-/// What a command says, where it has the form of one: what follows the client's number in a command line.
+/// The form of a command, which is the part of a command line behind the client's number, if it has one.
 pub fn read_form(command: &[u8]) -> Option<Form<'_>>
     ensures { option_map said result ≡ said_of command.now }
 {

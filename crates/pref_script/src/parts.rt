@@ -1,4 +1,4 @@
-//! What each client of a script does on a thread of its own: its commands, one after the other.
+//! The part of each client in a script on threads: its commands, one after the other.
 ghost use Rattle.std.specs.Prelude.{◌≡◌, ◌<◌, ◌++◌, ◌∷◌, [], true, length, string_bytes, suc, All, IfOk, MatchOption, OnOk};
 ghost use Rattle.pref_script.specs.ClientParts.{AllGiven, ArePartsUpTo, AreParts, IsCommandOf, IsGiven, IsWhole, NamesNone};
 ghost use Rattle.pref_script.specs.Script.{raw_lines};

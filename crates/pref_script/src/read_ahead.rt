@@ -1,4 +1,4 @@
-//! What was read of an input before it is used.
+//! Bytes of an input that were read before they are used.
 ghost use Rattle.std.specs.Prelude.{◌≤◌, vec_len};
 
 /// The bytes that were read and not taken yet, and whether the reader has come to its end.

@@ -152,7 +152,7 @@ pub(crate) struct Adding<'a> {
     pub(crate) next: Pen,
 }
 
-/// What a step asks for: the operation, and who may add the next one.
+/// A step asks for an operation, and for the pen that may add the next one.
 impl Plain<Adding<'_>, Entry, u64> for AppendOp {
     ghost use Rattle.std.specs.Prelude.{None};
     ghost use Rattle.pref_core.specs.Planned.{op_of};

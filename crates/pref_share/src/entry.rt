@@ -1,4 +1,4 @@
-//! What the book of a board keeps of each operation.
+//! The entries of a board's book, one for each operation.
 
 use pref_core::Op;
 

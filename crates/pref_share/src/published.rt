@@ -53,7 +53,7 @@ pub struct Base {
     pub seen: Witness,
 }
 
-/// What a seat knows. No value of it is made.
+/// The knowledge of a seat. No value of it is made.
 pub struct View {
     pub base: Option<Base>,
 }
@@ -96,7 +96,7 @@ impl Outcome<Published, View> for ReadStep {
     ghost then = { Reads };
 }
 
-/// What the writer passes to a new reader: all that it knows.
+/// The knowledge that the writer passes to a new reader: all that it has.
 pub(crate) struct GiveView;
 
 impl Split<View> for GiveView {
@@ -105,7 +105,7 @@ impl Split<View> for GiveView {
     ghost right = { λ v. v };
 }
 
-/// What a new reader makes of it: the same.
+/// The knowledge that a new reader takes over: all of that.
 pub(crate) struct TakeView;
 
 impl Join<View> for TakeView {

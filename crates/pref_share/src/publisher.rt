@@ -1,4 +1,4 @@
-//! What lies under the lock of a board: the whole history, an index of the rows that it leaves, and the writer that publishes it.
+//! The part of a board under its lock: the whole history, an index of the rows that it leaves, and the writer that publishes it.
 //!
 //! ```text
 //!                     readers enter       the other copy      the writer's log

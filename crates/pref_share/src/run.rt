@@ -60,7 +60,7 @@ struct Job<J: BoardBrand, T> {
     task: T,
 }
 
-/// What came of a client's task: the client, the task as it is then, and why the client stopped, where it did not do all acts.
+/// A client's task when it has ended: the client, the task as it is then, and why the client stopped, where it did not do all acts.
 #[derive(Drop)]
 struct Worked<J: BoardBrand, T> {
     client: Client<J>,
@@ -282,7 +282,7 @@ fn work_all<
     )
 }
 
-/// What came of all tasks, where each had memory.
+/// The ends of all tasks, where each had memory.
 fn all_results<J: BoardBrand, T: Task + Drop>(
     alloc: Global,
     all: Vec<Result<Worked<J, T>, AllocError>>,
@@ -296,7 +296,7 @@ fn all_results<J: BoardBrand, T: Task + Drop>(
     Ok(list)
 }
 
-/// What came of each client's task, which is settled by the whole history.
+/// The end of each client's task, which is settled by the whole history.
 fn work_tasks<
     J: BoardBrand + Send + Sync,
     R: Threads + Wait + Sync,
@@ -356,7 +356,7 @@ fn reconcile_all<J: BoardBrand, R: Wait, T: Drop>(
     publisher.whole()
 }
 
-/// What came of lists of acts, as reports.
+/// The ends of lists of acts, as reports.
 fn reports_of<J: BoardBrand>(
     alloc: Global,
     all: Vec<Worked<J, Listed>>,

@@ -1,4 +1,4 @@
-//! What a client does on a thread of its own.
+//! Tasks: the work of a client on a thread of its own.
 
 ghost use Rattle.std.specs.Prelude.{◌≡◌, ◌++◌, ◌∷◌, [], List, MatchOption, IfOk, OnOk};
 ghost use Rattle.std.specs.Vec.Iter.{into_iter_items};

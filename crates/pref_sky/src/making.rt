@@ -1,4 +1,4 @@
-//! What an addition makes of the levels of a partition: they are made anew beside those that there are, as far as something comes to them.
+//! An addition to the levels of a partition: they are made anew beside those that there are, as far as something comes to them.
 //!
 //! ```text
 //! Two items come, a to level 1 and b to level 2; a dominates q, and q dominates t.

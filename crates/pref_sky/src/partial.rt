@@ -14,7 +14,7 @@ use pref_term::Dominance;
 use std::alloc::{AllocError, Global};
 use std::marker::Model;
 
-/// What a partial result holds.
+/// The entries of a partial result, in one of its two forms.
 pub(crate) enum Held {
     /// Nothing was added.
     Nothing,
@@ -64,7 +64,7 @@ impl Model for Partial {
     ghost invariant = { λ a. HaveDifferentIds (map entry_of (ranked_held a.held)) };
 }
 
-/// What is held after the first addition: entries in the order of two chains where the order is their product, and else partitions where it
+/// The entries held after the first addition: in the order of two chains where the order is their product, and else in partitions where it
 /// compares rows within groups alone.
 fn hold_first<D: Dominance>(
     alloc: Global,
@@ -99,8 +99,8 @@ impl Held {
     }
 }
 
-/// What is held where an addition is by an order or a cut that does not go with what was held: the entries of its levels and the new
-/// ones are begun anew.
+/// The entries held after an addition by an order or a cut that does not go with those held before: these and the new ones are begun
+/// anew.
 fn hold_anew<D: Dominance>(
     alloc: Global,
     dominance: &D,

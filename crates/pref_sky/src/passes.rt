@@ -149,7 +149,7 @@ fn offer_all<D: Dominance>(
     Ok(())
 }
 
-/// What passes found: the best items and the others, each list in no order, and the number of passes.
+/// The result of all passes: the best items and the others, each list in no order, and the number of passes.
 #[derive(Drop)]
 pub(crate) struct Found {
     pub(crate) best: Vec<Item>,

@@ -133,7 +133,7 @@ impl Pruned {
 /// Entries of an order that is a product of two chains. Their levels up to the cut are found when they are asked for.
 pub(crate) struct SortedEntries {
     pub(crate) pruned: Pruned,
-    /// What came since these were pruned.
+    /// The entries that came since these were pruned.
     pub(crate) recent: Vec<Entry>,
     /// Which of the last level dominated a new entry last. Any number is right.
     lately: usize,
@@ -183,7 +183,7 @@ impl SortedEntries {
         Ok(())
     }
 
-    /// What holds the levels of these entries. They come in pieces, so that most of them meet what was pruned.
+    /// Holds the levels of these entries. They come in pieces, so that most of them meet entries that were pruned.
     pub(crate) fn of(
         alloc: Global,
         order: ChainOrder,

@@ -27,7 +27,7 @@ fn cut_field(line: &[u8]) -> (&[u8], &[u8])
     (line, &line[line.len()..])
 }
 
-/// What follows the comma after a first field of this size.
+/// The part of a line behind the comma after a first field of this size.
 fn after_comma(line: &[u8], size: usize) -> &[u8]
     requires { size < length line.now }
     ensures { result.now ≡ drop (size + 1) line.now }

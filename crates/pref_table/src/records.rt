@@ -21,7 +21,7 @@ pub(crate) enum Place {
     AfterQuote,
 }
 
-/// What a byte does.
+/// The effect of a byte.
 #[derive(Clone, Copy)]
 pub(crate) enum Effect {
     /// No field ends with it, and the next byte stands here.
@@ -32,7 +32,7 @@ pub(crate) enum Effect {
     EndsRecord,
 }
 
-/// What the next record of a text is.
+/// The next record of a text.
 #[derive(Clone, Copy)]
 pub(crate) enum Next<'text> {
     /// There is none.
@@ -43,7 +43,7 @@ pub(crate) enum Next<'text> {
     Narrow(&'text [u8]),
 }
 
-/// What a byte does that stands in this place.
+/// The effect of a byte that stands in this place.
 fn effect_of(place: Place, byte: u8) -> Effect
     ensures { Does (csv.step default_config (state_at place) byte) result }
 {

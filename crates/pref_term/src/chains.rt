@@ -25,7 +25,7 @@ pub struct Chains {
     tie: Vec<Key>,
 }
 
-/// What a list of keys is in `Chains`.
+/// The part of a list of keys in `Chains`.
 #[derive(Clone, Copy, PartialEq, Eq)]
 pub(crate) enum Role {
     First,

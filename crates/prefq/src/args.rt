@@ -17,7 +17,7 @@ pub enum Mode {
     Threads,
 }
 
-/// What the arguments ask for: how the script is run, and its setup.
+/// How the script is run, and its setup.
 #[derive(Clone, Copy)]
 pub struct Args {
     pub mode: Mode,
@@ -35,10 +35,10 @@ pub enum ArgsFault {
     Memory,
 }
 
-/// What `--version` prints after the name.
+/// The version, which `--version` prints after the name.
 const VERSION: &str = "0.2.0";
 
-/// What follows the help of the program: the options, an example, and where more is said.
+/// The end of the program's help: the options, an example, and where more is said.
 const AFTER_HELP: &str = "\
 With no arguments it runs play. These options stand after play, live or threads:
 

@@ -101,7 +101,7 @@ fn run_as_asked<T: Threads + Wait + Sync + AllocGlobal + Print, R: Read + Drop, 
     }
 }
 
-/// What the program's words ask for.
+/// The arguments that the program's words give.
 fn given_args(rt: &(impl Env + AllocGlobal)) -> Result<Args, ArgsFault> {
     let words = arguments(rt)?;
     let Ok(lent) = borrowed(rt.alloc(), words.as_slice()) else {

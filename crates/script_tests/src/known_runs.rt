@@ -66,7 +66,7 @@ pub(crate) fn script_of(alloc: Global, run: &Run) -> Result<String, AllocError> 
     Ok(script)
 }
 
-/// What is printed for it.
+/// The output of a run.
 fn output_of(alloc: Global, run: &Run) -> Result<String, AllocError> {
     let mut output = String::new(alloc);
     for (client, _does, returned) in run.turns {
@@ -82,7 +82,7 @@ fn check_script(rt: &impl Abort, alloc: Global, setup: Setup, script: &str, outp
     assert_same(rt, script, &played.seen(), &wanted);
 }
 
-/// The same where it is run line by line.
+/// A script that is run line by line prints this.
 fn check_live(rt: &impl Abort, alloc: Global, setup: Setup, script: &str, output: &str) {
     let wanted = (Ok(()), output.as_bytes(), false, false);
     let reader = in_steps(script.as_bytes(), 7);

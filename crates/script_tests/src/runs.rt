@@ -76,7 +76,7 @@ pub(crate) struct Run {
     pub(crate) write_failed: bool,
 }
 
-/// The same of a run, with what was written lent.
+/// The parts of a run, with its output lent.
 pub(crate) type Seen<'a> = (Result<(), RunFault>, &'a [u8], bool, bool);
 
 impl Run {
@@ -114,7 +114,7 @@ pub(crate) fn run_through(alloc: Global, reader: Trickle<'_>, writer: Narrow, se
     ended(result, reader, writer)
 }
 
-/// The same where the lines are replied to as they come.
+/// A run of a text through these two ends, with its lines replied to as they come.
 pub(crate) fn live_through(
     alloc: Global,
     reader: Trickle<'_>,

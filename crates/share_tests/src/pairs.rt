@@ -86,7 +86,7 @@ fn counts_of_one(replies: &[Reply]) -> (usize, usize) {
     (commits, answers)
 }
 
-/// The same of all clients.
+/// How many commits and whole answers are among the replies to all clients.
 fn counts(lists: &[Vec<Reply>]) -> (usize, usize) {
     let mut commits: usize = 0;
     let mut answers: usize = 0;

@@ -41,7 +41,7 @@ fn clients_of_an_opening<J: BoardBrand, R: Wait>(
     Ok(clients.len())
 }
 
-/// The same, opened again where memory was refused.
+/// How many clients a board has, opened again where memory was refused.
 fn clients_in_the_end(rt: &(impl Wait + Abort + AllocGlobal), setup: Setup, rows: &[Row]) -> usize {
     let alloc = rt.alloc();
     match clients_of_an_opening::<Brand, _>(rt, alloc, BoardName::new(), setup, rows) {

@@ -80,7 +80,7 @@ fn run<J: BoardBrand + Send + Sync, R: Threads + Wait + Abort + Sync, G: Gate + 
     clients_of(alloc, reports)
 }
 
-/// What is reported of a run, and of a second one of the same clients, which no gate holds.
+/// The reports of a run, and of a second one of its clients, which no gate holds.
 fn run_twice<J: BoardBrand + Send + Sync, R: Threads + Wait + Abort + Sync, G: Gate + Sync>(
     rt: &R,
     alloc: Global,
@@ -96,7 +96,7 @@ fn run_twice<J: BoardBrand + Send + Sync, R: Threads + Wait + Abort + Sync, G: G
     Ok(text)
 }
 
-/// The same on a new board.
+/// The reports of two runs of the clients of a new board.
 fn two_runs<J: BoardBrand + Send + Sync, R: Threads + Wait + Abort + Sync, G: Gate + Sync>(
     rt: &R,
     alloc: Global,

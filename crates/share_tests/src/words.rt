@@ -47,7 +47,7 @@ fn got_after_a_word<J: BoardBrand + Send + Sync, R: Threads + Wait + Abort + Syn
     hearer.get(1)
 }
 
-/// The same by the first client of a new board, who hears the second.
+/// The row that the first client of a new board gets once it has heard the second.
 fn got_on_a_new_board<J: BoardBrand + Send + Sync, R: Threads + Wait + Abort + Sync>(
     rt: &R,
     alloc: Global,

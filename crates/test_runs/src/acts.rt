@@ -51,7 +51,7 @@ pub fn row_of(alloc: Global, value: i64) -> Result<Row, Fail> {
     row(&columns(alloc)?, value)
 }
 
-/// The same for rows.
+/// Rows of the column x alone.
 pub fn rows_of(alloc: Global, values: &[i64]) -> Result<Vec<Row>, Fail> {
     let schema = columns(alloc)?;
     let mut made = Vec::new(alloc);

@@ -34,7 +34,7 @@ impl Run {
     }
 }
 
-/// What a client does in a turn.
+/// The event of a turn.
 pub fn event_of(alloc: Global, schema: &Schema, turn: &Turn) -> Result<Event, Fail> {
     Ok(Event {
         client: turn.0,
@@ -42,7 +42,7 @@ pub fn event_of(alloc: Global, schema: &Schema, turn: &Turn) -> Result<Event, Fa
     })
 }
 
-/// The same of all turns.
+/// The events of all turns.
 pub fn events_of(alloc: Global, schema: &Schema, turns: &[Turn]) -> Result<Vec<Event>, Fail> {
     let mut events = Vec::new(alloc);
     for turn in turns {

@@ -61,7 +61,7 @@ fn is_done_alike(
     Ok(())
 }
 
-/// The same for each call.
+/// Each call is done alike on its boxed and on its lent form.
 fn are_done_alike(
     rt: &impl Abort,
     alloc: Global,

@@ -39,7 +39,7 @@ fn check_changes(
     assert_same(rt, "insert, update, delete, commit", returned, wanted);
 }
 
-/// The same changes again, of which the rows 1 and 3 are gone, and inserts until there is no room.
+/// All these changes again, of which the rows 1 and 3 are gone, and inserts until there is no room.
 fn check_refused_changes(
     rt: &impl Abort,
     alloc: Global,

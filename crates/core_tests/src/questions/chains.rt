@@ -182,7 +182,7 @@ fn have_same(first: &Ask, second: &Ask) -> Option<bool> {
     }
 }
 
-/// The same for the texts of two questions.
+/// Whether the texts of two questions have the same chains; `None` where one of them has none.
 fn texts_have_same(alloc: Global, first: &str, second: &str) -> Result<Option<bool>, Fail> {
     let one = ask_over(alloc, &XY, first.as_bytes())?;
     let other = ask_over(alloc, &XY, second.as_bytes())?;

@@ -108,7 +108,7 @@ pub(crate) fn numbered(alloc: Global, rows: &[(i64, i64)]) -> Result<Vec<Entry>,
     Ok(entries)
 }
 
-/// The same rows and ids, in falling order of id.
+/// These rows with their ids, in falling order of id.
 pub(crate) fn falling(alloc: Global, rows: &[(i64, i64)]) -> Result<Vec<Entry>, TableFault>
     ensures { IfOk result (λ entries. HaveDifferentIds entries.items) }
 {

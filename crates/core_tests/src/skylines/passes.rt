@@ -45,7 +45,7 @@ fn check_each_offer<D: Dominance>(
     }
 }
 
-/// The same for the rows that are offered to a new window of this size.
+/// Offers these rows to a new window of this size.
 pub(super) fn check_offers<D: Dominance>(
     rt: &impl Abort,
     alloc: Global,

@@ -25,14 +25,14 @@ const CUTS: [u32; 3] = [1, 3, u32::MAX];
 /// The last one is all rows at once.
 const BLOCKS: [usize; 5] = [1, 7, 64, 200, 300];
 
-/// What the rows are like, and how they come.
+/// The shape of the data, and the order in which the rows come.
 #[derive(Clone, Copy, Debug)]
 enum Shape {
     /// Fifteen fronts, the best one first.
     Sorted,
-    /// The same, the best one last.
+    /// Fifteen fronts, the best one last.
     Reversed,
-    /// The same in no order.
+    /// Fifteen fronts in no order.
     Shuffled,
     /// All are equal in the second column.
     OneScore,
@@ -182,7 +182,7 @@ fn check_shapes(rt: &impl Abort, alloc: Global, text: &str) -> Result<(), Fail> 
     Ok(())
 }
 
-/// The same by the order of each text.
+/// Checks all shapes by the order of each text.
 fn check_texts(rt: &impl Abort, alloc: Global, texts: &[&str]) -> Result<(), Fail> {
     for text in texts {
         check_shapes(rt, alloc, text)?;

@@ -15,7 +15,7 @@ pub struct Planned<'a> {
     pub call: &'a LentCall<'a>,
     /// The slots of the versions that begin, in the order of the changes that begin them.
     pub slots: SlotList,
-    /// What becomes of the call.
+    /// The outcome of the call.
     pub outcome: Outcome,
 }
 

@@ -1,4 +1,4 @@
-//! What a store keeps of each client.
+//! A client's part of a store: how many calls it has made, and its open query's begin.
 
 ghost use Rattle.std.specs.List.{list_any};
 ghost use Rattle.std.specs.Option.{option_to_list, unwrap_or};
@@ -11,7 +11,7 @@ use crate::call::LentCall;
 use crate::store::version::is_alive;
 use std::alloc::{AllocError, Global};
 
-/// What is kept of a client: how many numbered calls it has made, and the stamp at its open query's begin.
+/// How many numbered calls a client has made, and the stamp at its open query's begin.
 #[derive(Clone, Copy)]
 pub struct Caller {
     pub calls: u64,
@@ -29,7 +29,7 @@ pub(crate) fn sees(caller: &Caller, birth: u64, death: Option<u64>) -> bool
     }
 }
 
-/// What is kept of the client of this number.
+/// The calls and the begin of the client of this number, if there is one.
 pub(crate) fn caller_of(callers: &[Caller], client: u8) -> Option<Caller>
     ensures { result ≡ seat client callers.now }
 {
@@ -61,7 +61,7 @@ pub(crate) fn count(callers: &mut [Caller], client: u8, call: &LentCall<'_>, sta
     }
 }
 
-/// What is kept of a client that has made one call more.
+/// The calls and the begin of a client after one call more.
 fn caller_after(caller: Caller, call: &LentCall<'_>, stamp: u64) -> Caller
     requires { caller.calls < 2 ^ 56 }
     ensures { result ≡ record { calls = suc caller.calls; at_begin = begin_after stamp call.now caller.at_begin } }

@@ -1,4 +1,4 @@
-//! What a store holds: versions of rows in slots, and the lists beside them that spare a look at each slot.
+//! The contents of a store: versions of rows in slots, and the lists beside them that spare a look at each slot.
 //!
 //! A row is found along the chain of its home. All lists have their room from the opening on: no change of a store takes
 //! memory.

@@ -20,8 +20,7 @@ pub(crate) fn is_seen(version: &Version, death: Option<u64>, callers: &[Caller])
     false
 }
 
-/// What the slot of an ended version is used for: it is kept for the first caller whose open query needs it, if there
-/// is one.
+/// The use of an ended version's slot: it is kept for the first caller whose open query needs it, if there is one.
 fn kept_by(version: &Version, callers: &[Caller]) -> SlotUse
     requires { length callers.now ≤ 8 }
     ensures { result ≡ kept_from 0 callers.now (Some version.now) }
@@ -36,7 +35,7 @@ fn kept_by(version: &Version, callers: &[Caller]) -> SlotUse
     SlotUse::Free
 }
 
-/// What a slot is used for.
+/// The use of a slot.
 #[inline(always)]
 pub(crate) fn use_of(slot: &Option<Version>, callers: &[Caller]) -> SlotUse
     requires { length callers.now ≤ 8 }

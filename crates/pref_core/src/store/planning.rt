@@ -1,4 +1,4 @@
-//! What becomes of a call, and where its rows go.
+//! The outcome of a call, and where its rows go.
 
 ghost use Rattle.std.specs.Prelude.{ℕ, IfSome, IfNone, Some, true, false, is_some, length, ◌≡◌, ◌<◌, ◌⊎◌};
 ghost use Rattle.pref_core.specs.Indexes.{IsIndexOf};
@@ -40,8 +40,8 @@ impl Store {
         }
     }
 
-    /// What becomes of a call, whose rows are found by an index where there is one, and where its new rows go; or why
-    /// it gets no number.
+    /// The plan of a call, whose rows are found by an index where there is one: its outcome, and where its new rows go;
+    /// or why it gets no number.
     #[inline(always)]
     pub(crate) fn plan_by<'a>(
         &self,

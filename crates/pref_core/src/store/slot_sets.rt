@@ -34,7 +34,7 @@ use std::marker::Model;
 /// How many uses there are: the free places, those with a row, and for each client those that its query keeps.
 const USES: usize = MOST_CLIENTS as usize + 2;
 
-/// What a slot is used for: nothing, a row of the table, or an ended version that an open query needs.
+/// The use of a slot: none, a row of the table, or an ended version that an open query needs.
 #[derive(Clone, Copy)]
 pub(crate) enum SlotUse {
     Free,

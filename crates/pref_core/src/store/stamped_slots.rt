@@ -85,7 +85,7 @@ impl StampedSlots {
         self.slots.len() as u32
     }
 
-    /// What each slot holds.
+    /// The versions in the slots, `None` where a slot is free.
     pub(crate) fn as_slice(&self) -> &[Option<Version>]
         ensures { result.now ≡ self.now.slots }
     {
@@ -147,7 +147,7 @@ impl StampedSlots {
         Ok(index)
     }
 
-    /// What the slots of a block show at a stamp.
+    /// The rows that the slots of a block show at a stamp, with their ids.
     pub(crate) fn entries(
         &self,
         alloc: Global,

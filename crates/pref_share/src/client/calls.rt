@@ -24,7 +24,7 @@ use pref_term::Ask;
 use std::alloc::{AllocError, Global};
 use std::sync::Wait;
 
-/// What becomes of a call that is let in to join, with all of the history as it is then.
+/// The outcome of a call that is let in to join, with all of the history as it is then.
 #[derive(Drop)]
 pub(super) enum Joining<H> {
     /// The history ends with the call, which leaves this many commits.
@@ -345,7 +345,7 @@ fn change_count(commit: &Commit) -> u32
     commit.as_slice().len() as u32
 }
 
-/// What is returned of a commit of this many changes that was done with this outcome.
+/// The reply to a commit of this many changes that was done with this outcome.
 fn committed_of(changes: u32, outcome: Outcome) -> Committed
     ensures { (next_id : ℕ) (commit : List Change) → changes ≡ length commit → outcome ≡ success_outcome next_id (Call.Commit commit) → result ≡ committed_of next_id commit }
 {

@@ -1,4 +1,4 @@
-//! What a client reads of the published table: it takes no lock and never waits.
+//! Reads of the published table by a client: they take no lock and never wait.
 //!
 //! Each numbered call publishes before it lets the lock go, and a client has seen no more than was published. So no run meets a copy that
 //! is older than what its client has seen; where one did, the read would be refused and nothing changed.
@@ -63,8 +63,8 @@ fn enter<J: BoardBrand>(
     }
 }
 
-/// What a look at the published table finds there, with the table's history, where a reader is let in. The reader is back outside when
-/// this returns, so that the writer need not wait for what is made of what was found.
+/// The result of a look at the published table, with the table's history, where a reader is let in. The reader is back outside when this
+/// returns, so that the writer need not wait while the result is used.
 fn read<J: BoardBrand, T, F: FnOnce(&Store) -> T>(
     reader: &mut StoreReader,
     seen: &Prefix<J>,

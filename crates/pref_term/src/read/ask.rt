@@ -134,7 +134,7 @@ fn take_dimension<'a>(schema: &Schema, cursor: Cursor<'a>) -> Parsed<'a, Dimensi
     Ok((Dimension { col, direction }, next))
 }
 
-/// What the dimensions of a skyline clause ask for: the product of their orders, where there is one, and the DIFF columns.
+/// The dimensions of a skyline clause: the product of their orders, where there is one, and the DIFF columns.
 #[derive(Drop)]
 struct Clause {
     product: Option<Term>,

@@ -14,7 +14,7 @@ use crate::token::Sign;
 use pref_table::{Schema, signed_number};
 use std::alloc::Global;
 
-/// What was read, and what lies behind it.
+/// A thing that was read, with the place behind it, or the fault.
 pub(super) type Parsed<'a, T> = Result<(T, Cursor<'a>), TermFault>;
 
 /// Takes a sign.
