@@ -1,5 +1,5 @@
 use Rattle.pref_term.proofs.Common.{List, Some, arith, sym, ap, subst, ◌∙◌, length, IfOk-weaker, Placed, low_kind, high_kind, around_kind, between_kind, pos_kind, layered_kind, ahead, FailsGroup, grouped}
-use Rattle.pref_term.proofs.Common.{ReadsUnary, ReadsFactors, ReadsProducts, Preference, preference_of, one_product, one_factor, first_product, first_factor}
+use Rattle.pref_term.proofs.Common.{NotNext, sign, star, ampersand, ReadsUnary, ReadsFactors, ReadsProducts, Preference, preference_of, one_product, one_factor, first_product, first_factor}
 use Rattle.pref_term.proofs.LedLemmas.{err_exit, if_err_map, taken_is}
 use Rattle.pref_term.proofs.CycleLemmas.{group_read, group_end_fails, group_not_opened, group_too_deep, group_within_fails, more_factors, more_factors_fail, more_products, more_products_fail, minus_read, minus_fails}
 use Rattle.pref_term.proofs.CycleLemmas.{taken_base_read, taken_base_fails, word_reverse_read, word_reverse_fails}
@@ -129,3 +129,12 @@ unary-returns-in_ok-reverse_of-in-Some-Reverse-clause-ok t c =
     let v = c.in_ok-part-in-Some-Reverse in
     subst (λ (p : Preference). ReadsUnary c.args.schema.now c.args.depth (ahead c.args.cursor) p (ahead v.next)) (sym c.in_ok-reverse_of-in-Some-Reverse.ensures.ok)
     (word_reverse_read c.args.schema.now c.args.depth c.in-Word.letters.now (ahead c.args.cursor) (ahead u.next) (u.at, taken_is _ u _ c.take-taken.ensures c.in-Word.is) (sym c.in-Some-Reverse.ensures ∙ ap Some c.in-Some-Reverse.field-0-is) (ahead v.next) (preference_of v.part) v.ensures.ok)
+
+pub prior-returns-then-not-is-clause-ok : goal.prior-returns-then-not-is-clause-ok
+prior-returns-then-not-is-clause-ok t c =
+    let before = c.loop-taken.invariant in
+    record { products = before.so_far; stops = before.stops; stops_too = subst (NotNext (sign ampersand)) (sym c.take-taken.ensures) c.if-not-is.ensures.no }
+
+pub product-returns-then-not-is-clause-ok : goal.product-returns-then-not-is-clause-ok
+product-returns-then-not-is-clause-ok t c =
+    record { factors = c.loop-taken.invariant.so_far; stops = subst (NotNext (sign star)) (sym c.take-taken.ensures) c.if-not-is.ensures.no }
