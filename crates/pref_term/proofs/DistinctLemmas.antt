@@ -5,9 +5,9 @@ use Rattle.pref_term.proofs.Common.{cased_letters, cased, IsWritten, DimText, He
 use Rattle.pref_term.proofs.Common.{ask_leaves, IsText, is_distinct_ahead, says_distinct, without_third, plain, is_word, Names, orders_of}
 use Rattle.pref_term.proofs.Common.{product_of, tokens_in, tokens_on, IsGood, Spells, question, meant, start, dim_due, run, word_ahead}
 use Rattle.pref_term.proofs.Common.{AsksWholeNothing, AsksClauseNothing, IsBehindDistinct, Preference, scored, pareto, Question, IsClause, IsDimension, TermFault}
-use Rattle.pref_term.proofs.Common.{and_from}
+use Rattle.pref_term.proofs.Common.{and_from, ◌&&◌, Bor, Lexeme, Word, ahead, taken}
 use Rattle.pref_term.proofs.GrammarComplete.{cased_found, no_keyword}
-use Rattle.pref_term.proofs.LedLemmas.{run_step, unless_map}
+use Rattle.pref_term.proofs.LedLemmas.{at_place, run_step, unless_map}
 use Rattle.pref_term.specs.declared.front.Token as code
 use Rattle.std.proofs.lemmas.Bool.Decides.{nat_tests}
 
@@ -38,6 +38,16 @@ behind_more k ts h = grind arith
 -- the word is not the end
 pub behind_said : (k : code.Token) (at : ℕ) (ts : List Placed) → is_distinct_ahead (record { token = seen k; place = at } ∷ behind_token k ts) ≡ true → behind_token k ts ≡ ts
 behind_said k at ts h = grind arith
+
+-- behind the word the second token decides
+pub third_decides : (ts : List Placed) (w : List ℕ) (at : ℕ) (second third : Lexeme) → ts ≡ word_ahead w at (taken second) → seen second.token ≢ finish → ahead second.next ≡ taken third → bytes_eq (codes "distinct") (str_to_ascii_lowercase w) ≡ true
+    → is_distinct_ahead ts ≡ is_word (seen third.token)
+third_decides ts w at second third e more h is =
+    ap is_distinct_ahead (e ∙ ap (λ us. word_ahead w at (at_place (seen second.token) second.at ∷ us)) (behind_more second.token (ahead second.next) more ∙ h))
+    ∙ ap (λ b. b && is_word (seen third.token)) is
+
+pub not_word : (k : code.Token) → ((letters : Bor (List ℕ)) → k ≢ Word letters) → is_word (seen k) ≡ false
+not_word k h = grind arith
 
 -- ---- whole questions
 
