@@ -6,12 +6,13 @@ use Rattle.pref_term.proofs.Common.{low_kind, high_kind, around_kind, pos_kind, 
 use Rattle.pref_term.proofs.Common.{NumberHole, UnaryHole, State, reading, completed, run, next, between_kind, start_of, end_of, least_of, ranged, range_ended, NumberList, in_pos}
 use Rattle.pref_term.proofs.Common.{closing, list_closed, stepped, seen, ahead, taken, behind_token, Cursor, Lexeme, Digits, Goes, Fails, IsOther, NotNext, Passes, WantsColumn, TakesColumn}
 use Rattle.pref_term.proofs.Common.{ReadsOpened, FailsColumn, FailsOpened, ReadsNumber, ReadsSome, ReadsNumbers, ReadsBase, FailsNumber, FailsNumbers, FailsBase, list_hole, ReadsEnd}
-use Rattle.pref_term.proofs.Common.{FailsEnd, first_place, TermFault, EmptyRange, NumberRange, All, FitsSigned, ◌≢◌, IsErrAnd, IfErr, unwrap_or, int_lt, Option, scored, low}
+use Rattle.pref_term.proofs.Common.{FailsEnd, first_place, word_ahead, TermFault, EmptyRange, NumberRange, All, FitsSigned, ◌≢◌, IsErrAnd, IfErr, unwrap_or, int_lt, Option, scored, low}
 use Rattle.pref_term.proofs.Common.{high, around, one_of, between, all_ascii_digits, map-append, All-append, All-cons, All-nil}
 use Rattle.pref_table.specs.Columns.{column_of}
 use Rattle.pref_term.proofs.GrammarComplete.{list_ends}
 use Rattle.pref_term.proofs.TokenLemmas.{digits_taken}
 use Rattle.std.specs.Int.{w64}
+use Rattle.pref_term.specs.declared.fault.TermFault.TheVariants.{UnknownColumn}
 use Rattle.pref_term.specs.declared.front.Token as code
 
 -- a token, as a record of its two parts
@@ -24,6 +25,10 @@ run_step names t at ts p s leaf m e own = grind (arith)
 
 pub column_good : (names : Names) (letters : List ℕ) (col : ℕ) → column_of names letters ≡ Some col → own_fault names (column_name letters) ≡ None
 column_good names letters col h = rw h
+
+-- a word that names no column of the table
+pub column_unknown : (names : Names) (letters : List ℕ) (at : ℕ) (us : List Placed) → column_of names letters ≡ None → FailsColumn names (word_ahead letters at us) (UnknownColumn at)
+column_unknown names letters at us h s behind wants p = rw (wants.takes letters, h) refl
 
 number_own : (names : Names) (least : Option NumberText) (negative : Bool) (ds : List ℕ) → fits_cell (signed_value negative ds) ≡ true → own_fault names (number_digits least negative ds) ≡ below least (signed_value negative ds)
 number_own names least negative ds h = ap (λ b. cond b (below least (signed_value negative ds)) (Some number_range)) h
