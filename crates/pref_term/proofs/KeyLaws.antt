@@ -1,8 +1,9 @@
 -- The key law: keys compare rows as scores do; and the product of the keys that lead a preference without a priority is its order.
 use Rattle.pref_term.proofs.Common.{◌≡◌, ◌<◌, ℤ, pos, Bool, true, false, not, List, [], ◌∷◌, ◌++◌, refl, sym, ap, subst, ◌∙◌, arith, ◌^◌, ◌-ℤ◌, ◌+ℤ◌, neg_ℤ, unsigned_abs}
-use Rattle.pref_term.proofs.Common.{All, false≢true, ints, All-append, All-cons, All-nil, missed, outside, score, sets_before, ReadsBelow, column, by_key, by_keys, is_number}
+use Rattle.pref_term.proofs.Common.{All, false≢true, ints, All-append, All-cons, All-nil, missed, int_lt, outside, score, sets_before, ReadsBelow, column, by_key, by_keys, is_number}
 use Rattle.pref_term.proofs.Common.{is_product, key_for, leading, opposed, and_parts, Base, Preference, scored, pareto, prior, reverse, by_scores}
-use Rattle.pref_term.proofs.Common.{in_priority, in_product, walked, Key, Relation, Same}
+use Rattle.pref_term.proofs.Common.{by_sides, in_priority, in_product, walked, Key, Relation, Neither, Same}
+use Rattle.std.specs.Prelude.{◌||◌}
 
 -- how a preference, or its converse, compares two rows
 abbrev pub directed : Bool → Preference → List ℤ → List ℤ → Relation
@@ -22,6 +23,10 @@ negated x y = grind (arith, ints)
 pub centred : (c v : ℤ) → outside c c v ≡ pos (unsigned_abs (v -ℤ c))
 centred c v = grind (arith, ints)
 
+-- a value to the left of a range
+pub left_of : (left right value : ℤ) → int_lt value left ≡ true → pos (unsigned_abs (left -ℤ value)) ≡ outside left right value
+left_of left right value h = grind (arith, ints)
+
 -- one set is a list of sets
 one_missed : (set : List ℤ) (v : ℤ) → pos (sets_before (set ∷ []) v) ≡ missed set v
 one_missed set v = grind (arith, ints)
@@ -34,6 +39,13 @@ both_ways t x y a b h k s = grind (arith, turned)
 -- the key law
 pub key_law : (t : Base) (s : Bool) (a b : List ℤ) → by_key (key_for t s) a b ≡ directed s (scored t) a b
 key_law t s a b = grind (arith, both_ways, raised, turned, negated, centred, one_missed)
+
+-- ---- products
+
+-- neither row can be better any more
+pub decided : (better worse first second : Bool) (key : Key) (keys : List Key) (a b : List ℤ) → by_sides first second ≡ by_key key a b → (better || first) ≡ true → (worse || second) ≡ true
+    → in_product (by_sides better worse) (by_keys (key ∷ keys) a b) ≡ Neither
+decided better worse first second key keys a b h k l = grind arith
 
 -- ---- converses
 
