@@ -100,3 +100,15 @@ returns-else-self-clause-within g c = grind (arith, length-append)
 
 pub invariant_of-self : goal.invariant_of-self
 invariant_of-self g c = grind (arith)
+
+pub unwrap-requires : goal.unwrap-requires
+unwrap-requires g c = grind (arith)
+
+pub invariant_of-self-then-self : goal.invariant_of-self-then-self
+invariant_of-self-then-self g c = grind (arith)
+
+pub unwrap-requires-else-self : goal.unwrap-requires-else-self
+unwrap-requires-else-self g c = grind (arith)
+
+pub invariant_of-self-else-self : goal.invariant_of-self-else-self
+invariant_of-self-else-self g c = grind (arith)
