@@ -1,4 +1,5 @@
-use Rattle.pref_sky.proofs.Common.{Result, Ok, Err, OnOk, arith}
+use Rattle.pref_sky.proofs.Common.{◌≡◌, sym, subst, ◌∙◌, Result, Ok, Err, OnOk, StaysWithin, arith}
+use Rattle.std.proofs.lemmas.Slice.Eq.{bytes_eq-Decides}
 use Rattle.pref_sky.proofs.LevelLaws.{merge_none}
 use Rattle.pref_sky.proofs.Merges.{entry_order_is_strict}
 use Rattle.pref_sky.proofs.SortedLevels.{says_its_levels}
@@ -19,6 +20,13 @@ returns-then-is_of-clause-ok g c =
 
 pub returns-in_ok-self-inside-in-Sorted-clause-ok : goal.returns-in_ok-self-inside-in-Sorted-clause-ok
 returns-in_ok-self-inside-in-Sorted-clause-ok g c = grind (arith)
+
+-- the groups are those of the order
+pub add-requires-then-eq-clause-groups : goal.add-requires-then-eq-clause-groups
+add-requires-then-eq-clause-groups g c =
+    let columns = c.in-Partitioned.partitions.columns.items in
+    let same : c.groups.result.now ≡ columns = sym ((bytes_eq-Decides c.as_slice.result.now c.groups.result.now).0 (sym c.if-eq.ensures)) ∙ c.as_slice.ensures.value in
+    subst (StaysWithin (g.D.Dominance.order c.args.dominance.now)) same c.groups.ensures
 
 pub returns-in_ok-self-inside-in-Partitioned-clause-ok : goal.returns-in_ok-self-inside-in-Partitioned-clause-ok
 returns-in_ok-self-inside-in-Partitioned-clause-ok g c = grind (arith)

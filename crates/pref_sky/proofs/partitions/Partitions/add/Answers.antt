@@ -21,3 +21,7 @@ invariant_of-self g c =
 
 pub returns-clause-ok : goal.returns-clause-ok
 returns-clause-ok g c = grind (arith, added_levels c.in_ok-arrivals.ensures.arrivals.1 c.deref.ensures.value c.in_ok-all.ensures c.put_all.ensures c.admit.ensures.same.1 c.requires.ids, entry_order_is_strict, is_within)
+
+-- nothing is refused behind the change
+pub returns-clause-err : goal.returns-clause-err
+returns-clause-err g c = tt
