@@ -1,4 +1,4 @@
-use Rattle.pref_term.proofs.Common.{◌≡◌, true, sym, subst, ◌∙◌, ap, order_of_alike, order_of_twins_alike, in_same_group, same, is_same, Question, IsAsk, alike, and_from, and_parts, twins_alike}
+use Rattle.pref_term.proofs.Common.{◌≡◌, true, sym, subst, ◌∙◌, ap, arith, order_of_alike, order_of_twins_alike, in_same_group, same, is_same, Question, IsAsk, alike, and_from, and_parts, twins_alike}
 use Rattle.pref_term.proofs.ask.AskDominance.compare.Goals as goal
 
 -- rows that are told as the same are of one group, and the same
@@ -23,3 +23,12 @@ returns-then-in_same_group-clause-twins c twin =
 pub returns-then-in_same_group-clause-twins_alike : goal.returns-then-in_same_group-clause-twins_alike
 returns-then-in_same_group-clause-twins_alike c reported =
     order_of_twins_alike c.args.self.now (subst IsAsk c.self.view_is c.self.invariant.0) c.args.a.now c.args.b.now (told_alike c reported)
+
+pub returns-then-in_same_group-clause-better : goal.returns-then-in_same_group-clause-better
+returns-then-in_same_group-clause-better c = grind (arith)
+
+pub returns-then-in_same_group-clause-worse : goal.returns-then-in_same_group-clause-worse
+returns-then-in_same_group-clause-worse c = grind (arith)
+
+pub returns-then-in_same_group-clause-same : goal.returns-then-in_same_group-clause-same
+returns-then-in_same_group-clause-same c = grind (arith)
