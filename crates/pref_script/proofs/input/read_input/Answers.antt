@@ -1,4 +1,4 @@
-use Rattle.pref_script.proofs.Common.{◌≡◌, ◌++◌, take, length, arith, exits, Consumes-trans, length-append, length-take}
+use Rattle.pref_script.proofs.Common.{◌≡◌, ◌∙◌, ◌++◌, ap, drop, take, take-append-le, length, arith, exits, Consumes-trans, length-append, length-take}
 use Rattle.pref_script.proofs.input.read_input.Goals as goal
 
 -- the bytes so far and those of the last read were read, and no more
@@ -15,3 +15,31 @@ returns-in_err-extend_from_slice-clause-most g c =
 
 pub returns-in_err-extend_from_slice-clause-ok : goal.returns-in_err-extend_from_slice-clause-ok
 returns-in_err-extend_from_slice-clause-ok g c = rw (exits c.from_residual.result c.from_residual.ensures.1) tt
+
+pub loop-chunk-preserved : goal.loop-chunk-preserved
+loop-chunk-preserved g c =
+    let buf = c.read.new.buf in
+    let part = take c.in-Ok.count buf in
+    let input = c.loop-chunk.input.items in
+    let room = c.room_after-room.result in
+    let size : length buf ≡ length (take room c.loop-chunk.chunk) = c.read.auto.buf in
+    let kept = take-append-le c.in-Ok.count buf (drop room c.loop-chunk.chunk) (omega (arith, c.in-Ok.ensures.bound)) in
+    let grown : c.extend_from_slice.new.self.items ≡ input ++ part = c.in_ok-extend_from_slice.ensures.items ∙ ap (λ l. input ++ l) kept in (
+      omega (
+        arith,
+        ap length grown,
+        c.extend_from_slice.new.self.ok.0,
+        length-append input part,
+        length-take c.in-Ok.count buf,
+        size,
+        length-take room c.loop-chunk.chunk,
+        c.room_after-room.ensures.most,
+        c.len-in-loop-chunk.ensures,
+        c.loop-chunk.input.ok.0,
+      ),
+      rw grown (Consumes-trans _ _ _ input part c.loop-chunk.invariant.1 c.in-Ok.ensures.bytes.0),
+    )
+
+-- an input that has come to its end has no fault
+pub returns-then-count-eq0-clause-fault : goal.returns-then-count-eq0-clause-fault
+returns-then-count-eq0-clause-fault g c = tt
