@@ -1,4 +1,4 @@
-use Rattle.pref_script.proofs.Common.{◌∙◌, ap, arith, refl, Part, client_named}
+use Rattle.pref_script.proofs.Common.{◌∙◌, ap, arith, inl, refl, Part, client_named}
 use Rattle.pref_script.proofs.PartFacts.{given-here, given-nobody}
 use Rattle.pref_script.proofs.parts.give_line.Goals as goal
 
@@ -14,3 +14,6 @@ pub returns-clause-parts : goal.returns-clause-parts
 returns-clause-parts c = λ names raws left are.
     let parts = c.args.parts.now in
     given-nobody names raws left c.args.raw.now parts.items (λ place inside named. c.in_default.ensures place (omega (arith, inside, c.len.ensures, parts.ok.0)) (ap client_named c.line_text-line.ensures ∙ named)) are
+
+pub returns-clause-given : goal.returns-clause-given
+returns-clause-given c = λ blank. inl (rw (← c.line_text-line.ensures, ← c.is_blank_line.ensures) blank)
