@@ -1,6 +1,6 @@
 -- One event more, and its reply.
 use Rattle.pref_core.proofs.Common.{◌≡◌, suc, ◌<◌, nat_lt, MatchResult, List, [], ◌∷◌, ◌++◌, length, get_or, drop, take, true, false, Ok, Err, Result}
-use Rattle.pref_core.proofs.Common.{is_err, refl, sym, ap, ◌∙◌, subst, arith, append_assoc, length_push, take_all, drop-cons}
+use Rattle.pref_core.proofs.Common.{is_err, lt-ltb, refl, sym, ap, ◌∙◌, subst, arith, append_assoc, length_push, take_all, drop-cons}
 use Rattle.pref_core.proofs.Common.{Event, Reply, Refused, CoreFault}
 use Rattle.pref_core.proofs.Common.{OutOfMemory, Limits, System}
 use Rattle.pref_core.proofs.Common.{replies_from, step, Does, Replies, Running, StandsForSystem, Steps, Returns, is_refusal}
@@ -42,6 +42,13 @@ one_reply_more limits system returned events yielded event reply whole turn is s
 -- where no memory was wanting, it is added
 pub reply_is_added : (before : List Reply) (returned : Result Reply AllocError) (result : Result (Unit {0}) AllocError) (after : List Reply) → AddsReply before returned result after → is_err result ≡ false → AddedReply before returned after
 reply_is_added before returned result after adds ok = grind (arith)
+
+-- where memory was wanting, an event is left without one
+pub event_is_left : (before : List Reply) (returned : Result Reply AllocError) (result : Result (Unit {0}) AllocError) (after : List Reply) (yielded events : List Event) → AddsReply before returned result after → is_err result ≡ true
+    → length before ≡ length yielded → length yielded < length events → nat_lt (length after) (length events) ≡ true
+event_is_left before returned result after yielded events adds failed one_each inside =
+    let same : after ≡ before = grind arith in
+    lt-ltb _ _ (omega (arith, ap length same))
 
 -- one reply to each event
 replies_count : (limits : Limits) (system : System) (events : List Event) → length (replies_from limits system events) ≡ length events

@@ -1,7 +1,7 @@
 use Rattle.pref_core.proofs.Common.{◌≡◌, [], ◌∷◌, ◌++◌, length, drop, ap, ◌∙◌, arith, common_steps, sym, subst, length_push, step, replies_from, StandsForSystem}
 use Rattle.std.proofs.lemmas.Iterator.Consumers.{YieldsList-turn}
 use Rattle.std.proofs.lemmas.Iterator.Adapters.{YieldsList-from_vec}
-use Rattle.pref_core.proofs.RepliesLaws.{reply_is_added, replies_step, one_reply_more}
+use Rattle.pref_core.proofs.RepliesLaws.{event_is_left, reply_is_added, replies_step, one_reply_more}
 use Rattle.pref_core.proofs.run.replay_part.Goals as goal
 
 pub loop-event-preserved : goal.loop-event-preserved
@@ -31,3 +31,9 @@ returns-then-is_err-clause-replies c = grind (arith, common_steps)
 
 pub returns-clause-replies : goal.returns-clause-replies
 returns-clause-replies c = grind (arith, common_steps)
+
+pub returns-then-is_err-clause-stopped : goal.returns-then-is_err-clause-stopped
+returns-then-is_err-clause-stopped c =
+    let gives = c.into_iter-event-iterator.ensures.into_iter_gives in
+    let turn = YieldsList-turn (YieldsList-from_vec {s = c.into_iter-event-iterator.result} c.args.events.items gives.0 (gives.1 ∙ c.args.events.ok.0)) c.loop-event.yielded c.loop-event.event-iterator c.loop-event.yielded_by c.next.result c.next.new.self c.in-Some.event c.in-Some.is c.next.ensures.steps in
+    sym (event_is_left c.loop-event.returned.items c.reply-reply.result c.push_reply.result c.push_reply.new.returned.items c.loop-event.yielded c.args.events.items c.push_reply.ensures (sym c.is_err.ensures.value ∙ c.if-is_err.true) c.loop-event.invariant.count turn.0)
