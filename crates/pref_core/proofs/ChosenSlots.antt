@@ -2,7 +2,7 @@
 use Rattle.pref_core.proofs.Common.{◌≡◌, ℕ, suc, ◌+◌, ◌<◌, ◌≤◌, true, false, ◌&&◌, List, [], ◌∷◌, ◌++◌, map, length, Option, Some, None, Result, Ok, is_some, refl, sym, ap}
 use Rattle.pref_core.proofs.Common.{◌∙◌, subst, arith, count_by, length-map, length-append, append-nil, append_assoc, Version, Call, Op, Entry, Change, Add, Set, Remove, begun_by}
 use Rattle.pref_core.proofs.Common.{begins_any, among, changes_of, ended, begun, begins_row, is_change, missing, success_outcome, succeeds, Contents, begins, visible, close, filled}
-use Rattle.pref_core.proofs.Common.{placed, used, grown, outcome_at, outcome_of, is_free_use, IsFreed, FindsFreed, is_open, uses_of}
+use Rattle.pref_core.proofs.Common.{placed, used, grown, outcome_at, outcome_of, NoSuchRow, is_free_use, IsFreed, FindsFreed, is_open, uses_of}
 use Rattle.pref_core.proofs.ChangesLaws.{begun_few}
 use Rattle.pref_core.proofs.PlanLaws.{succeeds-fits}
 use Rattle.pref_core.proofs.SlotsForAll.{count_grown, filled_snoc, free_still, some_left}
@@ -25,6 +25,10 @@ freed_less contents ids freed h = let all = h.counted in omega arith
 -- A call that misses a row does nothing.
 pub missing_quiet : (contents : Contents) (op : Op) (freed : Result (List ℕ) ℕ) → FindsFreed contents (ended op.call) freed → ((places : List ℕ) → freed ≡ Ok places → ⊥) → op.outcome ≡ outcome_at contents op.call → (is_change op.call && succeeds op.outcome) ≡ false
 missing_quiet contents op freed finds not returned = grind (arith)
+
+-- What becomes of a change that misses a row, whether or not there is room.
+pub outcome_missing : (contents : Contents) (call : Call) (id : ℕ) → is_change call ≡ true → missing (ended call) (visible contents.stamp contents.slots) ≡ Some id → outcome_at contents call ≡ NoSuchRow id
+outcome_missing contents call id c lost = grind (arith)
 
 pub outcome_fits : (contents : Contents) (call : Call) (size : ℕ) → is_change call ≡ true → missing (ended call) (visible contents.stamp contents.slots) ≡ None → begins_row call ≡ true → size ≡ used (grown call contents) → size ≤ length contents.slots → success_outcome contents.next_id call ≡ outcome_at contents call
 outcome_fits contents call size c none row is small = grind (arith)

@@ -3,7 +3,7 @@ use Rattle.pref_core.proofs.Common.{append-nil, length-filter, count_by-le-lengt
 use Rattle.pref_core.proofs.Common.{map, length, set, Option, Some, None, slice_get, refl, sym, ap, ◌∙◌, subst, arith, ⊎_elim, count_by, length-map, length-set, filter-append}
 use Rattle.pref_core.proofs.Common.{slice_get-map, slice_get_within, eqb-true, eq-eqb, or_cases, or_right, and_parts, true≢false, Version, SlotUse, Free, among, State, missing}
 use Rattle.pref_core.proofs.Common.{Contents, StandsFor, IsWithin, visible, begins, close, is_free, is_free_use, free_at, use_of, IsBounded, is_row, row_at, IsPlaceOf}
-use Rattle.pref_core.proofs.Common.{AreOldPlaces, frees_at, is_open, IsFreed, false_from_ne_true}
+use Rattle.pref_core.proofs.Common.{AllByRecursion, not, is_needed, AreOldPlaces, frees_at, is_open, IsFreed, false_from_ne_true}
 use Rattle.std.specs.List.{filter}
 use Rattle.pref_core.proofs.ChangesLaws.{AreApart}
 use Rattle.pref_core.proofs.SlotKeys.{within-close}
@@ -12,6 +12,13 @@ use Rattle.pref_core.proofs.IdChainsLaws.{row_shown}
 use Rattle.pref_core.proofs.StabilityLaws.{slice_get-set_other}
 use Rattle.pref_core.proofs.SlotUseLaws.{count_by-cons, holds_there, has_row_at, row_version, free_use, needed_uses, spare_use}
 use Rattle.pref_core.proofs.Common.{rules}
+
+-- A row leaves its slot free where no query needs its version as it ends.
+pub frees_row : (stamps ids : List ℕ) (next stamp id place : ℕ) (slots : List (Option Version)) (version : Version) → AllByRecursion (IsWithin next stamp) slots → slice_get slots place ≡ Some (Some version) → among ids id ≡ true
+    → row_at stamp id slots place ≡ true → not (is_needed stamps (Some (record version { death = Some (stamp + 1) }))) ≡ frees_at stamps ids (stamp + 1) slots place
+frees_row stamps ids next stamp id place slots version within here named shown =
+    let version_within = holds_there (IsWithin next stamp) slots place (Some version) here within in
+    grind (arith)
 
 -- What was found of the first of these rows.
 pub record FreesUpTo (contents : Contents) (ids done freed : List ℕ) : Type 0 where
