@@ -27,11 +27,11 @@ cat(max(ranks), taken[["user.self"]] + taken[["sys.self"]], "\\n")
 """
 
 
-def levels_told(binary, words, script):
+def levels_printed(binary, words, script):
     """How many levels an answer has: the greatest level of its lines."""
     with open(script, "rb") as source:
-        told = subprocess.run([binary, *words], stdin=source, capture_output=True, timeout=MOST, check=True).stdout.decode()
-    return max(int(line.split()[1]) for line in told.splitlines() if line.startswith("level "))
+        printed = subprocess.run([binary, *words], stdin=source, capture_output=True, timeout=MOST, check=True).stdout.decode()
+    return max(int(line.split()[1]) for line in printed.splitlines() if line.startswith("level "))
 
 
 def by_program(command, script, rounds):
@@ -67,7 +67,7 @@ def by_deap(rows, rounds):
 def by_emoa(rows, rounds):
     """The same by emoa."""
     text = "\n".join(",".join(map(str, row)) for row in rows) + "\n"
-    told = []
+    printed = []
     for _ in range(rounds):
         try:
             run = subprocess.run(["Rscript", "-e", EMOA], input=text, capture_output=True, text=True, timeout=MOST)
@@ -75,8 +75,8 @@ def by_emoa(rows, rounds):
             return None
         if run.returncode:
             return None
-        told.append(run.stdout.split())
-    return int(told[0][0]), statistics.median(float(words[1]) for words in told)
+        printed.append(run.stdout.split())
+    return int(printed[0][0]), statistics.median(float(words[1]) for words in printed)
 
 
 def milliseconds(seconds):
@@ -98,7 +98,7 @@ def main():
         with open(script, "w") as file:
             file.write("\n".join(lines) + "\n")
         rows = workloads.points(kind, args.rows, d)
-        levels = levels_told(os.path.abspath(args.binary), ["play", *play], script)
+        levels = levels_printed(os.path.abspath(args.binary), ["play", *play], script)
         cells = [f"{KINDS[kind]}, {d} columns", str(levels)]
         for way in ([os.path.abspath(args.binary)], [runs.PREFQ_RS], [runs.PREFQ_RS, "--sharp"]):
             cells.append(milliseconds(by_program([*way, "play", *play], script, args.rounds)))

@@ -33,7 +33,7 @@ REFUSED = [
 HELPS = ["--version", "-V", "--help", "-h", "help", "help play", "play --help"]
 
 
-def told(mode, clients, slots, block):
+def printed(mode, clients, slots, block):
     """The replies to the script."""
     lines = {client: [f"{client} room {slots}" if client <= clients else f"{client} refused 1: no such client"] for client in (8, 2, 1)}
     lines[1].append(f"1 begun {-(-slots // block)}")
@@ -61,7 +61,7 @@ def replies_before_the_end(program, words):
 
 def differences(program):
     for words, mode, *numbers in ACCEPTED:
-        if run(program, words) != (0, told(mode, *numbers)):
+        if run(program, words) != (0, printed(mode, *numbers)):
             yield f"{words}: not {mode} with {numbers}"
         if replies_before_the_end(program, words) != (mode == "live"):
             yield f"{words}: not {mode}"
@@ -75,7 +75,7 @@ def differences(program):
 
 
 def write_cases(folder):
-    cases = [(words, told(*numbers)) for words, *numbers in ACCEPTED] + [(words, b"arguments refused\n") for words in REFUSED]
+    cases = [(words, printed(*numbers)) for words, *numbers in ACCEPTED] + [(words, b"arguments refused\n") for words in REFUSED]
     for number, (words, text) in enumerate(cases):
         name = f"arguments_{number}"
         (folder / name).write_bytes(SCRIPT)

@@ -21,7 +21,7 @@ counts() { # word
 
 # The least of the 20.
 least() { # word
-    [ "$(counts "$1" | wc -l)" = 20 ] || { echo "$1 is not told 20 times" >&2; exit 1; }
+    [ "$(counts "$1" | wc -l)" = 20 ] || { echo "$1 is not counted 20 times" >&2; exit 1; }
     counts "$1" | sed -n 1p
 }
 

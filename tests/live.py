@@ -132,13 +132,13 @@ def one_reply_each(program):
 
 def named_ends(program):
     """Each way in which a talk can break has its end."""
-    told = b"1 inserted 1\n"
+    inserted = b"1 inserted 1\n"
     script = HEAD + b"as 1 insert 5\n"
     for name, parts, wanted in [
-        ("a line of 16,777,216 bytes", [script, b"a" * (LARGEST - 1) + b"\n", b"as 1 room\n"], (told + b"line 5 refused: command\n1 room 1023\n", 0)),
-        ("a last line of 16,777,216 bytes", [script, b"a" * LARGEST], (told + b"line 5 refused: command\n", 0)),
-        ("a line of 16,777,217 bytes", [script, b"a" * LARGEST + b"\n"], (told + b"fault: too large\n", 1)),
-        ("a line without an end", [script, b"a" * (LARGEST + 1)], (told + b"fault: too large\n", 1)),
+        ("a line of 16,777,216 bytes", [script, b"a" * (LARGEST - 1) + b"\n", b"as 1 room\n"], (inserted + b"line 5 refused: command\n1 room 1023\n", 0)),
+        ("a last line of 16,777,216 bytes", [script, b"a" * LARGEST], (inserted + b"line 5 refused: command\n", 0)),
+        ("a line of 16,777,217 bytes", [script, b"a" * LARGEST + b"\n"], (inserted + b"fault: too large\n", 1)),
+        ("a line without an end", [script, b"a" * (LARGEST + 1)], (inserted + b"fault: too large\n", 1)),
         ("a table block that is too large", [b"table\nx\n", b"1\n" * (LARGEST // 2)], (b"fault: too large\n", 1)),
         ("the writer closes within the table", [b"table\nx\n1"], (b"script refused: no end\n", 2)),
         ("commands where no end was given", [b"table\nx\n1\nas 1 room\n"], (b"script refused: no end\n", 2)),
@@ -178,7 +178,7 @@ def at_a_terminal(program):
         while reply != wanted and select.select([ours], [], [], 10)[0]:
             reply += os.read(ours, 1000)
         if reply != wanted:
-            yield f"at a terminal {command} is told {reply}"
+            yield f"at a terminal {command} prints {reply}"
             break
     process.kill()
     process.wait()

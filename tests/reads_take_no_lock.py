@@ -16,7 +16,7 @@ HELD = {
     "pref_share/src/lib.rt": [("\nmod publisher;", "\npub mod publisher;")],
     "pref_share/src/publisher.rt": [("pub(crate) struct Publisher<J: BoardBrand>", "pub struct Publisher<J: BoardBrand>")],
     "share_tests/src/reads.rt": [
-        ("Ok(read(alloc, client))", "let taken = board.publisher.lock(rt); let told = read(alloc, client); drop(taken); Ok(told)"),
+        ("Ok(read(alloc, client))", "let taken = board.publisher.lock(rt); let found = read(alloc, client); drop(taken); Ok(found)"),
     ],
 }
 REFUSES_GET = "ensures refused { IfErr result (λ fault. RefusesGet J.opening self.old id fault self.new) }"
@@ -88,9 +88,9 @@ def main():
     if status:
         sys.exit("reads are not answered while the lock is taken")
     status, said = tried(LOCKED)
-    told = re.findall(r"^(\S+?):\d+:\d+: error\[(.*?)\]: `(\w+)`", said, re.M)
+    refused = re.findall(r"^(\S+?):\d+:\d+: error\[(.*?)\]: `(\w+)`", said, re.M)
     wanted = {("src/reads.rt", "mismatched-argument-count", name) for name in ("get", "room", "scan")}
-    if set(told) != wanted or not status:
+    if set(refused) != wanted or not status:
         sys.exit("not just the tests that read without a handle were refused")
     print("reads are answered while the lock is taken, and are refused where they take it without a handle")
 

@@ -49,14 +49,14 @@ void *realloc(void *block, size_t size)
 ssize_t write(int file, const void *bytes, size_t size)
 {
     static void *kept;
-    static long told;
+    static long counted;
     ssize_t (*library_write)(int, const void *, size_t) = library("write", &kept);
     if (file == STDOUT_FILENO && getenv("COUNT") != NULL) {
         char count[32];
-        int length = snprintf(count, sizeof count, "%ld ", requests - told);
+        int length = snprintf(count, sizeof count, "%ld ", requests - counted);
         if (library_write(file, count, (size_t)length) != length)
             abort();
-        told = requests;
+        counted = requests;
     }
     return library_write(file, bytes, size);
 }

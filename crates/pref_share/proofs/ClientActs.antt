@@ -7,7 +7,7 @@ use Rattle.pref_share.proofs.PrefixLaws.{prefix_shorter}
 use Rattle.pref_share.proofs.HistoryLaws.{legal-prefix}
 use Rattle.pref_share.proofs.LastCalls.{last_own, last_number, last_other, last_one_of, IsOneOf, grown_further, Counts, counts}
 
--- what a client did and was told, and how it stands after
+-- what a client did, the replies to it, and how it stands after
 pub record Part : Type 0 where
   pub acts : List Act
   pub returned : List Reply

@@ -26,15 +26,15 @@ record Found (o : Opening) (history : List Op) (acts : List (Vec Act)) (returned
   part : Part
   is_part : IsOneOf o (suc place) → IsPartAt o history (suc place) part
   acts_are : (list : Vec Act) → slice_get acts place ≡ Some list → part.acts ≡ list.items
-  told_are : (list : Vec Reply) → slice_get returned place ≡ Some list → part.returned ≡ list.items
+  replies_are : (list : Vec Reply) → slice_get returned place ≡ Some list → part.returned ≡ list.items
 
 found_part : (o : Opening) (history : List Op) (acts : List (Vec Act)) (returned : List (Vec Reply)) (place : ℕ) (list : Vec Act) (replies : Vec Reply) → slice_get acts place ≡ Some list → slice_get returned place ≡ Some replies
     → IsPart o history (newcomer (suc place)) list.items replies.items → Found o history acts returned place
-found_part o history acts returned place list replies acts_at told_at h = record {
+found_part o history acts returned place list replies acts_at replies_at h = record {
   part = record { acts = list.items; returned = replies.items; last = h.last };
   is_part = λ one_of. record { runs = h.runs; is_in = record { inside = h.inside; alone = h.alone } };
   acts_are = λ other e. let same : Some list ≡ Some other = sym acts_at ∙ e in let is : list ≡ other = cc in ap (λ (l : Vec Act). l.items) is;
-  told_are = λ other e. let same : Some replies ≡ Some other = sym told_at ∙ e in let is : replies ≡ other = cc in ap (λ (l : Vec Reply). l.items) is;
+  replies_are = λ other e. let same : Some replies ≡ Some other = sym replies_at ∙ e in let is : replies ≡ other = cc in ap (λ (l : Vec Reply). l.items) is;
 }
 
 -- nobody's lists stand past the end
@@ -43,7 +43,7 @@ found_none o history acts returned place many as_many past = record {
   part = nothing_done (suc place);
   is_part = λ one_of. absurd (omega (arith, one_of.1, many, past));
   acts_are = λ list e. absurd (omega (arith, slice_get_within acts place list e, past));
-  told_are = λ list e. absurd (omega (arith, slice_get_within returned place list e, many, as_many, past));
+  replies_are = λ list e. absurd (omega (arith, slice_get_within returned place list e, many, as_many, past));
 }
 
 found : (o : Opening) (acts : List (Vec Act)) (returned : List (Vec Reply)) (joint : IsJointRun o (newcomers o.limits.clients) acts returned) → length acts ≡ o.limits.clients → (place : ℕ) → Found o joint.history acts returned place
@@ -66,7 +66,7 @@ joint_runs_are_sequential o acts returned many joint = record {
   interleaving = record {
     lists = as_many ∙ sym many;
     acts_in_order = λ place list e. acts_of-events (suc place) r.run ∙ r.acts (suc place) (one_of place (omega (arith, slice_get_within acts place list e, many))) ∙ (found o acts returned joint many place).acts_are list e;
-    replies_in_order = λ place list e. r.returned (suc place) (one_of place (omega (arith, slice_get_within returned place list e, as_many))) ∙ (found o acts returned joint many place).told_are list e;
+    replies_in_order = λ place list e. r.returned (suc place) (one_of place (omega (arith, slice_get_within returned place list e, as_many))) ∙ (found o acts returned joint many place).replies_are list e;
     nobody_else = subst (λ n. All (λ (x : Answered). (0 < x.event.client) × (x.event.client ≤ n)) r.run) (sym many) r.nobody_else;
   };
   answers = r.answers;

@@ -8,7 +8,7 @@ use Rattle.pref_share.specs.declared.run.Report.{Report}
 use Rattle.pref_share.proofs.PairLaws.{Pairs, choose, pairs_all, pairs_at, pairs_cut, pairs_length}
 use Rattle.pref_share.proofs.PrefixLaws.{prefix_self, prefix_trans}
 use Rattle.pref_share.proofs.RefusalReplies.{stops_in_use}
-use Rattle.pref_share.proofs.RunsLaws.{there, mapped, length_told, behind, given_at}
+use Rattle.pref_share.proofs.RunsLaws.{there, mapped, length_replies, behind, given_at}
 
 sees_on : (o : Opening) (s t u : Standing) → Sees o s t → Sees o t u → Sees o s u
 sees_on o s t u a b = record { further = prefix_trans s.seen t.seen u.seen a.further b.further; legal = b.legal; counted = b.counted ∙ a.counted; same = b.same ∙ a.same; query = b.query ∙ a.query }
@@ -138,12 +138,12 @@ joint_of_lists o clients acts tasks done replies out taken run is = record {
   where
     each : (i : ℕ) (s : Standing) (list : Vec Act) → slice_get clients i ≡ Some s → slice_get acts i ≡ Some list → (returned : Vec Reply) × (slice_get out i ≡ Some returned) × IsPart o run.history s list.items returned.items
     each i s list at listed_at =
-        let (returned, told_at, part) = run.each i s list at listed_at in
-        let short : i < length tasks = omega (arith, slice_get_within replies i returned told_at, taken.lists) in
+        let (returned, replies_at, part) = run.each i s list at listed_at in
+        let short : i < length tasks = omega (arith, slice_get_within replies i returned replies_at, taken.lists) in
         let (first, first_at) = there tasks i short in
         let (listed, done_at) = there done i (omega (arith, short, taken.tasks_done)) in
         let (other, other_at, took) = taken.each i first listed first_at done_at in
-        let same : other ≡ returned = same_Some other returned (sym other_at ∙ told_at) in (
+        let same : other ≡ returned = same_Some other returned (sym other_at ∙ replies_at) in (
           listed.replies,
           ap (λ (l : List (Vec Reply)). slice_get l i) is ∙ mapped (λ (x : Listed). x.replies) done i listed done_at,
           subst (λ (l : List Reply). IsPart o run.history s list.items l) (sym (took ∙ ap (λ (v : Vec Reply). v.items) same)) part,
@@ -183,7 +183,7 @@ module _ {J T X : Type 0} (o : Opening) (says : ℕ → ℕ → Bool → Type 0)
 
   few_replies : (s t : Standing) (list : Vec Act) (stopped : Option ShareFault) (replies : List Reply) → DidActs o says s list.items t replies stopped → length replies < 2 ^ 63
   few_replies s t list stopped replies did =
-      let returned = length_told o s did.last did.done replies did.runs in
+      let returned = length_replies o s did.last did.done replies did.runs in
       let whole : length list.items ≡ length did.done + length did.rest = ap length did.in_order ∙ length-append did.done did.rest in
       omega (arith, returned, whole, list.ok.0, list.ok.1, list.small)
 
@@ -217,8 +217,8 @@ module _ {J T X : Type 0} (o : Opening) (says : ℕ → ℕ → Bool → Type 0)
   returned : (reports : List (Report J)) × Pairs Reports all reports
   returned = choose Reports all report_at
 
-  are_told : AreReports o says clients acts returned.0
-  are_told = record {
+  as_reports : AreReports o says clients acts returned.0
+  as_reports = record {
     history = h.history;
     legal = h.legal;
     reported = pairs_length Reports all returned.0 returned.1 ∙ h.each_worked;
@@ -238,7 +238,7 @@ module _ {J T X : Type 0} (o : Opening) (says : ℕ → ℕ → Bool → Type 0)
       let pairs = subst (λ (l : List (Worked J T)). Pairs Reports l returned.0) first.in_order returned.1 in
       let (before, report, after, is, earlier, here) = pairs_cut Reports first.before first.worked first.after returned.0 pairs in (
         returned.0,
-        are_told,
+        as_reports,
         record {
           before = before;
           report = report;
@@ -265,5 +265,5 @@ module _ {J T X : Type 0} (o : Opening) (says : ℕ → ℕ → Bool → Type 0)
               let same : w.task ≡ task = same_Some w.task task (sym here ∙ at) in
               (report.replies, mapped (λ (r : Report J). r.replies) returned.0 i report r_at, subst (λ (t : T). took first t report.replies.items) same (r.taken first first_at));
         },
-        joint o says clients acts returned.0 replies are_told (pairs_all Reports (λ w. w.stopped ≡ None) (λ r. r.stopped ≡ None) (λ i w r paired none. paired.stopped ∙ none) all returned.0 returned.1 none) refl,
+        joint o says clients acts returned.0 replies as_reports (pairs_all Reports (λ w. w.stopped ≡ None) (λ r. r.stopped ≡ None) (λ i w r paired none. paired.stopped ∙ none) all returned.0 returned.1 none) refl,
       )

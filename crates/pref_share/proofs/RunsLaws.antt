@@ -6,8 +6,8 @@ use Rattle.std.proofs.lemmas.Option.{slice_get-map}
 use Rattle.pref_share.proofs.ActSteps.{sees_same}
 
 -- each act has its reply
-pub length_told : (o : Opening) (s t : Standing) (acts : List Act) (replies : List Reply) → RunsTo o s acts replies t → length replies ≡ length acts
-length_told o s t acts replies run = go acts replies run.stands t run.runs
+pub length_replies : (o : Opening) (s t : Standing) (acts : List Act) (replies : List Reply) → RunsTo o s acts replies t → length replies ≡ length acts
+length_replies o s t acts replies run = go acts replies run.stands t run.runs
   where
     go : (acts : List Act) (replies : List Reply) (stands : List Standing) (u : Standing) → Runs o s acts replies stands u → length replies ≡ length acts
     go _ _ _ _ none = refl
@@ -118,5 +118,5 @@ pub all_mapped : {A B : Type 0} (f : A → B) (P : B → Type 0) (xs : List A) (
 all_mapped f P xs ys same all = λ i d lt. subst P (ap (λ l. get_or l i (f d)) (sym same) ∙ get_or-map f xs i d (f d) lt) (all i (f d) (omega (arith, lt, ap length same, length-map xs f)))
 
 -- what the results at a place say, all of which are there
-pub told_at : {A E : Type 0} (P : A → Type 0) (all : List (Result A E)) (xs : List A) → map Ok xs ≡ all → (i : ℕ) (d : A) → i < length xs → IfOk (get_or all i (Ok d)) P → P (get_or xs i d)
-told_at P all xs same i d lt h = let is = ap (λ l. get_or l i (Ok d)) (sym same) ∙ get_or-map Ok xs i d (Ok d) lt in rw is at h
+pub ok_at : {A E : Type 0} (P : A → Type 0) (all : List (Result A E)) (xs : List A) → map Ok xs ≡ all → (i : ℕ) (d : A) → i < length xs → IfOk (get_or all i (Ok d)) P → P (get_or xs i d)
+ok_at P all xs same i d lt h = let is = ap (λ l. get_or l i (Ok d)) (sym same) ∙ get_or-map Ok xs i d (Ok d) lt in rw is at h

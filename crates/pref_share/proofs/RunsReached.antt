@@ -36,7 +36,7 @@ part_own f number run a own = grind (arith, filter-append, map-append)
 part_other : {X : Type 0} (f : Answered → X) (number : ℕ) (run : List Answered) (a : Answered) → (a.event.client ≡ number → ⊥) → map f (part_of number (run ++ a ∷ [])) ≡ map f (part_of number run)
 part_other f number run a other = grind (arith, filter-append, append-nil)
 
--- What all clients did, or were told, in a run that is one event of this client longer.
+-- What all clients did, or the replies to them, in a run that is one event of this client longer.
 part_more : {X : Type 0} (o : Opening) (f : Answered → X) (in_part : Part → List X) (number : ℕ) (old new : Part) (parts : ℕ → Part) (run : List Answered) (a : Answered) → a.event.client ≡ number → in_part new ≡ in_part old ++ f a ∷ []
     → ((n : ℕ) → IsOneOf o n → map f (part_of n run) ≡ in_part (with_part number old parts n))
     → (n : ℕ) → IsOneOf o n → map f (part_of n (run ++ a ∷ [])) ≡ in_part (with_part number new parts n)

@@ -197,9 +197,9 @@ joined o old call returned history seen stamp p legal is added commits = record 
 }
 
 -- what a change tells by its outcome
-pub change_told : (o : Opening) (old new : Standing) (call : Call) (returned : Outcome) (result : Result Outcome ShareFault) → result ≡ outcome_or_refusal returned → Joins o old call returned new → new.query ≡ old.query
+pub change_returned : (o : Opening) (old new : Standing) (call : Call) (returned : Outcome) (result : Result Outcome ShareFault) → result ≡ outcome_or_refusal returned → Joins o old call returned new → new.query ≡ old.query
     → IfOk result (λ done. Changes o old call done new) × IfErr result (λ fault. RefusesChange o old call fault new)
-change_told o old new call returned result e j q = grind (arith)
+change_returned o old new call returned result e j q = grind (arith)
 
 change_succeeds : (lost : Option ℕ) (full adds : Bool) (size next_id : ℕ)
     → IfOk (outcome_or_refusal (elim lost as (λ _. Outcome) [ Some id ↦ NoRow id | None ↦ cond full (Full size) (cond adds (Added next_id) Done) ])) (λ done. (first : ℕ) × (done ≡ cond adds (Added first) Done))
@@ -209,12 +209,12 @@ change_succeeds None false true size next_id = (next_id, refl)
 change_succeeds None false false size next_id = (next_id, refl)
 
 -- .. and that its outcome is that of one that succeeds, where it is no refusal
-pub success_told : (o : Opening) (old new : Standing) (call : Call) (returned : Outcome) (result : Result Outcome ShareFault) → result ≡ outcome_or_refusal returned → Joins o old call returned new → is_change call ≡ true
+pub success_returned : (o : Opening) (old new : Standing) (call : Call) (returned : Outcome) (result : Result Outcome ShareFault) → result ≡ outcome_or_refusal returned → Joins o old call returned new → is_change call ≡ true
     → IfOk result (λ done. (next_id : ℕ) × (done ≡ success_outcome next_id call))
-success_told o old new call returned result e j change =
+success_returned o old new call returned result e j change =
     let state = state_at o j.before in
-    let told = change_succeeds (missing (ended call) state.table) (begins_row call && nat_lt o.limits.capacity (needed_after state call)) (nat_lt 0 (added call)) (needed_after state call) state.next_id in
-    rw (e, j.reply, change) told
+    let succeeds = change_succeeds (missing (ended call) state.table) (begins_row call && nat_lt o.limits.capacity (needed_after state call)) (nat_lt 0 (added call)) (needed_after state call) state.next_id in
+    rw (e, j.reply, change) succeeds
 
 pub sees : (o : Opening) (old new : Standing) → IsPrefix old.seen new.seen → IsLegalFrom o new.seen → new.counter ≡ old.counter → new.number ≡ old.number → new.query ≡ old.query → Sees o old new
 sees o old new further legal counted same query = record { further = further; legal = legal; counted = counted; same = same; query = query }

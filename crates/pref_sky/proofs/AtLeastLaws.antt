@@ -151,7 +151,7 @@ module _ (xs : List Ranked) (sorted : IsNonDecreasingBy (λ (r : Ranked). r.leve
       λ r. grind (arith, nat_tests, place_passes (λ (s : Ranked). ltb s.level r.level) xs (IsPartitionedBy-ltb (λ (s : Ranked). s.level) xs r.level sorted) place d within) in
       sym (filter_agree few (λ r. leb r.level last) same xs ∙ filter_front (λ (r : Ranked). leb r.level last) xs count point)
 
--- all are told where they are fewer, and none where none is asked for
+-- all are answered where they are fewer, and none where none is asked for
 pub all_ranked : (least : ℕ) (xs : List Ranked) → length xs < least → xs ≡ at_least (in_same_group []) least xs
 all_ranked least xs few = grind (arith, all_pass, count_by-le-length)
 

@@ -70,7 +70,7 @@ held_taken n k held below = held_is k (take n held) ∙ (get_or-take n held k []
 abbrev AreBehind : (Entry → Entry → Bool) → List (List Entry) → ℕ → List Entry → Type 0
 AreBehind over held n later = (e : Entry) → Among e later → (start : ℕ) × (n ≤ start) × IsBehind over held start e
 
--- n levels are told, where `down` came down to the next one, and `later` starts there or behind it
+-- n levels are found, where `down` came down to the next one, and `later` starts there or behind it
 pub record Merging (over : Entry → Entry → Bool) (before coming : List Entry) (cut n : ℕ) (made : List (List Entry)) (down later : List Entry) : Type 0 where
   pub upto : n ≤ cut
   pub decided : (k : ℕ) → k < n → SameMembers (held_at k made) (best over (rest over (before ++ coming) k))
@@ -110,7 +110,7 @@ module _ (over : Entry → Entry → Bool) (strict : IsStrictOrder over) (before
             ∙ ap (λ l. rest over before first ++ l) (all_pass chain coming (λ x m. sym (chains x (omega arith)) ∙ late x m)))));
       }
 
--- one level more is told
+-- one level more is found
 merging_more : (over : Entry → Entry → Bool) → IsStrictOrder over → (before coming : List Entry) (cut n : ℕ) (old made : List (List Entry)) (down here later top others : List Entry) → n < cut → length made ≡ n → Holds over before cut old
     → AreBehind over old (suc n) later → Parted over (held_at n old) (down ++ here) top others → Merging over before coming cut n made down (here ++ later)
     → Merging over before coming cut (suc n) (made ++ top ∷ []) others later
@@ -129,7 +129,7 @@ merging_more over strict before coming cut n old made down here later top others
     beaten_by_more over left both x (in_left left now) (beaten_by_rest over before n x ∙ comes_after_upto over before (suc n) s.0 x s.1 chain) in
     let whole : SameMembers (rest over all n) (both ++ later) =
     subst (SameMembers (rest over all n)) (sym (append_assoc left now later ∙ ap (λ l. left ++ l) (append_assoc down here later))) m.left in
-    let told_here : SameMembers top (best over (rest over all n)) =
+    let found_here : SameMembers top (best over (rest over all n)) =
     same_then (best_are over held now top others parted apart)
     (same_then (best_with_top over strict left now held held_best)
     (same_sym (subst (SameMembers (best over (rest over all n))) (best_without over strict both later lower) (best_of_same over (rest over all n) (both ++ later) whole)))) in
@@ -142,7 +142,7 @@ merging_more over strict before coming cut n old made down here later top others
             let same : n ≡ k = omega (arith, inside, past) in
             let none : n - length made ≡ 0 = omega (arith, long) in
             let at : held_at n (made ++ top ∷ []) ≡ top = held_behind n made (top ∷ []) (omega (arith, long)) ∙ ap (λ j. held_at j (top ∷ [])) none in
-            subst (λ j. SameMembers (held_at j (made ++ top ∷ [])) (best over (rest over all j))) same (subst (λ l. SameMembers l (best over (rest over all n))) (sym at) told_here)
+            subst (λ j. SameMembers (held_at j (made ++ top ∷ [])) (best over (rest over all j))) same (subst (λ l. SameMembers l (best over (rest over all n))) (sym at) found_here)
       ];
       left =
           subst (SameMembers (without_best over (rest over all n))) (append_assoc lost others later)

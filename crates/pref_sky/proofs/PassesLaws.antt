@@ -92,7 +92,7 @@ module _ {over : Item → Item → Bool} {held : List Item} {window : ℕ} {inpu
 pub passes_begin : (over : Item → Item → Bool) (held : List Item) (window : ℕ) (items : List Item) → length held < window → Passing over held window (held ++ items) [] items (length held) held [] [] []
 passes_begin over held window items room = grind (arith, sum_by-append)
 
--- all passes end: the best are told, and the others are the rest
+-- all passes end: the best are found, and the others are the rest
 pub passes_end : {over : Item → Item → Bool} {held : List Item} {window : ℕ} {items best left : List Item} {before : ℕ} {early late overflow rest : List Item} → IsStrictOrder over → length left ≡ 0 → length early ≡ 0 → length late ≡ 0 → length overflow ≡ 0
     → Passing over held window (held ++ items) best left before early late overflow rest → Parted over held items best rest
 passes_end {over = over} {held = held} {items = items} {best = best} {left = left} {early = early} {late = late} {overflow = overflow} {rest = rest} strict left_none early_none late_none overflow_none p =

@@ -3,6 +3,6 @@
 use Rattle.std.specs.Prelude.{◌≡◌, ◌^◌, ◌<◌, ◌≤◌, ℕ}
 
 -- the value itself up to 2^63, and past it some value past it
-pub record IsCapped (told value : ℕ) : Type 0 where
-  pub same : told ≤ 2 ^ 63 → told ≡ value
-  pub more : 2 ^ 63 < told → 2 ^ 63 < value
+pub record IsCapped (magnitude value : ℕ) : Type 0 where
+  pub same : magnitude ≤ 2 ^ 63 → magnitude ≡ value
+  pub more : 2 ^ 63 < magnitude → 2 ^ 63 < value

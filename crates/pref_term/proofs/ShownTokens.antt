@@ -6,7 +6,7 @@ use Rattle.pref_term.proofs.Common.{pos_word, reverse_word, top_level_word, at_l
 use Rattle.pref_term.proofs.Common.{count_digits, cased, last, IsWritten, prior_leaves, head_leaves, group_leaves, ask_leaves, token_of, between_word, layered_word, tokens_in, tokens_on, IsGood}
 use Rattle.pref_term.proofs.Common.{Names}
 use Rattle.pref_term.proofs.ShownNames.{IsWordText}
-use Rattle.pref_term.proofs.TokenLemmas.{told_passed}
+use Rattle.pref_term.proofs.TokenLemmas.{found_passed}
 use Rattle.pref_term.proofs.ShownLemmas.{leaf_text, leaves_text, sign_text, word_text, leaves_text-append}
 use Rattle.std.proofs.Common.{rules}
 
@@ -22,7 +22,7 @@ lexed bs = tokens_in (tokens_from 0 0 bs)
 
 -- a byte that is no blank, and its token
 lexed_head : (b : ℕ) (bs : List ℕ) → is_blank b ≡ false → more_bytes b bs ≤ length bs → lexed (b ∷ bs) ≡ token_from b bs ∷ lexed (drop (more_bytes b bs) bs)
-lexed_head b bs plain room = grind (arith, told_passed, place_free)
+lexed_head b bs plain room = grind (arith, found_passed, place_free)
 
 -- what follows doesn't go on
 abbrev pub Ends : (ℕ → Bool) → List ℕ → Type 0

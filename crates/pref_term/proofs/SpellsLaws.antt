@@ -198,7 +198,7 @@ spelt_run names ts tree h =
     ap (λ (us : List Placed). run names us 0 start) (sym (append-nil ts))
     ∙ run_reads names ts [] 0 start (ask_leaves tree) (done tree) (reads_ask tree h.written) (sym h.tokens_are) h.good
 
--- a first fault is told
+-- a first fault is reported
 pub fault_run : (names : Names) (ts : List Placed) (f : TermFault) → FirstFault names ts f → run names ts 0 start ≡ Err f
 fault_run names ts f h =
     ap (λ (us : List Placed). run names us 0 start) h.cut ∙ there h.there

@@ -52,7 +52,7 @@ fn handed_on(alloc: Global, setup: Setup, text: &[u8], step: usize) -> (RunResul
 }
 
 #[test]
-fn each_line_is_flushed_before_the_next_is_told(rt: HostRuntime) -> Result<(), Fail> {
+fn each_line_is_flushed_before_the_next_is_read(rt: HostRuntime) -> Result<(), Fail> {
     let setup = defaults()?;
     for step in [1, 7, 8192] {
         let (end, lines) = handed_on(rt.alloc(), setup, SCRIPT, step);
@@ -62,7 +62,7 @@ fn each_line_is_flushed_before_the_next_is_told(rt: HostRuntime) -> Result<(), F
 }
 
 #[test]
-fn a_refused_table_is_told_and_flushed(rt: HostRuntime) -> Result<(), Fail> {
+fn a_refused_table_is_printed_and_flushed(rt: HostRuntime) -> Result<(), Fail> {
     let setup = defaults()?;
     let script = b"table\n1x\nend\nas 1 room\n".as_slice();
     let (end, lines) = handed_on(rt.alloc(), setup, script, 8192);

@@ -65,7 +65,9 @@ fn check_beginning(rt: &impl Abort, refused: &Run) {
 }
 
 #[test]
-fn a_refused_live_run_has_told_whole_lines_and_is_made_again(rt: HostRuntime) -> Result<(), Fail> {
+fn a_refused_live_run_has_printed_whole_lines_and_is_made_again(
+    rt: HostRuntime,
+) -> Result<(), Fail> {
     let alloc = rt.alloc();
     let setup = setup_of(4, 2)?;
     let writer = into(Vec::with_capacity(alloc, 1024)?);
@@ -83,7 +85,7 @@ fn a_refused_live_run_has_told_whole_lines_and_is_made_again(rt: HostRuntime) ->
 const SCRIPT_OF_ONE: &[u8] =
     b"table\nx\n5\nend\nas 1 commit insert 3\nas 7 room\nas 1 begin best low(x)\nas 1 scan\nas 1 scan\nas 1 finish\n";
 
-const TOLD_TO_ONE: &str =
+const REPLIES_TO_ONE: &str =
     "7 refused 1: no such client\n1 committed 1 first 2\n1 begun 2\n1 left 1\n1 left 0\n1 answer 1\nlevel 1 id 2: 3\n";
 
 #[test]
@@ -96,6 +98,6 @@ fn a_refused_run_on_threads_is_made_again(rt: HostRuntime) -> Result<(), Fail> {
             run_threads(&rt, rt.alloc(), SCRIPT_OF_ONE, setup, &OpenGate).expect(&rt, "memory")
         }
     };
-    assert_same(&rt, "made again", &output.as_str(), &TOLD_TO_ONE);
+    assert_same(&rt, "made again", &output.as_str(), &REPLIES_TO_ONE);
     Ok(())
 }

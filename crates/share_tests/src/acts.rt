@@ -17,7 +17,7 @@ pub fn three_rows(alloc: Global, values: (i64, i64, i64)) -> Result<[Row; 3], Fa
     ])
 }
 
-/// The question that is asked where none is told.
+/// The question that is asked where none is given.
 pub fn best_low(alloc: Global) -> Result<Ask, Fail> {
     Ok(read_ask(alloc, &columns(alloc)?, b"best low(x)")?)
 }

@@ -14,7 +14,7 @@ pub enum Changes {
     Removes(u64),
 }
 
-/// What a client does. A query asks for the rows with the smallest x, or what it is told to ask.
+/// What a client does. A query asks for the rows with the smallest x, or for what its question says.
 #[derive(Clone, Copy)]
 pub enum Does {
     Inserts(i64),

@@ -62,9 +62,9 @@ class Exchange:
 
     def open(self, head: str, pieces: Iterator[Written]) -> List[Written]:
         """Sends the table piece by piece while the pieces are made, and returns those that are more than the program reads at once."""
-        told, rest = self._whole(lambda: self._opening(head, pieces))
-        if isinstance(told, Refused):
-            raise told
+        opened, rest = self._whole(lambda: self._opening(head, pieces))
+        if isinstance(opened, Refused):
+            raise opened
         return rest
 
     def ask(self, command: str, reply: str, *, rows: int = 0, question: Optional[str] = None) -> str:
@@ -74,10 +74,10 @@ class Exchange:
     def ask_for_rows(self, command: str, reply: str, *, rows: int = 0, question: Optional[str] = None) -> Tuple[str, bytearray]:
         """The same, and the lines of rows that follow an answer."""
         text = command.encode() + b"\n"
-        told = self._whole(lambda: self._one(text, reply, rows, question))
-        if isinstance(told, Refused):
-            raise told
-        return told
+        replied = self._whole(lambda: self._one(text, reply, rows, question))
+        if isinstance(replied, Refused):
+            raise replied
+        return replied
 
     def ask_all(self, pieces: Iterable[Written], reply: str) -> str:
         """Sends many commands without a wait between them, and returns what the first line says behind the words of the reply. None may be refused."""
@@ -184,12 +184,12 @@ class Exchange:
             count += piece.text.count(b"\n")
             rows += piece.rows
             let_others_run()
-        told = b"\n" + self._process.rest(count)
-        if told.count(b"\n" + reply.encode()) < count:
-            wrong = next(line for line in told.decode(errors="replace").splitlines()[1:] if not line.startswith(reply))
+        replied = b"\n" + self._process.rest(count)
+        if replied.count(b"\n" + reply.encode()) < count:
+            wrong = next(line for line in replied.decode(errors="replace").splitlines()[1:] if not line.startswith(reply))
             raise Ended(f"the program says {wrong}", "reply")
         self.rows += rows
-        return told[1:told.index(b"\n", 1)].decode()[len(reply):]
+        return replied[1:replied.index(b"\n", 1)].decode()[len(reply):]
 
     def _refusal(self, line: str, question: Optional[str]) -> Refused:
         if line.startswith("fault: "):

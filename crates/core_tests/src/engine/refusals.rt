@@ -26,7 +26,7 @@ use test_runs::{
 const ROUNDS: u8 = 30;
 
 /// What a step returns in the end: a step that memory is refused to hands its event back, and is made again.
-fn told_in_the_end(rt: &impl Abort, alloc: Global, machine: &mut Machine, event: Event) -> Reply {
+fn reply_in_the_end(rt: &impl Abort, alloc: Global, machine: &mut Machine, event: Event) -> Reply {
     match machine.step(alloc, event) {
         Ok(reply) => reply,
         Err(
@@ -65,7 +65,7 @@ fn go_through_a_run(
 ) -> Result<(), Fail> {
     for (number, turn) in turns.iter().enumerate() {
         let event = event_of(alloc, schema, turn)?;
-        let reply = told_in_the_end(rt, alloc, machine, event);
+        let reply = reply_in_the_end(rt, alloc, machine, event);
         check_reply(rt, alloc, number, &reply, turn.2)?;
     }
     Ok(())

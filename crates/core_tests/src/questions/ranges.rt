@@ -3,7 +3,7 @@ use super::check_standings;
 use pref_term::{Relation, TermFault};
 use std::test::Fail;
 
-/// An empty range is told at its right end.
+/// An empty range is refused at its right end.
 pub(super) const REFUSED: [(&str, TermFault); 14] = [
     ("best between(x, 5, 4)", TermFault::EmptyRange { at: 19 }),
     ("best between(x, 5, -5)", TermFault::EmptyRange { at: 19 }),

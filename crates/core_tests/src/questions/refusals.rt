@@ -31,7 +31,7 @@ const QUESTION: &[u8] =
     b"at_least 20 -(low(x) * around(y, -3)) & pos(g, 1, 2) * layered(g, {1, 2}, {3}) by g, x";
 
 #[test]
-fn a_refused_reading_of_a_question_is_told_and_made_again(rt: HostRuntime) -> Result<(), Fail> {
+fn a_refused_reading_of_a_question_is_reported_and_made_again(rt: HostRuntime) -> Result<(), Fail> {
     let ask = read_in_the_end(&rt, rt.alloc(), QUESTION)?;
     let wanted = (Mode::AtLeast(20), [2, 0].as_slice());
     assert_same(&rt, "mode, group", (ask.mode(), ask.group()), wanted);
@@ -39,7 +39,7 @@ fn a_refused_reading_of_a_question_is_told_and_made_again(rt: HostRuntime) -> Re
 }
 
 #[test]
-fn a_refused_reading_of_a_product_is_told_and_made_again(rt: HostRuntime) -> Result<(), Fail> {
+fn a_refused_reading_of_a_product_is_reported_and_made_again(rt: HostRuntime) -> Result<(), Fail> {
     let question = b"best low(x) * -around(y, -3) * high(g) * between(g, 1, 2)";
     let first = row_over(rt.alloc(), &XYG, &[1, 0, 2])?;
     let second = row_over(rt.alloc(), &XYG, &[1, -2, 2])?;
@@ -50,7 +50,7 @@ fn a_refused_reading_of_a_product_is_told_and_made_again(rt: HostRuntime) -> Res
 }
 
 #[test]
-fn a_refused_reading_of_a_distinct_clause_is_told_and_made_again(
+fn a_refused_reading_of_a_distinct_clause_is_reported_and_made_again(
     rt: HostRuntime,
 ) -> Result<(), Fail> {
     let question = b"skyline of distinct x min, g diff, y max";
@@ -72,7 +72,7 @@ fn check_showing(rt: &impl Abort, alloc: Global, schema: &Schema, ask: &Ask)
 }
 
 #[test]
-fn a_refused_showing_is_told_and_made_again(rt: HostRuntime) -> Result<(), Fail> {
+fn a_refused_showing_is_reported_and_made_again(rt: HostRuntime) -> Result<(), Fail> {
     let schema = columns(rt.alloc())?;
     let ask = read_ask(rt.alloc(), &schema, QUESTION)?;
     check_showing(&rt, rt.alloc(), &schema, &ask);
@@ -101,7 +101,7 @@ fn are_copied(rt: &impl Abort, alloc: Global, question: &str) -> Result<Option<b
 }
 
 #[test]
-fn a_refused_copy_of_chains_is_told_and_made_again(rt: HostRuntime) -> Result<(), Fail> {
+fn a_refused_copy_of_chains_is_reported_and_made_again(rt: HostRuntime) -> Result<(), Fail> {
     for question in [
         "best low(x) & (-around(y, -3) * high(g))",
         "best pos(g, 1, 2) & (low(x) * layered(y, {1, 2}, {3}))",

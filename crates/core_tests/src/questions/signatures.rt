@@ -97,7 +97,7 @@ fn check_leading_parts(
 
 /// Where there is a cut at each value, a signature is within another just where its row is worse in no leading part.
 #[test]
-fn few_values_are_told_apart(rt: HostRuntime) -> Result<(), Fail> {
+fn few_values_are_distinguished(rt: HostRuntime) -> Result<(), Fail> {
     let rows = small_rows(rt.alloc())?;
     check_leading_parts(&rt, rt.alloc(), &rows, &LEADING_PARTS)
 }
@@ -155,7 +155,7 @@ fn rows_of_groups(alloc: Global) -> Result<Vec<Row>, Fail> {
 
 /// Rows of different groups are distinguished both ways, also by scales from rows of few groups; those of one group by the term.
 #[test]
-fn groups_are_told_apart(rt: HostRuntime) -> Result<(), Fail> {
+fn groups_are_distinguished(rt: HostRuntime) -> Result<(), Fail> {
     let question = "best low(x) by y";
     let sample = small_rows(rt.alloc())?;
     let rows = rows_of_groups(rt.alloc())?;

@@ -66,7 +66,7 @@ fn check_cutting<D: Dominance>(
     check_held(rt, alloc, at, &partial, plain.as_slice(), whole)
 }
 
-/// The levels have as many entries as told, and two pieces make them too, cut at each of these places.
+/// The levels have as many entries as given, and two pieces make them too, cut at each of these places.
 pub(super) fn check_cuttings<D: Dominance>(
     rt: &impl Abort,
     alloc: Global,

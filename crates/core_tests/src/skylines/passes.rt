@@ -77,7 +77,7 @@ fn check_window<D: Dominance>(
     check_ids(rt, alloc, ("window", window), &found, ids)
 }
 
-/// By windows of every size the best rows are those that comparing each with each finds, and these are as many as told.
+/// By windows of every size the best rows are those that comparing each with each finds, and these are as many as given.
 pub(super) fn check_windows<D: Dominance>(
     rt: &impl Abort,
     alloc: Global,

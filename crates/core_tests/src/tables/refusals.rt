@@ -18,7 +18,7 @@ fn read_in_the_end(rt: &impl Abort, alloc: Global, text: &[u8]) -> (Schema, Vec<
 }
 
 #[test]
-fn a_refused_reading_of_a_table_is_told_and_made_again(rt: HostRuntime) {
+fn a_refused_reading_of_a_table_is_reported_and_made_again(rt: HostRuntime) {
     let text = b"price,\"city\"\n1,2\n\"-3\",4\n5,6\n7,8\n9,10\n";
     let (schema, rows) = read_in_the_end(&rt, rt.alloc(), text);
     let columns = (schema.width(), schema.index_of(b"city"));
@@ -40,7 +40,7 @@ fn schema_in_the_end(rt: &impl Abort, alloc: Global, names: &[&[u8]]) -> Schema 
 }
 
 #[test]
-fn a_refused_schema_is_told_and_made_again(rt: HostRuntime) {
+fn a_refused_schema_is_reported_and_made_again(rt: HostRuntime) {
     let names = [b"x".as_slice(), b"y".as_slice(), b"z".as_slice()];
     let schema = schema_in_the_end(&rt, rt.alloc(), names.as_slice());
     assert_same(&rt, "z", schema.index_of(b"z"), Some(2));

@@ -1,6 +1,6 @@
 use Rattle.pref_share.proofs.Common.{◌≡◌, suc, ◌+◌, None, refl, sym, subst, ap, ◌∙◌, arith, Standing, own_refusal, Core, OutOfMemory, IsJoined, MayJoin, RefusesChange}
 use Rattle.pref_share.proofs.RefusalReplies.{passed_on, refuses_change}
-use Rattle.pref_share.proofs.StandingLaws.{counter_small, stands_changed, joins, change_told, success_told}
+use Rattle.pref_share.proofs.StandingLaws.{counter_small, stands_changed, joins, change_returned, success_returned}
 use Rattle.std.proofs.lemmas.Result.{IfOk-from_err}
 use Rattle.pref_share.proofs.client.Client.change.Goals as goal
 
@@ -24,10 +24,10 @@ returns-in-Joined g c =
     let accepted : own_refusal mine c.args.call ≡ None = subst (λ (x : Standing). own_refusal x c.args.call ≡ None) (sym c.self.view_is) (ap (own_refusal c.args.self.now) (sym c.lend.ensures) ∙ sym c.refusal.ensures ∙ c.in_default.is) in
     let up : s.counter + 1 ≡ suc s.counter = omega arith in
     let call = joins o mine _ c.args.call j.outcome j.seen j.stamp accepted joined refl up refl in
-    let returned = change_told o mine _ c.args.call j.outcome c.outcome_or_refusal.result c.outcome_or_refusal.ensures call refl in
+    let returned = change_returned o mine _ c.args.call j.outcome c.outcome_or_refusal.result c.outcome_or_refusal.ensures call refl in
     record {
       changed = rw (← c.self.view_is) returned.0;
-      success_outcome = success_told o mine _ c.args.call j.outcome c.outcome_or_refusal.result c.outcome_or_refusal.ensures call c.requires.change;
+      success_outcome = success_returned o mine _ c.args.call j.outcome c.outcome_or_refusal.result c.outcome_or_refusal.ensures call c.requires.change;
       refused = rw (← c.self.view_is) returned.1;
     }
 

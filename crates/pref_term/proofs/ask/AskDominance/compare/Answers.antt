@@ -1,9 +1,9 @@
 use Rattle.pref_term.proofs.Common.{◌≡◌, true, sym, subst, ◌∙◌, ap, arith, order_of_alike, order_of_twins_alike, in_same_group, same, is_same, Question, IsAsk, alike, and_from, and_parts, twins_alike}
 use Rattle.pref_term.proofs.ask.AskDominance.compare.Goals as goal
 
--- rows that are told as the same are of one group, and the same
-told_alike : (c : goal.After-compare_in_group) → is_same c.compare_in_group.result ≡ true → alike c.args.self.now c.args.a.now c.args.b.now ≡ true
-told_alike c reported =
+-- rows that are reported as the same are of one group, and the same
+reported_alike : (c : goal.After-compare_in_group) → is_same c.compare_in_group.result ≡ true → alike c.args.self.now c.args.a.now c.args.b.now ≡ true
+reported_alike c reported =
     let q = c.args.self.now in
     let group : c.deref.result.now ≡ q.group = c.deref.ensures.value ∙ ap (λ (s : Question). s.group) c.self.view_is in
     and_from (in_same_group q.group c.args.a.now c.args.b.now) (same q.preference c.args.a.now c.args.b.now)
@@ -12,7 +12,7 @@ told_alike c reported =
 
 pub returns-then-in_same_group-clause-stand_alike : goal.returns-then-in_same_group-clause-stand_alike
 returns-then-in_same_group-clause-stand_alike c reported =
-    order_of_alike c.args.self.now c.args.a.now c.args.b.now (told_alike c reported)
+    order_of_alike c.args.self.now c.args.a.now c.args.b.now (reported_alike c reported)
 
 pub returns-then-in_same_group-clause-twins : goal.returns-then-in_same_group-clause-twins
 returns-then-in_same_group-clause-twins c twin =
@@ -22,7 +22,7 @@ returns-then-in_same_group-clause-twins c twin =
 
 pub returns-then-in_same_group-clause-twins_alike : goal.returns-then-in_same_group-clause-twins_alike
 returns-then-in_same_group-clause-twins_alike c reported =
-    order_of_twins_alike c.args.self.now (subst IsAsk c.self.view_is c.self.invariant.0) c.args.a.now c.args.b.now (told_alike c reported)
+    order_of_twins_alike c.args.self.now (subst IsAsk c.self.view_is c.self.invariant.0) c.args.a.now c.args.b.now (reported_alike c reported)
 
 pub returns-then-in_same_group-clause-better : goal.returns-then-in_same_group-clause-better
 returns-then-in_same_group-clause-better c = grind (arith)
