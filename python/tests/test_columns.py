@@ -10,9 +10,8 @@ from fractions import Fraction
 
 import prefq
 from prefq.checks import LEAST, MOST
-from prefq.columns import kind_named
 from prefq.infer import kind_of_texts, kind_of_values
-from prefq.kinds import Floats
+from prefq.kinds import Floats, kind_named
 from support import TestCase
 
 UTC = datetime.timezone.utc
@@ -34,12 +33,12 @@ class Kinds(TestCase):
                 (["2026-05-01 17:30Z", "2026-05-01 17:30"], "text"), (["2026-02-30"], "text"), (["Lyon"], "text"), ([], "text"), (["007", "12"], "text"),
                 (["1_000", "2"], "text"), (["١"], "whole"), (["1,5"], "text"), (["9223372036854775807"], "whole"), (["0x10"], "text")]:
             with self.subTest(texts=texts):
-                self.assertEqual(str(kind_of_texts("x", texts)[0]), kind)
+                self.assertEqual(str(kind_of_texts(texts)), kind)
 
     def test_of_values(self):
         for values, kind in [([1, None], "whole"), ([Decimal("1.50"), 2], "decimal(2)"), ([Decimal("1E+2")], "decimal(0)"), ([1.5, 2, float("nan")], "float"),
                              ([True, None], "bool"), ([datetime.date(2026, 5, 1)], "date"), ([datetime.datetime(2026, 5, 1)], "time"),
-                             ([datetime.datetime(2026, 5, 1, tzinfo=UTC)], "time(UTC)"), (["a"], "text"), ([], "text"), ([None], "text"), (["5"], "text")]:
+                             ([datetime.datetime(2026, 5, 1, tzinfo=UTC)], "time(UTC)"), ([datetime.time(17, 30)], "clock"), (["a"], "text"), ([], "text"), ([None], "text"), (["5"], "text")]:
             with self.subTest(values=values):
                 self.assertEqual(str(kind_of_values("x", values)), kind)
 
@@ -103,7 +102,7 @@ class Exactly(TestCase):
             self.assertEqual(frame.best("best low(price)")[0], {"name": "b", "price": Decimal("7.25")})
         with from_text('name;price;note\na;12,50;"b,c"\n', decimal=",", kinds={"note": "text", "price": "decimal(2)"}) as frame:
             self.assertEqual(dict(frame.get(1)), {"name": "a", "price": Decimal("12.50"), "note": "b,c"})
-        with from_text("name;price\na;12,50\nb;7,25\n") as frame, self.refuses(prefq.Refused, "'12,50' is no number; decimal=',' reads decimal commas"):
+        with from_text("name;price\na;12,50\nb;7,25\n") as frame, self.refuses(prefq.Refused, "'12,50' is not plain: the kind decimal(2, decimal=\",\") reads 12.50"):
             frame.best("best low(price)")
         with from_text("x\ty\n1\t2\n", columns=["y"]) as frame:
             self.assertEqual(frame.names, ["y"])
@@ -120,10 +119,16 @@ class Exactly(TestCase):
 class Refusals(TestCase):
     def test_files(self):
         for text, *says in [("", "the file is empty"), ("x,x\n1,2\n", "two columns are called 'x'"), ("x,y\n1,2\n1\n", "line 3: it has 1 cells"),
-                            ("x,y\n1,2,3\n", "line 2: it has 3 cells"), ('x\n"5\n', "line 2"), ("x\n99999999999999999999.5\n", "column 'x'", "do not fit 64 bits", "columns=[..]"),
-                            ("x\n9223372036854775808\n-1\n", "do not fit 64 bits")]:
+                            ("x,y\n1,2,3\n", "line 2: it has 3 cells"), ('x\n"5\n', "line 2")]:
             with self.subTest(text=text), self.refuses(prefq.Refused, *says, kind="table"):
                 from_text(text)
+
+    def test_numbers_that_do_not_fit_stay_texts(self):
+        for text, number in [("x\n99999999999999999999.5\n", "99999999999999999999.5"), ("x\n-1\n9223372036854775808\n", "9223372036854775808")]:
+            with self.subTest(text=text), from_text(text) as frame:
+                self.assertEqual(frame.rows()[-1].x, number)
+                with self.refuses(prefq.Refused, f"'{number}' does not fit 64 bits: the kind float rounds it", kind="term"):
+                    frame.best("best low(x)")
 
     def test_an_encoding(self):
         import tempfile
@@ -180,9 +185,9 @@ class Refusals(TestCase):
                                         "z": datetime.datetime(2026, 5, 1, tzinfo=UTC), "s": "a"}]) as frame:
             before = frame.rows()
             for record, error, says in [
-                    ({"w": 1.5}, ValueError, "column 'w' (whole): 1.5 is no whole number"), ({"w": True}, TypeError, "column 'w' (whole): True is no number"),
+                    ({"w": Fraction(1, 3)}, ValueError, "column 'w' (whole): 1/3 is no whole number"), ({"w": True}, TypeError, "column 'w' (whole): True is no number"),
                     ({"w": 2**63}, ValueError, "does not fit"), ({"w": -2**63}, ValueError, "does not fit"), ({"w": "many"}, ValueError, "'many' is no number"),
-                    ({"d": Decimal("1.255")}, ValueError, "column 'd' (decimal(2)): 1.255 has more than 2 decimals"), ({"d": 10**17}, ValueError, "does not fit"),
+                    ({"d": 10**17}, ValueError, "does not fit"), ({"d": Decimal("0.1234567890123456789")}, ValueError, "column 'd' (decimal(2)): 0.1234567890123456789 has more than 2 decimals"),
                     ({"d": 0.1 + 0.2}, ValueError, "more than 2 decimals"), ({"d": Decimal("inf")}, ValueError, "fits"), ({"f": "x"}, ValueError, "'x' is no number"),
                     ({"f": 2**53 + 1}, ValueError, "is no 64-bit float"), ({"f": True}, TypeError, "True is no number"),
                     ({"f": Fraction(1, 3)}, ValueError, "is no 64-bit float"), ({"f": 10**400}, ValueError, "too large"), ({"f": 1j}, TypeError, "column 'f' (float)"),

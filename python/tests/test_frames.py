@@ -53,7 +53,7 @@ class Hotels(TestCase):
     def test_overhead(self):
         """What a question costs beyond the time of its queries, in the best of some series."""
         with prefq.Frame.from_csv(HOTELS) as hotels:
-            below = prefq.translate.plan(QUESTION, hotels._read(QUESTION), hotels._below).text
+            below = prefq.translate.plan(QUESTION, hotels._read(hotels._opened, QUESTION), hotels._opened.below).text
 
             def seconds(call):
                 begun = time.perf_counter()

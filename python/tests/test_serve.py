@@ -406,7 +406,7 @@ class CommandLine(TestCase):
         """The command, and the address that it says."""
         command = subprocess.Popen([sys.executable, *words], stderr=subprocess.PIPE, universal_newlines=True, env={**os.environ, "PYTHONPATH": str(Path(prefq.__file__).parents[1])})
         self.addCleanup(self.end, command)
-        line = command.stderr.readline()
+        line = next(line for line in command.stderr if "taken for missing" not in line)
         self.assertIn("http://127.0.0.1:", line)
         return command, line.split("http://127.0.0.1:")[1].split("/")[0]
 

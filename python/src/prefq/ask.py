@@ -2,18 +2,24 @@
 import argparse
 import html
 import os
+import re
 import sys
 import time
 import warnings
 from typing import Any, Dict, Iterable, List, Optional, Sequence, Tuple
 
 from .answer import Answer
-from .errors import Ended, Error
+from .columns import Column
+from .errors import Ended, Error, Refused
 from .frame import UnknownValue
-from .loading import File, decoded
-from .reading import MISSING_WORDS, read_csv
+from .infer import kind_of_texts, oddity
+from .kinds import Texts
+from .kinds.forms import Form
+from .loading import Encoded, File, decoded
+from .missing import Missing
+from .reading import Dialect, is_blank, read_csv
 from .records import Record
-from .select import selected
+from .select import names_in, selected
 
 EXAMPLES = """examples:
   python -m prefq ask hotels.csv "best low(Price) * high(Stars)"
@@ -38,12 +44,33 @@ def parser() -> argparse.ArgumentParser:
     form.add_argument("--json", dest="form", action="store_const", const="json", help="print JSON")
     form.add_argument("--html", dest="form", action="store_const", const="html", help="print a page of HTML")
     found.add_argument("--plot", metavar="OUT.svg", help="draw the answer by its first two criteria into this file")
-    found.add_argument("--kind", metavar="COLUMN=KIND", action="append", default=[],
-                       help="what a column is: whole, decimal(2), float, bool, date, time, text, choice(a, b, c)")
-    found.add_argument("--encoding", default="utf-8-sig", help="of the file (utf-8)")
-    found.add_argument("--delimiter", help="between the cells of the file (the one of , ; tab | that stands most often in its first line)")
-    found.add_argument("--decimal", default=".", help="the sign before decimal digits (.)")
+    add_file_options(found)
     return found
+
+
+def add_file_options(found: argparse.ArgumentParser) -> None:
+    """The options that say how a file is written, and what its columns are."""
+    found.add_argument("--kind", metavar="COLUMN=KIND", action="append", default=[],
+                       help="what a column is: whole, decimal(2), float, bool, date, time, clock, text, choice(a, b, c); decimal(2, thousands=\",\", unit=\"€\"), date(\"%%d.%%m.%%Y\")")
+    found.add_argument("--missing", metavar="WORD", action="append",
+                       help="a word that stands for a missing value, in any column; may be given again, and then NA, n/a, nan, null, none and - are values as any others")
+    found.add_argument("--encoding", help="of the file (that of its mark, or utf-8)")
+    found.add_argument("--delimiter", help="between the cells of the file (the one of , ; tab | that cuts its first rows alike, into most cells)")
+    found.add_argument("--decimal", default=".", help="the sign before decimal digits (.)")
+    found.add_argument("--thousands", default="", metavar="SIGN", help="the sign between thousands, as , in 1,200 (none)")
+    found.add_argument("--skip", type=int, default=0, metavar="LINES", help="how many lines stand before the one with the names (0)")
+    found.add_argument("--null-padding", action="store_true", help="a row that is too short ends in missing values, and is not refused")
+
+
+def file_of(options: argparse.Namespace, source: Any, progress: Optional["Progress"] = None) -> File:
+    """The file of these options."""
+    dialect = Dialect(options.encoding, options.delimiter, options.skip, options.null_padding)
+    return File(read_csv(source, dialect, progress), kinds_of(options.kind), Missing(options.missing), Form(options.decimal, options.thousands))
+
+
+# What is said of arguments of a function, and of options.
+IN_OPTIONS = {r"missing=\[\.\.\]": "--missing", r"null_padding=True": "--null-padding", r"encoding='([^']*)'": r"--encoding \1",
+              r"give it the kind '([^']*)'": r"give it a kind, as --kind 'COLUMN=\1'", r"kinds=\{'([^']*)': '([^']*)'\}": r"--kind '\1=\2'"}
 
 
 def main(arguments: Optional[Sequence[str]] = None) -> int:
@@ -60,10 +87,17 @@ def main(arguments: Optional[Sequence[str]] = None) -> int:
         return 1
     except KeyboardInterrupt:
         return 130
+    except NotWritten as why:
+        print(f"prefq: {why}", file=sys.stderr)
+        return 1
     except (Error, OSError, ValueError, TypeError, LookupError) as why:
         print(f"prefq: {wrong(why)}", file=sys.stderr)
         return 1 if isinstance(why, Ended) else 2
     return 0
+
+
+class NotWritten(Exception):
+    """The answer could not be written."""
 
 
 def wrong(why: BaseException) -> str:
@@ -73,51 +107,100 @@ def wrong(why: BaseException) -> str:
 
 def in_options(text: str) -> str:
     """What is said of arguments of a function, said of options."""
-    return text.replace("decimal=',' reads", "--decimal , reads")
+    for words, options in IN_OPTIONS.items():
+        text = re.sub(words, options, text)
+    return text
 
 
 def run(options: argparse.Namespace) -> None:
     """Reads the file, asks, and prints."""
     progress = Progress()
-    source = getattr(sys.stdin, "buffer", sys.stdin) if options.file == "-" else options.file
-    file = File(read_csv(source, options.encoding, options.delimiter, progress), kinds_of(options.kind), MISSING_WORDS, options.decimal)
+    file = file_of(options, standard_input() if options.file == "-" else options.file, progress)
     if options.question is None:
-        for name in file.cells.names:
-            column, _ = file.column(name)
-            print(f"{name}: {column.kind}" + (f" ({in_options(column.oddity)})" if column.oddity else ""))
+        file.load(dict.fromkeys(file.cells.names))
+        progress.end()
+        say(file.notes.values())
+        write("".join(f"{line}\n" for line in columns_of(file)))
         return
+    if options.plot or options.form == "json":
+        file.load(file.cells.names)         # Their values are wanted, not only their cells.
     answer = asked(file, options.question, progress)
     progress.end()
+    say(file.notes[name] for name in names_in(options.question, None, file.cells.names) if name in file.notes)
     if options.plot:
         answer.to_svg(options.plot)
-    sys.stdout.write(written(answer, options.form))
-    sys.stdout.flush()
+    write(written(answer, options.form))
+
+
+def say(notes: Iterable[str]) -> None:
+    """Says on standard error what is to be known of an answer."""
+    for note in notes:
+        print(f"prefq: {in_options(note)}", file=sys.stderr)
+
+
+def standard_input() -> Any:
+    if sys.stdin is None:
+        raise Refused("standard input is closed", "arguments")
+    return getattr(sys.stdin, "buffer", sys.stdin)
+
+
+def write(text: str) -> None:
+    """Writes to standard output."""
+    if sys.stdout is None:
+        raise NotWritten("standard output is closed")
+    try:
+        sys.stdout.write(text)
+        sys.stdout.flush()
+    except BrokenPipeError:
+        raise
+    except OSError as why:
+        # What is left in its buffer cannot be written at the end either.
+        os.dup2(os.open(os.devnull, os.O_WRONLY), sys.stdout.fileno())
+        raise NotWritten(f"standard output: {why.strerror}") from None
+    except UnicodeEncodeError as why:
+        raise Refused(f"standard output is {why.encoding}, which does not have {why.object[why.start:why.end]!r}", "arguments") from None
+
+
+def columns_of(file: File) -> List[str]:
+    """The columns of a file with their kinds, a line each."""
+    lines = []
+    for name in file.cells.names:
+        column, _ = file.column(name)
+        why = oddity(column.kind.texts) if isinstance(column.kind, Texts) else None
+        lines.append(f"{name}: {column.kind}" + (f" ({in_options(why)})" if why else ""))
+    return lines
 
 
 def asked(file: File, question: str, progress: "Progress") -> Answer:
-    """The answer, whose rows are those of the file."""
-    names, rows = file.cells.names, file.cells.rows
-
-    def records(found: Iterable[Tuple[Optional[int], int]]) -> List[Record]:
-        pairs = list(found)
-        lists = [file.column(name) for name in names]
-        values = decoded([column for column, _ in lists], [[numbers[id - 1] for _, numbers in lists] for _, id in pairs])
-        return [Record(zip(names, row), id=id, level=level) for (level, id), row in zip(pairs, values)]
-
+    """The answer, whose rows are those of the file. Only the columns that the question names are understood."""
+    names = file.cells.names
+    file.load(names_in(question, None, names))
     best = selected(question, None, names, file.column, progress=progress)
-    return FileAnswer(question, [file.column(name)[0] for name in names], records((row.level, row.id) for row in best),
-                      others=lambda: records((None, id) for id in range(1, len(rows) + 1)), rows=rows)
+    return FileAnswer(question, file, [(row.level, row.id) for row in best])
 
 
 class FileAnswer(Answer):
     """An answer that writes the cells of the file as they stand there."""
 
-    def __init__(self, *arguments: Any, rows: List[List[str]], **more: Any) -> None:
-        super().__init__(*arguments, **more)
-        self._rows = rows
+    def __init__(self, question: str, file: File, rows: Sequence[Tuple[int, int]]) -> None:
+        self._rows = file.cells.rows_at(id - 1 for _, id in rows)
+        self._loaded: Dict[str, Encoded] = {name: file.column(name) for name in dict.fromkeys(file.cells.names) if file.is_loaded(name)}
+        columns = [self._loaded[name][0] if name in self._loaded else self._shown(name, place) for place, name in enumerate(file.cells.names)]
+        super().__init__(question, columns, self._records(rows), others=lambda: self._records((None, id) for id in range(1, file.rows + 1)))
 
     def cells(self, record: Record) -> List[str]:
         return [str(record.level), str(record.id), *self._rows[(record.id or 1) - 1]]
+
+    def _shown(self, name: str, place: int) -> Column:
+        """A column that the question does not name, with the kind that its cells in the answer look like."""
+        return Column(name, kind_of_texts([row[place] for row in self._rows.values() if not is_blank(row[place])]))
+
+    def _records(self, found: Iterable[Tuple[Optional[int], int]]) -> List[Record]:
+        """The rows with the values of the columns that are understood."""
+        pairs = list(found)
+        lists = [numbers for _, numbers in self._loaded.values()]
+        values = decoded([column for column, _ in self._loaded.values()], [[numbers[id - 1] for numbers in lists] for _, id in pairs])
+        return [Record(zip(self._loaded, row), id=id, level=level) for (level, id), row in zip(pairs, values)]
 
 
 class Progress:

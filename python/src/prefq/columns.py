@@ -1,13 +1,13 @@
-"""Columns of a frame: a name of any spelling, a kind of values, and what is missing."""
+"""Columns of a frame: a name of any spelling, and a kind of values."""
+import datetime
 import re
-from typing import Any, Callable, Dict, FrozenSet, Iterable, List, Optional
+from decimal import Decimal
+from typing import Any, List
 
 from .checks import LEAST
-from .errors import Refused
-from .kinds import Booleans, Choices, Dates, Decimals, Floats, Kind, Texts, Times, Whole
+from .kinds import Kind, kind_named
 
 PLAIN_NAME = re.compile(r"[^\W\d][\w.]*")
-SPELLED_KIND = re.compile(r"(?P<name>[a-z]+)(?:\((?P<inside>.*)\))?")
 
 
 class Column:
@@ -23,28 +23,21 @@ class Column:
     True
     """
 
-    def __init__(self, name: str, kind: Any, missing: Iterable[str] = ()) -> None:
+    def __init__(self, name: str, kind: Any) -> None:
         self.name = name
         self.kind: Kind = kind if isinstance(kind, Kind) else kind_named(kind)
-        self.missing: FrozenSet[str] = frozenset(missing)
+        # Whether the kind was taken from the values, and takes further ones by becoming wider.
+        self.grows = False
         self.has_gaps = False
-        # Why a column of texts is none of numbers or dates, where it looked like one.
-        self.oddity: Optional[str] = None
         # The type of pandas that the column had, if it came from there.
         self.dtype: Any = None
 
     def __repr__(self) -> str:
         return f"Column({self.name!r}, {str(self.kind)!r})"
 
-    def is_missing(self, value: Any) -> bool:
-        """Whether a value is missing: None, not a number, pandas' NA and NaT, or one of the column's words for it."""
-        if isinstance(value, str):
-            return bool(self.missing) and value.strip().lower() in self.missing
-        return is_missing(value)
-
     def encode(self, value: Any) -> int:
-        """The number of a value in the table."""
-        if self.is_missing(value):
+        """The number of a value in the table. None, NaN, and pandas' NA and NaT are missing; a text never is."""
+        if is_missing(value):
             self.has_gaps = True
             return LEAST
         try:
@@ -63,31 +56,27 @@ class Column:
         """A value as a file has it; nothing where it is missing."""
         return "" if value is None else self.kind.text(value)
 
+    def of_kind(self, kind: Kind) -> "Column":
+        """The same column with another kind."""
+        column = Column(self.name, kind)
+        column.grows, column.has_gaps, column.dtype = self.grows, self.has_gaps, self.dtype
+        return column
+
 
 def is_missing(value: Any) -> bool:
-    """Whether a value that is no text is missing."""
+    """Whether a value of Python is missing: None, not a number, pandas' NA and NaT."""
     if value is None:
         return True
-    if isinstance(value, int):
+    if isinstance(value, (str, int, datetime.date)) and type(value).__name__ != "NaTType":
         return False
+    if isinstance(value, Decimal):
+        return value.is_nan()
+    if type(value).__name__ in ("NAType", "NaTType"):
+        return True
     try:
         return bool(value != value)
     except (TypeError, ValueError):
-        return type(value).__name__ == "NAType"
-
-
-def kind_named(spelling: str) -> Kind:
-    """The kind of a spelling: whole, decimal(2), float, bool, date, time, text, choice(low, middle, high)."""
-    found = SPELLED_KIND.fullmatch(spelling.strip())
-    name, inside = (found["name"], found["inside"]) if found else ("", None)
-    plain: Dict[str, Callable[[], Kind]] = {"whole": Whole, "float": Floats, "bool": Booleans, "date": Dates, "time": Times, "text": Texts}
-    if name in plain and inside is None:
-        return plain[name]()
-    if name == "decimal" and inside and inside.strip().isdigit():
-        return Decimals(int(inside))
-    if name == "choice" and inside:
-        return Choices([text.strip() for text in inside.split(",")])
-    raise Refused(f"no kind {spelling!r}: there are whole, decimal(2), float, bool, date, time, text, choice(first, second, ..)", "table")
+        return False
 
 
 def spelled(name: str) -> str:

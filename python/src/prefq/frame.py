@@ -2,18 +2,28 @@
 import sys
 import threading
 import warnings
-from typing import Any, Callable, Dict, Iterable, Iterator, List, Mapping, Optional, Sequence, Tuple, Type
+from contextlib import contextmanager
+from typing import Any, Callable, Dict, Iterable, Iterator, List, Mapping, Optional, Sequence, Tuple, TypeVar
 
 from .answer import Answer
+from .checks import MOST_ROWS
 from .columns import Column, listed
-from .errors import Refused
-from .loading import File, check_width, chosen, column_of_values, decoded, encoded
+from .errors import Ended, Refused
+from .kinds import Kind
+from .kinds.forms import Form
+from .loading import Encoded, File, check_known, chosen, column_of_values, decoded, encoded
+from .missing import Missing
+from .opened import Opened
 from .questions import Mode, Question, read_question
-from .reading import MISSING_WORDS, Progress, Source, check_names, read_csv
+from .reading import Dialect, Progress, Source, check_options, read_csv
 from .records import Record, mapping_of, values_of
 from .table import Table
 from .translate import Plan, plan
 from .why import Rivals
+
+Result = TypeVar("Result")
+TABLE_OPTIONS = ("capacity", "clients", "block", "window", "timeout", "program")
+CSV_OPTIONS = ("columns", "kinds", "missing", "encoding", "delimiter", "decimal", "thousands", "skip", "null_padding")
 
 
 class UnknownValue(UserWarning):
@@ -46,33 +56,40 @@ class Frame:
         lists = [encoded(column, values) for column, values in zip(columns, zip(*(values_of(row, columns) for row in rows)))]
         self._open(columns, list(zip(*lists)), options)
 
-    def _open(self, columns: Tuple[Column, ...], rows: List[Any], options: Dict[str, Any], index: Any = None) -> None:
-        check_names([column.name for column in columns])
-        check_width(columns)
-        self.columns = columns
-        self._by_name = {column.name: column for column in columns}
-        self._below = {id(column): f"c{place}" for place, column in enumerate(columns)}
+    def _open(self, columns: Sequence[Column], rows: List[Any], options: Dict[str, Any], index: Any = None, notes: Iterable[str] = ()) -> None:
+        check_options(options, TABLE_OPTIONS, "Frame")
+        self._opened = Opened(columns, rows, options)
         self._index = index
-        self._changing = threading.Lock()
+        # What is to be known of how the data were read: which words of a file were taken for missing.
+        self.notes = list(notes)
+        # Held while the rows change, by the thread that changes them; and the last id that was given.
+        self._changing = threading.RLock()
+        self._is_opening = False
+        self._last = len(rows)
         self._options = {name: options[name] for name in ("program", "timeout") if name in options}
-        self.table = Table(list(self._below.values()), rows, **options)
 
     @classmethod
-    def from_csv(cls, source: Source, *, columns: Optional[Sequence[str]] = None, kinds: Optional[Mapping[str, str]] = None,
-                 missing: Iterable[str] = MISSING_WORDS, encoding: str = "utf-8-sig", delimiter: Optional[str] = None, decimal: str = ".",
-                 **options: Any) -> "Frame":
-        """The frame of a CSV file with names in its first line: a path, or an open file.
+    def from_csv(cls, source: Source, *, columns: Optional[Sequence[str]] = None, kinds: Optional[Mapping[str, str]] = None, missing: Optional[Iterable[str]] = None,
+                 encoding: Optional[str] = None, delimiter: Optional[str] = None, decimal: str = ".", thousands: str = "", skip: int = 0,
+                 null_padding: bool = False, **options: Any) -> "Frame":
+        """The frame of a CSV file with names in its first line: a path, or an open file, packed by gzip or not.
 
         - `columns`: which columns to take; `kinds`: what a column is, where that is not to be seen, as in {"Stars": "decimal(1)"}
-        - `missing`: the texts that stand for a missing value, in small letters; `encoding`, `delimiter` and the sign before `decimal` digits of the file
+        - `missing`: the words that stand for a missing value, in any case, in every column. An empty cell always does; where no words are given, NA, n/a, nan,
+          null, none and - do in columns of numbers, dates, times and bools, and `notes` of the frame says so
+        - `encoding`, `delimiter`, the sign before `decimal` digits and between `thousands`, how many lines to `skip`, and `null_padding`, by which a short row
+          ends in missing values: how the file is written
 
         >>> import io, prefq
         >>> with prefq.Frame.from_csv(io.StringIO("City,Price (EUR)\\nLyon,57.40\\nBern,n/a\\n")) as hotels:
         ...     hotels.rows()
         [<id 1: {'City': 'Lyon', 'Price (EUR)': Decimal('57.40')}>, <id 2: {'City': 'Bern', 'Price (EUR)': None}>]
         """
-        file = File(read_csv(source, encoding, delimiter), kinds, frozenset(missing), decimal)
-        return cls._made([file.column(name) for name in chosen(file.cells.names, columns)], options)
+        check_options(options, [*CSV_OPTIONS, *TABLE_OPTIONS], "Frame.from_csv")
+        file = File(read_csv(source, Dialect(encoding, delimiter, skip, null_padding)), kinds, Missing(missing), Form(decimal, thousands))
+        names = file.cells.names if columns is None else chosen(file.cells.names, columns)
+        file.load(names, MOST_ROWS)
+        return cls._made([file.column(name) for name in names], options, notes=file.notes.values())
 
     @classmethod
     def from_records(cls, records: Iterable[Any], *, columns: Optional[Sequence[str]] = None, kinds: Optional[Mapping[str, str]] = None,
@@ -84,6 +101,7 @@ class Frame:
         ...     frame.columns
         (Column('x', 'whole'), Column('y', 'float'))
         """
+        check_options(options, ["columns", "kinds", *TABLE_OPTIONS], "Frame.from_records")
         rows = [_mapping(record, row) for row, record in enumerate(records, 1)]
         names = chosen(list(dict.fromkeys(name for row in rows for name in row)), columns)
         return cls._made([column_of_values(name, [row.get(name) for row in rows], kinds) for name in names], options)
@@ -95,14 +113,35 @@ class Frame:
         from .pandas_frames import encoded_series, index_of
         if not hasattr(dataframe, "columns") or not hasattr(dataframe, "index"):
             raise TypeError(f"dataframe is of type {type(dataframe).__name__}: not a DataFrame of pandas (from_records takes records)")
+        check_options(options, ["columns", "kinds", *TABLE_OPTIONS], "Frame.from_dataframe")
+        if len(dataframe) > MOST_ROWS:
+            raise Refused(f"the DataFrame has {len(dataframe)} rows, and a table holds {MOST_ROWS}: prefq.psel and prefq.parts ask more", "table")
         names = chosen(list(dataframe.columns), columns)
         return cls._made([encoded_series(dataframe[name], name, kinds) for name in names], options, index_of(dataframe.index))
 
     @classmethod
-    def _made(cls, columns: Sequence[Tuple[Column, List[int]]], options: Dict[str, Any], index: Any = None) -> "Frame":
+    def empty(cls, columns: Iterable[str], kinds: Mapping[str, str], **options: Any) -> "Frame":
+        """A frame without rows, each of whose columns has the kind that is given for it.
+
+        >>> import prefq
+        >>> with prefq.Frame.empty(["hotel", "price"], {"hotel": "text", "price": "decimal(2)"}) as hotels:
+        ...     hotels.insert({"hotel": "Ritz", "price": "129.99"})
+        ...     hotels.get(1)
+        1
+        <id 1: {'hotel': 'Ritz', 'price': Decimal('129.99')}>
+        """
+        names = chosen(list(columns), None)
+        check_known(list(kinds), names)
+        without = [name for name in names if name not in kinds]
+        if without:
+            raise Refused(f"without rows a column has to be given its kind: {listed(without)}", "table")
+        return cls([Column(name, kinds[name]) for name in names], **options)
+
+    @classmethod
+    def _made(cls, columns: Sequence[Encoded], options: Dict[str, Any], index: Any = None, notes: Iterable[str] = ()) -> "Frame":
         """The frame of columns with their numbers."""
         frame = cls.__new__(cls)
-        frame._open(tuple(column for column, _ in columns), list(zip(*(numbers for _, numbers in columns))), options, index)
+        frame._open([column for column, _ in columns], list(zip(*(numbers for _, numbers in columns))), options, index, notes)
         return frame
 
     def __enter__(self) -> "Frame":
@@ -126,19 +165,35 @@ class Frame:
         self.table.close()
 
     @property
+    def columns(self) -> Tuple[Column, ...]:
+        """The columns, with their kinds as they are now."""
+        return self._opened.columns
+
+    @property
+    def table(self) -> Table:
+        """The table below, of whole numbers. It is another one after a column has become wider, and its ids are then its own."""
+        return self._opened.table
+
+    @property
     def names(self) -> List[str]:
         """The names of the columns."""
-        return list(self._by_name)
+        return self._opened.names
 
     def insert(self, record: Any) -> int:
         """Adds a record, and returns its id. What it does not name is missing. A list has a value for each column.
+
+        A column whose kind was taken from its values becomes wider where a value has more decimals: the table is opened anew under the same ids, which takes
+        the time of reading all rows. What a column does not take is a `TypeError` or a `ValueError`.
 
         >>> import prefq
         >>> with prefq.Frame.from_records([{"x": 1, "y": 2}]) as frame:
         ...     frame.insert({"x": 5})
         2
         """
-        return self.table.insert(self._numbers(record))
+        with self._change():
+            [numbers] = self._numbers([record])
+            self._last = self._opened.ids.outside(self.table.insert(numbers))
+            return self._last
 
     def insert_many(self, records: Iterable[Any]) -> Sequence[int]:
         """Adds records at one moment, and returns their ids; all of them or, where there is no room, none.
@@ -148,10 +203,16 @@ class Frame:
         ...     frame.insert_many([{"x": 5}, [6, 7]])
         range(2, 4)
         """
-        return self.table.insert_many([self._numbers(record) for record in records])
+        with self._change():
+            inside = self.table.insert_many(self._numbers(list(records)))
+            if not inside:
+                return inside
+            first = self._opened.ids.outside(inside[0])
+            self._last = first + len(inside) - 1
+            return range(first, self._last + 1)
 
     def update(self, id: int, record: Any) -> None:
-        """Gives a row the values of a record; where that is a mapping, what it does not name stays as it is.
+        """Gives a row the values of a record; where that is a mapping, what it does not name stays as it is. Kinds grow as by `insert`.
 
         >>> import prefq
         >>> with prefq.Frame.from_records([{"x": 1, "y": 2}]) as frame:
@@ -160,26 +221,27 @@ class Frame:
         <id 1: {'x': 1, 'y': None}>
         """
         found = mapping_of(record)
-        with self._changing:
-            if found is None or set(self._by_name) <= set(found):
-                self.table.update(id, self._numbers(record))
-            else:
-                numbers = self.table.get(id)
-                changed = dict(zip(self._by_name, self._numbers(record)))
-                self.table.update(id, [changed[name] if name in found else number for name, number in zip(self._by_name, numbers)])
+        with self._change():
+            [numbers] = self._numbers([record], id)
+            if found is not None and not set(self.names) <= set(found):
+                before = self._of_row(id, self.table.get)
+                numbers = [number if name in found else old for name, number, old in zip(self.names, numbers, before)]
+            self._of_row(id, lambda row: self.table.update(row, numbers))
 
     def delete(self, id: int) -> None:
         """Deletes a row; its id is never used again."""
-        with self._changing:
-            self.table.delete(id)
+        with self._change():
+            self._of_row(id, self.table.delete)
 
     def get(self, id: int) -> Record:
         """The row with this id."""
-        return self._records([(None, id, self.table.get(id))])[0]
+        opened = self._opened
+        return self._records(opened, [(None, id, self._of_row(id, opened.table.get, opened))])[0]
 
     def rows(self) -> List[Record]:
         """All rows, in order of id."""
-        return self._records([(None, id, numbers) for id, numbers in self.table.rows()])
+        opened = self._opened
+        return self._records(opened, [(None, opened.ids.outside(id), numbers) for id, numbers in opened.table.rows()])
 
     def room(self) -> int:
         """How many more versions of rows there is room for."""
@@ -195,15 +257,17 @@ class Frame:
 
     def answer(self, question: str, mode: Optional[Mode], progress: Optional[Progress] = None) -> Answer:
         """The same of a question that has this mode, if it has none itself."""
-        read = self._read(question, mode)
+        opened = self._opened
+        read = self._read(opened, question, mode)
         while True:
-            asked = plan(question, read, self._below)
-            rows = self._run(asked, progress)
+            asked = plan(question, read, opened.below)
+            rows = self._run(opened, asked, progress)
             # A row that came in the meantime may have a new text, or the first gap of a column.
-            if plan(question, read, self._below).text == asked.text:
+            if plan(question, read, opened.below).text == asked.text:
                 break
         warn_of(asked)
-        return Answer(question, self.columns, self._records(without_twins(rows, asked)), others=self.rows, index=self._index)
+        found = [(row.level, opened.ids.outside(row.id), row.values) for row in without_twins(rows, asked)]
+        return Answer(question, opened.columns, self._records(opened, found), others=self.rows, index=self._index)
 
     def why(self, id: int, question: str) -> Answer:
         """The rows that dominate this one in a question: those because of which it is not in the answer. Each has its own level.
@@ -213,20 +277,21 @@ class Frame:
         ...     frame.why(2, "best low(x) * low(y)").ids
         [1]
         """
-        read = self._read(question)
-        rows = dict(self.table.rows())
+        opened = self._opened
+        read = self._read(opened, question)
+        rows = {opened.ids.outside(number): numbers for number, numbers in opened.table.rows()}
         if id not in rows:
-            raise Refused(f"no such row {id}", "client", 7)
-        rivals = Rivals(question, read, self._below, rows, id, self._options)
-        records = self._records([(level, other, rows[other]) for other, level in rivals.dominators()])
-        return Answer(question, self.columns, records, others=self.rows, index=self._index)
+            raise opened.missing_row(id)
+        rivals = Rivals(question, read, opened.below, rows, id, self._options)
+        records = self._records(opened, [(level, other, rows[other]) for other, level in rivals.dominators()])
+        return Answer(question, opened.columns, records, others=self.rows, index=self._index)
 
-    def _read(self, question: str, mode: Optional[Mode] = None) -> Question:
-        return read_question(question, self._by_name.get, self.names, mode)
+    def _read(self, opened: Opened, question: str, mode: Optional[Mode] = None) -> Question:
+        return read_question(question, opened.by_name.get, opened.names, mode)
 
-    def _run(self, asked: Plan, progress: Optional[Progress]) -> List[Any]:
+    def _run(self, opened: Opened, asked: Plan, progress: Optional[Progress]) -> List[Any]:
         try:
-            with self.table.query(asked.text) as query:
+            with opened.table.query(asked.text) as query:
                 blocks = query.left
                 while query.left:
                     query.scan()
@@ -236,13 +301,48 @@ class Frame:
         except Refused as why:
             raise asked.refusal(why) from None
 
-    def _numbers(self, record: Any) -> List[int]:
-        return [column.encode(value) for column, value in zip(self.columns, values_of(record, self.columns))]
+    def _numbers(self, records: Sequence[Any], id: Optional[int] = None) -> List[List[int]]:
+        """The numbers of some records, for which columns that are too narrow become wider; of a row with this id, if it is there."""
+        if self._opened.is_outgrown():
+            self._open_anew({})
+        while True:
+            try:
+                return [self._opened.numbers(record) for record in records]
+            except (TypeError, ValueError):
+                wider = self._opened.wider(records)
+                if not wider:
+                    raise
+            if id is not None:
+                self._of_row(id, self.table.get)
+            self._open_anew(wider)
 
-    def _records(self, found: Sequence[Tuple[Optional[int], int, Sequence[int]]]) -> List[Record]:
+    @contextmanager
+    def _change(self) -> Iterator[None]:
+        """One change after the other. A signal handler of this thread makes none while the table is opened anew, which would not have it."""
+        with self._changing:
+            if self._is_opening:
+                raise Ended("a call that opens the table anew is under way in this thread", "interrupted")
+            yield
+
+    def _open_anew(self, kinds: Mapping[str, Kind]) -> None:
+        self._is_opening = True
+        try:
+            self._opened = self._opened.anew(kinds, self._last)
+        finally:
+            self._is_opening = False
+
+    def _of_row(self, id: int, call: Callable[[int], Result], opened: Optional[Opened] = None) -> Result:
+        """A call for a row, by its id in the table."""
+        inside = (opened or self._opened).ids.inside(id)
+        try:
+            return call(inside)
+        except Refused as why:
+            raise (self._opened.missing_row(id) if why.kind == "client" and why.number == 7 else why) from None
+
+    def _records(self, opened: Opened, found: Sequence[Tuple[Optional[int], int, Sequence[int]]]) -> List[Record]:
         """The records of rows, each with its level and id."""
-        values = decoded(self.columns, [numbers for _, _, numbers in found])
-        return [Record(zip(self._by_name, row), id=id, level=level) for (level, id, _), row in zip(found, values)]
+        values = decoded(opened.columns, [numbers for _, _, numbers in found])
+        return [Record(zip(opened.names, row), id=id, level=level) for (level, id, _), row in zip(found, values)]
 
 
 def without_twins(rows: List[Any], asked: Plan) -> List[Any]:

@@ -2,83 +2,85 @@
 import datetime
 import re
 from decimal import Decimal
-from typing import Any, Iterable, List, Optional, Sequence, Tuple
+from typing import Any, Iterable, List, Optional, Sequence
 
-from .checks import MOST
+from .checks import LEAST, MOST
 from .columns import is_missing
 from .errors import Refused
-from .kinds import DAY, FLOAT, MOMENT, NUMBER, WORDS_OF_TRUTH, Booleans, Dates, Decimals, Floats, Kind, Texts, Times, Whole, moment
+from .kinds import Booleans, Choices, Clock, Dates, Decimals, Floats, Kind, Texts, Times, Whole, kind_named
+from .kinds.booleans import WORDS as WORDS_OF_TRUTH
+from .kinds.forms import NUMBER, PLAIN, Form
+from .kinds.moments import DAY, MOMENT, offset_of
+from .kinds.numbers import FLOAT, MOST_DECIMALS, decimals_of
+from .missing import WORDS, folded
 
 WHOLE = re.compile(r"[+-]?\d+")
 # Such digits are a postal code or an article number: as a number they would lose their zeros.
 LEADING_ZERO = re.compile(r"[+-]?0\d+")
+MANY = re.compile("[\n\r]")
+# So many texts are looked at for what is said of a column.
+LOOKED_AT = 2000
+MOST_PROPOSED = 3
 
 
-def kind_of_texts(name: str, texts: Sequence[str]) -> Tuple[Kind, Optional[str]]:
-    """The kind of a column whose values stand in a file, each once, where those that are missing are left out; and why it is not what most look like."""
+def kind_of_texts(texts: Sequence[str], form: Form = PLAIN) -> Kind:
+    """The kind of a column whose values stand in a file, each once, without what is missing; its numbers have this form."""
     found = [text.strip() for text in texts]
     if not found:
-        return Texts(), None
+        return Texts()
     if all(text.lower() in WORDS_OF_TRUTH for text in found):
-        return Booleans(), None
-    if all(map(FLOAT.fullmatch, found)):
-        zero = next((text for text in found if LEADING_ZERO.fullmatch(text)), None)
-        return (_kind_of_numbers(name, found), None) if zero is None else (Texts(), f"{zero} begins with a zero")
+        return Booleans()
+    plain = plain_numbers(found, form)
+    if plain is not None:
+        return kind_of_numbers(plain) if not any(map(LEADING_ZERO.fullmatch, found)) else Texts()
     if all(map(MOMENT.fullmatch, found)):
         return _kind_of_moments(found)
-    return Texts(), _oddity(found)
+    return Texts()
 
 
-def _kind_of_numbers(name: str, texts: List[str]) -> Kind:
-    """Whole numbers or decimals where they fit; floats where nothing is lost by that."""
+def plain_numbers(texts: Sequence[str], form: Form) -> Optional[List[str]]:
+    """The numbers in their plain form, infinities among them; None where one of the texts is none."""
+    plain = form.all_plain(texts)
+    if plain is None and all(FLOAT.fullmatch(text) or form.plain(text) is not None for text in texts):
+        # A number that is none of the form is no infinity either.
+        plain = [form.plain(text) or text for text in texts]
+        if any(NUMBER.fullmatch(text) and form.plain(text) is None for text in texts):
+            return None
+    return plain
+
+
+def kind_of_numbers(texts: Sequence[str]) -> Kind:
+    """Whole numbers or decimals where they fit; floats where nothing is lost by that; else texts, which keep them as they are."""
     if all(map(WHOLE.fullmatch, texts)):
-        numbers = [int(text) for text in texts]
-        if -MOST <= min(numbers) and max(numbers) <= MOST:
+        numbers = list(map(int, texts)) if max(map(len, texts)) <= 25 else [LEAST]
+        if LEAST < min(numbers) and max(numbers) <= MOST:
             return Whole()
     elif all(map(NUMBER.fullmatch, texts)):
         decimals = max(map(decimals_of, texts))
-        if decimals <= 18 and max(abs(Decimal(text)) for text in texts) * 10**decimals <= MOST:
+        if decimals <= MOST_DECIMALS and max(abs(Decimal(text)) for text in texts) * 10**decimals <= MOST:
             return Decimals(decimals)
-    wrong = next((text for text in texts if NUMBER.fullmatch(text) and Decimal(repr(float(text))) != Decimal(text)), None)
-    if wrong is None:
-        return Floats()
-    raise Refused(f"column {name!r}: with {wrong} its numbers do not fit 64 bits; leave it out by columns=[..], or give it a kind, "
-                  f"kinds={{{name!r}: 'float'}} or kinds={{{name!r}: 'text'}}", "table")
+    return Floats() if first_inexact(texts) is None else Texts()
 
 
-def decimals_of(text: str) -> int:
-    """How many decimals a number has."""
-    if text.isdigit():
-        return 0
-    whole, _, part = text.partition(".")
-    if part.isdigit():
-        return len(part)
-    return max(0, -int(Decimal(text).as_tuple().exponent))
+def first_inexact(texts: Iterable[str]) -> Optional[str]:
+    """The first number that a float does not keep."""
+    return next((text for text in texts if NUMBER.fullmatch(text) and Decimal(repr(float(text))) != Decimal(text)), None)
 
 
-def _kind_of_moments(texts: List[str]) -> Tuple[Kind, Optional[str]]:
+def _kind_of_moments(texts: List[str]) -> Kind:
     """Dates, or dates with times that have one time zone or all have none."""
     try:
-        if all(map(DAY.fullmatch, texts)):
-            for text in texts:
-                datetime.date.fromisoformat(text)
-            return Dates(), None
-        zones = {moment(text, None).tzinfo for text in texts}
-    except ValueError as why:
-        return Texts(), str(why)
-    if None in zones and len(zones) > 1:
-        return Texts(), "some of its times have a time zone, and some have none"
-    return Times(zones.pop() if len(zones) == 1 else datetime.timezone.utc), None
-
-
-def _oddity(texts: List[str]) -> Optional[str]:
-    """The first text that is no number, where most are; or no date, where most are dates."""
-    for form, what in ((FLOAT, "number"), (MOMENT, "date")):
-        odd = [text for text in texts if not form.fullmatch(text)]
-        if 2 * len(odd) <= len(texts):
-            return f"{odd[0]!r} is no {what}"
-    comma = next((text for text in texts if re.fullmatch(r"[+-]?\d+,\d+", text)), None)
-    return f"{comma!r} is no number; decimal=',' reads decimal commas" if comma else None
+        kind: Kind = Dates()
+        if not all(map(DAY.fullmatch, texts)):
+            zones = {offset_of(text) for text in texts}
+            if None in zones and len(zones) > 1:
+                return Texts()
+            kind = Times(zones.pop() if len(zones) == 1 else datetime.timezone.utc)
+        for text in texts:
+            kind.read(text)
+        return kind
+    except ValueError:
+        return Texts()
 
 
 def kind_of_values(name: str, values: Iterable[Any]) -> Kind:
@@ -92,11 +94,13 @@ def kind_of_values(name: str, values: Iterable[Any]) -> Kind:
     if types == {int}:
         return Whole()
     if types <= {int, Decimal}:
-        return Decimals(max(max(0, -int(value.as_tuple().exponent)) if isinstance(value, Decimal) else 0 for value in present))
+        return _kind_of_decimals(name, present)
     if types <= {int, float}:
         return Floats()
     if types == {datetime.date}:
         return Dates()
+    if types == {datetime.time}:
+        return Clock()
     if types == {datetime.datetime}:
         zones = {value.tzinfo for value in present}
         return Times(zones.pop() if len(zones) == 1 else datetime.timezone.utc)
@@ -105,9 +109,21 @@ def kind_of_values(name: str, values: Iterable[Any]) -> Kind:
                   "leave it out by columns=[..], or give it a kind by kinds={..}", "table")
 
 
+def _kind_of_decimals(name: str, values: Sequence[Any]) -> Kind:
+    decimals = 0
+    for value in values:
+        exponent = value.as_tuple().exponent if isinstance(value, Decimal) else 0
+        if not isinstance(exponent, int):
+            raise Refused(f"column {name!r} has {value!r}, which is no number that fits", "table")
+        decimals = max(decimals, -exponent)
+    if decimals > MOST_DECIMALS:
+        raise Refused(f"column {name!r} has a Decimal with {decimals} decimals, and a column has {MOST_DECIMALS} at most: round it, or give the column the kind 'float'", "table")
+    return Decimals(decimals)
+
+
 def _type_of(value: Any) -> Any:
     """The type that counts: that of Python for a scalar of numpy."""
-    for kind in (bool, int, float, str, Decimal, datetime.datetime, datetime.date):
+    for kind in (bool, int, float, str, Decimal, datetime.datetime, datetime.date, datetime.time):
         if isinstance(value, kind):
             return kind
     if type(value).__name__ == "bool_":
@@ -115,3 +131,95 @@ def _type_of(value: Any) -> Any:
     if hasattr(value, "__index__"):
         return int
     return float if hasattr(value, "__float__") and type(value).__module__ == "numpy" else type(value).__name__
+
+
+# ---- what is said of a column of texts that looks like another ----
+
+
+def oddity(texts: Sequence[str]) -> Optional[str]:
+    """Why a column of these texts is none of numbers, dates or bools, where it looks like one; and which kind would read it."""
+    some = [text.strip() for text in texts[:LOOKED_AT] if text.strip() and folded(text) not in WORDS]
+    if not some:
+        return None
+    proposed = proposal(some)
+    if proposed is not None:
+        return proposed
+    for form, what in ((FLOAT, "number"), (MOMENT, "date")):
+        odd = [text for text in some if not form.fullmatch(text)]
+        if odd and 2 * len(odd) <= len(some):
+            return f"{_short(odd[0])} is no {what}"
+    return _inner_oddity(some)
+
+
+def _inner_oddity(texts: Sequence[str]) -> Optional[str]:
+    """What keeps texts that all look like numbers or like dates from being such a column."""
+    if all(map(FLOAT.fullmatch, texts)):
+        zero = next(filter(LEADING_ZERO.fullmatch, texts), None)
+        return f"{zero} begins with a zero" if zero else f"{_short(first_inexact(texts) or texts[0])} does not fit 64 bits: the kind float rounds it"
+    if all(map(MOMENT.fullmatch, texts)):
+        zones = {bool(MOMENT.fullmatch(text)[5]) for text in texts}  # type: ignore[index]
+        if len(zones) > 1:
+            return "some of its times have a time zone, and some have none"
+        wrong = next((text for text in texts if not _is_read(Times(datetime.timezone.utc if True in zones else None), text)), texts[0])
+        return f"{_short(wrong)} is no date"
+    return None
+
+
+def proposal(texts: Sequence[str]) -> Optional[str]:
+    """The kinds that read all of these texts where the plain ones do not, with an example."""
+    spellings = [*_number_kinds(texts), *_moment_kinds(texts), *_bool_kinds(texts)]
+    reading = [kind for kind in map(kind_named, spellings) if all(_is_read(kind, text) for text in texts)]
+    # Of several that read the same, the first.
+    kinds = list({tuple(_without_form(kind, text) for text in texts): kind for kind in reversed(reading)}.values())[::-1]
+    if not kinds:
+        return None
+    odd = next((text for text in texts if not FLOAT.fullmatch(text)), texts[0])
+    said = [f"the kind {kind} reads {_without_form(kind, odd)}" for kind in kinds[:MOST_PROPOSED]]
+    return f"{_short(odd)} is not plain: {', or '.join(said)}"
+
+
+def _number_kinds(texts: Sequence[str]) -> List[str]:
+    """The kinds of numbers that these texts may have: thousands, decimal commas, a unit, parentheses."""
+    if all(map(FLOAT.fullmatch, texts)) or not all(re.search(r"\d", text) for text in texts):
+        return []
+    around = {part for text in texts for part in re.findall(r"[^\d\s.,'()+\-eE]+", text)}
+    unit = f', unit="{around.pop()}"' if len(around) == 1 and '"' not in "".join(around) else ""
+    unit += ", parentheses" if any(text.endswith(")") for text in texts) else ""
+    found = []
+    for thousands, decimal in (("", "."), (",", "."), ("", ","), (".", ","), ("'", "."), ("\u00a0", ","), (" ", ",")):
+        options = (f', thousands="{thousands}"' if thousands else "") + (f', decimal="{decimal}"' if decimal != "." else "") + unit
+        decimals = max((len(found[1]) for text in texts for found in [re.search(rf"{re.escape(decimal)}(\d+)\D*$", text)] if found), default=0)
+        if options and (not thousands or any(thousands in text for text in texts)) and decimals <= MOST_DECIMALS:
+            found.append(f"decimal({decimals}{options})" if decimals else f"whole({options[2:]})")
+    return found
+
+
+def _moment_kinds(texts: Sequence[str]) -> List[str]:
+    if not all(re.match(r"\d", text) for text in texts):
+        return []
+    days = [f"{day}{sign}{month}{sign}{year}" for sign in "./-" for day, month in (("%d", "%m"), ("%m", "%d")) for year in ("%Y", "%y")]
+    return [*(f'date("{day}")' for day in days), *(f'time("{day} %H:%M{second}")' for day in days for second in ("", ":%S")), "clock"]
+
+
+def _bool_kinds(texts: Sequence[str]) -> List[str]:
+    words = sorted({folded(text) for text in texts})
+    pairs = {("n", "y"): ("y", "n"), ("f", "t"): ("t", "f"), ("nein", "ja"): ("ja", "nein"), ("ja", "nein"): ("ja", "nein"), ("non", "oui"): ("oui", "non")}
+    return [f"bool({', '.join(pairs[tuple(words)])})"] if tuple(words) in pairs else []  # type: ignore[index]
+
+
+def _without_form(kind: Kind, text: str) -> str:
+    """The value of a text, as the plain kind has it."""
+    value = kind.decode(kind.read(text))
+    return format(value, "f") if isinstance(value, Decimal) else str(value)
+
+
+def _is_read(kind: Kind, text: str) -> bool:
+    try:
+        kind.read(text)
+    except ValueError:
+        return False
+    return True
+
+
+def _short(text: str) -> str:
+    return repr(text if len(text) <= 40 else text[:39] + "…")

@@ -1,76 +1,241 @@
 """From the values of columns to the numbers of a table, and back."""
-from typing import AbstractSet, Any, Dict, Iterator, List, Mapping, Optional, Sequence, Tuple
+from array import array
+from itertools import chain
+from typing import AbstractSet, Any, Dict, Iterable, Iterator, List, Mapping, NamedTuple, Optional, Sequence, Tuple
 
-from .checks import LEAST, MOST_COLUMNS
-from .columns import Column, listed
+from .checks import LEAST, MOST, MOST_COLUMNS
+from .columns import Column, is_missing, listed
 from .errors import Refused
 from .hints import unknown_column
 from .infer import kind_of_texts, kind_of_values
-from .kinds import Texts
-from .reading import Cells, check_names
+from .kinds import Decimals, Kind, Texts, Whole, kind_named
+from .kinds.forms import PLAIN, Form
+from .kinds.numbers import Number
+from .missing import WORDS, Missing, folded, note_of
+from .reading import Cells, check_names, is_blank
 
 Kinds = Optional[Mapping[str, str]]
+Encoded = Tuple[Column, Sequence[int]]
 
 
 class File:
-    """The cells of a file, of which a column is only understood once it is needed."""
+    """The columns of a file, of which one is only understood once it is needed. `notes` say, by column, which words were taken for missing."""
 
-    def __init__(self, cells: Cells, kinds: Kinds, missing: AbstractSet[str], decimal: str) -> None:
+    def __init__(self, cells: Cells, kinds: Kinds = None, missing: Missing = Missing(None), form: Form = PLAIN) -> None:
         self.cells = cells
-        self._kinds = kinds or {}
-        self._missing, self._decimal = missing, decimal
-        self._columns: Dict[str, Tuple[Column, List[int]]] = {}
-        chosen(cells.names, list(self._kinds))
+        self.notes: Dict[str, str] = {}
+        self.rows = 0
+        self._kinds = dict(kinds or {})
+        self._missing, self._form = missing, form
+        self._columns: Dict[str, Encoded] = {}
+        check_known(list(self._kinds), cells.names)
 
-    def column(self, name: str) -> Tuple[Column, List[int]]:
+    def load(self, names: Iterable[str], most: Optional[int] = None) -> None:
+        """Reads these columns, all in one pass through the file, which may have `most` rows."""
+        wanted = [name for name in dict.fromkeys(names) if name not in self._columns]
+        self.cells.check_columns(wanted)
+        readers = [ColumnReader(name, self._kinds.get(name), self._missing, self._form) for name in wanted]
+        self._read(readers, most)
+        self._read([reader for reader in readers if reader.is_mixed], most)
+        for reader in readers:
+            column, numbers = reader.encoded()
+            self._columns[column.name] = column, numbers
+            counts = reader.words_taken()
+            if counts:
+                self.notes[column.name] = note_of(column.name, counts)
+
+    def is_loaded(self, name: str) -> bool:
+        """Whether a column has been read."""
+        return name in self._columns
+
+    def column(self, name: str) -> Encoded:
         """A column, and its numbers."""
         if name not in self._columns:
-            place = self.cells.names.index(name)
-            texts = [row[place] for row in self.cells.rows]
-            column, texts = self._understood(name, texts)
-            self._columns[name] = column, encoded(column, texts, self.cells.lines)
+            self.load([name])
         return self._columns[name]
 
-    def _understood(self, name: str, texts: List[str]) -> Tuple[Column, List[str]]:
-        """The column of these texts, and the texts with a decimal point if they are numbers."""
-        if self._decimal != ".":
-            pointed = [text.replace(self._decimal, ".") for text in texts]
-            column = self._of_kind(name, pointed)
-            if column.kind.name in ("whole", "decimal", "float"):
-                return column, pointed
-        return self._of_kind(name, texts), texts
+    def _read(self, readers: Sequence["ColumnReader"], most: Optional[int]) -> None:
+        """A pass through the file, for each of these columns."""
+        if not readers:
+            return
+        places = [self.cells.names.index(reader.name) for reader in readers]
+        self.rows = 0
+        for chunk in self.cells.chunks():
+            self.rows += len(chunk.rows)
+            if most is not None and self.rows > most:
+                raise Refused(f"{self.cells.what} has more than {most} rows, which no table holds: prefq.psel, `python -m prefq ask` and prefq.parts ask more", "table")
+            for reader, place in zip(readers, places):
+                self._add(reader, [row[place] for row in chunk.rows], chunk.first)
+        for reader, _ in zip(readers, places):
+            reader.end()
 
-    def _of_kind(self, name: str, texts: List[str]) -> Column:
-        if name in self._kinds:
-            return Column(name, self._kinds[name], self._missing)
-        kind, oddity = kind_of_texts(name, [text for text in dict.fromkeys(texts) if text.strip().lower() not in self._missing])
-        column = Column(name, kind, self._missing)
-        column.oddity = oddity
-        return column
+    def _add(self, reader: "ColumnReader", texts: List[str], first: int) -> None:
+        try:
+            reader.add(texts)
+        except CellRefused as why:
+            raise type(why.why)(f"line {self.cells.line(first + why.row)}, {why.why}") from None
 
 
-def column_of_values(name: str, values: Sequence[Any], kinds: Kinds) -> Tuple[Column, List[int]]:
+class CellRefused(Exception):
+    """A value that a column does not take: the number of its row, from 0, and why."""
+
+    def __init__(self, row: int, why: Exception) -> None:
+        super().__init__(str(why))
+        self.row, self.why = row, why
+
+
+class Part(NamedTuple):
+    """Some rows of a column: their kind, None where there is nothing but what may be missing; their numbers; and words that were taken for missing, with counts."""
+
+    kind: Optional[Kind]
+    numbers: "array[int]"
+    words: Dict[str, int]
+
+
+class ColumnReader:
+    """Reads a column of a file, some rows at a time. Parts whose kinds do not go together are `is_mixed`: the column is then read once more, all at once."""
+
+    def __init__(self, name: str, kind: Optional[str], missing: Missing, form: Form) -> None:
+        self.name, self.is_mixed = name, False
+        self._given = None if kind is None else kind_named(kind)
+        self._missing, self._form = missing, form
+        # The code book of a column of texts is that of all its parts.
+        self._texts = Texts()
+        self._parts: List[Part] = []
+        self._all: List[str] = []
+
+    def add(self, texts: List[str]) -> None:
+        """Adds the texts of some rows."""
+        if self.is_mixed:
+            self._all += texts
+        else:
+            self._parts.append(self._part(texts, None))
+
+    def end(self) -> None:
+        """The file has no more rows."""
+        if self.is_mixed:
+            different = list(dict.fromkeys(self._all))
+            self._parts = [self._part(self._all, self._kind_of(different) or Texts())]
+            self._all = []
+        else:
+            self.is_mixed = joined_kind(self._parts) is None
+
+    def encoded(self) -> Encoded:
+        """The column, and its numbers."""
+        kind = joined_kind(self._parts)
+        assert kind is not None
+        column = Column(self.name, kind)
+        column.grows = self._given is None
+        numbers = array("q", chain.from_iterable(rescaled(part, kind) for part in self._parts)) if len(self._parts) != 1 else self._parts[0].numbers
+        column.has_gaps = LEAST in numbers
+        return column, numbers
+
+    def words_taken(self) -> Dict[str, int]:
+        """The words that were taken for missing, each with the number of its rows."""
+        counts: Dict[str, int] = {}
+        for part in self._parts:
+            for word, count in part.words.items():
+                counts[word] = counts.get(word, 0) + count
+        return counts
+
+    def _kind_of(self, different: Sequence[str]) -> Optional[Kind]:
+        """The kind of texts, each of which is there once; None where there is nothing but what may be missing."""
+        if self._given:
+            return self._given
+        words = self._missing.words
+        present = [text for text in different if not is_blank(text) and folded(text) not in words]
+        return kind_of_texts(present, self._form) if present else None
+
+    def _part(self, texts: List[str], kind: Optional[Kind]) -> Part:
+        different = list(dict.fromkeys(texts))
+        kind = kind or self._kind_of(different)
+        if isinstance(kind, Texts):
+            kind = self._texts
+        words = WORDS if kind is None else self._missing.in_a_column_of(kind)
+        gaps = {text for text in different if is_blank(text) or folded(text) in words}
+        taken = {text: texts.count(text) for text in different if text in gaps and not is_blank(text)}
+        return Part(kind, array("q", self._numbers(kind, texts, different, gaps)), taken)
+
+    def _numbers(self, kind: Optional[Kind], texts: List[str], different: List[str], gaps: AbstractSet[str]) -> Iterable[int]:
+        reading = kind
+        if isinstance(kind, Number) and kind.form.is_plain:
+            reading = kind.in_form(self._form)
+        if not gaps and reading and 2 * len(different) > len(texts):
+            at_once = reading.read_all(texts)
+            if at_once is not None:
+                return at_once
+        present = [text for text in different if text not in gaps]
+        numbers = dict.fromkeys(gaps, LEAST)
+        if reading:
+            numbers.update(zip(present, reading.read_all(present) or self._one_by_one(reading, present, texts)))
+        return map(numbers.__getitem__, texts)
+
+    def _one_by_one(self, kind: Kind, present: Sequence[str], texts: List[str]) -> Iterator[int]:
+        column = Column(self.name, kind)
+        for text in present:
+            try:
+                yield column.encode(text)
+            except (TypeError, ValueError) as why:
+                raise CellRefused(texts.index(text), why) from None
+
+
+def joined_kind(parts: Sequence[Part]) -> Optional[Kind]:
+    """The kind of a column of these parts: that of all of them, or the one with most decimals; None where they do not go together."""
+    kinds = [part.kind for part in parts if part.kind is not None]
+    words = any(part.words for part in parts if part.kind is None)
+    if not kinds:
+        return None if words else Texts()
+    widest = max(kinds, key=lambda kind: kind.decimals if isinstance(kind, Whole) else 0)
+    if isinstance(widest, Whole):
+        if not all(isinstance(kind, Whole) and kind.form == widest.form for kind in kinds) or not all(map(fits, parts, [widest] * len(parts))):
+            return None
+    elif len(set(map(repr, kinds))) > 1 or isinstance(widest, Texts) and words:
+        return None
+    return widest
+
+
+def factor(part: Part, kind: Kind) -> int:
+    """By how much the numbers of a part are multiplied in a column of this kind."""
+    return 10**(kind.decimals - part.kind.decimals) if isinstance(part.kind, Whole) and isinstance(kind, Whole) else 1
+
+
+def fits(part: Part, kind: Kind) -> bool:
+    """Whether the numbers of a part fit a column of this kind."""
+    present = [number for number in part.numbers if number != LEAST] if factor(part, kind) > 1 else []
+    return not present or max(max(present), -min(present)) * factor(part, kind) <= MOST
+
+
+def rescaled(part: Part, kind: Kind) -> Iterable[int]:
+    """The numbers of a part in a column of this kind."""
+    by = factor(part, kind)
+    return part.numbers if by == 1 else (number if number == LEAST else number * by for number in part.numbers)
+
+
+def column_of_values(name: str, values: Sequence[Any], kinds: Kinds) -> Encoded:
     """A column of Python's values, and its numbers."""
-    column = Column(name, kinds[name] if kinds and name in kinds else kind_of_values(name, values))
+    given = kinds[name] if kinds and name in kinds else None
+    column = Column(name, kind_of_values(name, values) if given is None else given)
+    column.grows = given is None
     return column, encoded(column, values)
 
 
-def encoded(column: Column, values: Sequence[Any], lines: Optional[Sequence[int]] = None) -> List[int]:
-    """The numbers of a column's values. What has none is named with its line in a file, or with its row."""
+def encoded(column: Column, values: Sequence[Any]) -> List[int]:
+    """The numbers of a column's values. What has none is named with its row."""
     if {str}.issuperset(map(type, values)):
         # Texts mostly come again and again.
-        numbers: Dict[str, int] = dict(zip(dict.fromkeys(values), _encoded(column, dict.fromkeys(values), values, lines)))
+        different = list(dict.fromkeys(values))
+        numbers: Dict[str, int] = dict(zip(different, column.kind.read_all(different) or _encoded(column, different, values)))
         return list(map(numbers.__getitem__, values))
-    return list(_encoded(column, values, values, lines))
+    return list(_encoded(column, values, values))
 
 
-def _encoded(column: Column, some: Any, values: Sequence[Any], lines: Optional[Sequence[int]]) -> Iterator[int]:
+def _encoded(column: Column, some: Sequence[Any], values: Sequence[Any]) -> Iterator[int]:
     for place, value in enumerate(some):
         try:
             yield column.encode(value)
         except (TypeError, ValueError) as why:
             row = place if some is values else values.index(value)
-            raise type(why)(f"{f'row {row + 1}' if lines is None else f'line {lines[row]}'}, {why}") from None
+            raise type(why)(f"row {row + 1}, {why}") from None
 
 
 def decoded(columns: Sequence[Column], rows: Sequence[Sequence[int]]) -> Iterator[Tuple[Any, ...]]:
@@ -94,13 +259,19 @@ def check_width(columns: Sequence[Column]) -> None:
                       f"and leave out, say, {listed([column.name for column in leave])}", "table", 2)
 
 
+def check_known(names: Sequence[Any], known: Sequence[Any]) -> None:
+    """Refuses a name that no column has."""
+    there = set(known)
+    for name in names:
+        if name not in there:
+            raise Refused(unknown_column(str(name), [str(other) for other in known]), "table")
+
+
 def chosen(names: List[Any], columns: Optional[Sequence[str]]) -> Tuple[str, ...]:
     """The names of the columns that are taken: all of them, or these."""
     if columns is None:
         return check_names(names)
     if isinstance(columns, str):
         raise TypeError(f"columns is a list of names, not {columns!r}")
-    for name in columns:
-        if name not in names:
-            raise Refused(unknown_column(str(name), [str(other) for other in names]), "table")
+    check_known(columns, names)
     return check_names(columns)

@@ -1,24 +1,42 @@
 """DataFrames of pandas: their columns as those of a table, and answers as DataFrames. Only imported where pandas is there."""
+import datetime
 import warnings
+from fractions import Fraction
 from typing import Any, Callable, List, Mapping, Optional, Sequence, Tuple
 
 from .checks import LEAST, MOST
 from .columns import Column
 from .errors import Refused
 from .infer import kind_of_values
-from .kinds import Booleans, Choices, Dates, Decimals, Floats, Kind, Texts, Times, Whole
+from .kinds import Booleans, Choices, Dates, Decimals, Floats, Kind, NotRead, Texts, Times, Whole
 from .records import Record
 
 
 class Timestamps(Times):
-    """Times of pandas, exact to a nanosecond."""
+    """Times of pandas, exact to a nanosecond, of the years 1677 to 2262."""
+
+    nanoseconds, unit = 1, "nanosecond"
 
     def encode(self, value: Any) -> int:
+        import numpy
         import pandas
-        stamp = pandas.Timestamp(super().decode(super().encode(value)) if isinstance(value, str) else value)
-        if (stamp.tzinfo is None) != (self.zone is None):
-            raise ValueError(f"{value} has {'a' if stamp.tzinfo else 'no'} time zone, other than the rest of the column")
-        return int(stamp.value)
+        if isinstance(value, numpy.datetime64):
+            value = pandas.Timestamp(value)
+        if isinstance(value, str) or not isinstance(value, datetime.datetime):
+            return super().encode(value)
+        if (value.tzinfo is None) != (self.zone is None):
+            raise NotRead(f"{value} has {'a' if value.tzinfo else 'no'} time zone, other than the rest of the column")
+        return int(pandas.Timestamp(value).value)
+
+    def _whole(self, position: Fraction, value: Any) -> int:
+        number = super()._whole(position, value)
+        if not LEAST < number <= MOST:
+            raise NotRead(f"{value} lies outside the years 1677 to 2262, which a time of pandas can have")
+        return number
+
+    def find(self, text: str) -> Optional[int]:
+        number = super().find(text)
+        return number if number is not None and LEAST < number <= MOST else None
 
     def decode(self, number: int) -> Any:
         import pandas
@@ -32,6 +50,7 @@ def encoded_series(series: Any, name: str, kinds: Optional[Mapping[str, str]] = 
     else:
         kind, codes = _by_type(series, name)
         column, numbers = (_by_values(series, Column(name, kind)) if codes is None else (Column(name, kind), codes))
+        column.grows = True
     column.has_gaps = column.has_gaps or LEAST in numbers
     column.dtype = series.dtype
     return column, numbers
@@ -58,8 +77,9 @@ def _by_type(series: Any, name: str) -> Tuple[Kind, Optional[List[int]]]:
         return Timestamps(zone), plain.to_numpy(dtype="datetime64[ns]").view("int64").tolist()
     if isinstance(series.dtype, pandas.CategoricalDtype):
         return _categories(series, name)
-    kind = kind_of_values(name, series.tolist())
-    return kind, _codes(series, kind) if isinstance(kind, Texts) else None
+    values = series.tolist()
+    kind = kind_of_values(name, values)
+    return kind, _codes(values, kind) if isinstance(kind, Texts) else None
 
 
 def _numbers(series: Any) -> List[int]:
@@ -74,7 +94,7 @@ def _whole(series: Any, name: str) -> List[int]:
     present = series.dropna()
     if len(present) and not (LEAST < int(present.min()) and int(present.max()) <= MOST):
         raise Refused(f"column {name!r} has numbers from {present.min()} to {present.max()}: a column has whole numbers from {LEAST + 1} to {MOST}; "
-                      "leave it out by columns=[..], or make it floats or texts", "table")
+                      "leave it out by columns=[..], or give it a kind by kinds={..}, as 'float' or 'text'", "table")
     return _numbers(series)
 
 
@@ -88,26 +108,19 @@ def _floats(series: Any) -> List[int]:
 
 
 def _categories(series: Any, name: str) -> Tuple[Kind, Optional[List[int]]]:
-    categories = list(series.cat.categories)
-    if not all(isinstance(category, str) for category in categories):
-        return kind_of_values(name, series.tolist()), None
-    kind: Kind = Choices(categories) if series.cat.ordered else _text_kind(categories)
+    categories = series.cat.categories.tolist()
+    of = kind_of_values(name, categories)
+    if not series.cat.ordered and not isinstance(of, Texts):
+        return of, None
+    kind: Kind = Choices(categories, of) if series.cat.ordered else Texts(categories)
     return kind, [code + 1 if code >= 0 else LEAST for code in series.cat.codes.tolist()]
 
 
-def _codes(series: Any, kind: Texts) -> List[int]:
-    import pandas
-    codes, texts = pandas.factorize(series)
-    for text in texts:
-        kind.encode(text)
-    return [code + 1 if code >= 0 else LEAST for code in codes.tolist()]
-
-
-def _text_kind(texts: Sequence[str]) -> Texts:
-    kind = Texts()
-    for text in texts:
-        kind.encode(text)
-    return kind
+def _codes(values: Sequence[Any], kind: Texts) -> List[int]:
+    """The codes of texts, of which some may be missing. (pandas' own codes take texts for the same that differ behind a NUL.)"""
+    texts = [value for value in dict.fromkeys(values) if isinstance(value, str)]
+    codes = dict(zip(texts, kind.read_all(texts)))
+    return [codes.get(value, LEAST) for value in values]
 
 
 def index_of(index: Any) -> Callable[[Sequence[Record]], Any]:

@@ -7,7 +7,7 @@ from typing import Any, Dict, List, Optional, Sequence, Tuple
 
 from .columns import Column, spelled
 from .desk import Desk, Held, Numbers
-from .kinds import Texts
+from .kinds import Choices, Clock, Texts
 
 MOST_BEST = 500         # rows of an answer that are sent; a page is no place for more
 MOST_OTHERS = 2000      # other rows that are drawn
@@ -26,7 +26,7 @@ def picture(desk: Desk, question: str, axes: Sequence[Optional[str]] = (None, No
     """The rows and the answer at one version. Axes are names of columns; those that are not given are the first two of the question that are no texts."""
     seen = desk.picture(question)
     x, y = chosen(desk, seen.asked, axes)
-    label = next((place for place, column in enumerate(desk.columns) if isinstance(column.kind, Texts)), None)
+    label = next((place for place, column in enumerate(desk.columns) if isinstance(column.kind, (Texts, Choices))), None)
     best = [{"id": row.id, "level": row.level, "cells": texts(desk, row.numbers), "x": at(desk, row, x), "y": at(desk, row, y)} for row in seen.best[:MOST_BEST]]
     among = {row.id for row in seen.best}
     others = sample([row for row in seen.rows if row.id not in among])
@@ -68,7 +68,7 @@ class Made:
 
 
 def is_axis(column: Column) -> bool:
-    return not isinstance(column.kind, Texts)
+    return not isinstance(column.kind, (Texts, Choices, Clock))
 
 
 def chosen(desk: Desk, asked: Sequence[Column], axes: Sequence[Optional[str]]) -> List[Optional[int]]:

@@ -10,13 +10,14 @@ from .answer import Answer
 from .columns import Column
 from .errors import Refused
 from .hints import unknown_column
-from .kinds import Booleans, Choices, Texts
+from .kinds import Booleans, Choices, Clock, Texts
 from .questions import Base, Converse, Product, Question, Term, read_question
 
 WIDTH, HEIGHT = 720, 480
 LEFT, RIGHT, TOP, BOTTOM = 96, 150, 44, 56
 COLOURS = ("#1f6fb4", "#e07b1a", "#3a9a4b", "#b03a7a", "#7a5bb0", "#8a6d3b")
 GREY = "#b8bec6"
+MICROSECONDS_OF_AN_HOUR = 3_600_000_000
 EPOCH = datetime.datetime(1970, 1, 1)
 
 
@@ -140,12 +141,16 @@ def place_of(column: Column, value: Any) -> Optional[float]:
     """Where a value stands on an axis; None where it is missing or infinite."""
     if value is None:
         return None
+    if isinstance(column.kind, (Texts, Choices, Booleans)):
+        return float(column.kind.encode(value))
+    if isinstance(column.kind, Clock):
+        return column.kind.encode(value) / MICROSECONDS_OF_AN_HOUR
     if isinstance(value, datetime.datetime):
         naive = value.astimezone(datetime.timezone.utc).replace(tzinfo=None) if value.tzinfo else value
         return (naive - EPOCH) / datetime.timedelta(days=1)
     if isinstance(value, datetime.date):
         return float((value - EPOCH.date()).days)
-    place = float(column.kind.encode(value)) if isinstance(column.kind, (Texts, Booleans)) else float(value)
+    place = float(value)
     return place if math.isfinite(place) else None
 
 
@@ -276,12 +281,14 @@ def ticks_of(column: Column, places: Sequence[float]) -> List[Tuple[float, str]]
     low, high = min(places), max(places)
     if isinstance(column.kind, Booleans):
         return [(float(value), column.kind.text(bool(value))) for value in (0, 1) if low <= value <= high]
-    if isinstance(column.kind, Texts):
+    if isinstance(column.kind, (Texts, Choices)):
         texts = column.kind.texts
         step = max(1, len(texts) // 8)
         return [(float(code), text[:14]) for code, text in list(enumerate(texts, 1))[::step] if low <= code <= high]
     if column.kind.name in ("date", "time"):
         return marks_of_days(low, high)
+    if isinstance(column.kind, Clock):
+        return [(mark, f"{int(mark):02}:{round(mark % 1 * 60):02}") for mark in round_marks(low, high)]
     return [(mark, f"{mark:,.10g}") for mark in round_marks(low, high)]
 
 

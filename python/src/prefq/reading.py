@@ -1,85 +1,285 @@
-"""Reads a file of comma-separated values as a spreadsheet writes it."""
+"""Reads a file of comma-separated values as spreadsheets and databases write it."""
 import csv
+import gzip
 import io
 import os
-from typing import IO, Any, Callable, Iterable, List, NamedTuple, Optional, Tuple, Union
+import re
+from dataclasses import dataclass
+from itertools import islice
+from typing import IO, Any, Callable, Dict, Iterable, Iterator, List, NamedTuple, NoReturn, Optional, Sequence, Tuple, Union
 
 from .errors import Refused
+from .hints import nearest
 
 DELIMITERS = ",;\t|"
-MISSING_WORDS = frozenset({"", "na", "n/a", "nan", "null", "none", "-"})
-ROWS_BETWEEN = 4096
+# Rows that are read at a time.
+CHUNK = 65_536
+# What is looked at to find the delimiter, and whether a file is text at all.
+SAMPLE_BYTES = 65_536
+SAMPLE_ROWS = 50
+# Python's own limit for a cell, 131,072 letters, is too low for texts.
+LONGEST_CELL = 2**31 - 1
+MARKS = ((b"\xef\xbb\xbf", "utf-8-sig"), (b"\xff\xfe\x00\x00", "utf-32"), (b"\x00\x00\xfe\xff", "utf-32"), (b"\xff\xfe", "utf-16"), (b"\xfe\xff", "utf-16"))
+SEPARATOR_LINE = re.compile(r'"?sep=(?P<sign>.)"?\r?\n?', re.IGNORECASE)
+# What pandas, DuckDB and csv call what is called otherwise here.
+OTHER_NAMES = {"sep": "delimiter", "delim": "delimiter", "na_values": "missing", "nullstr": "missing", "keep_default_na": "missing", "usecols": "columns", "dtype": "kinds",
+               "dtypes": "kinds", "types": "kinds", "converters": "kinds", "parse_dates": "kinds", "dateformat": "kinds", "timestampformat": "kinds", "date_format": "kinds",
+               "skiprows": "skip", "header": "skip", "decimal_separator": "decimal", "thousand": "thousands", "on_bad_lines": "null_padding", "filepath_or_buffer": "source"}
 # What is done, how much of it, and of how much, which is 0 where nobody knows.
 Progress = Callable[[str, int, int], None]
 Source = Union[str, "os.PathLike[str]", IO[Any]]
 
 
-class Cells(NamedTuple):
-    """The names of a file, its rows as texts, and the line in which each ends."""
+@dataclass(frozen=True)
+class Dialect:
+    """How a file is written, as far as it is said.
 
-    names: List[str]
+    - `encoding`: that of its mark, or UTF-8, where none is given; `delimiter`: the one of , ; tab | that cuts its first rows alike into most cells
+    - `skip`: so many lines stand before the one with the names; `null_padding`: whether a short row ends in missing values, or is refused
+    """
+
+    encoding: Optional[str] = None
+    delimiter: Optional[str] = None
+    skip: int = 0
+    null_padding: bool = False
+
+    def __post_init__(self) -> None:
+        if self.delimiter is not None and (len(self.delimiter) != 1 or self.delimiter in '"\r\n'):
+            raise ValueError(f"delimiter is {self.delimiter!r}: it is one sign, and no quote or end of a line")
+        if isinstance(self.skip, bool) or not isinstance(self.skip, int) or self.skip < 0:
+            raise ValueError(f"skip is {self.skip!r}: not a number of lines")
+
+
+class Chunk(NamedTuple):
+    """Some rows of a file, and the number of the first one, counted from 0."""
+
+    first: int
     rows: List[List[str]]
-    lines: List[int]
 
 
-def read_csv(source: Source, encoding: str = "utf-8-sig", delimiter: Optional[str] = None, progress: Optional[Progress] = None) -> Cells:
-    """The cells of a file, or of an open one. Without a delimiter it takes the one of , ; tab | that stands most often in the first line."""
-    if not isinstance(source, (str, os.PathLike)):
-        return cells_of(decoded(source.read(), encoding, "the file"), "the file", delimiter, progress)
-    with open(source, "rb") as file:
-        return cells_of(decoded(file.read(), encoding, str(source)), str(source), delimiter, progress)
+class Cells:
+    """The names and the rows of a file, which is read as often as its rows are asked for."""
+
+    def __init__(self, data: bytes, what: str, dialect: Dialect = Dialect(), progress: Optional[Progress] = None) -> None:
+        self.what = what
+        self._data, self._dialect, self._progress = data, dialect, progress
+        self._encoding = dialect.encoding or encoding_of(data)
+        self._before = dialect.skip
+        self._delimiter = self._find_delimiter()
+        if csv.field_size_limit() < LONGEST_CELL:
+            csv.field_size_limit(LONGEST_CELL)
+        self.names = self._read_names()
+
+    def chunks(self) -> Iterator[Chunk]:
+        """The rows, some at a time."""
+        first = 0
+        width = len(self.names)
+        reader = self._reader()
+        with Refusing(self, reader):
+            next(reader)
+            while rows := list(islice(reader, CHUNK)):
+                if set(map(len, rows)) != {width}:
+                    rows = list(self._squared(rows, first))
+                yield Chunk(first, rows)
+                first += len(rows)
+                if self._progress:
+                    self._progress("reading", first, 0)
+
+    def rows_at(self, places: Iterable[int]) -> Dict[int, List[str]]:
+        """The rows with these numbers, counted from 0."""
+        wanted = sorted(set(places))
+        found: Dict[int, List[str]] = {}
+        at = 0
+        for chunk in self.chunks():
+            while at < len(wanted) and wanted[at] < chunk.first + len(chunk.rows):
+                found[wanted[at]] = chunk.rows[wanted[at] - chunk.first]
+                at += 1
+            if at == len(wanted):
+                break
+        return found
+
+    def line(self, row: int) -> int:
+        """The line in which a row ends, for what is said of it."""
+        reader = self._reader()
+        next(reader)
+        places = (reader.line_num for cells in reader if not self._is_empty(cells))
+        return self._before + next(islice(places, row, None), 0)
+
+    def check_columns(self, names: Sequence[str]) -> None:
+        """Refuses a name that stands twice in the file, if it is among these."""
+        for name in names:
+            if self.names.count(name) > 1:
+                places = [str(place) for place, other in enumerate(self.names, 1) if other == name]
+                raise Refused(f"{self.what}: two columns are called {name!r}, those at places {' and '.join(places)}", "table")
+
+    def _stream(self) -> IO[str]:
+        stream = io.TextIOWrapper(io.BytesIO(self._data), self._encoding, newline="", errors="surrogatepass" if self._encoding == "utf-8" else "strict")
+        for _ in range(self._before):
+            next(stream, None)
+        return stream
+
+    def _reader(self) -> Any:
+        return csv.reader(self._stream(), delimiter=self._delimiter, strict=True)
+
+    def _is_empty(self, row: Sequence[str]) -> bool:
+        """Whether a line holds no row: there is nothing in it, or nothing but blanks where there are several columns."""
+        return not row or len(row) == 1 < len(self.names) and row[0].isspace()
+
+    def refuse_line(self, reader: Any, why: object) -> NoReturn:
+        """Refuses the file for the line that was read last."""
+        raise Refused(f"{self.what}, line {self._before + reader.line_num}: {why}", "table") from None
+
+    def refuse_encoding(self) -> NoReturn:
+        try:
+            self._data.decode(self._encoding)
+            place = 0
+        except UnicodeDecodeError as why:
+            place = why.start
+        raise Refused(f"{self.what} is not {self._encoding.replace('-sig', '')} (byte {place}): give its encoding, such as encoding='cp1252'", "table") from None
+
+    def _squared(self, rows: List[List[str]], first: int) -> Iterator[List[str]]:
+        """The rows with a cell for each name: rows without any text are left out, as are empty cells beyond the names; a short row is filled up or refused."""
+        width = len(self.names)
+        taken = 0
+        for row in rows:
+            if len(row) > width and all(map(is_blank, row[width:])):
+                row = row[:width]
+            if self._is_empty(row):
+                continue
+            if len(row) < width and self._dialect.null_padding:
+                row = row + [""] * (width - len(row))
+            if len(row) != width:
+                more = "; null_padding=True fills short rows with missing values" if len(row) < width else ""
+                raise Refused(f"{self.what}, line {self.line(first + taken)}: it has {len(row)} cells, and the first line has {width} names{more}", "table")
+            taken += 1
+            yield row
+
+    def _find_delimiter(self) -> str:
+        """Takes the line `sep=;` that Excel reads, and the lines that are skipped; the delimiter that is given, or that the first rows show."""
+        sample = self._data[:SAMPLE_BYTES]
+        text = sample.decode(self._encoding, errors="ignore").lstrip("\ufeff")
+        lines = io.StringIO(text, newline="").readlines()[self._before:]
+        said = SEPARATOR_LINE.fullmatch(lines[0]) if lines else None
+        if said:
+            self._before += 1
+            lines = lines[1:]
+        return self._dialect.delimiter or (said["sign"] if said else delimiter_of(lines, is_cut=len(sample) == SAMPLE_BYTES))
+
+    def _read_names(self) -> List[str]:
+        reader = self._reader()
+        with Refusing(self, reader):
+            cells = next((cells for cells in reader if cells), [])
+        if not cells:
+            raise Refused(f"{self.what} is empty: its first line has the names of the columns", "table")
+        cells[0] = cells[0].lstrip("\ufeff")
+        while len(cells) > 1 and is_blank(cells[-1]) and self._is_surplus(len(cells) - 1):
+            cells.pop()
+        return [cell.strip() or f"column {place}" for place, cell in enumerate(cells, 1)]
+
+    def _is_surplus(self, place: int) -> bool:
+        """Whether the first rows have no text at this place either, as where each line ends in a delimiter."""
+        reader = self._reader()
+        return all(len(row) <= place or is_blank(row[place]) for row in islice(reader, 1, SAMPLE_ROWS))
 
 
-def decoded(text: Union[str, bytes], encoding: str, what: str) -> str:
-    """The text of a file's bytes."""
+class Refusing:
+    """Refuses the file where reading it fails."""
+
+    def __init__(self, cells: Cells, reader: Any) -> None:
+        self._cells, self._reader = cells, reader
+
+    def __enter__(self) -> None:
+        pass
+
+    def __exit__(self, kind: Any, why: Any, _: Any) -> None:
+        if isinstance(why, UnicodeError):
+            self._cells.refuse_encoding()
+        if isinstance(why, csv.Error):
+            self._cells.refuse_line(self._reader, why)
+
+
+def read_csv(source: Source, dialect: Dialect = Dialect(), progress: Optional[Progress] = None) -> Cells:
+    """The cells of a file, or of an open one, which may be packed by gzip."""
+    if isinstance(source, (str, os.PathLike)):
+        with open(source, "rb") as file:
+            return Cells(bytes_of(file, str(source), dialect), str(source), dialect, progress)
+    if not hasattr(source, "read"):
+        raise TypeError(f"a file is a path or an open file, not {source!r}")
+    return Cells(bytes_of(source, "the file", dialect), "the file", dialect, progress)
+
+
+def bytes_of(file: IO[Any], what: str, dialect: Dialect) -> bytes:
+    """The bytes of an open file. What is no text is refused before all of it is read."""
+    first = file.read(SAMPLE_BYTES)
+    if isinstance(first, str):
+        text = first + file.read()
+        encoding = dialect.encoding or "utf-8"
+        try:
+            return text.encode(encoding, "surrogatepass" if encoding == "utf-8" else "strict")
+        except UnicodeEncodeError as why:
+            raise Refused(f"{what} is text already, which {encoding} does not have: {why}", "table") from None
+    if first[:2] == b"\x1f\x8b":
+        return unpacked(first + file.read(), what)
+    encoding = dialect.encoding or encoding_of(first)
+    if b"\0" in first and "16" not in encoding and "32" not in encoding:
+        raise Refused(f"{what} is no text: its byte {first.index(0)} is 0", "table")
+    return bytes(first + file.read())
+
+
+def unpacked(data: bytes, what: str) -> bytes:
     try:
-        return text if isinstance(text, str) else text.decode(encoding)
-    except UnicodeDecodeError as why:
-        raise Refused(f"{what} is not {encoding.replace('-sig', '')} (byte {why.start}): give its encoding, such as encoding='cp1252'", "table") from None
+        return gzip.decompress(data)
+    except (OSError, EOFError) as why:
+        raise Refused(f"{what} begins as a file of gzip, and cannot be unpacked: {why}", "table") from None
 
 
-def cells_of(text: str, what: str, delimiter: Optional[str], progress: Optional[Progress] = None) -> Cells:
-    """The cells of a text."""
-    reader = csv.reader(io.StringIO(text.lstrip("\ufeff"), newline=""), delimiter=delimiter or delimiter_of(text), strict=True)
+def encoding_of(data: bytes) -> str:
+    """The encoding that the mark at the begin of a file says, or UTF-8."""
+    return next((encoding for mark, encoding in MARKS if data.startswith(mark)), "utf-8")
+
+
+def delimiter_of(lines: Sequence[str], *, is_cut: bool = False) -> str:
+    """The delimiter that cuts the first rows alike, into most cells; of several, the one behind which fewer cells begin with a blank."""
+    def worth(sign: str) -> Tuple[bool, int, int]:
+        rows = list(_sample(lines, sign))
+        rows = rows[:-1] if is_cut and len(rows) > 1 else rows
+        widths = {len(row) for row in rows if any(row)}
+        first = rows[0] if rows else []
+        return len(widths) == 1 and widths != {1}, len(first), -sum(cell.startswith(" ") for cell in first)
+
+    return max(DELIMITERS, key=worth)
+
+
+def _sample(lines: Sequence[str], delimiter: str) -> Iterator[List[str]]:
+    """The first rows, as far as they can be read."""
+    reader = csv.reader(lines, delimiter=delimiter, strict=True)
     try:
-        names = names_of(next(reader, []), what)
-        rows: List[List[str]] = []
-        lines: List[int] = []
-        for row in reader:
-            if progress and len(rows) % ROWS_BETWEEN == 0:
-                progress("reading", len(rows), 0)
-            if len(row) == len(names):
-                rows.append(row)
-                lines.append(reader.line_num)
-            elif row:
-                raise Refused(f"{what}, line {reader.line_num}: it has {len(row)} cells, and the first line has {len(names)} names", "table")
-    except csv.Error as why:
-        raise Refused(f"{what}, line {reader.line_num}: {why}", "table") from None
-    return Cells(names, rows, lines)
+        yield from islice(reader, SAMPLE_ROWS)
+    except csv.Error:
+        return
 
 
-def delimiter_of(text: str) -> str:
-    """The delimiter that cuts the first line into most cells."""
-    first = text.split("\n", 1)[0]
-    return max(DELIMITERS, key=lambda sign: len(next(csv.reader([first], delimiter=sign), [])))
+def is_blank(cell: str) -> bool:
+    """Whether a cell is empty."""
+    return not cell or cell.isspace()
 
 
-def names_of(cells: List[str], what: str) -> List[str]:
-    """The names of the columns. A column without one is called after its place, as `column 1`."""
-    if not cells:
-        raise Refused(f"{what} is empty: its first line has the names of the columns", "table")
-    names = [cell.strip() or f"column {place}" for place, cell in enumerate(cells, 1)]
-    check_names(names)
-    return names
+def check_options(options: Dict[str, Any], known: Iterable[str], what: str) -> None:
+    """Refuses a word that is no option, with the one that is meant."""
+    names = list(known)
+    for name in options:
+        if name not in names:
+            near = OTHER_NAMES.get(name) if OTHER_NAMES.get(name) in names else nearest(name, names)
+            raise TypeError(f"{what} has no option {name!r}" + (f": it is called {near!r} here" if name in OTHER_NAMES and near else f"; did you mean {near!r}?" if near else f": there are {', '.join(names)}"))
 
 
 def check_names(names: Iterable[Any]) -> Tuple[str, ...]:
     """The names, if each is a text and no two are the same."""
-    seen: List[str] = []
+    seen: Dict[str, None] = {}
     for name in names:
         if not isinstance(name, str):
             raise TypeError(f"{name!r} is no name of a column: a name is a text")
         if name in seen:
             raise Refused(f"two columns are called {name!r}", "table")
-        seen.append(name)
+        seen[name] = None
     return tuple(seen)

@@ -1,13 +1,14 @@
 """`psel`: the preferred rows of a DataFrame, a frame or records, as rPref's function of this name selects them."""
-from typing import Any, Callable, Dict, List, Mapping, Optional, Sequence, Tuple
+from typing import Any, Callable, Dict, List, Mapping, Optional, Sequence
 
 from .checks import whole
 from .columns import Column
 from .errors import Refused
-from .frame import Frame, warn_of, without_twins
-from .once import ask_once
+from .frame import TABLE_OPTIONS, Frame, warn_of, without_twins
+from .loading import Encoded
+from .once import Zipped, ask_once
 from .questions import Mode, read_question
-from .reading import Progress, check_names
+from .reading import Progress, check_names, check_options
 from .rows import Row
 from .translate import columns_in, plan
 
@@ -27,6 +28,7 @@ def psel(frame: Any, text: str, *, top_level: Optional[int] = None, at_least: Op
         1   2     50   3.5
     """
     mode = mode_of(top_level, at_least)
+    check_options(options, ["top_level", "at_least", "kinds", *TABLE_OPTIONS], "psel")
     if isinstance(frame, Frame):
         return frame.answer(text, mode)
     if hasattr(frame, "iloc") and hasattr(frame, "columns"):
@@ -52,10 +54,27 @@ def _of_dataframe(dataframe: Any, text: str, mode: Mode, kinds: Optional[Mapping
     return found
 
 
-def selected(text: str, mode: Optional[Mode], names: Sequence[Any], load: Callable[[str], Tuple[Column, List[int]]], *,
+def names_in(text: str, mode: Optional[Mode], names: Sequence[str]) -> List[str]:
+    """The names of columns that a question has, as far as it can be read without them."""
+    found: Dict[str, None] = {}
+
+    def column(name: str) -> Optional[Column]:
+        if name not in names:
+            return None
+        found[name] = None
+        return Column(name, "whole")
+
+    try:
+        read_question(text, column, names, mode)
+    except Refused:
+        pass        # It is refused where it is read with its columns.
+    return list(found)
+
+
+def selected(text: str, mode: Optional[Mode], names: Sequence[Any], load: Callable[[str], Encoded], *,
              progress: Optional[Progress] = None, **options: Any) -> List[Row]:
     """The rows of an answer over the columns that the question names, of which `load` returns each with its numbers. The first row has the id 1."""
-    loaded: Dict[str, Tuple[Column, List[int]]] = {}
+    loaded: Dict[str, Encoded] = {}
 
     def column(name: str) -> Optional[Column]:
         if name in names and name not in loaded:
@@ -69,7 +88,7 @@ def selected(text: str, mode: Optional[Mode], names: Sequence[Any], load: Callab
     columns = columns_in(question)
     below = {id(column): f"c{place}" for place, column in enumerate(columns)}
     asked = plan(text, question, below)
-    rows = list(zip(*(loaded[column.name][1] for column in columns)))
+    rows = Zipped([loaded[column.name][1] for column in columns])
     try:
         answer = ask_once(list(below.values()), rows, asked.text, progress=progress, **options)
     except Refused as why:

@@ -5,7 +5,7 @@ import sys
 from pathlib import Path
 from typing import Optional, Sequence
 
-from .ask import kinds_of, wrong
+from .ask import add_file_options, kinds_of, say, wrong
 from .desk import SECONDS, Desk
 from .errors import Ended, Error
 from .frame import Frame
@@ -27,10 +27,7 @@ def parser() -> argparse.ArgumentParser:
     found.add_argument("--question", action="append", default=[], help="a question to begin with; given again, further examples")
     found.add_argument("--columns", help="names of the columns to take, with commas between them; a table has 16 at most")
     found.add_argument("--read-only", action="store_true", help="rows cannot be changed")
-    found.add_argument("--kind", metavar="COLUMN=KIND", action="append", default=[], help="what a column is: whole, decimal(2), float, bool, date, time, text, choice(a, b, c)")
-    found.add_argument("--encoding", default="utf-8-sig", help="of the file (utf-8)")
-    found.add_argument("--delimiter", help="between the cells of the file (the one of , ; tab | that stands most often in its first line)")
-    found.add_argument("--decimal", default=".", help="the sign before decimal digits (.)")
+    add_file_options(found)
     return found
 
 
@@ -39,11 +36,13 @@ def main(arguments: Optional[Sequence[str]] = None) -> int:
     options = parser().parse_args(arguments)
     try:
         columns = next(csv.reader([options.columns], skipinitialspace=True)) if options.columns else None
-        frame = Frame.from_csv(options.file, columns=columns, kinds=kinds_of(options.kind), encoding=options.encoding, delimiter=options.delimiter,
-                               decimal=options.decimal, timeout=SECONDS)
+        frame = Frame.from_csv(options.file, columns=columns, kinds=kinds_of(options.kind), missing=options.missing, encoding=options.encoding,
+                               delimiter=options.delimiter, decimal=options.decimal, thousands=options.thousands, skip=options.skip,
+                               null_padding=options.null_padding, timeout=SECONDS)
     except (Error, OSError, ValueError, TypeError, LookupError) as why:
         print(f"prefq: {wrong(why)}".replace("by columns=[..]", "by --columns"), file=sys.stderr)
         return 1 if isinstance(why, Ended) else 2
+    say(frame.notes)
     with Desk(frame) as desk:
         try:
             for question in options.question:

@@ -26,7 +26,7 @@ from . import pictures
 from .columns import quoted, spelled
 from .desk import Desk
 from .errors import Error, Refused
-from .kinds import Texts
+from .kinds import Choices, Texts
 
 PAGE = Path(__file__).with_name("page")
 FILES = {"/": ("index.html", "text/html"), "/page.css": ("page.css", "text/css"), "/page.js": ("page.js", "text/javascript"), "/plot.js": ("plot.js", "text/javascript")}
@@ -275,7 +275,7 @@ def first_question(desk: Desk) -> str:
     if columns:
         return f"top_level 2 {' * '.join(f'low({name})' for name in columns)}"
     kind = desk.columns[0].kind
-    return f"best pos({spelled(desk.columns[0].name)}, {quoted(next(iter(kind.texts), '') if isinstance(kind, Texts) else '')})"
+    return f"best pos({spelled(desk.columns[0].name)}, {quoted(next(iter(kind.texts), '') if isinstance(kind, (Texts, Choices)) else '')})"
 
 
 def run(server: Server) -> None:

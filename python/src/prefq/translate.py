@@ -19,6 +19,7 @@ from .checks import LEAST, MOST
 from .columns import Column, quoted
 from .errors import Refused
 from .hints import nearest
+from .infer import oddity
 from .kinds import Floats, Texts
 from .questions import EMPTY_RANGE, UNEXPECTED, Base, Converse, Product, Question, Term, Value, refuse
 
@@ -171,8 +172,7 @@ class Translator:
     def _orders(self, base: Base) -> None:
         column = base.column
         if not column.kind.ordered:
-            why = f" ({column.oddity})" if column.oddity else ""
-            refuse(self._text, base.place, f"column {column.name!r} has texts{why}, which have no order: "
+            refuse(self._text, base.place, f"column {column.name!r} has texts{why_texts(column)}, which have no order: "
                    "prefer some of them by pos(..) or layered(..), or give it the kind 'choice(first, second, ..)'")
 
     def _range(self, base: Base) -> Tuple[Fraction, Fraction]:
@@ -181,8 +181,7 @@ class Translator:
             if isinstance(column.kind, Floats):
                 refuse(self._text, base.place, f"column {column.name!r} has floats, between which a distance is not exact: "
                        f"{base.word}(..) needs a scale, as kinds={{{column.name!r}: 'decimal(2)'}} gives it")
-            why = f" ({column.oddity})" if column.oddity else ""
-            refuse(self._text, base.place, f"column {column.name!r} has the kind {column.kind}{why}, which has no distances for {base.word}(..)")
+            refuse(self._text, base.place, f"column {column.name!r} has the kind {column.kind}{why_texts(column)}, which has no distances for {base.word}(..)")
         ends = [self._position(column, value) for value in base.sets[0]]
         if ends[0] > ends[-1]:
             refuse(self._text, base.sets[0][-1].place, "empty range", EMPTY_RANGE)
@@ -219,6 +218,12 @@ class Translator:
             else:
                 self._absent.append((column, value.text))
         return list(numbers)
+
+
+def why_texts(column: Column) -> str:
+    """Why a column of texts is none of numbers or dates, where it looks like one."""
+    why = oddity(column.kind.texts) if isinstance(column.kind, Texts) else None
+    return f" ({why})" if why else ""
 
 
 def clause_of(term: Term) -> List[Base]:

@@ -1,0 +1,44 @@
+"""Columns of true and false."""
+from typing import Any, Optional
+
+from .kind import Kind, NotRead
+
+WORDS = {"true": True, "false": False, "yes": True, "no": False}
+
+
+class Booleans(Kind):
+    """True and false. False comes before true, so `high(x)` prefers true. A text is true, yes, false or no, or one of the words that are given, in any case."""
+
+    name = "bool"
+    example = "true"
+    measured = False
+
+    def __init__(self, true: Optional[str] = None, false: Optional[str] = None) -> None:
+        if (true is None) != (false is None) or true is not None and true.lower() == str(false).lower():
+            raise ValueError("a bool column has no words of its own, or two: one for true and another one for false")
+        self._own = None if true is None or false is None else (true, false)
+        self._words = {**WORDS, **({} if self._own is None else {self._own[0].lower(): True, self._own[1].lower(): False})}
+
+    def __repr__(self) -> str:
+        return "bool" if self._own is None else f"bool({', '.join(self._own)})"
+
+    def read(self, text: str) -> int:
+        truth = self._words.get(text.strip().lower())
+        if truth is None:
+            raise NotRead(f"{text!r} is not {', '.join(list(self._words)[:-1])} or {list(self._words)[-1]}")
+        return int(truth)
+
+    def encode(self, value: Any) -> int:
+        if isinstance(value, str):
+            return self.read(value)
+        # The truth values of numpy are of a type of their own.
+        if isinstance(value, bool) or type(value).__name__ in ("bool_", "bool"):
+            return int(value)
+        raise TypeError(f"{value!r} is neither True nor False")
+
+    def decode(self, number: int) -> bool:
+        return bool(number)
+
+    def text(self, value: Any) -> str:
+        true, false = self._own or ("true", "false")
+        return true if value else false

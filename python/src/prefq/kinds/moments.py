@@ -1,0 +1,257 @@
+"""Columns of dates, of dates with times, and of times of day."""
+import datetime
+import re
+from fractions import Fraction
+from typing import Any, List, Optional
+
+from .kind import Kind, NotRead
+
+DAY = re.compile(r"\d{4}-\d\d-\d\d", re.ASCII)
+MOMENT = re.compile(r"(\d{4}-\d\d-\d\d)(?:[T ](\d\d:\d\d)(:\d\d)?(?:[.,](\d{1,9}))?\s*(Z|[+-]\d\d:?\d\d)?)?", re.ASCII)
+TIME_OF_DAY = re.compile(r"(\d\d:\d\d)(:\d\d)?(?:[.,](\d{1,9}))?", re.ASCII)
+EPOCH = datetime.datetime(1970, 1, 1)
+MICROSECOND = datetime.timedelta(microseconds=1)
+# A date and a time that tell apart what a format has.
+SAMPLE = datetime.datetime(2031, 12, 25, 23, 58, 59)
+
+
+class Format:
+    """The format of a date or a time, in the signs of Python's strptime, as %d.%m.%Y. Where it has a year of two digits, one of four is read too.
+
+    What ISO 8601 writes is read beside it, unless the format itself has texts of that look.
+    """
+
+    def __init__(self, signs: str, what: str, *, has_hours: bool) -> None:
+        self.signs, self.what = signs, what
+        try:
+            back = datetime.datetime.strptime(SAMPLE.strftime(signs), signs)
+        except ValueError as why:
+            raise ValueError(f"the format {signs!r} cannot be read: {why}") from None
+        if back.date() != SAMPLE.date() or has_hours and back.hour != SAMPLE.hour or "%z" in signs.lower():
+            raise ValueError(f"the format {signs!r} is not that of a {what}: it has %d, %m and %Y" + (" and %H" if has_hours else ""))
+        self._leaves_iso = self._parsed("2031-12-11") is None
+
+    def read(self, text: str) -> Optional[datetime.datetime]:
+        """What a text of the format says; None where it is one of ISO 8601, which is read as such."""
+        if self._leaves_iso and MOMENT.fullmatch(text.strip()):
+            return None
+        found = self._parsed(text)
+        if found is None:
+            raise NotRead(f"{text!r} is no {self.what} such as {SAMPLE.strftime(self.signs)}")
+        return found
+
+    def written(self, value: Any) -> str:
+        """The value as the format has it, where that says all of it, and else as ISO 8601 has it."""
+        text = str(value.strftime(self.signs.replace("%y", "%Y").replace("%Y", f"{value.year:04}")))
+        back = self._parsed(text)
+        plain = value.replace(tzinfo=None) if isinstance(value, datetime.datetime) else datetime.datetime.combine(value, datetime.time())
+        return text if back == plain else str(value)
+
+    def _parsed(self, text: str) -> Optional[datetime.datetime]:
+        for signs in dict.fromkeys((self.signs, self.signs.replace("%y", "%Y"))):
+            try:
+                return datetime.datetime.strptime(text.strip(), signs)
+            except ValueError:
+                continue
+        return None
+
+
+class Dates(Kind):
+    """Dates. A distance is a number of days. A text is as ISO 8601 writes a date, or as a format does."""
+
+    name = "date"
+    example = "'2026-05-01'"
+
+    def __init__(self, format: Optional[str] = None) -> None:
+        self._format = None if format is None else Format(format, "date", has_hours=False)
+
+    def __repr__(self) -> str:
+        return f'date("{self._format.signs}")' if self._format else "date"
+
+    def read(self, text: str) -> int:
+        found = self._format.read(text) if self._format else None
+        return (day(text) if found is None else found).toordinal()
+
+    def encode(self, value: Any) -> int:
+        if isinstance(value, str):
+            return self.read(value)
+        if isinstance(value, datetime.datetime) or not isinstance(value, datetime.date):
+            raise TypeError(f"{value!r} is no date")
+        return value.toordinal()
+
+    def decode(self, number: int) -> datetime.date:
+        return datetime.date.fromordinal(number)
+
+    def find(self, text: str) -> Optional[int]:
+        """Dates of a question are as ISO 8601 has them."""
+        return day(text).toordinal()
+
+    def position(self, text: str) -> Fraction:
+        return Fraction(day(text).toordinal())
+
+    def text(self, value: Any) -> str:
+        return self._format.written(value) if self._format else str(value)
+
+
+class Times(Kind):
+    """Dates with times, exact to a microsecond: with a time zone, in which they are shown, or without one.
+
+    A text is as ISO 8601 writes one, or as a format does; without a zone it is one of the column's zone. A time that the clocks there show twice, or skip, is
+    refused.
+    """
+
+    name = "time"
+    example = "'2026-05-01 17:30'"
+    nanoseconds, unit = 1000, "microsecond"
+
+    def __init__(self, zone: Optional[datetime.tzinfo] = None, format: Optional[str] = None) -> None:
+        self.zone = zone
+        self._format = None if format is None else Format(format, "date with a time", has_hours=True)
+
+    def __repr__(self) -> str:
+        inside = [*([str(self.zone)] if self.zone else []), *([f'"{self._format.signs}"'] if self._format else [])]
+        return f"time({', '.join(inside)})" if inside else "time"
+
+    def read(self, text: str) -> int:
+        found = self._format.read(text) if self._format else None
+        return self._whole(self.position(text if found is None else str(found)), text)
+
+    def encode(self, value: Any) -> int:
+        if isinstance(value, str):
+            return self.read(value)
+        if not isinstance(value, datetime.datetime):
+            raise TypeError(f"{value!r} is no date with a time")
+        if (value.tzinfo is None) != (self.zone is None):
+            raise NotRead(f"{value} has {'a' if value.tzinfo else 'no'} time zone, other than the rest of the column")
+        return self._whole(Fraction(since_epoch(universal(value)) + getattr(value, "nanosecond", 0), self.nanoseconds), value)
+
+    def _whole(self, position: Fraction, value: Any) -> int:
+        if position.denominator != 1:
+            raise NotRead(f"{value} has parts of a {self.unit}")
+        return position.numerator
+
+    def decode(self, number: int) -> datetime.datetime:
+        value = EPOCH + number * MICROSECOND
+        return value.replace(tzinfo=datetime.timezone.utc).astimezone(self.zone) if self.zone else value
+
+    def find(self, text: str) -> Optional[int]:
+        position = self.position(text)
+        return position.numerator if position.denominator == 1 else None
+
+    def position(self, text: str) -> Fraction:
+        """Times of a question are as ISO 8601 has them."""
+        return Fraction(nanoseconds_of(text, self.zone), self.nanoseconds)
+
+    def text(self, value: Any) -> str:
+        return self._format.written(value) if self._format else str(value)
+
+
+class Clock(Kind):
+    """Times of day, exact to a microsecond. A distance is within the day. A text is as ISO 8601 writes one: 17:30, 17:30:05 or 17:30:05.25."""
+
+    name = "clock"
+    example = "'17:30'"
+
+    def read(self, text: str) -> int:
+        found = TIME_OF_DAY.fullmatch(text.strip())
+        if not found:
+            raise NotRead(f"{text!r} is no time of day, such as 17:30")
+        minute, second, part = found.groups()
+        try:
+            number = self.encode(datetime.time.fromisoformat(minute + (second or "")))
+        except ValueError as why:
+            raise NotRead(f"{text!r} is no time of day: {why}") from None
+        microseconds, rest = divmod(nanoseconds_in(part), 1000)
+        if rest:
+            raise NotRead(f"{text!r} has parts of a microsecond")
+        return number + microseconds
+
+    def encode(self, value: Any) -> int:
+        if isinstance(value, str):
+            return self.read(value)
+        if not isinstance(value, datetime.time) or value.tzinfo is not None:
+            raise TypeError(f"{value!r} is no time of day without a zone")
+        return ((value.hour * 60 + value.minute) * 60 + value.second) * 10**6 + value.microsecond
+
+    def decode(self, number: int) -> datetime.time:
+        return (EPOCH + number * MICROSECOND).time()
+
+
+def day(text: str) -> datetime.date:
+    """A date as ISO 8601 writes it."""
+    try:
+        if DAY.fullmatch(text.strip()):
+            return datetime.date.fromisoformat(text.strip())
+    except ValueError:
+        pass
+    raise NotRead(f"{text!r} is no date such as 2026-05-01")
+
+
+def nanoseconds_of(text: str, zone: Optional[datetime.tzinfo]) -> int:
+    """The nanoseconds since 1970 of a date, or a date with a time, as ISO 8601 writes it. Without a zone it is one of the zone that is given, or of none."""
+    found = MOMENT.fullmatch(text.strip())
+    if not found:
+        raise NotRead(f"{text!r} is no date with a time, such as 2026-05-01 17:30")
+    date, minute, second, part, offset = found.groups()
+    try:
+        value = datetime.datetime.fromisoformat(f"{date} {minute or '00:00'}{second or ':00'}")
+    except ValueError as why:
+        raise NotRead(f"{text!r} is no date with a time: {why}") from None
+    if offset and zone is None:
+        raise NotRead(f"{text!r} has a time zone, other than the rest of the column")
+    if offset:
+        value = universal(value.replace(tzinfo=zone_of(offset)))
+    elif zone is not None:
+        value = shown_by(value, zone)
+    return since_epoch(value) + nanoseconds_in(part)
+
+
+def nanoseconds_in(part: Optional[str]) -> int:
+    """The nanoseconds of the digits behind a second."""
+    return int((part or "").ljust(9, "0"))
+
+
+def since_epoch(value: datetime.datetime) -> int:
+    """The nanoseconds since 1970, to a microsecond."""
+    return (value - EPOCH) // MICROSECOND * 1000
+
+
+def offset_of(text: str) -> Optional[datetime.tzinfo]:
+    """The zone that a date with a time names, if it names one."""
+    found = MOMENT.fullmatch(text.strip())
+    return zone_of(found[5]) if found and found[5] else None
+
+
+def zone_of(offset: str) -> datetime.tzinfo:
+    """The zone of Z or of an offset such as +02:00."""
+    if offset == "Z":
+        return datetime.timezone.utc
+    hours, minutes = int(offset[1:3]), int(offset[-2:])
+    if hours > 23 or minutes > 59:
+        raise NotRead(f"{offset} is no offset of a time zone")
+    distance = datetime.timedelta(hours=hours, minutes=minutes)
+    return datetime.timezone(-distance if offset[0] == "-" else distance)
+
+
+def universal(value: datetime.datetime) -> datetime.datetime:
+    """A time with a zone as one of UTC, without its zone; one without a zone as it is. What lies outside Python's years is refused."""
+    try:
+        return value if value.tzinfo is None else value.astimezone(datetime.timezone.utc).replace(tzinfo=None)
+    except OverflowError:
+        raise NotRead(f"{value} lies outside the years 1 to 9999") from None
+
+
+def shown_by(local: datetime.datetime, zone: datetime.tzinfo) -> datetime.datetime:
+    """The time of UTC at which the clocks of a zone show this time; refused where they show it twice, or skip it."""
+    localize = getattr(zone, "localize", None)      # zones of pytz have their offsets only by this
+    found: List[datetime.datetime] = []
+    for is_later in (False, True):
+        value = localize(local, is_dst=not is_later) if localize else local.replace(tzinfo=zone, fold=int(is_later))
+        moment = universal(value)
+        back = moment.replace(tzinfo=datetime.timezone.utc).astimezone(zone).replace(tzinfo=None)
+        if back == local and moment not in found:
+            found.append(moment)
+    if len(found) == 1:
+        return found[0]
+    what = "show this time twice: give its offset, as in 2026-10-25 02:30+01:00" if found else "skip this time"
+    raise NotRead(f"{local} is no one moment: the clocks of {zone} {what}")

@@ -1,0 +1,222 @@
+"""Columns of numbers."""
+import math
+import operator
+import re
+import struct
+from decimal import Context, Decimal, InvalidOperation
+from fractions import Fraction
+from typing import Any, List, Optional, Sequence
+
+from ..checks import LEAST, MOST
+from .forms import NUMBER, PLAIN, Form
+from .kind import Kind, NotRead
+
+# A program may have made the decimals of its own context fewer than a column's.
+WIDE = Context(prec=40)
+INFINITY = re.compile(r"[+-]?inf(?:inity)?", re.IGNORECASE)
+FLOAT = re.compile(f"{NUMBER.pattern}|{INFINITY.pattern}", re.IGNORECASE)
+MOST_DECIMALS = 18
+# So many digits of a decimal number come back from a float. One that needs more of them is a result of floats, and not the number that somebody wrote.
+FLOAT_DIGITS = 15
+LONGEST_SHOWN = 60
+
+
+class Number(Kind):
+    """Numbers, which texts have in a form."""
+
+    def __init__(self, form: Form = PLAIN) -> None:
+        self.form = form
+
+    def __repr__(self) -> str:
+        options = self.options()
+        return f"{self.name}({', '.join(options)})" if options else self.name
+
+    def options(self) -> List[str]:
+        """What stands in its parentheses."""
+        return self.form.options()
+
+    def in_form(self, form: Form) -> "Number":
+        """The kind with the same numbers, whose texts have this form."""
+        return type(self)(form)
+
+    def plain(self, text: str) -> str:
+        """The plain form of the number that a text spells."""
+        plain = text.strip() if self.form.is_plain else self.form.plain(text)
+        if plain is None or not NUMBER.fullmatch(plain):
+            raise NotRead(f"{text!r} is no number" + ("" if self.form.is_plain else f" as {self} has it"))
+        return plain
+
+
+class Whole(Number):
+    """Whole numbers of 64 bits, without the least. A text is a number of the form, whose value is whole."""
+
+    name = "whole"
+    example = "60"
+    decimals = 0
+
+    def read(self, text: str) -> int:
+        return self._scaled(Fraction(self.plain(text)), text)
+
+    def encode(self, value: Any) -> int:
+        if isinstance(value, str):
+            return self.read(value)
+        return self._scaled(exact(value), value)
+
+    def _scaled(self, exactly: Fraction, value: Any) -> int:
+        scaled = exactly * 10**self.decimals
+        if scaled.denominator != 1:
+            what = "is no whole number" if self.decimals == 0 else f"has more than {self.decimals} decimal{'s' * (self.decimals != 1)}"
+            raise NotRead(f"{shown(value)} {what}")
+        if not LEAST < scaled <= MOST:
+            raise NotRead(f"{shown(value)} does not fit: {self.fits()}")
+        return scaled.numerator
+
+    def fits(self) -> str:
+        """What fits a column of this kind."""
+        return f"a column has whole numbers from {LEAST + 1} to {MOST}"
+
+    def find(self, text: str) -> Optional[int]:
+        position = self.position(text)
+        return position.numerator if position.denominator == 1 and LEAST < position <= MOST else None
+
+    def position(self, text: str) -> Fraction:
+        """Numbers of a question are always plain."""
+        if not NUMBER.fullmatch(text.strip()):
+            raise NotRead(f"{text!r} is no number")
+        return Fraction(text.strip()) * 10**self.decimals
+
+    def text(self, value: Any) -> str:
+        return self.form.written(format(value, "f") if isinstance(value, Decimal) else str(value))
+
+    def read_all(self, texts: Sequence[str]) -> Optional[List[int]]:
+        plain = self.form.all_plain(texts)
+        if plain is None:
+            return None
+        try:
+            numbers = [int(text) for text in plain] if self.decimals == 0 else [_shifted(text, self.decimals) for text in plain]
+        except ValueError:
+            return None     # An exponent, or too many decimals.
+        return numbers if not numbers or LEAST < min(numbers) and max(numbers) <= MOST else None
+
+    def widened(self, value: Any) -> Optional[Kind]:
+        try:
+            decimals = decimals_of(value if isinstance(value, str) else str(value), self.form if isinstance(value, str) else PLAIN)
+        except (ValueError, InvalidOperation):
+            return None
+        if isinstance(value, float) and len(Decimal(str(value)).as_tuple().digits) > FLOAT_DIGITS:
+            return None
+        return Decimals(decimals, self.form) if self.decimals < decimals <= MOST_DECIMALS else None
+
+
+class Decimals(Whole):
+    """Decimal numbers, exact to a number of decimals. A text is a number of the form with no more decimals than that."""
+
+    name = "decimal"
+    example = "59.90"
+
+    def __init__(self, decimals: int, form: Form = PLAIN) -> None:
+        super().__init__(form)
+        if not 0 <= decimals <= MOST_DECIMALS:
+            raise ValueError(f"a decimal column has 0 to {MOST_DECIMALS} decimals, not {decimals}")
+        self.decimals = decimals
+
+    def options(self) -> List[str]:
+        return [str(self.decimals), *super().options()]
+
+    def in_form(self, form: Form) -> "Decimals":
+        return Decimals(self.decimals, form)
+
+    def fits(self) -> str:
+        return f"with {self.decimals} decimals a column has numbers from {self.decode(LEAST + 1)} to {self.decode(MOST)}"
+
+    def decode(self, number: int) -> Decimal:
+        return Decimal(number).scaleb(-self.decimals, WIDE)
+
+
+class Floats(Number):
+    """Binary floating-point numbers of 64 bits, in their order. -0.0 is 0.0. A text is a number, or inf, and is rounded to the nearest."""
+
+    name = "float"
+    example = "59.9"
+    measured = False
+
+    def read(self, text: str) -> int:
+        if INFINITY.fullmatch(text.strip()):
+            return number_of_float(float(text))
+        value = float(self.plain(text))
+        if math.isinf(value):
+            raise NotRead(f"{shown(text)} is too large for a 64-bit float")
+        return number_of_float(value)
+
+    def encode(self, value: Any) -> int:
+        if isinstance(value, str):
+            return self.read(value)
+        if isinstance(value, bool) or not hasattr(value, "__float__"):
+            raise TypeError(f"{value!r} is no number")
+        number = float(value)
+        if number != value:
+            raise NotRead(f"{value} is no 64-bit float; give the column a kind such as 'whole' or 'decimal(2)'")
+        return number_of_float(number)
+
+    def decode(self, number: int) -> float:
+        return float(struct.unpack("<d", struct.pack("<q", number if number >= 0 else LEAST - number))[0])
+
+    def find(self, text: str) -> Optional[int]:
+        """Numbers of a question are always plain."""
+        return self.in_form(PLAIN).read(text)
+
+    def text(self, value: Any) -> str:
+        return self.form.written(repr(value))
+
+    def read_all(self, texts: Sequence[str]) -> Optional[List[int]]:
+        plain = self.form.all_plain(texts)
+        values = None if plain is None else list(map(float, plain))
+        return None if values is None or math.inf in values or -math.inf in values else list(map(number_of_float, values))
+
+
+def number_of_float(value: float) -> int:
+    """The bits of a negative number are its amount and the sign bit; those of -0.0 are the sign bit alone, which gives 0 as 0.0 does."""
+    bits: int = struct.unpack("<q", struct.pack("<d", value))[0]
+    return bits if bits >= 0 else LEAST - bits
+
+
+def shown(value: Any) -> str:
+    """A value in a message, cut where it is long. Python writes no whole number of thousands of digits."""
+    try:
+        text = str(value)
+    except ValueError:
+        return "a number of thousands of digits"
+    return text if len(text) <= LONGEST_SHOWN else f"{text[:LONGEST_SHOWN]}.."
+
+
+def exact(value: Any) -> Fraction:
+    """The exact number that a value of Python is. A float is the decimal number that is shown for it."""
+    if isinstance(value, bool) or isinstance(value, str):
+        raise TypeError(f"{value!r} is no number")
+    try:
+        if isinstance(value, float) or type(value).__module__ == "numpy":
+            return Fraction(str(value))
+        return Fraction(value) if isinstance(value, (Decimal, Fraction)) else Fraction(operator.index(value))
+    except (InvalidOperation, OverflowError, ValueError):
+        raise NotRead(f"{shown(value)} is no number that fits") from None
+    except TypeError:
+        raise TypeError(f"{value!r} is no number") from None
+
+
+def decimals_of(text: str, form: Form = PLAIN) -> int:
+    """How many decimals a number has, as it is written: two in 1.50, none in 1.5e3."""
+    plain = form.plain(text)
+    if plain is None:
+        raise NotRead(f"{text!r} is no number")
+    _, _, part = plain.partition(".")
+    if part.isdigit():
+        return len(part)
+    return max(0, -int(Decimal(plain).as_tuple().exponent))
+
+
+def _shifted(plain: str, decimals: int) -> int:
+    """A plain number without an exponent, in units of its last decimal."""
+    whole, _, part = plain.strip().partition(".")
+    if len(part) > decimals:
+        raise NotRead(f"{plain} has more than {decimals} decimals")
+    return int(whole + part.ljust(decimals, "0"))

@@ -1,0 +1,123 @@
+"""Columns of texts, and of values in an order that is given."""
+import threading
+from typing import Any, Dict, List, Optional, Sequence
+
+from .kind import Kind, NotRead
+
+# Held while a new text gets its code, in any code book.
+ADDING = threading.Lock()
+# The memory of a text in a code book, beside its letters.
+BYTES_OF_A_TEXT = 150
+
+
+class Texts(Kind):
+    """Texts by a code book, which grows with each new text. They have no order. Any text is one."""
+
+    name = "text"
+    example = "'Lyon'"
+    ordered = measured = False
+
+    def __init__(self, texts: Sequence[str] = ()) -> None:
+        self._codes: Dict[str, int] = {}
+        self._texts: List[str] = []
+        # About how many bytes the code book takes.
+        self.size = 0
+        self.read_all(list(texts))
+
+    def read(self, text: str) -> int:
+        code = self._codes.get(text)
+        if code is not None:
+            return code
+        with ADDING:
+            return self._added(text)
+
+    def encode(self, value: Any) -> int:
+        if not isinstance(value, str):
+            raise TypeError(f"{value!r} is no text")
+        return self.read(value)
+
+    def decode(self, number: int) -> str:
+        return self._texts[number - 1]
+
+    def find(self, text: str) -> Optional[int]:
+        return self._codes.get(text)
+
+    def read_all(self, texts: Sequence[str]) -> List[int]:
+        codes = self._codes
+        with ADDING:
+            for text in dict.fromkeys(texts):
+                if text not in codes:
+                    self._added(text)
+        return list(map(codes.__getitem__, texts))
+
+    @property
+    def texts(self) -> List[str]:
+        """The texts of the column, in the order in which they came."""
+        return list(self._texts)
+
+    def _added(self, text: str) -> int:
+        if text not in self._codes:
+            self._texts.append(str(text))
+            self._codes[self._texts[-1]] = len(self._texts)
+            self.size += len(text) + BYTES_OF_A_TEXT
+        return self._codes[text]
+
+
+class Choices(Kind):
+    """Values in an order that is given: `low` prefers the first. A text is one of them; so is a value, where they are values of another kind `of`."""
+
+    name = "choice"
+    measured = False
+
+    def __init__(self, choices: Sequence[Any], of: Optional[Kind] = None) -> None:
+        self.of = Texts() if of is None else of
+        self._numbers = [self.of.encode(choice) for choice in choices]
+        self._places = {number: place for place, number in enumerate(self._numbers, 1)}
+        if len(self._places) != len(self._numbers):
+            raise ValueError(f"a choice stands twice among {', '.join(map(str, choices))}")
+
+    def __repr__(self) -> str:
+        return f"choice({', '.join(map(quoted_choice, self.texts))})"
+
+    @property
+    def texts(self) -> List[str]:
+        """The choices as a file has them, in their order."""
+        return [self.of.text(self.of.decode(number)) for number in self._numbers]
+
+    @property
+    def example(self) -> str:  # type: ignore[override]
+        return "'" + self.texts[0].replace("'", "''") + "'" if self._numbers else "'first'"
+
+    def read(self, text: str) -> int:
+        return self._place(self.of.find(text) if isinstance(self.of, Texts) else self._of(text), text)
+
+    def encode(self, value: Any) -> int:
+        if isinstance(value, str):
+            return self.read(value)
+        return self._place(None if isinstance(self.of, Texts) else self._of(value), value)
+
+    def decode(self, number: int) -> Any:
+        return self.of.decode(self._numbers[number - 1])
+
+    def find(self, text: str) -> Optional[int]:
+        return self.read(text)
+
+    def text(self, value: Any) -> str:
+        return self.of.text(value)
+
+    def _of(self, value: Any) -> Optional[int]:
+        try:
+            return self.of.encode(value)
+        except (TypeError, ValueError):
+            return None
+
+    def _place(self, number: Optional[int], value: Any) -> int:
+        place = self._places.get(number) if number is not None else None
+        if place is None:
+            raise NotRead(f"{value!r} is none of {', '.join(map(repr, self.texts))}")
+        return place
+
+
+def quoted_choice(text: str) -> str:
+    """A choice as it stands in the spelling of a kind."""
+    return text if text == text.strip() and text and not set(text) & set(",'\"()") else '"' + text.replace('"', '""') + '"'

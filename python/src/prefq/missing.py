@@ -1,0 +1,36 @@
+"""What is missing in a file: an empty cell always; and words such as NA, where the rest of the column is no text, or where it is said that they are."""
+from typing import FrozenSet, Iterable, Mapping, Optional
+
+from .columns import quoted
+from .kinds import Choices, Kind, Texts
+
+# A text or a choice may have these as values: nobody's name is taken for a gap.
+WORDS = frozenset({"na", "n/a", "nan", "null", "none", "-"})
+
+
+class Missing:
+    """Which words of a file are missing: those that are given, as they stand in the file, in any case; where none are given, NA, n/a, nan, null, none and -,
+    in columns of numbers, dates, times and bools."""
+
+    def __init__(self, given: Optional[Iterable[str]]) -> None:
+        if isinstance(given, str):
+            raise TypeError(f"missing is a list of words, not {given!r}")
+        self._is_given = given is not None
+        self.words: FrozenSet[str] = WORDS if given is None else frozenset(map(folded, given))
+
+    def in_a_column_of(self, kind: Kind) -> FrozenSet[str]:
+        """The words that are missing in a column of this kind, folded. What is a choice of the column is a value."""
+        if self._is_given:
+            return self.words - frozenset(map(folded, kind.texts)) if isinstance(kind, Choices) else self.words
+        return frozenset() if isinstance(kind, (Texts, Choices)) else self.words
+
+
+def folded(text: str) -> str:
+    """A word without its blanks and its case."""
+    return text.strip().casefold()
+
+
+def note_of(name: str, counts: Mapping[str, int]) -> str:
+    """What is said of the words that were taken for missing in a column."""
+    said = ", ".join(f"{quoted(word.strip())} ({count} row{'s' * (count != 1)})" for word, count in counts.items())
+    return f"column {name!r}: {said} taken for missing; missing=[..] says otherwise"

@@ -1,0 +1,117 @@
+"""A table as it is open below a frame, and how it is opened anew with wider columns under the same ids."""
+from bisect import bisect_left
+from dataclasses import dataclass
+from typing import Any, Dict, List, Mapping, Optional, Sequence, Tuple
+
+from .checks import LEAST, MOST_IDS, whole
+from .columns import Column
+from .errors import Refused
+from .kinds import Decimals, Kind, Texts, Whole
+from .loading import check_width
+from .reading import check_names
+from .records import values_of
+from .table import Table
+
+# A code book is worth a new one where it has grown to twice what it was, and by this and so much for each row, so that what this takes is spread over many texts.
+BYTES_OF_GROWTH = 1_000_000
+BYTES_A_ROW = 1_000
+
+
+@dataclass(frozen=True)
+class Ids:
+    """The ids of a frame's rows, and those that they have in its table: the same, until the table is opened anew. Then the rows that it had, whose ids are `kept`,
+    are counted from 1 there, and later ones follow; `last` is the last id that was given before."""
+
+    kept: Sequence[int] = ()
+    last: int = 0
+
+    def outside(self, inside: int) -> int:
+        """The id of a row that has this one in the table."""
+        return self.kept[inside - 1] if inside <= len(self.kept) else inside - len(self.kept) + self.last
+
+    def inside(self, id: int) -> int:
+        """The id in the table of a row; 0, which no row has, where it was deleted before."""
+        number = whole(id, "id", 0, MOST_IDS)
+        if number > self.last:
+            return number - self.last + len(self.kept)
+        place = bisect_left(self.kept, number)
+        return place + 1 if place < len(self.kept) and self.kept[place] == number else 0
+
+
+class Opened:
+    """A table, the columns that its numbers stand for, and the ids of its rows. Whoever has a query of it keeps it, when a frame has another one already."""
+
+    def __init__(self, columns: Sequence[Column], rows: List[Any], options: Dict[str, Any], ids: Ids = Ids()) -> None:
+        check_names(column.name for column in columns)
+        check_width(columns)
+        self.columns = tuple(columns)
+        self.by_name = {column.name: column for column in columns}
+        self.below = {id(column): f"c{place}" for place, column in enumerate(columns)}
+        self.ids = ids
+        self._options = options
+        self._size = self._code_books()
+        # Texts last, so that a record that another column refuses adds none to a code book.
+        self._order = sorted(range(len(self.columns)), key=lambda place: isinstance(self.columns[place].kind, Texts))
+        self.table = Table(list(self.below.values()), rows, **options)
+
+    @property
+    def names(self) -> List[str]:
+        """The names of the columns."""
+        return list(self.by_name)
+
+    def numbers(self, record: Any) -> List[int]:
+        """The numbers of a record."""
+        values = values_of(record, self.columns)
+        numbers = [0] * len(values)
+        for place in self._order:
+            numbers[place] = self.columns[place].encode(values[place])
+        return numbers
+
+    def wider(self, records: Sequence[Any]) -> Dict[str, Kind]:
+        """The kinds of the columns that grow so that they have the values of these records."""
+        found: Dict[str, Kind] = {}
+        for record in records:
+            for column, value in zip(self.columns, values_of(record, self.columns)):
+                kind = found.get(column.name, column.kind).widened(value) if column.grows and value is not None else None
+                if kind is not None:
+                    found[column.name] = kind
+        return found
+
+    def is_outgrown(self) -> bool:
+        """Whether the code books may be mostly texts that no row has any more."""
+        return self._code_books() > 2 * self._size + BYTES_OF_GROWTH + BYTES_A_ROW * self.table.count
+
+    def anew(self, kinds: Mapping[str, Kind], last: int) -> "Opened":
+        """The same rows under the same ids in a new table, whose columns have these kinds; `last` is the last id that was given. Takes the time of reading all
+        rows and opening a table. No change may come meanwhile; open queries go on, and keep the table that they are of."""
+        pairs = self.table.rows()
+        lists = [list(numbers) for numbers in zip(*(numbers for _, numbers in pairs))] or [[] for _ in self.columns]
+        columns = []
+        for place, column in enumerate(self.columns):
+            kind, lists[place] = moved(column, kinds.get(column.name, column.kind), lists[place])
+            columns.append(column.of_kind(kind))
+            columns[-1].has_gaps = LEAST in lists[place]
+        return Opened(columns, list(zip(*lists)), self._options, Ids([self.ids.outside(id) for id, _ in pairs], last))
+
+    def missing_row(self, id: int) -> Refused:
+        """What is said of a row that is not there."""
+        return Refused(f"no such row {id}", "client", 7)
+
+    def _code_books(self) -> int:
+        """About how many bytes they take."""
+        return sum(column.kind.size for column in self.columns if isinstance(column.kind, Texts))
+
+
+def moved(column: Column, kind: Kind, numbers: List[int]) -> Tuple[Kind, List[int]]:
+    """The numbers of a column for another kind: one with more decimals, or the same with a code book of just the texts that the rows have."""
+    if isinstance(column.kind, Texts):
+        texts = Texts()
+        codes = {number: number if number == LEAST else texts.read(column.kind.decode(number)) for number in dict.fromkeys(numbers)}
+        return texts, [codes[number] for number in numbers]
+    if not isinstance(column.kind, Whole) or not isinstance(kind, Decimals) or kind.decimals == column.kind.decimals:
+        return column.kind, numbers
+    by = 10**(kind.decimals - column.kind.decimals)
+    wrong = next((number for number in numbers if number != LEAST and not LEAST < number * by <= -LEAST - 1), None)
+    if wrong is not None:
+        raise ValueError(f"column {column.name!r} ({column.kind}): it has {column.kind.decode(wrong)}, and {kind.fits()}")
+    return kind, [number if number == LEAST else number * by for number in numbers]
