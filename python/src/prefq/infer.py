@@ -1,23 +1,25 @@
 """What kind a column has, from its values: texts of a file, or Python's values."""
 import datetime
 import re
+from array import array
 from decimal import Decimal
 from typing import Any, Iterable, List, Optional, Sequence
 
 from .checks import LEAST, MOST
 from .columns import is_missing
 from .errors import Refused
-from .kinds import Booleans, Choices, Clock, Dates, Decimals, Floats, Kind, Texts, Times, Whole, kind_named
+from .kinds import Booleans, Clock, Dates, Decimals, Floats, Kind, Texts, Times, Whole, kind_named
 from .kinds.booleans import WORDS as WORDS_OF_TRUTH
 from .kinds.forms import NUMBER, PLAIN, Form
 from .kinds.moments import DAY, MOMENT, offset_of
-from .kinds.numbers import FLOAT, MOST_DECIMALS, decimals_of
+from .kinds.numbers import FLOAT, MOST_DECIMALS, are_in_range, decimals_of, whole_numbers
 from .missing import WORDS, folded
 
 WHOLE = re.compile(r"[+-]?\d+")
 # Such digits are a postal code or an article number: as a number they would lose their zeros.
 LEADING_ZERO = re.compile(r"[+-]?0\d+")
-MANY = re.compile("[\n\r]")
+# What a column may have that is not read at once: what Python reads beside digits, a zero in front, and the number that stands for a missing value.
+NOT_AT_ONCE = ("_", " ", "\n0", "\n-0", "\n+0", str(LEAST))
 # So many texts are looked at for what is said of a column.
 LOOKED_AT = 2000
 MOST_PROPOSED = 3
@@ -38,6 +40,17 @@ def kind_of_texts(texts: Sequence[str], form: Form = PLAIN) -> Kind:
     return Texts()
 
 
+def whole_column(texts: Sequence[str]) -> "Optional[array[int]]":
+    """The numbers of a column of plain whole numbers without gaps, found all at once; None where it is any other column."""
+    joined = "\n" + "\n".join(texts)
+    if not texts or any(sign in joined for sign in NOT_AT_ONCE):
+        return None
+    try:
+        return array("q", map(int, texts))
+    except (ValueError, OverflowError):
+        return None
+
+
 def plain_numbers(texts: Sequence[str], form: Form) -> Optional[List[str]]:
     """The numbers in their plain form, infinities among them; None where one of the texts is none."""
     plain = form.all_plain(texts)
@@ -52,8 +65,8 @@ def plain_numbers(texts: Sequence[str], form: Form) -> Optional[List[str]]:
 def kind_of_numbers(texts: Sequence[str]) -> Kind:
     """Whole numbers or decimals where they fit; floats where nothing is lost by that; else texts, which keep them as they are."""
     if all(map(WHOLE.fullmatch, texts)):
-        numbers = list(map(int, texts)) if max(map(len, texts)) <= 25 else [LEAST]
-        if LEAST < min(numbers) and max(numbers) <= MOST:
+        wholes = whole_numbers(texts)
+        if wholes and are_in_range(wholes):
             return Whole()
     elif all(map(NUMBER.fullmatch, texts)):
         decimals = max(map(decimals_of, texts))

@@ -1,17 +1,18 @@
 """From the values of columns to the numbers of a table, and back."""
 from array import array
 from itertools import chain
-from typing import AbstractSet, Any, Dict, Iterable, Iterator, List, Mapping, NamedTuple, Optional, Sequence, Tuple
+from operator import itemgetter
+from typing import Any, Dict, Iterable, Iterator, List, Mapping, NamedTuple, Optional, Sequence, Tuple
 
 from .checks import LEAST, MOST, MOST_COLUMNS
 from .columns import Column, is_missing, listed
 from .errors import Refused
 from .hints import unknown_column
-from .infer import kind_of_texts, kind_of_values
+from .infer import kind_of_texts, kind_of_values, whole_column
 from .kinds import Decimals, Kind, Texts, Whole, kind_named
 from .kinds.forms import PLAIN, Form
 from .kinds.numbers import Number
-from .missing import WORDS, Missing, folded, note_of
+from .missing import Missing, folded, note_of
 from .reading import Cells, check_names, is_blank
 
 Kinds = Optional[Mapping[str, str]]
@@ -65,7 +66,7 @@ class File:
             if most is not None and self.rows > most:
                 raise Refused(f"{self.cells.what} has more than {most} rows, which no table holds: prefq.psel, `python -m prefq ask` and prefq.parts ask more", "table")
             for reader, place in zip(readers, places):
-                self._add(reader, [row[place] for row in chunk.rows], chunk.first)
+                self._add(reader, list(map(itemgetter(place), chunk.rows)), chunk.first)
         for reader, _ in zip(readers, places):
             reader.end()
 
@@ -92,6 +93,24 @@ class Part(NamedTuple):
     words: Dict[str, int]
 
 
+class Distinct(NamedTuple):
+    """The texts of some rows, each once: empty cells, words that may stand for a missing value, and values."""
+
+    blanks: List[str]
+    words: List[str]
+    values: List[str]
+
+    @staticmethod
+    def of(texts: Iterable[str], missing: Missing) -> "Distinct":
+        different = dict.fromkeys(texts)
+        blanks = [text for text in different if not text or text.isspace()]
+        words = [text for text in different if not is_blank(text) and missing.may_be(text)]
+        if blanks or words:
+            for text in [*blanks, *words]:
+                del different[text]
+        return Distinct(blanks, words, list(different))
+
+
 class ColumnReader:
     """Reads a column of a file, some rows at a time. Parts whose kinds do not go together are `is_mixed`: the column is then read once more, all at once."""
 
@@ -109,13 +128,12 @@ class ColumnReader:
         if self.is_mixed:
             self._all += texts
         else:
-            self._parts.append(self._part(texts, None))
+            self._parts.append(self._part(texts))
 
     def end(self) -> None:
         """The file has no more rows."""
         if self.is_mixed:
-            different = list(dict.fromkeys(self._all))
-            self._parts = [self._part(self._all, self._kind_of(different) or Texts())]
+            self._parts = [self._part(self._all, is_whole_column=True)]
             self._all = []
         else:
             self.is_mixed = joined_kind(self._parts) is None
@@ -138,36 +156,31 @@ class ColumnReader:
                 counts[word] = counts.get(word, 0) + count
         return counts
 
-    def _kind_of(self, different: Sequence[str]) -> Optional[Kind]:
-        """The kind of texts, each of which is there once; None where there is nothing but what may be missing."""
-        if self._given:
-            return self._given
-        words = self._missing.words
-        present = [text for text in different if not is_blank(text) and folded(text) not in words]
-        return kind_of_texts(present, self._form) if present else None
-
-    def _part(self, texts: List[str], kind: Optional[Kind]) -> Part:
-        different = list(dict.fromkeys(texts))
-        kind = kind or self._kind_of(different)
+    def _part(self, texts: List[str], *, is_whole_column: bool = False) -> Part:
+        """Some rows, or all of a column at once, whose kind is then that of all of its texts."""
+        if self._given is None and self._form.is_plain and not self._missing.are_numbers and not is_whole_column:
+            numbers = whole_column(texts)
+            if numbers is not None:
+                return Part(Whole(), numbers, {})
+        found = Distinct.of(texts, self._missing)
+        kind = self._given or (kind_of_texts(found.values, self._form) if found.values else Texts() if is_whole_column else None)
         if isinstance(kind, Texts):
             kind = self._texts
-        words = WORDS if kind is None else self._missing.in_a_column_of(kind)
-        gaps = {text for text in different if is_blank(text) or folded(text) in words}
-        taken = {text: texts.count(text) for text in different if text in gaps and not is_blank(text)}
-        return Part(kind, array("q", self._numbers(kind, texts, different, gaps)), taken)
+        words = [word for word in found.words if kind is None or folded(word) in self._missing.in_a_column_of(kind)]
+        gaps = [*found.blanks, *words]
+        values = [text for text in found.words if text not in words] + found.values
+        return Part(kind, array("q", self._numbers(kind, texts, values, gaps)), {word: texts.count(word) for word in words})
 
-    def _numbers(self, kind: Optional[Kind], texts: List[str], different: List[str], gaps: AbstractSet[str]) -> Iterable[int]:
-        reading = kind
-        if isinstance(kind, Number) and kind.form.is_plain:
-            reading = kind.in_form(self._form)
-        if not gaps and reading and 2 * len(different) > len(texts):
+    def _numbers(self, kind: Optional[Kind], texts: List[str], values: List[str], gaps: List[str]) -> Iterable[int]:
+        """The numbers of texts, which are these values and gaps."""
+        reading = kind.in_form(self._form) if isinstance(kind, Number) and kind.form.is_plain else kind
+        if not gaps and reading and 2 * len(values) > len(texts):
             at_once = reading.read_all(texts)
             if at_once is not None:
                 return at_once
-        present = [text for text in different if text not in gaps]
         numbers = dict.fromkeys(gaps, LEAST)
         if reading:
-            numbers.update(zip(present, reading.read_all(present) or self._one_by_one(reading, present, texts)))
+            numbers.update(zip(values, reading.read_all(values) or self._one_by_one(reading, values, texts)))
         return map(numbers.__getitem__, texts)
 
     def _one_by_one(self, kind: Kind, present: Sequence[str], texts: List[str]) -> Iterator[int]:

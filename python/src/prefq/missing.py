@@ -17,6 +17,13 @@ class Missing:
             raise TypeError(f"missing is a list of words, not {given!r}")
         self._is_given = given is not None
         self.words: FrozenSet[str] = WORDS if given is None else frozenset(map(folded, given))
+        self._longest = max(map(len, self.words), default=0)
+        # Whether one of the words may be a number, such as 999.
+        self.are_numbers = any(any(map(str.isdigit, word)) for word in self.words)
+
+    def may_be(self, text: str) -> bool:
+        """Whether a text is one of the words. (Most texts are longer, which takes no look at their letters.)"""
+        return (len(text) <= self._longest or text[0].isspace() or text[-1].isspace()) and folded(text) in self.words
 
     def in_a_column_of(self, kind: Kind) -> FrozenSet[str]:
         """The words that are missing in a column of this kind, folded. What is a choice of the column is a value."""

@@ -1,5 +1,6 @@
 """Reads a file of comma-separated values as spreadsheets and databases write it."""
 import csv
+import gc
 import gzip
 import io
 import os
@@ -77,7 +78,7 @@ class Cells:
         reader = self._reader()
         with Refusing(self, reader):
             next(reader)
-            while rows := list(islice(reader, CHUNK)):
+            while rows := rows_of(reader):
                 if set(map(len, rows)) != {width}:
                     rows = list(self._squared(rows, first))
                 yield Chunk(first, rows)
@@ -206,6 +207,17 @@ def read_csv(source: Source, dialect: Dialect = Dialect(), progress: Optional[Pr
     if not hasattr(source, "read"):
         raise TypeError(f"a file is a path or an open file, not {source!r}")
     return Cells(bytes_of(source, "the file", dialect), "the file", dialect, progress)
+
+
+def rows_of(reader: Any) -> List[List[str]]:
+    """The next rows. They are no garbage: left to itself, Python's collector looks through all of them again and again."""
+    collects = gc.isenabled()
+    try:
+        gc.disable()
+        return list(islice(reader, CHUNK))
+    finally:
+        if collects:
+            gc.enable()
 
 
 def bytes_of(file: IO[Any], what: str, dialect: Dialect) -> bytes:

@@ -19,6 +19,8 @@ MOST_DECIMALS = 18
 # So many digits of a decimal number come back from a float. One that needs more of them is a result of floats, and not the number that somebody wrote.
 FLOAT_DIGITS = 15
 LONGEST_SHOWN = 60
+# What does not stand in plain numbers without an exponent, or stands there in no such number: a sign behind a point.
+OTHER_SIGN = re.compile(r"[^\d.+\-\n]|\.[+-]")
 
 
 class Number(Kind):
@@ -92,11 +94,8 @@ class Whole(Number):
         plain = self.form.all_plain(texts)
         if plain is None:
             return None
-        try:
-            numbers = [int(text) for text in plain] if self.decimals == 0 else [_shifted(text, self.decimals) for text in plain]
-        except ValueError:
-            return None     # An exponent, or too many decimals.
-        return numbers if not numbers or LEAST < min(numbers) and max(numbers) <= MOST else None
+        found = scaled_numbers(plain, self.decimals)
+        return found if found is not None and are_in_range(found) else None
 
     def widened(self, value: Any) -> Optional[Kind]:
         try:
@@ -214,9 +213,36 @@ def decimals_of(text: str, form: Form = PLAIN) -> int:
     return max(0, -int(Decimal(plain).as_tuple().exponent))
 
 
+def are_in_range(numbers: Sequence[int]) -> bool:
+    """Whether a column can have all of these numbers."""
+    return not numbers or LEAST < min(numbers) and max(numbers) <= MOST
+
+
+def whole_numbers(texts: Sequence[str]) -> Optional[List[int]]:
+    """The whole numbers that plain texts spell, each by digits alone; None where one of them spells none. (Python reads 1_000, which is no number here.)"""
+    try:
+        numbers = list(map(int, texts))
+    except ValueError:
+        return None
+    return None if "_" in "".join(texts) else numbers
+
+
+def scaled_numbers(texts: Sequence[str], decimals: int) -> Optional[List[int]]:
+    """The numbers that plain texts spell without an exponent, in units of the last of so many decimals; None where one of them spells none, or has more."""
+    joined = "\n".join(texts)
+    if OTHER_SIGN.search(joined) or joined.count("\n") != max(len(texts) - 1, 0):
+        return None
+    if decimals and joined.count(".") == len(texts) and all(text[-decimals - 1:-decimals] == "." for text in texts):
+        # All have the same number of decimals: without their points they are what is asked for.
+        return whole_numbers(joined.replace(".", "").split("\n"))
+    try:
+        return [_shifted(text, decimals) for text in texts]
+    except ValueError:
+        return None
+
+
 def _shifted(plain: str, decimals: int) -> int:
-    """A plain number without an exponent, in units of its last decimal."""
-    whole, _, part = plain.strip().partition(".")
-    if len(part) > decimals:
-        raise NotRead(f"{plain} has more than {decimals} decimals")
+    whole, _, part = plain.partition(".")
+    if len(part) > decimals or not (whole.strip("+-") or part):
+        raise NotRead(f"{plain} has more than {decimals} decimals, or no digit")
     return int(whole + part.ljust(decimals, "0"))
