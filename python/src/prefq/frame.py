@@ -13,6 +13,7 @@ from .kinds import Kind
 from .kinds.forms import Form
 from .loading import Encoded, File, check_known, chosen, column_of_values, decoded, encoded
 from .missing import Missing
+from .once import Zipped
 from .opened import Opened
 from .questions import Mode, Question, read_question
 from .reading import Dialect, Progress, Source, check_options, read_csv
@@ -141,7 +142,7 @@ class Frame:
     def _made(cls, columns: Sequence[Encoded], options: Dict[str, Any], index: Any = None, notes: Iterable[str] = ()) -> "Frame":
         """The frame of columns with their numbers."""
         frame = cls.__new__(cls)
-        frame._open([column for column, _ in columns], list(zip(*(numbers for _, numbers in columns))), options, index, notes)
+        frame._open([column for column, _ in columns], Zipped([numbers for _, numbers in columns])[:], options, index, notes)
         return frame
 
     def __enter__(self) -> "Frame":

@@ -59,7 +59,8 @@ class File:
         """A pass through the file, for each of these columns."""
         if not readers:
             return
-        places = [self.cells.names.index(reader.name) for reader in readers]
+        place_of = {name: place for place, name in enumerate(self.cells.names)}
+        places = [place_of[reader.name] for reader in readers]
         self.rows = 0
         for chunk in self.cells.chunks():
             self.rows += len(chunk.rows)
@@ -67,7 +68,7 @@ class File:
                 raise Refused(f"{self.cells.what} has more than {most} rows, which no table holds: prefq.psel, `python -m prefq ask` and prefq.parts ask more", "table")
             for reader, place in zip(readers, places):
                 self._add(reader, list(map(itemgetter(place), chunk.rows)), chunk.first)
-        for reader, _ in zip(readers, places):
+        for reader in readers:
             reader.end()
 
     def _add(self, reader: "ColumnReader", texts: List[str], first: int) -> None:
@@ -209,7 +210,7 @@ def joined_kind(parts: Sequence[Part]) -> Optional[Kind]:
 
 def factor(part: Part, kind: Kind) -> int:
     """By how much the numbers of a part are multiplied in a column of this kind."""
-    return 10**(kind.decimals - part.kind.decimals) if isinstance(part.kind, Whole) and isinstance(kind, Whole) else 1
+    return kind.scale // part.kind.scale if isinstance(part.kind, Whole) and isinstance(kind, Whole) else 1
 
 
 def fits(part: Part, kind: Kind) -> bool:

@@ -110,7 +110,7 @@ def moved(column: Column, kind: Kind, numbers: List[int]) -> Tuple[Kind, List[in
         return texts, [codes[number] for number in numbers]
     if not isinstance(column.kind, Whole) or not isinstance(kind, Decimals) or kind.decimals == column.kind.decimals:
         return column.kind, numbers
-    by = 10**(kind.decimals - column.kind.decimals)
+    by = kind.scale // column.kind.scale
     wrong = next((number for number in numbers if number != LEAST and not LEAST < number * by <= -LEAST - 1), None)
     if wrong is not None:
         raise ValueError(f"column {column.name!r} ({column.kind}): it has {column.kind.decode(wrong)}, and {kind.fits()}")

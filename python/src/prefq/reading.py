@@ -5,6 +5,7 @@ import gzip
 import io
 import os
 import re
+from collections import Counter
 from dataclasses import dataclass
 from itertools import islice
 from typing import IO, Any, Callable, Dict, Iterable, Iterator, List, NamedTuple, NoReturn, Optional, Sequence, Tuple, Union
@@ -51,6 +52,14 @@ class Dialect:
             raise ValueError(f"skip is {self.skip!r}: not a number of lines")
 
 
+class Content(NamedTuple):
+    """What a file holds: its bytes, and how they are read as text."""
+
+    data: bytes
+    encoding: str
+    errors: str = "strict"
+
+
 class Chunk(NamedTuple):
     """Some rows of a file, and the number of the first one, counted from 0."""
 
@@ -61,10 +70,9 @@ class Chunk(NamedTuple):
 class Cells:
     """The names and the rows of a file, which is read as often as its rows are asked for."""
 
-    def __init__(self, data: bytes, what: str, dialect: Dialect = Dialect(), progress: Optional[Progress] = None) -> None:
+    def __init__(self, content: Content, what: str, dialect: Dialect = Dialect(), progress: Optional[Progress] = None) -> None:
         self.what = what
-        self._data, self._dialect, self._progress = data, dialect, progress
-        self._encoding = dialect.encoding or encoding_of(data)
+        self._content, self._dialect, self._progress = content, dialect, progress
         self._before = dialect.skip
         self._delimiter = self._find_delimiter()
         if csv.field_size_limit() < LONGEST_CELL:
@@ -108,13 +116,14 @@ class Cells:
 
     def check_columns(self, names: Sequence[str]) -> None:
         """Refuses a name that stands twice in the file, if it is among these."""
+        counts = Counter(self.names)
         for name in names:
-            if self.names.count(name) > 1:
+            if counts[name] > 1:
                 places = [str(place) for place, other in enumerate(self.names, 1) if other == name]
                 raise Refused(f"{self.what}: two columns are called {name!r}, those at places {' and '.join(places)}", "table")
 
     def _stream(self) -> IO[str]:
-        stream = io.TextIOWrapper(io.BytesIO(self._data), self._encoding, newline="", errors="surrogatepass" if self._encoding == "utf-8" else "strict")
+        stream = io.TextIOWrapper(io.BytesIO(self._content.data), self._content.encoding, self._content.errors, newline="")
         for _ in range(self._before):
             next(stream, None)
         return stream
@@ -131,12 +140,13 @@ class Cells:
         raise Refused(f"{self.what}, line {self._before + reader.line_num}: {why}", "table") from None
 
     def refuse_encoding(self) -> NoReturn:
+        encoding = self._content.encoding
         try:
-            self._data.decode(self._encoding)
+            self._content.data.decode(encoding)
             place = 0
         except UnicodeDecodeError as why:
             place = why.start
-        raise Refused(f"{self.what} is not {self._encoding.replace('-sig', '')} (byte {place}): give its encoding, such as encoding='cp1252'", "table") from None
+        raise Refused(f"{self.what} is not {encoding.replace('-sig', '')} (byte {place}): give its encoding, such as encoding='cp1252'", "table") from None
 
     def _squared(self, rows: List[List[str]], first: int) -> Iterator[List[str]]:
         """The rows with a cell for each name: rows without any text are left out, as are empty cells beyond the names; a short row is filled up or refused."""
@@ -157,8 +167,8 @@ class Cells:
 
     def _find_delimiter(self) -> str:
         """Takes the line `sep=;` that Excel reads, and the lines that are skipped; the delimiter that is given, or that the first rows show."""
-        sample = self._data[:SAMPLE_BYTES]
-        text = sample.decode(self._encoding, errors="ignore").lstrip("\ufeff")
+        sample = self._content.data[:SAMPLE_BYTES]
+        text = sample.decode(self._content.encoding, errors="ignore").lstrip("\ufeff")
         lines = io.StringIO(text, newline="").readlines()[self._before:]
         said = SEPARATOR_LINE.fullmatch(lines[0]) if lines else None
         if said:
@@ -169,7 +179,7 @@ class Cells:
     def _read_names(self) -> List[str]:
         reader = self._reader()
         with Refusing(self, reader):
-            cells = next((cells for cells in reader if cells), [])
+            cells: List[str] = next((cells for cells in reader if cells), [])
         if not cells:
             raise Refused(f"{self.what} is empty: its first line has the names of the columns", "table")
         cells[0] = cells[0].lstrip("\ufeff")
@@ -203,10 +213,10 @@ def read_csv(source: Source, dialect: Dialect = Dialect(), progress: Optional[Pr
     """The cells of a file, or of an open one, which may be packed by gzip."""
     if isinstance(source, (str, os.PathLike)):
         with open(source, "rb") as file:
-            return Cells(bytes_of(file, str(source), dialect), str(source), dialect, progress)
+            return Cells(content_of(file, str(source), dialect), str(source), dialect, progress)
     if not hasattr(source, "read"):
         raise TypeError(f"a file is a path or an open file, not {source!r}")
-    return Cells(bytes_of(source, "the file", dialect), "the file", dialect, progress)
+    return Cells(content_of(source, "the file", dialect), "the file", dialect, progress)
 
 
 def rows_of(reader: Any) -> List[List[str]]:
@@ -220,22 +230,18 @@ def rows_of(reader: Any) -> List[List[str]]:
             gc.enable()
 
 
-def bytes_of(file: IO[Any], what: str, dialect: Dialect) -> bytes:
-    """The bytes of an open file. What is no text is refused before all of it is read."""
+def content_of(file: IO[Any], what: str, dialect: Dialect) -> Content:
+    """What an open file holds, which may be one of text. What is no text is refused before all of it is read."""
     first = file.read(SAMPLE_BYTES)
     if isinstance(first, str):
-        text = first + file.read()
-        encoding = dialect.encoding or "utf-8"
-        try:
-            return text.encode(encoding, "surrogatepass" if encoding == "utf-8" else "strict")
-        except UnicodeEncodeError as why:
-            raise Refused(f"{what} is text already, which {encoding} does not have: {why}", "table") from None
+        # A text of Python may have halves of characters, which UTF-8 does not write.
+        return Content((first + file.read()).encode("utf-8", "surrogatepass"), "utf-8", "surrogatepass")
     if first[:2] == b"\x1f\x8b":
-        return unpacked(first + file.read(), what)
+        first = unpacked(first + file.read(), what)
     encoding = dialect.encoding or encoding_of(first)
-    if b"\0" in first and "16" not in encoding and "32" not in encoding:
+    if b"\0" in first[:SAMPLE_BYTES] and "16" not in encoding and "32" not in encoding:
         raise Refused(f"{what} is no text: its byte {first.index(0)} is 0", "table")
-    return bytes(first + file.read())
+    return Content(b"".join((first, file.read())), encoding)
 
 
 def unpacked(data: bytes, what: str) -> bytes:

@@ -48,6 +48,8 @@ def mapping_of(record: Any) -> Optional[Dict[str, Any]]:
     """What is a mapping, a named tuple or a data class, as a mapping; None for another thing."""
     if isinstance(record, Mapping):
         return dict(record)
+    if hasattr(record, "keys") and hasattr(record, "__getitem__"):
+        return {name: record[name] for name in record.keys()}       # such as a row of sqlite3
     if isinstance(record, tuple) and hasattr(record, "_asdict"):
         return dict(record._asdict())
     if dataclasses.is_dataclass(record) and not isinstance(record, type):

@@ -77,7 +77,7 @@ class Form:
 
     @lru_cache(maxsize=None)
     def _pattern(self) -> "re.Pattern[str]":
-        unit, decimal, thousands = map(re.escape, (self.unit, self.decimal, self.thousands))
+        unit, decimal, thousands = re.escape(self.unit), re.escape(self.decimal), re.escape(self.thousands)
         digits = rf"\d{{1,3}}(?:{thousands}\d{{3}})+|\d+" if self.thousands else r"\d+"
         before, behind = (rf"(?P<before>{unit})?\s*", rf"\s*(?P<behind>{unit})?") if self.unit else ("(?P<before>)", "(?P<behind>)")
         opened, closed = (r"(?P<open>\()?\s*", r"\s*(?P<close>\))?") if self.parentheses else ("(?P<open>)", "(?P<close>)")

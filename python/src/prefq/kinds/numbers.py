@@ -56,6 +56,11 @@ class Whole(Number):
     example = "60"
     decimals = 0
 
+    @property
+    def scale(self) -> int:
+        """By how much the numbers of the table are larger."""
+        return int(10**self.decimals)
+
     def read(self, text: str) -> int:
         return self._scaled(Fraction(self.plain(text)), text)
 
@@ -65,7 +70,7 @@ class Whole(Number):
         return self._scaled(exact(value), value)
 
     def _scaled(self, exactly: Fraction, value: Any) -> int:
-        scaled = exactly * 10**self.decimals
+        scaled = exactly * self.scale
         if scaled.denominator != 1:
             what = "is no whole number" if self.decimals == 0 else f"has more than {self.decimals} decimal{'s' * (self.decimals != 1)}"
             raise NotRead(f"{shown(value)} {what}")
@@ -85,7 +90,7 @@ class Whole(Number):
         """Numbers of a question are always plain."""
         if not NUMBER.fullmatch(text.strip()):
             raise NotRead(f"{text!r} is no number")
-        return Fraction(text.strip()) * 10**self.decimals
+        return Fraction(text.strip()) * self.scale
 
     def text(self, value: Any) -> str:
         return self.form.written(format(value, "f") if isinstance(value, Decimal) else str(value))
