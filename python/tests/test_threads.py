@@ -1,5 +1,7 @@
 """Many threads over one table: no request is lost, and no answer is wrong."""
+import os
 import random
+import signal
 import threading
 
 import prefq
@@ -107,7 +109,7 @@ class Threads(TestCase):
 
         def kills(_):
             started.wait()
-            table._exchange._process._popen.kill()
+            os.kill(table.pid, signal.SIGKILL)
 
         with self.within(60):
             self.assertEqual(all_of(21, lambda number: kills(number) if number == 20 else work(number)), [])

@@ -3,6 +3,7 @@
 An exchange is some commands and all of their replies. Whatever cuts one short (Ctrl-C, a timeout, a dead program, a reply that is none) ends the process, so
 no reply is ever taken for that of another command.
 """
+import atexit
 import os
 import threading
 import weakref
@@ -16,6 +17,7 @@ from .rows import Written
 
 Result = TypeVar("Result")
 LONGEST_OPENING = 16_000_000
+SECONDS_TO_END = 1.0
 # Why a table has ended, and its kind. This one stands while an exchange is under way, and stays if nothing more can be done about it.
 UNDER_WAY = ("a call was interrupted, or is still under way in this thread", "interrupted")
 CLOSED = ("the table was closed", "closed")
@@ -53,7 +55,10 @@ class Exchange:
         self._owner = os.getpid()
         self._closing = False
         self._ended: Optional[Tuple[str, str]] = None
+        # The thread of the call that is under way, or of the last one.
+        self._caller = 0
         self._process = Process(words, timeout)
+        _open.add(self)
 
     @property
     def pid(self) -> int:
@@ -96,15 +101,14 @@ class Exchange:
                 if self._ended is None:
                     why = self._process.death()
                     self._end(str(why), why.kind)
-        if self.lock.acquire(blocking=False):
-            try:
-                self._not_ended()
-            finally:
-                self.lock.release()
+        # The lock is not even tried: an interruption right behind that would leave it locked.
+        ended = self._ended
+        if ended is not None and (ended is not UNDER_WAY or self._caller == threading.get_ident()):
+            raise Ended(*ended)
 
     def close(self) -> None:
         """Ends the process. A call that another thread is in the middle of raises `Ended`."""
-        if os.getpid() != self._owner:
+        if not self.is_ours():
             return
         self._closing = True
         self._process.kill()
@@ -112,9 +116,22 @@ class Exchange:
             if self._ended is not UNDER_WAY:
                 self._end(*CLOSED)
 
+    def close_at_exit(self) -> None:
+        """The same at the end of Python, where daemon threads go on: a call of theirs closes the pipes, not another thread under its hands."""
+        self._closing = self.is_ours()
+        if self._closing:
+            self._process.kill()
+            if self.lock.acquire(timeout=SECONDS_TO_END):
+                self._end(*CLOSED)
+                self.lock.release()
+
+    def is_ours(self) -> bool:
+        """Whether this is the process that opened the table."""
+        return os.getpid() == self._owner
+
     def ours(self) -> None:
         """Raises `Ended` in another process than the owner: without the lock, which a fork may have copied while it was held."""
-        if os.getpid() != self._owner:
+        if not self.is_ours():
             raise Ended(f"this table belongs to process {self._owner}: open another one in each process", "process")
 
     def _not_ended(self) -> None:
@@ -127,6 +144,7 @@ class Exchange:
         with self.lock:
             self._not_ended()
             try:
+                self._caller = threading.get_ident()
                 self._ended = UNDER_WAY
                 self._abandon_dropped()
                 result = talk()
@@ -197,3 +215,14 @@ class Exchange:
         if " refused" not in line:
             raise Ended(f"this is no reply to what was asked: {line}", "reply")
         return refused(line, question)
+
+
+_open: "weakref.WeakSet[Exchange]" = weakref.WeakSet()
+
+
+def _close_all() -> None:
+    for exchange in list(_open):
+        exchange.close_at_exit()
+
+
+atexit.register(_close_all)

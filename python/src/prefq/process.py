@@ -2,11 +2,12 @@
 import fcntl
 import os
 import select
-import signal
 import subprocess
 import weakref
-from typing import List, Optional
+from functools import partial
+from typing import IO, List, Optional
 
+from .child import Child
 from .errors import Ended, ProgramNotFound
 from .pauses import let_others_run
 
@@ -15,7 +16,6 @@ SECONDS_TO_END = 5.0
 # Linux has this number of its call fcntl, which Python names from 3.10 on.
 SET_PIPE_SIZE = 1031
 PIPE_SIZE = 2**20
-SIGNALS = {number.value: number.name for number in signal.Signals}
 
 
 class Process:
@@ -29,25 +29,28 @@ class Process:
         self._read = bytearray()
         try:
             # Apart from the terminal, so that Ctrl-C reaches Python alone. No buffers, so that a fork has nothing to flush.
-            self._popen = subprocess.Popen(words, stdin=subprocess.PIPE, stdout=subprocess.PIPE, bufsize=0, start_new_session=True)
+            popen = subprocess.Popen(words, stdin=subprocess.PIPE, stdout=subprocess.PIPE, bufsize=0, start_new_session=True)
         except OSError as why:
             raise ProgramNotFound(f"{words[0]} cannot be started: {why}", "program") from why
-        assert self._popen.stdin is not None and self._popen.stdout is not None
-        self._in, self._out = self._popen.stdin, self._popen.stdout
+        assert popen.stdin is not None and popen.stdout is not None
+        self._child, self._in, self._out = Child(popen), popen.stdin, popen.stdout
         os.set_blocking(self._in.fileno(), False)
         for pipe in (self._in, self._out):
             _widen(pipe.fileno())
         self._poll = select.poll()
         self._poll.register(self._out, select.POLLIN)
-        self._finish = weakref.finalize(self, _finish, self._popen, os.getpid())
+        self._end = partial(_end, self._child, self._in, self._out, os.getpid())
+        self._dropped = weakref.finalize(self, self._end)
+        # At the end of Python another thread may still read from it: then its exchange closes it.
+        self._dropped.atexit = False
         _running.add(self)
 
     @property
     def pid(self) -> int:
-        return self._popen.pid
+        return self._child.pid
 
     def is_dead(self) -> bool:
-        return self._popen.poll() is not None
+        return self._child.how() is not None
 
     def send(self, text: bytes) -> None:
         """Writes the text, and meanwhile reads what comes, so that neither waits for the other."""
@@ -86,29 +89,26 @@ class Process:
         """How the program ended, with its last line, which may have been read. Its end is waited for, a moment at most."""
         while self._readable() and (piece := os.read(self._out.fileno(), PIECE)):
             self._read += piece
-        try:
-            status = self._popen.wait(SECONDS_TO_END)
-        except subprocess.TimeoutExpired:
+        how = self._child.how_within(SECONDS_TO_END)
+        if how is None:
             return Ended("the program closed its output and goes on", "died")
-        how = f"was killed by {SIGNALS.get(-status, -status)}" if status < 0 else f"ended with status {status}"
         said = f"{last}\n{self._read.decode(errors='replace')}".strip().splitlines()
         return Ended(f"the program {how}" + (f"; its last line is: {said[-1]}" if said else "; it said nothing more"), "died")
 
     def kill(self) -> None:
         """Kills the program, if it runs. Whoever waits for its output reads the end of it."""
-        if not self.is_dead():
-            self._popen.kill()
-            self._popen.wait()
+        self._child.kill()
 
     def close(self) -> None:
-        """Kills the program, and closes the pipes, which nobody may be reading."""
-        self._finish()
+        """Kills the program, and closes the pipes, which nobody may be reading. The same again does nothing."""
+        self._end()
+        self._dropped.detach()
         _running.discard(self)
 
     def forget(self) -> None:
         """In a fork: closes its copies of the pipes, so that the program ends when its owner closes them."""
-        self._finish.detach()
-        self._popen.returncode = 0
+        self._dropped.detach()
+        self._child.forget()
         self._in.close()
         self._out.close()
 
@@ -150,16 +150,12 @@ def _widen(pipe: int) -> None:
 _running: "weakref.WeakSet[Process]" = weakref.WeakSet()
 
 
-def _finish(popen: "subprocess.Popen[bytes]", owner: int) -> None:
+def _end(child: Child, into: IO[bytes], out_of: IO[bytes], owner: int) -> None:
     """Ends a program of this process, which nobody uses any more."""
-    if os.getpid() != owner:
-        return
-    if popen.poll() is None:
-        popen.kill()
-        popen.wait()
-    for pipe in (popen.stdin, popen.stdout):
-        if pipe is not None:
-            pipe.close()
+    if os.getpid() == owner:
+        child.kill()
+        into.close()
+        out_of.close()
 
 
 def _forget_all() -> None:
