@@ -1,19 +1,22 @@
-"""Ctrl-C and the end of Python at any moment: nothing waits for ever.
+"""Ctrl-C, garbage and the end of Python at any moment: nothing waits for ever, and no query is ever that of another one.
 
 PREFQ_TIMES=100 makes the tests that try many moments try a hundred times as many.
 """
 import contextlib
+import gc
 import os
 import random
 import subprocess
 import sys
 import textwrap
 import threading
+import time
 import unittest
+import weakref
 from unittest import mock
 
 import prefq
-from support import TestCase, is_running, numbers, raised_after
+from support import QUESTION, TestCase, hotels, is_running, numbers, raised_after
 
 NEVER = 30
 TIMES = int(os.environ.get("PREFQ_TIMES", "1"))
@@ -21,6 +24,22 @@ TIMES = int(os.environ.get("PREFQ_TIMES", "1"))
 
 class Interruption(BaseException):
     """What a signal handler raises, as KeyboardInterrupt is raised by Ctrl-C."""
+
+
+class Holder:
+    """An object that keeps its own generator, so that both are garbage that only the collector finds."""
+
+    def __init__(self, table, question):
+        self.generator = self.asks(table, question)
+        next(self.generator)
+
+    def asks(self, table, question):
+        with table.query(question):
+            yield self
+
+
+class Thing:
+    """An object that can be referred to weakly."""
 
 
 class Closing(TestCase):
@@ -70,6 +89,112 @@ class Closing(TestCase):
         self.closes(table)
         with self.refuses(prefq.Ended, kind="closed"):
             table.get(1)
+
+
+class Garbage(TestCase):
+    def test_a_query_that_another_one_follows_before_its_finalizer_runs(self):
+        """The collector says that the query is gone, its client gets another query, and only then the generator ends its block."""
+        with numbers(9, clients=1) as table:
+            followed = []
+
+            def follows(_):
+                if not followed:
+                    with contextlib.suppress(prefq.Refused):
+                        followed.append(table.query("best pos(x, 22)"))
+
+            holder = Holder(table, "best pos(x, 11)")
+            holder.behind = Thing()
+            callback = weakref.ref(holder, follows), weakref.ref(holder.behind, follows)
+            del holder
+            gc.collect()
+            self.assertEqual((len(callback), len(followed)), (2, 1))
+            self.assertEqual([row.id for row in followed[0].answer()], [2])
+            self.assertEqual(len(table.best(QUESTION.replace("price", "x").replace(" * low(dist)", ""))), 1)
+
+    def test_a_finalizer_that_goes_on_with_a_query_that_is_gone(self):
+        with numbers(9, clients=1) as table:
+            said = []
+
+            class Late:
+                def __del__(self):
+                    for call in (self.query.scan, self.query.answer, self.query.pairs):
+                        try:
+                            said.append(call())
+                        except prefq.Refused as why:
+                            said.append(why.number)
+                    said.append(self.query.abandon())
+
+            late = Late()
+            late.query, late.itself = table.query("best low(x)"), late
+            del late
+            gc.collect()
+            self.assertEqual(said, [4, 4, 4, None])
+            self.assertEqual([row.id for row in table.best("best high(x)")], [9])
+
+    def test_a_finalizer_in_the_middle_of_a_call(self):
+        """It abandons a query before the next command, and waits for nothing."""
+        with numbers(9, clients=2) as table:
+            query = table.query("best low(x)")
+            process = table._exchange._process
+            line = process.line
+
+            def abandons():
+                query.abandon()
+                return line()
+
+            with mock.patch.object(process, "line", abandons):
+                self.assertEqual(table.get(1), [11])
+            queries = [table.query("best low(x)"), table.query("best high(x)")]
+            self.assertEqual([query.answer()[0].id for query in queries], [1, 9])
+            with self.refuses(prefq.Refused, "this query has ended", number=4):
+                query.answer()
+
+    def test_clients_that_garbage_has_are_waited_for_a_second_at_most(self):
+        gc.disable()
+        try:
+            with hotels(clients=1) as table:
+                Holder(table, QUESTION)
+                with self.within(1):
+                    self.assertEqual(len(table.best(QUESTION)), 4)      # all clients are this thread's own
+                thread = threading.Thread(target=Holder, args=(table, QUESTION))
+                thread.start()
+                thread.join()
+                with self.within(10):
+                    self.assertEqual(len(table.best(QUESTION)), 4)
+        finally:
+            gc.enable()
+
+    def test_cycles_under_eight_threads(self):
+        """The collector runs wherever a thread makes objects, also in the middle of a call."""
+        wrong, answers = [], []
+        end = time.monotonic() + 1 * TIMES
+        with numbers(40, clients=4) as table:
+            def asks(number):
+                try:
+                    while time.monotonic() < end and not wrong:
+                        Holder(table, f"best pos(x, {11 * number})")
+                        found = [row.id for row in table.best(f"best pos(x, {11 * number})")]
+                        answers.append(number)
+                        if found != [number]:
+                            wrong.append((number, found))
+                except BaseException as why:
+                    wrong.append(why)
+
+            threads = [threading.Thread(target=asks, args=(number,), daemon=True) for number in range(1, 9)]
+            before = gc.get_threshold()
+            gc.set_threshold(50, 2, 2)
+            try:
+                for thread in threads:
+                    thread.start()
+                for thread in threads:
+                    thread.join(NEVER + TIMES)
+            finally:
+                gc.set_threshold(*before)
+            self.assertFalse(any(thread.is_alive() for thread in threads), "a thread hangs")
+            self.assertEqual(wrong, [])
+            self.assertGreater(len(answers), 8)
+            if TIMES > 1:
+                print(f"\n{len(answers)} answers", file=sys.stderr)
 
 
 class EndOfPython(TestCase):

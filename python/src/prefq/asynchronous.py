@@ -5,6 +5,7 @@ from concurrent.futures import Future, ThreadPoolExecutor
 from functools import partial
 from typing import Any, Callable, Generator, Iterable, List, Optional, Sequence, Tuple, Type, TypeVar
 
+from .clients import SECONDS_TO_COLLECTION
 from .errors import Ended, Refused
 from .query import Query
 from .rows import Row
@@ -204,7 +205,11 @@ class AsyncQuery:
     async def _begin(self) -> "AsyncQuery":
         self._table._usable()
         free, loop = self._table._free, asyncio.get_running_loop()
-        client = await free.get()
+        collection = loop.call_later(SECONDS_TO_COLLECTION, self._table._table._free.collect)
+        try:
+            client = await free.get()
+        finally:
+            collection.cancel()
         try:
             job = self._table._submit(self._table._table.query, self.question, client)
         except BaseException:

@@ -1,7 +1,8 @@
 """The clients of a table, each of which may have one open query."""
+import gc
 import threading
 import time
-from typing import TYPE_CHECKING, List, Optional
+from typing import TYPE_CHECKING, Optional
 
 from .errors import Refused
 from .exchange import Exchange, Holder
@@ -10,6 +11,8 @@ if TYPE_CHECKING:
     from .query import Query
 
 SECONDS_TO_WAIT = 60.0
+SECONDS_TO_COLLECTION = 1.0
+SECONDS_BETWEEN_COLLECTIONS = 10.0
 STEP = 0.005
 
 
@@ -19,30 +22,47 @@ class Clients:
     def __init__(self, count: int, exchange: Exchange) -> None:
         self._count = count
         self._exchange = exchange
-        # A plain lock and short sleeps: an interruption within a Condition would leave it locked.
-        self._lock = threading.RLock()
+        self._collects_from = 0.0
 
-    def take(self, query: "Query", client: Optional[int]) -> int:
+    def take(self, query: "Query", client: Optional[int]) -> Holder:
         """This client, or any that has no open query, for this query."""
-        for _ in range(int(SECONDS_TO_WAIT / STEP)):
-            with self._lock:
-                free = [number for number in self._free() if client in (None, number)]
-                if free:
-                    # With this one step it is taken, and will be given back where nobody has the query any more.
-                    self._exchange.queries[free[0]] = Holder(query, self._exchange.dropped.append, free[0], threading.get_ident())
-                    return free[0]
-                if client is not None:
-                    raise Refused(f"client {client} has an open query", "client", 3)
-                if {holder.thread for holder in list(self._exchange.queries.values())} == {threading.get_ident()}:
-                    break
+        self._exchange.ours()
+        begun, has_collected = time.monotonic(), False
+        while True:
+            holder = self._free(query, client)
+            if holder is not None:
+                return holder
+            if client is not None:
+                raise Refused(f"client {client} has an open query", "client", 3)
+            waited, waits_for_itself = time.monotonic() - begun, self._all_are_of_this_thread()
+            if waits_for_itself and not has_collected:
+                gc.collect()
+                has_collected = True
+                continue
+            if waits_for_itself or waited > SECONDS_TO_WAIT:
+                raise Refused(f"each of the {self._count} clients has an open query", "client", 3)
+            if waited > SECONDS_TO_COLLECTION:
+                self.collect()
+            # A short sleep: an interruption within a Condition would leave its lock locked.
             time.sleep(STEP)
-        raise Refused(f"each of the {self._count} clients has an open query", "client", 3)
 
-    def give_back(self, client: int) -> None:
-        """Its query has ended."""
-        with self._lock:
-            self._exchange.queries.pop(client, None)
+    def collect(self) -> None:
+        """Finds the queries that are garbage; once in a while only, since that takes long where a program has many objects."""
+        if time.monotonic() >= self._collects_from:
+            self._collects_from = time.monotonic() + SECONDS_BETWEEN_COLLECTIONS
+            gc.collect()
 
-    def _free(self) -> List[int]:
+    def _all_are_of_this_thread(self) -> bool:
+        return {holder.thread for holder in list(self._exchange.queries.values())} == {threading.get_ident()}
+
+    def _free(self, query: "Query", client: Optional[int]) -> Optional[Holder]:
+        """Takes a client that is free now, if there is one."""
         self._exchange.settle()
-        return [client for client in range(1, self._count + 1) if client not in self._exchange.queries]
+        queries = self._exchange.queries
+        for number in range(1, self._count + 1) if client is None else [client]:
+            if number not in queries:
+                holder = Holder(query, self._exchange.dropped.append, number, threading.get_ident())
+                # With this one step it is taken, and will be given back where nobody has the query any more.
+                if queries.setdefault(number, holder) is holder:
+                    return holder
+        return None

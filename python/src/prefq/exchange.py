@@ -39,6 +39,11 @@ class Holder(weakref.ref):  # type: ignore[type-arg]
         super().__init__(query, dropped)  # type: ignore[call-arg]
 
 
+def has_ended() -> Refused:
+    """What is said of a query that is used after its end."""
+    return Refused("this query has ended", "client", 4)
+
+
 class Exchange:
     """The exchanges with a process, which belongs to the Python process that started it.
 
@@ -76,10 +81,12 @@ class Exchange:
         """Sends a command, and returns what its one line says behind the words of the reply. Where it succeeds, there are so many rows more."""
         return self.ask_for_rows(command, reply, rows=rows, question=question)[0]
 
-    def ask_for_rows(self, command: str, reply: str, *, rows: int = 0, question: Optional[str] = None) -> Tuple[str, bytearray]:
-        """The same, and the lines of rows that follow an answer."""
+    def ask_for_rows(self, command: str, reply: str, *, rows: int = 0, question: Optional[str] = None,
+                     holder: Optional[Holder] = None) -> Tuple[str, bytearray]:
+        """The same, and the lines of rows that follow an answer. A command of a query that its client no longer has is not sent: the garbage collector says
+        that a query is dropped before it runs the finalizers that may still use it, and another query may have the client by then."""
         text = command.encode() + b"\n"
-        replied = self._whole(lambda: self._one(text, reply, rows, question))
+        replied = self._whole(lambda: has_ended() if holder is not None and not self._has(holder) else self._one(text, reply, rows, question))
         if isinstance(replied, Refused):
             raise replied
         return replied
@@ -92,6 +99,19 @@ class Exchange:
         """Abandons the queries that nobody has any more, if there are any."""
         if self.dropped or self._ended is not None:
             self._whole(lambda: None)
+
+    def abandon(self, holder: Holder) -> None:
+        """Abandons a query; before the next command, where this thread is in the middle of one, as a finalizer or a signal handler may be."""
+        self.ours()
+        self.dropped.append(holder)
+        if not self._is_under_way_here():
+            self.settle()
+
+    def give_back(self, holder: Holder) -> None:
+        """Its query has ended."""
+        with self.lock:
+            if self._has(holder):
+                del self.queries[holder.client]
 
     def check(self) -> None:
         """Raises `Ended` where no exchange is possible any more. A program that died unseen is found out here. Another thread's call is not waited for."""
@@ -134,6 +154,13 @@ class Exchange:
         if not self.is_ours():
             raise Ended(f"this table belongs to process {self._owner}: open another one in each process", "process")
 
+    def _has(self, holder: Holder) -> bool:
+        """Whether the client of a query still has that query."""
+        return self.queries.get(holder.client) is holder
+
+    def _is_under_way_here(self) -> bool:
+        return self._ended is UNDER_WAY and self._caller == threading.get_ident()
+
     def _not_ended(self) -> None:
         if self._ended is not None:
             raise Ended(*self._ended)
@@ -167,7 +194,7 @@ class Exchange:
         """A query that ended before it was dropped is refused here, which does no harm."""
         while self.dropped:
             holder = self.dropped.popleft()
-            if self.queries.get(holder.client) is holder:
+            if self._has(holder):
                 self._one(b"as %d abandon\n" % holder.client, f"{holder.client} abandoned", 0, None)
                 del self.queries[holder.client]
 

@@ -1,10 +1,9 @@
 """A query: a question that is asked of the table as it was when the query began."""
-import threading
 from typing import Callable, List, Optional, Tuple, Type
 
 from .clients import Clients
 from .errors import Ended, Refused
-from .exchange import Exchange
+from .exchange import Exchange, has_ended
 from .rows import Made, Row, pair, rows_of
 
 
@@ -22,12 +21,12 @@ class Query:
 
     def __init__(self, exchange: Exchange, clients: Clients, question: str, client: Optional[int], width: int) -> None:
         self.question = question
-        self._exchange, self._clients, self._width = exchange, clients, width
-        self._lock = threading.RLock()
+        self._exchange, self._width = exchange, width
         self._open = True
-        self.client = clients.take(self, client)
+        self._holder = clients.take(self, client)
+        self.client = self._holder.client
         try:
-            self.left = int(exchange.ask(f"as {self.client} begin {question}", f"{self.client} begun ", question=question))
+            self.left = int(self._ask(f"begin {question}", "begun ", question)[0])
         except Refused:
             self._ended()
             raise
@@ -47,9 +46,10 @@ class Query:
 
     def scan(self) -> int:
         """Scans the next block, and returns how many are left."""
-        with self._lock:
+        self._exchange.ours()
+        with self._exchange.lock:
             self._check()
-            self.left = int(self._exchange.ask(f"as {self.client} scan", f"{self.client} left "))
+            self.left = int(self._ask("scan", "left ")[0])
             return self.left
 
     def answer(self) -> List[Row]:
@@ -62,27 +62,31 @@ class Query:
 
     def abandon(self) -> None:
         """Ends the query without an answer; nothing is done where it has ended."""
-        with self._lock:
-            if self._open:
-                try:
-                    self._exchange.ask(f"as {self.client} abandon", f"{self.client} abandoned")
-                except Refused:
-                    pass  # It has ended, and an interruption came before that was noted.
-                self._ended()
+        if self._open:
+            self._exchange.abandon(self._holder)
+            self._open = False
 
     def _finish(self, make: Callable[[int, int, List[int]], Made]) -> List[Made]:
-        with self._lock:
-            self._check()
-            while self.left:
+        self._exchange.ours()
+        while True:
+            # The table's lock alone: with one more, a finalizer in the middle of an exchange could wait for a thread that waits for the exchange.
+            with self._exchange.lock:
+                self._check()
+                if not self.left:
+                    _, below = self._ask("finish", "answer ")
+                    self._ended()
+                    break
                 self.scan()
-            _, below = self._exchange.ask_for_rows(f"as {self.client} finish", f"{self.client} answer ")
-            self._ended()
         return rows_of(below, self._width, make)
+
+    def _ask(self, command: str, reply: str, question: Optional[str] = None) -> Tuple[str, bytearray]:
+        """Sends a command, which is refused where the client has no longer this query."""
+        return self._exchange.ask_for_rows(f"as {self.client} {command}", f"{self.client} {reply}", question=question, holder=self._holder)
 
     def _check(self) -> None:
         if not self._open:
-            raise Refused("this query has ended", "client", 4)
+            raise has_ended()
 
     def _ended(self) -> None:
         self._open = False
-        self._clients.give_back(self.client)
+        self._exchange.give_back(self._holder)
