@@ -1,4 +1,4 @@
-"""Ctrl-C, garbage and the end of Python at any moment: nothing waits for ever, and no query is ever that of another one.
+"""Ctrl-C, garbage, forks and the end of Python at any moment: nothing waits for ever, and no query is ever that of another one.
 
 PREFQ_TIMES=100 makes the tests that try many moments try a hundred times as many.
 """
@@ -16,7 +16,7 @@ import weakref
 from unittest import mock
 
 import prefq
-from support import QUESTION, TestCase, hotels, is_running, numbers, raised_after
+from support import QUESTION, TestCase, hotels, in_a_fork, is_running, numbers, raised_after
 
 NEVER = 30
 TIMES = int(os.environ.get("PREFQ_TIMES", "1"))
@@ -195,6 +195,59 @@ class Garbage(TestCase):
             self.assertGreater(len(answers), 8)
             if TIMES > 1:
                 print(f"\n{len(answers)} answers", file=sys.stderr)
+
+
+class Forks(TestCase):
+    CALLS = {"best": lambda table: table.best(QUESTION), "query": lambda table: table.query(QUESTION, 1), "len": len, "rows": lambda table: table.rows(),
+             "insert_many": lambda table: table.insert_many([[1, 2]] * 20), "get": lambda table: table.get(1)}
+
+    def test_each_call_raises_ended_at_once(self):
+        """Whatever the other threads are in the middle of."""
+        with hotels(clients=4) as table:
+            query, stop = table.query(QUESTION), threading.Event()
+
+            def asks():
+                while not stop.is_set():
+                    table.best(QUESTION)
+
+            threads = [threading.Thread(target=asks, daemon=True) for _ in range(10)]
+            for thread in threads:
+                thread.start()
+            try:
+                calls = {**self.CALLS, "scan": lambda _: query.scan(), "answer": lambda _: query.answer(), "abandon": lambda _: query.abandon()}
+                for _ in range(TIMES):
+                    for name, call in calls.items():
+                        with self.subTest(name), self.within(5):
+                            self.assertEqual(in_a_fork(lambda: call(table))[0], "process")
+                    with self.within(5):
+                        self.assertIsNone(in_a_fork(table.close))
+            finally:
+                stop.set()
+                for thread in threads:
+                    thread.join(NEVER)
+            self.assertEqual(len(query.answer()), 4)
+
+    def test_while_a_thread_has_each_lock(self):
+        with hotels() as table:
+            query = table.query(QUESTION)
+            locked, release = threading.Event(), threading.Event()
+
+            def holds():
+                with table._exchange.lock:
+                    locked.set()
+                    release.wait(NEVER)
+
+            thread = threading.Thread(target=holds)
+            thread.start()
+            locked.wait(NEVER)
+            try:
+                for name, call in {**self.CALLS, "answer": lambda _: query.answer(), "abandon": lambda _: query.abandon()}.items():
+                    with self.subTest(name), self.within(5):
+                        self.assertEqual(in_a_fork(lambda: call(table))[0], "process")
+            finally:
+                release.set()
+                thread.join(NEVER)
+            self.assertEqual(len(query.answer()), 4)
 
 
 class EndOfPython(TestCase):

@@ -71,6 +71,8 @@ class AsyncTable:
     async def close(self) -> None:
         """Ends the table; a call that is under way raises `Ended`."""
         self._closed = True
+        if not self._table._exchange.is_ours():
+            return
         await asyncio.get_running_loop().run_in_executor(None, self._table.close)
         self._executor.shutdown(wait=False)
 

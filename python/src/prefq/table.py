@@ -140,6 +140,7 @@ class Table:
         count = sum(piece.rows for piece in commits)
         if not count:
             return range(0)
+        self._exchange.ours()
         with self._exchange.lock:
             room = self.room()
             if count > room:
