@@ -13,6 +13,7 @@ import threading
 import time
 import unittest
 import weakref
+from itertools import count
 from unittest import mock
 
 import prefq
@@ -168,13 +169,17 @@ class Garbage(TestCase):
         """The collector runs wherever a thread makes objects, also in the middle of a call."""
         wrong, answers = [], []
         end = time.monotonic() + 1 * TIMES
-        with numbers(40, clients=4) as table:
+        with numbers(40, clients=8) as table:
             def asks(number):
                 try:
-                    while time.monotonic() < end and not wrong:
-                        Holder(table, f"best pos(x, {11 * number})")
+                    for tries in count(number):
+                        if time.monotonic() > end or wrong:
+                            break
+                        if tries % 10 == 0:
+                            Holder(table, f"best pos(x, {11 * number})")
+                        filled = [[] for _ in range(100)]
                         found = [row.id for row in table.best(f"best pos(x, {11 * number})")]
-                        answers.append(number)
+                        answers.append(len(filled))
                         if found != [number]:
                             wrong.append((number, found))
                 except BaseException as why:

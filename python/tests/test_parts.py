@@ -1,6 +1,7 @@
 """Questions over partitions: the same answers as a plain evaluation, on each engine, and what is refused."""
 import contextlib
 import importlib.util
+import io
 import json
 import os
 import pickle
@@ -19,6 +20,7 @@ from unittest import mock
 import prefq
 from prefq import parts
 from prefq.parts import Job, Partition, RowsLeft, best
+from support import program
 
 EXAMPLES = Path(__file__).resolve().parents[2] / "examples/parts"
 COLUMNS = ["price", "dist", "city"]
@@ -60,11 +62,14 @@ def answered(rows):
     return [(row.level, row.id) for row in rows]
 
 
+def as_csv(rows):
+    return "".join(",".join(map(str, row)) + "\n" for row in [COLUMNS, *rows]).encode()
+
+
 def write(folder, rows, size):
     """Files of this number of rows."""
     for number, begin in enumerate(range(0, len(rows), size)):
-        lines = [",".join(COLUMNS), *(",".join(map(str, row)) for row in rows[begin:begin + size])]
-        Path(folder, f"part-{number:02}.csv").write_text("\n".join(lines) + "\n")
+        Path(folder, f"part-{number:02}.csv").write_bytes(as_csv(rows[begin:begin + size]))
     return sorted(Path(folder).glob("*.csv"))
 
 
@@ -96,10 +101,8 @@ class Exact(unittest.TestCase):
         self.assertGreater(right, refused)
 
     def test_levels_are_asked_for_in_turn(self):
-        jobs = parts._jobs("  at_least 100 low(price) by city", None)
-        self.assertEqual([job.levels for job in jobs], [4, 16, 64, 100])
-        self.assertEqual([job.levels for job in parts._jobs("at_least 3 low(price)", None)], [3])
-        self.assertEqual([job.levels for job in parts._jobs("best low(price)", None)], [None])
+        for question, levels in [("at_least 100 low(price) by city", [4, 16, 64, 100]), ("at_least 3 low(price)", [3]), ("best low(price)", [None])]:
+            self.assertEqual([job.levels for job in parts._jobs(Job(question))], levels)
 
     def test_a_chain_needs_as_many_levels_as_rows(self):
         rows = [[number, number, 1] for number in range(40)]
@@ -193,6 +196,61 @@ class Files(unittest.TestCase):
         with self.assertRaises(FileNotFoundError):
             best([self.folder / "none.csv"], "best low(price)")
 
+    def test_an_engine_that_keeps_results_by_function_and_arguments(self):
+        """As Dask does while anybody has a future of a part: a question reads the file as it is now, and a mended one is no more refused."""
+        kept = {}
+
+        def keeps(function, items):
+            for item in items:
+                key = pickle.dumps((function, item))
+                if key not in kept:
+                    try:
+                        kept[key] = function(item)
+                    except prefq.Refused as why:
+                        kept[key] = why
+                if isinstance(kept[key], prefq.Refused):
+                    raise kept[key]
+                yield kept[key]
+
+        for data, wanted in [(b"price\n5\n", [5]), (b"price\n4\n", [4]), (b"price\nx\n", None), (b"price\n3\n", [3])]:
+            for question in ("best low(price)", "at_least 1 low(price)"):
+                path = self.file(data)
+                if wanted:
+                    self.assertEqual(best([path], question, map=keeps)[0].values, wanted)
+                else:
+                    with self.assertRaises(prefq.Refused):
+                        best([path], question, map=keeps)
+
+    def test_a_file_that_changes_between_the_tries_of_at_least(self):
+        """The answer is that of the last reading alone."""
+        rows, asked = [[number, number, 1] for number in range(40)], []
+        path = self.file(as_csv(rows))
+
+        def changes(function, items):
+            asked.append(function.__name__)
+            if asked == ["part", "answer", "part"]:
+                self.file(as_csv([[1000 + price, dist, city] for price, dist, city in rows]))
+            return map(function, items)
+
+        found = best([path], "at_least 9 low(price) * low(dist)", map=changes)
+        self.assertEqual([(row.level, row.id, row.values[0]) for row in found], [(level, level, 999 + level) for level in range(1, 10)])
+
+    def test_a_file_that_is_written_to_while_it_is_read(self):
+        path = self.file(as_csv([[1, 2, 3]]))
+
+        class Reads(io.FileIO):
+            def read(self, *size):
+                found = super().read(*size)
+                with open(path, "ab") as file:
+                    file.write(b"4,5,6\n")
+                return found
+
+        with mock.patch("builtins.open", lambda path, mode: Reads(path) if mode == "rb" else io.FileIO(path, mode)):
+            with self.assertRaises(prefq.Refused) as caught:
+                best([path], "best low(price)")
+        self.assertIn("rows.csv: the file was written to while it was read", str(caught.exception))
+        self.assertEqual(len(best([path], "best low(price)")), 1)
+
     def test_rows_of_a_partition_that_is_cut_are_counted_in_it(self):
         rows = [f"{number},1" for number in range(90)]
         rows[77] = "5"
@@ -236,6 +294,38 @@ class Refusals(unittest.TestCase):
         with self.assertRaises(prefq.Refused) as caught:
             best([Partition(["a", "b"], [[1, 2]]), Partition(["b", "a"], [[1, 2]])], "best low(a)")
         self.assertIn("different columns: a, b and b, a", str(caught.exception))
+
+    def test_one_partition_in_place_of_a_list(self):
+        class Frame:
+            columns = ["price", "dist"]
+
+            def __iter__(self):
+                return iter(self.columns)
+
+        class Pandas(Frame):
+            def itertuples(self, **_):
+                return iter([(50, 8)])
+
+        class Dask(Pandas):
+            def to_delayed(self):
+                return []
+
+        for partitions, said in [("a.csv", "one path: give a list"), (Path("a.csv"), "one path"), (b"a.csv", "one path"), (Partition(["a"], [[1]]), "one partition"),
+                                 (Pandas(), "a DataFrame: give a list of DataFrames, or ask it by prefq.psel"), (Dask(), "a DataFrame of Dask"),
+                                 ([Pandas(), Dask()], "partition 2 is a DataFrame of Dask: give its partitions, client.compute(frame.to_delayed())")]:
+            with self.subTest(said), self.assertRaises(TypeError) as caught:
+                best(partitions, "best low(price)")
+            self.assertIn(said, str(caught.exception))
+
+    def test_a_program_that_takes_too_long(self):
+        with program("exec sleep 60") as path, self.assertRaises(prefq.Ended) as caught:
+            best([Partition(["a"], [[1]])], "best low(a)", program=path, timeout=0.2)
+        self.assertEqual((caught.exception.kind, str(caught.exception)), ("timeout", "the program has not ended within 0.2 seconds"))
+        self.assertEqual(pickle.loads(pickle.dumps(caught.exception)).kind, "timeout")
+        for timeout, exception in [(0, ValueError), (-1, ValueError), ("5", TypeError), (True, TypeError)]:
+            with self.subTest(timeout=timeout), self.assertRaises(exception):
+                best([Partition(["a"], [[1]])], "best low(a)", timeout=timeout)
+        self.assertEqual(len(best([Partition(["a"], [[1]])], "best low(a)", timeout=60)), 1)
 
     def test_rows_that_nothing_dominates(self):
         rows = [f"{number},{number % 7}" for number in range(66_000)]
@@ -299,6 +389,7 @@ class Engines(unittest.TestCase):
         self.assertEqual({question: [tuple(pair) for pair in found] for question, found in printed["answers"].items()}, self.wanted)
         self.assertEqual(printed["refused"], ["Refused", "term", 2, 9])
         self.assertEqual(printed["frames"], printed["answers"][next(iter(QUESTIONS))])
+        self.assertEqual(printed["changed"], [[9], [1], "refused", [3]])
 
     def test_dask_workers_that_have_nothing(self):
         """Separate worker processes without the package and the program, by the example."""
@@ -353,7 +444,21 @@ def on_dask(*files):
         except prefq.Refused as why:
             refused = [type(why).__name__, why.kind, why.number, why.place]
         print(json.dumps({"refused": refused, "answers": {question: answered(best(files, question, map=client.map)) for question in QUESTIONS},
+                          "changed": list(after_changes(client, Path(files[0]).with_name("changed.csv"))),
                           "frames": answered(best(frames, next(iter(QUESTIONS)), map=client.map))}))
+
+
+def after_changes(client, path):
+    """What is answered of a file that changes, while somebody has the part and the exception of each question before."""
+    kept = []
+    for text in ("price\n9\n", "price\n1\n", "price\nx\n", "price\n3\n"):
+        path.write_text(text)
+        kept.append(client.map(Job("best low(price)").part, [path]))
+        try:
+            yield best([path], "best low(price)", map=client.map)[0].values
+        except prefq.Refused as why:
+            kept.append(why)
+            yield "refused"
 
 
 def needs(test, module):

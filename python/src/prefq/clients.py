@@ -12,7 +12,7 @@ if TYPE_CHECKING:
 
 SECONDS_TO_WAIT = 60.0
 SECONDS_TO_COLLECTION = 1.0
-SECONDS_BETWEEN_COLLECTIONS = 10.0
+MOST_TIME_FOR_COLLECTIONS = 1 / 20
 STEP = 0.005
 
 
@@ -48,9 +48,12 @@ class Clients:
 
     def collect(self) -> None:
         """Finds the queries that are garbage; once in a while only, since that takes long where a program has many objects."""
-        if time.monotonic() >= self._collects_from:
-            self._collects_from = time.monotonic() + SECONDS_BETWEEN_COLLECTIONS
+        begun = time.monotonic()
+        if begun >= self._collects_from:
+            self._collects_from = begun + SECONDS_TO_WAIT
             gc.collect()
+            end = time.monotonic()
+            self._collects_from = end + max(SECONDS_TO_COLLECTION, (end - begun) / MOST_TIME_FOR_COLLECTIONS)
 
     def _all_are_of_this_thread(self) -> bool:
         return {holder.thread for holder in list(self._exchange.queries.values())} == {threading.get_ident()}

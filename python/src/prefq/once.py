@@ -44,7 +44,7 @@ class Lines:
 def ask_once(columns: Sequence[str], rows: Sequence[Sequence[int]], question: str, *, progress: Optional[Progress] = None, **options: Any) -> List[Row]:
     """The answer to a question over these rows of whole numbers, whose ids are 1, 2, 3 and so on. More of them than one table holds are asked in parts."""
     if len(rows) > MOST_ROWS:
-        return _in_parts(columns, rows, question, progress, options.get("program"))
+        return _in_parts(columns, rows, question, progress, **{name: options[name] for name in ("program", "timeout") if name in options})
     settings: Dict[str, Any] = {"clients": 1, "capacity": max(1, len(rows)), "block": 1024 if progress else MOST_ROWS, **options}
     with Table(columns, rows[:], **settings) as table:
         with table.query(question) as query:
@@ -56,7 +56,7 @@ def ask_once(columns: Sequence[str], rows: Sequence[Sequence[int]], question: st
             return query.answer()
 
 
-def _in_parts(columns: Sequence[str], rows: Sequence[Sequence[int]], question: str, progress: Optional[Progress], program: Any) -> List[Row]:
+def _in_parts(columns: Sequence[str], rows: Sequence[Sequence[int]], question: str, progress: Optional[Progress], **options: Any) -> List[Row]:
     partitions = [Partition(columns, Lines(rows, begin)) for begin in range(0, len(rows), MOST_ROWS)]
     with ThreadPoolExecutor(os.cpu_count()) as pool:
 
@@ -69,4 +69,4 @@ def _in_parts(columns: Sequence[str], rows: Sequence[Sequence[int]], question: s
                     progress("comparing", len(found), len(asked))
             return found
 
-        return parts.best(partitions, question, map=mapped, program=program)
+        return parts.best(partitions, question, map=mapped, **options)

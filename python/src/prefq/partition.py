@@ -3,6 +3,7 @@ import csv
 import io
 import os
 import re
+import stat
 from dataclasses import dataclass
 from typing import Any, Iterable, List, Sequence, Tuple, Union
 
@@ -30,6 +31,30 @@ class Partition:
 Source = Union[Partition, str, "os.PathLike[str]", Any]
 
 
+def listed(partitions: Iterable[Source]) -> List[Source]:
+    """The partitions, where they are a list of some: a single one would be taken for a list of its letters or columns, and all rows of a DataFrame of Dask be
+    pulled through one process."""
+    for what, is_one, instead in [("a DataFrame of Dask", _is_of_dask, "give its partitions, client.compute(frame.to_delayed())"),
+                                  ("a DataFrame", _is_frame, "give a list of DataFrames, or ask it by prefq.psel"),
+                                  ("one path", lambda some: isinstance(some, (str, bytes, os.PathLike)), "give a list of partitions"),
+                                  ("one partition", lambda some: isinstance(some, Partition), "give a list of partitions")]:
+        if is_one(partitions):
+            raise TypeError(f"partitions is {what}: {instead}")
+    found = list(partitions)
+    for number, source in enumerate(found, 1):
+        if _is_of_dask(source):
+            raise TypeError(f"partition {number} is a DataFrame of Dask: give its partitions, client.compute(frame.to_delayed())")
+    return found
+
+
+def _is_frame(source: Any) -> bool:
+    return hasattr(source, "itertuples")
+
+
+def _is_of_dask(source: Any) -> bool:
+    return hasattr(source, "to_delayed")
+
+
 def text_of(source: Source) -> Tuple[Tuple[str, ...], List[bytes]]:
     """The names of the columns of a partition and its rows as lines of text; a path is that of a CSV file, which is read now.
 
@@ -39,7 +64,7 @@ def text_of(source: Source) -> Tuple[Tuple[str, ...], List[bytes]]:
     Traceback (most recent call last):
     TypeError: row 2, column dist is 2.5, of type float: not a whole number
     """
-    if hasattr(source, "itertuples"):
+    if _is_frame(source):
         frame: Any = source
         source = Partition(list(frame.columns), frame.itertuples(index=False, name=None))
     if not isinstance(source, Partition):
@@ -61,7 +86,11 @@ def _line(columns: Sequence[str], number: int, row: Any) -> bytes:
 def _read(path: Union[str, "os.PathLike[str]"]) -> Tuple[Tuple[str, ...], List[bytes]]:
     """A CSV file whose first line is the header. Empty lines are no rows."""
     with open(path, "rb") as file:
+        before = os.fstat(file.fileno())
         head, _, body = file.read().partition(b"\n")
+        after = os.fstat(file.fileno())
+    if stat.S_ISREG(before.st_mode) and (before.st_size, before.st_mtime_ns) != (after.st_size, after.st_mtime_ns):
+        raise Refused("the file was written to while it was read: ask again", "table")
     columns = names(next(csv.reader([head.decode("utf-8-sig").rstrip("\r")]), []))
     body = body.replace(b"\r\n", b"\n")
     if not body.translate(None, PLAIN + b"\n"):

@@ -21,13 +21,14 @@ import csv
 import os
 import re
 import subprocess
-from dataclasses import dataclass, replace
+from dataclasses import dataclass, field, replace
 from functools import reduce as fold
 from typing import Any, Callable, Dict, Iterable, Iterator, List, Optional, Sequence, Tuple, Union
+from uuid import uuid4
 
-from .checks import MOST_ROWS, header, text_of_question
+from .checks import MOST_ROWS, header, seconds, text_of_question
 from .errors import Ended, Error, Refused, refused
-from .partition import Partition, Source, text_of
+from .partition import Partition, Source, listed, text_of
 from .program import find_program
 from .rows import Row
 
@@ -77,7 +78,9 @@ class Job:
     """A question over partitions as three functions that an engine can run anywhere; a job can be pickled, and so can what its methods return.
 
     `levels` is how many levels the parts are asked for, where the question itself does not say it (`at_least`); `program` is the path of the program where
-    the job runs, found there by `prefq.find_program` if it is None.
+    the job runs, found there by `prefq.find_program` if it is None; `timeout` is how many seconds one run of it may take, None for ever.
+
+    No two jobs are the same to an engine that keeps results by what they were made of, as Dask does: each job reads its files anew.
 
     >>> job = Job("best low(price)")
     >>> job.answer([job.part(Partition(["price"], [[7], [5]])), job.part(Partition(["price"], [[6], [5]]))])
@@ -87,6 +90,12 @@ class Job:
     question: str
     levels: Optional[int] = None
     program: Optional[str] = None
+    timeout: Optional[float] = None
+    call: str = field(default_factory=lambda: uuid4().hex, compare=False, repr=False)
+
+    def of_levels(self, levels: int) -> "Job":
+        """Another job, which asks the parts for so many levels."""
+        return Job(self.question, levels, self.program, self.timeout)
 
     def part(self, partition: Source) -> Partial:
         """What is left of one partition: the first function, to be mapped over all of them."""
@@ -159,36 +168,43 @@ class Job:
         begins = "\nas 1 abandon\n".join(f"as 1 begin {asked}" for asked in dict.fromkeys([self.question, question]))
         blocks = max(1, -(-len(lines) // BLOCK))
         script = [b"table", header(partial.columns).strip().encode(), *lines, b"end", begins.encode(errors="replace"), *[b"as 1 scan"] * blocks, b"as 1 finish", b""]
-        done = subprocess.run([find_program(self.program), "play", "--clients", "1", "--cap", str(blocks * BLOCK), "--block", str(BLOCK)],
-                              input=b"\n".join(script), stdout=subprocess.PIPE)
+        done = self._run(["play", "--clients", "1", "--cap", str(blocks * BLOCK), "--block", str(BLOCK)], b"\n".join(script))
         replies = done.stdout.splitlines()
         answer = next((number for number, line in enumerate(replies) if line.startswith(b"1 answer ")), 0)
         if done.returncode != 0 or not answer or not replies[0].startswith(b"1 begun "):
             raise _refusal(done, partial, piece, self.question)
         return [(int(words[1]), piece[int(words[3][:-1]) - 1]) for words in (row.split(None, 4) for row in replies[answer + 1:])]
 
+    def _run(self, words: Sequence[str], script: bytes) -> "subprocess.CompletedProcess[bytes]":
+        try:
+            return subprocess.run([find_program(self.program), *words], input=script, stdout=subprocess.PIPE, timeout=self.timeout)
+        except subprocess.TimeoutExpired:
+            raise Ended(f"the program has not ended within {self.timeout} seconds", "timeout") from None
+
 
 def best(partitions: Iterable[Source], question: str, *, map: Callable[..., Any] = map, reduce: Optional[Callable[..., Partial]] = None,
-         program: Optional[str] = None) -> List[Row]:
+         program: Optional[str] = None, timeout: Optional[float] = None) -> List[Row]:
     """The answer over the rows of all partitions, whose ids are their numbers in the order of the partitions, from 1.
 
     A partition is the path of a CSV file, read where it is asked, a `Partition` with rows or a DataFrame of pandas; each has the same columns.
-    `map(function, items)` returns the results in the order of the items, or Dask's futures of them: `map` of a `concurrent.futures` or `mpi4py.futures` executor and of a `dask.distributed`
-    client are such functions. Partial results are merged by a tree of further maps, or by `reduce(function of two, results)`, if it is given.
+    `map(function, items)` returns the results in the order of the items, or Dask's futures of them: `map` of a `concurrent.futures` or `mpi4py.futures`
+    executor and of a `dask.distributed` client are such functions. Partial results are merged by a tree of further maps, or by
+    `reduce(function of two, results)`, if it is given. `timeout` is how many seconds one run of the program may take, None for ever.
 
     A question is one of whole numbers, as of a `prefq.Table`; what is wrong with it is `Refused`. `RowsLeft` says that the answer, or what has to be compared
-    for it, is larger than one table.
+    for it, is larger than one table. A file counts as it was at one moment of the call, each at its own: `at_least` may read all of them several times, and
+    answers by the last reading alone. A file that is written to while it is read is refused.
 
     >>> january = Partition(["price", "dist"], [[50, 8], [80, 2]])
     >>> february = Partition(["price", "dist"], ["60,5", "90,2"])
     >>> [row.id for row in best([january, february], "best low(price) * low(dist)")]
     [1, 2, 3]
     """
-    partitions = list(partitions)
+    partitions = listed(partitions)
     if not partitions:
         raise ValueError("there is no partition")
     rows: List[Row] = []
-    for job in _jobs(question, program):
+    for job in _jobs(Job(text_of_question(question).strip(" \t"), None, program, seconds(timeout))):     # places are counted from the first word
         partials = list(map(job.part, partitions))
         if reduce is not None:
             partials = [reduce(job.merge_two, partials)]
@@ -201,19 +217,18 @@ def best(partitions: Iterable[Source], question: str, *, map: Callable[..., Any]
     return rows
 
 
-def _jobs(question: str, program: Optional[str]) -> Iterator[Job]:
+def _jobs(job: Job) -> Iterator[Job]:
     """The jobs to try, in turn: `at_least k` asks for 4, 16, 64 levels and so on, at most k, since k levels hold k rows and mostly a few do."""
-    question = text_of_question(question).strip(" \t")      # places are counted from the first word
-    found = AT_LEAST.match(question)
+    found = AT_LEAST.match(job.question)
     wanted = int(found[1]) if found else 0
     if not 1 <= wanted <= MOST_LEVELS:
-        yield Job(question, None, program)      # the count is refused, or there is none
+        yield job       # the count is refused, or there is none
         return
     levels = 4
     while levels < wanted:
-        yield Job(question, levels, program)
+        yield job.of_levels(levels)
         levels *= 4
-    yield Job(question, wanted, program)
+    yield job.of_levels(wanted)
 
 
 def _joined(partials: Sequence[Partial]) -> Partial:
