@@ -2,6 +2,8 @@
 import re
 from typing import Optional
 
+from .visible import UNSEEN, visible, width
+
 FORM = re.compile(r"(?:(?P<line>line) \d+ )?(?:(?P<who>\d+|table|opening|script|arguments) )?refused:?(?: |$)"
                   r"(?:(?P<what>table|term|commit) )?(?:(?P<number>\d+): )?(?P<text>.*)")
 PLACE = re.compile(r" (?:at|col|place) (\d+)$")
@@ -62,7 +64,7 @@ class Refused(Error):
     """
 
     def __str__(self) -> str:
-        message = str(self.args[0])
+        message = visible(str(self.args[0]))
         advice = ADVICE.get((self.kind, self.number or 0))
         if advice:
             message += f": {advice}"
@@ -110,11 +112,12 @@ def refused(line: str, question: Optional[str] = None) -> Refused:
 
 
 def pointed(question: str, place: Optional[int]) -> str:
-    """The question on a line, and a caret below its byte `place`, counted from 0. Of a long one only what stands round the place is shown."""
-    shown = re.sub(r"[\x00-\x08\x0a-\x1f\x7f]", "\N{REPLACEMENT CHARACTER}", question)
+    """The question on a line, and a caret below its byte `place`, counted from 0. Of a long one only what stands round the place is shown. Wide signs have two
+    places on a terminal."""
+    shown = UNSEEN.sub(lambda found: "\t" if found[0] == "\t" else "\N{REPLACEMENT CHARACTER}", question)
     at = 0 if place is None else len(question.encode(errors="replace")[:place].decode(errors="ignore"))
     first, last = (0, len(shown)) if len(shown) <= 2 * ROUND else (max(0, at - ROUND), at + ROUND)
     before = "..." * (first > 0) + shown[first:at]
     line = f"    {before}{shown[at:last]}{'...' * (last < len(shown))}"
-    blank = re.sub(r"[^\t]", " ", before)
+    blank = "\t".join(" " * width(part) for part in before.split("\t"))
     return line if place is None else f"{line}\n    {blank}^"
