@@ -39,7 +39,19 @@ REFUSED = [
     ("best low(Stars) limit 5", "at_least 5", 1, "limit"),
     ("best low(Stars) group by City", "write by and the column", 1, "group"),
     ("best low(Stars) | high(x)", "there is no |", 1, "|"),
-    ("best low(Stars/x)", "no arithmetic", 1, "/x"),
+    ("best low(Stars) | high(x)", "there is no |, rPref's intersection: write * where both count at once", 1, "|"),
+    ("best low(Stars) + high(x)", "there is no +, rPref's disjoint union: write * where both count at once", 1, "+ high"),
+    ("best low(Stars/x)", "no arithmetic: add a column with the quotient", 1, "/x"),
+    ("best low(Stars+x)", "no arithmetic: add a column with the sum", 1, "+x"),
+    ("best low(Stars - x)", "no arithmetic: add a column with the difference", 1, "- x"),
+    ("best low(Stars * x)", "no arithmetic: add a column with the product", 1, "* x"),
+    ("best high(abs(x))", "a question has no functions: add a column with abs(..)", 2, "abs"),
+    ("best high(x(1))", "a question has no functions", 1, "(1"),
+    ("best empty()", "there is no empty preference: leave it out", 1, "empty"),
+    ("best true(x > 5)", "there are no conditions: pos(x, 'value') prefers a value", 1, "true"),
+    ("best pos(x, c(4, 6))", "values stand one after the other, as in pos(x, 4, 6). Here could stand a value of 'x', written like 59.9", 1, "c(4"),
+    ("best around(Stars, mean(x))", "a question has no functions: write the value in place of mean(..)", 1, "mean"),
+    ("best pos(City, )", "Here could stand a value of 'City', such as 'Lyon'", 1, ")"),
     ("best low(Stars);", "a question is one term", 1, ";"),
     ("best low(Stars", "the question breaks off. Here could stand a )", 1, ""),
     ("best (low(Stars) & (high(x))", "the question breaks off. Here could stand * (both at once)", 1, ""),
@@ -48,7 +60,7 @@ REFUSED = [
     ("best pos(Stars, 'many')", "column 'Stars' (decimal(1)): 'many' is no number", 1, "'many'"),
     ("best pos(Pool, 1)", "'1' is not true, false, yes or no", 1, "1)"),
     ("best between(Opened, '2026-01-01', '2026-02-31')", "'2026-02-31' is no date", 1, "'2026-02-31'"),
-    ("best around(Stars, )", "Here could stand a value of 'Stars', such as 59.90", 1, ")"),
+    ("best around(Stars, )", "Here could stand a value of 'Stars', written like 59.90", 1, ")"),
     ("best around(Stars, - 'x')", "Here could stand a value", 1, "'x'"),
     ("best low(City)", "column 'City' has texts, which have no order", 1, "low(City)"),
     ("best around(x, 1)", "around(..) needs a scale, as kinds={'x': 'decimal(2)'} gives it", 1, "around"),
@@ -57,6 +69,8 @@ REFUSED = [
     ("top_level 0 low(Stars)", "the count is 0: a count is from 1 to 1000", 6, "0 low"),
     ("top_level many low(Stars)", "Here could stand a count", 1, "many"),
     ("at_least 1001 low(Stars)", "a count is from 1 to 1000", 6, "1001"),
+    ("at_least 00000 low(Stars)", "the count is 00000: a count is from 1 to 1000", 6, "00000"),
+    ("top_level " + "9" * 5000 + " low(Stars)", f"the count is {'9' * 40}.. of 5000 digits: a count is from 1 to 1000", 6, "9" * 5000),
     ("best " + "-" * 65 + "low(Stars)", "more than 64 nestings", 4, "-low"),
     ("best " + "(" * 10000 + "low(Stars)", "more than 64 nestings", 4, "(" * (10000 - 64) + "low"),
     ("skyline City", "Here could stand of", 1, "City"),
@@ -107,6 +121,22 @@ class Refusals(TestCase):
         deeper = "best " + part + "(low(x) * low(Stars) & " * 64 + "low(x) * around(\"Price (EUR)\", 60.15)" + ")" * 64
         with self.refuses(prefq.Refused, "more than 64 nestings", kind="term", number=4, place=deeper.encode().index(b"around")):
             self.frame.best(deeper)
+
+    def test_the_caret_below_wide_signs(self):
+        """They take two places on a terminal, and signs that stand above others none."""
+        for before, blanks in [("best low(x) * ", 14), ("best pos(City, '東京') * ", 25), ("best pos(City, 'e\u0301') * ", 22), ("best\tpos(City, '東') * ", 23)]:
+            with self.subTest(before):
+                with self.assertRaises(prefq.Refused) as caught:
+                    self.frame.best(f"{before}hgh(x)")
+                self.assertEqual(len(str(caught.exception).splitlines()[2].expandtabs(1)), 4 + blanks + 1)
+
+    def test_signs_that_steer_a_terminal(self):
+        with self.refuses(prefq.Refused, "no column '\\x1b[31m\\u202e'"):
+            self.frame.best('best low("\x1b[31m\u202e")')
+        question = "best hgh(x) * pos(City, '\x9b31m\x1b\u202e')"
+        with self.assertRaises(prefq.Refused) as caught:
+            self.frame.best(question)
+        self.assertEqual([sign for sign in str(caught.exception) if not sign.isprintable()], ["\n", "\n"])
 
     def test_no_text(self):
         for question in (None, 5, b"best low(x)"):
@@ -192,6 +222,26 @@ class Spellings(TestCase):
             self.assertEqual(caught.filename, __file__)
             frame.insert({"City": "Lion"})
             self.assertEqual(frame.best("best pos(City, 'Lion')").ids, [4])
+
+    def test_an_example_of_a_value_is_one_of_the_column(self):
+        records = [{"long": "a" * 50, "choice": "M", "quote": "O'Hara", "none": None}, {"long": "b" * 50, "choice": "S", "quote": "x", "none": None}]
+        with prefq.Frame.from_records(records, kinds={"choice": "choice(S, M, L)", "none": "text"}) as frame:
+            for name, says in [("long", "written like 'Lyon'"), ("choice", "such as 'S'"), ("quote", "such as 'O''Hara'"), ("none", "written like 'Lyon'")]:
+                with self.refuses(prefq.Refused, f"Here could stand a value of '{name}', {says}\n"):
+                    frame.best(f"best pos({name}, )")
+
+    def test_long_names_and_texts_are_not_compared(self):
+        chance = random.Random(5)
+
+        def text(length, signs):
+            return "".join(chr(chance.randrange(0x4e00, 0x4e00 + signs)) for _ in range(length))
+
+        for length, count, signs in [(1000, 500, 20_000), (10_000, 16, 2), (100, 500, 2), (100, 500, 30), (4, 20_000, 3)]:
+            names = [text(length, signs) for _ in range(count)]
+            with self.subTest(length=length, count=count), self.within(2):
+                nearest(text(length, signs), names)
+        self.assertIsNone(nearest("x" * 101, ["x" * 101]))
+        self.assertEqual(nearest("x" * 99 + "y", ["z", "x" * 100]), "x" * 100)
 
     def test_nearest(self):
         names = ["Price (EUR)", "Distance km", "x", "X"]

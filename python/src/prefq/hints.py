@@ -1,7 +1,7 @@
 """What a refusal says beside what is wrong: the nearest name, and how this language writes what another one does."""
-import difflib
 import re
-from typing import Optional, Sequence
+from difflib import SequenceMatcher
+from typing import Iterable, Optional, Sequence
 
 from .columns import listed, spelled
 
@@ -18,9 +18,15 @@ SLIPS = {
     "group": "write by and the column",
     "order": "low(x) prefers the smallest value of x, high(x) the largest",
     "where": "a question has no conditions: pos(x, 'value') and between(x, 1, 5) prefer rows",
-    "true": "a question has no conditions: pos(x, 'value') and between(x, 1, 5) prefer rows",
+    "true": "there are no conditions: pos(x, 'value') prefers a value, between(x, 1, 5) a range, high(x) true of true and false",
+    "empty": "there is no empty preference: leave it out",
     "select": "a question begins with best, as in best low(x) * low(y)",
     "distinct": "write skyline of distinct x min, y max",
+}
+# Between two terms, and anywhere else.
+BETWEEN_TERMS = {
+    "|": "there is no |, rPref's intersection: write * where both count at once, & where the first decides",
+    "+": "there is no +, rPref's disjoint union: write * where both count at once, & where the first decides",
 }
 SIGNS = {
     "|": "there is no |: write * where both count at once, & where the first decides",
@@ -31,17 +37,50 @@ SIGNS = {
     "+": "a question has no arithmetic: add a column with the sum",
     ";": "a question is one term: write * or & between two",
 }
+# In the place of a ) behind the name of a column.
+ARITHMETIC = {
+    "-": "a question has no arithmetic: add a column with the difference",
+    "*": "a question has no arithmetic: add a column with the product",
+    "(": "a question has no functions: add a column with what it gives",
+}
+LONGEST_COMPARED = 100
+# To look at as many signs, or to compare as many pairs of them, takes some ten milliseconds at most.
+SIGNS_COMPARED = 40_000
 
 
 def nearest(name: str, names: Sequence[str]) -> Optional[str]:
-    """The name that is most like another one: the same in other capitals, or a similar one or one with a similar word, or one that contains it."""
+    """The name that is most like another one: the same in other capitals, or a similar one or one with a similar word, or one that contains it. Only short
+    names are compared."""
+    if len(name) > LONGEST_COMPARED:
+        return None
     wanted = name.casefold()
-    folded = {other.casefold(): other for other in reversed(names)}
-    words = {word: other for other in reversed(names) for word in re.findall(r"\w{3,}", other.casefold())}
-    near = difflib.get_close_matches(wanted, folded, 1) or difflib.get_close_matches(wanted, words, 1, 0.7)
+    short = [other for other in reversed(names) if len(other) <= LONGEST_COMPARED]
+    folded = {other.casefold(): other for other in short}
+    words = {word: other for other in short for word in re.findall(r"\w{3,}", other.casefold())}
+    if wanted in folded:
+        return folded[wanted]
+    near = most_like(wanted, folded) or most_like(wanted, words, 0.7)
     within = [other for other in folded if wanted and (wanted in other or other in wanted)]
-    found = wanted if wanted in folded else near[0] if near else min(within, key=len) if within else ""
+    found = near or (min(within, key=len) if within else "")
     return {**words, **folded}.get(found)
+
+
+def most_like(text: str, others: Iterable[str], least: float = 0.6) -> Optional[str]:
+    """The text that is most like another one, from this ratio on; of many only the first ones are compared."""
+    if len(text) > LONGEST_COMPARED:
+        return None
+    matcher = SequenceMatcher(b=text, autojunk=False)
+    found, left = None, SIGNS_COMPARED
+    for other in others:
+        matcher.set_seq1(other)
+        if matcher.real_quick_ratio() < least:
+            continue
+        left -= len(other)
+        if left > 0 and matcher.quick_ratio() >= least:
+            left -= len(text) * len(other)
+            if left > 0 and matcher.ratio() >= least:
+                found, least = other, matcher.ratio()
+    return found
 
 
 def unknown_column(name: str, names: Sequence[str]) -> str:
@@ -60,25 +99,36 @@ def hint_for_mode(question: str, kind: str, text: str, names: Sequence[str]) -> 
         return f": write best {question.strip()}"
     if kind == "word" and text.lower() in SLIPS:
         return f": {SLIPS[text.lower()]}"
-    near = difflib.get_close_matches(text, MODES, 1) if kind == "word" else []
-    return f"; did you mean {near[0]}?" if near else ""
+    near = most_like(text, MODES) if kind == "word" else None
+    return f"; did you mean {near}?" if near else ""
 
 
 def hint_for(kind: str, text: str, could: str, names: Sequence[str]) -> str:
     """What is said of a token that cannot stand where it stands, beside what could."""
-    if kind == "word" and "such as" in could:
-        return f"a text stands in quotes, '{text}'"
     if kind in ("word", "name") and could.startswith("low(..)"):
         return _in_place_of_a_term(text, names)
     if (kind, text) == ("sign", ",") and could.startswith("*"):
         return "no comma stands between two terms"
+    if kind == "sign" and could == "a )":
+        return ARITHMETIC.get(text, "")
+    if text in BETWEEN_TERMS and could.startswith("*"):
+        return BETWEEN_TERMS[text]
     return (SIGNS if kind == "strange" else SLIPS if kind == "word" else {}).get(text.lower(), "")
+
+
+def hint_for_value(kind: str, text: str, is_called: bool) -> str:
+    """What is said of a token in the place of a value."""
+    if kind != "word":
+        return ""
+    if not is_called:
+        return f"a text stands in quotes, '{text}'"
+    return "values stand one after the other, as in pos(x, 4, 6)" if text == "c" else f"a question has no functions: write the value in place of {text}(..)"
 
 
 def _in_place_of_a_term(text: str, names: Sequence[str]) -> str:
     if text not in names and text.lower() in SLIPS:
         return SLIPS[text.lower()]
-    near = None if text in names else next(iter(difflib.get_close_matches(text.lower(), BASES, 1)), None)
+    near = None if text in names else most_like(text.lower(), BASES)
     if near:
         return f"did you mean {near}(..)?"
     found = nearest(text, names)

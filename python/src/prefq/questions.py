@@ -7,12 +7,15 @@ import re
 from dataclasses import dataclass
 from typing import Callable, List, NamedTuple, NoReturn, Optional, Sequence, Tuple, Union
 
-from .columns import Column
+from .columns import Column, quoted
 from .errors import Refused
-from .hints import hint_for, hint_for_mode, unknown_column
+from .hints import hint_for, hint_for_mode, hint_for_value, unknown_column
+from .kinds import Texts
 
 UNEXPECTED, UNKNOWN_COLUMN, NUMBER_RANGE, TOO_DEEP, TOO_LONG, BAD_COUNT, NO_MIN_OR_MAX, EMPTY_RANGE = 1, 2, 3, 4, 5, 6, 7, 9
 DEEPEST = 64
+MOST_LEVELS = 1000
+LONGEST_EXAMPLE = 40
 TERMS = "low(..), high(..), around(..), between(..), pos(..), layered(..), reverse(..), - or ("
 SIGNS = "* (both at once), & (the first decides)"
 TOKEN = re.compile(r"""(?P<blank>[ \t\r\n]+)
@@ -120,6 +123,13 @@ def explained(why: Refused, columns: Sequence[str]) -> Refused:
     return why
 
 
+def value_of(column: Column) -> str:
+    """What could stand in the place of a value: one of the column's own, where these are texts, else how one is written."""
+    texts = column.kind.texts if isinstance(column.kind, Texts) else []
+    short = next((text for text in texts if len(text) <= LONGEST_EXAMPLE), None)
+    return f"a value of {column.name!r}, " + (f"written like {column.kind.example}" if short is None else f"such as {quoted(short)}")
+
+
 class Reader:
     """Reads a question from the left."""
 
@@ -154,12 +164,17 @@ class Reader:
             return None
         return self._take().text.lower()
 
-    def _unexpected(self, could: str) -> NoReturn:
+    def _is_called(self) -> bool:
+        """Whether the next token is called as a function."""
+        after = self._ahead(1)
+        return (after.kind, after.text) == ("sign", "(")
+
+    def _unexpected(self, could: str, hint: str = "") -> NoReturn:
         token = self._next
         if token.kind == "strange" and token.text in "\"'`":
             refuse(self._question, token.place, f"the quote {token.text} is not closed")
         found = "the question breaks off" if token.kind == "end" else f"unexpected {self._question[token.place:token.place + token.length]}"
-        hint = hint_for(token.kind, token.text, could, self._names)
+        hint = hint or hint_for(token.kind, token.text, could, self._names)
         refuse(self._question, token.place, f"{found}{': ' * bool(hint)}{hint}. Here could stand {could}")
 
     def _need(self, sign: str) -> None:
@@ -198,10 +213,13 @@ class Reader:
         token = self._next
         if token.kind != "number" or not token.text.isdigit():
             self._unexpected("a count from 1 to 1000")
-        if not 1 <= int(token.text) <= 1000:
-            refuse(self._question, token.place, f"the count is {token.text}", BAD_COUNT)
+        digits = token.text.lstrip("0")
+        count = int(digits) if 0 < len(digits) <= len(str(MOST_LEVELS)) else 0
+        if not 1 <= count <= MOST_LEVELS:
+            shown = token.text if len(token.text) <= LONGEST_EXAMPLE else f"{token.text[:LONGEST_EXAMPLE]}.. of {len(token.text)} digits"
+            refuse(self._question, token.place, f"the count is {shown}", BAD_COUNT)
         self._at += 1
-        return int(token.text)
+        return count
 
     def _columns(self) -> Tuple[Column, ...]:
         found = [self._name()]
@@ -215,7 +233,8 @@ class Reader:
             self._unexpected("the name of a column")
         column = self._column(token.text)
         if column is None:
-            refuse(self._question, token.place, unknown_column(token.text, self._names), UNKNOWN_COLUMN)
+            said = f"a question has no functions: add a column with {token.text}(..)" if self._is_called() else unknown_column(token.text, self._names)
+            refuse(self._question, token.place, said, UNKNOWN_COLUMN)
         self._at += 1
         return column
 
@@ -301,7 +320,7 @@ class Reader:
         token = self._next
         good = token.kind == "number" if sign else token.kind in ("number", "date", "text", "name")
         if not good and not (token.kind == "word" and column.kind.name == "bool" and not sign):
-            self._unexpected(f"a value of {column.name!r}, such as {column.kind.example}")
+            self._unexpected(value_of(column), hint_for_value(token.kind, token.text, self._is_called()))
         self._at += 1
         return Value(sign + token.text, place)
 
