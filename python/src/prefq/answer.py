@@ -1,7 +1,6 @@
 """The answer to a question: a list of records, and how it is shown, written and drawn."""
 import csv
 import html
-import io
 import json
 import math
 import os
@@ -11,11 +10,13 @@ from typing import Any, Callable, Iterable, List, Optional, Sequence, TextIO, Un
 from .columns import Column
 from .errors import Ended
 from .records import Record
+from .visible import SURROGATE, in_xml, visible, width
 
 Target = Union[str, "os.PathLike[str]", TextIO, None]
 ROWS_SHOWN = 20
 ROWS_IN_A_NOTEBOOK = 200
 WIDEST = 40
+LINE_END = "\r\n"
 
 
 class Answer(List[Record]):
@@ -83,14 +84,14 @@ class Answer(List[Record]):
         return self._lines(self[:ROWS_SHOWN]) + (f"\n.. and {more} rows more" if more > 0 else "")
 
     def to_text(self) -> str:
-        """All rows as a table of text."""
+        """All rows as a table of text, for a person: long cells are cut, and signs that steer a terminal are shown as \\x1b and so on."""
         return self._lines(self)
 
     def _lines(self, records: Sequence[Record]) -> str:
         shown = [[_short(cell) for cell in row] for row in [self.heading, *map(self.cells, records)]]
-        widths = [max(map(len, cells)) for cells in zip(*shown)]
+        widths = [max(map(width, cells)) for cells in zip(*shown)]
         right = [True, True, *(column.kind.name in ("whole", "decimal", "float") for column in self.columns)]
-        return "\n".join("  ".join(cell.rjust(width) if side else cell.ljust(width) for cell, width, side in zip(row, widths, right)).rstrip() for row in shown)
+        return "\n".join("  ".join(map(_padded, row, widths, right)).rstrip() for row in shown)
 
     def _repr_html_(self) -> str:
         more = len(self) - ROWS_IN_A_NOTEBOOK
@@ -102,21 +103,35 @@ class Answer(List[Record]):
 
     def _table(self, records: Sequence[Record]) -> str:
         def row(cells: Iterable[str], tag: str) -> str:
-            return "<tr>" + "".join(f"<{tag}>{html.escape(cell)}</{tag}>" for cell in cells) + "</tr>\n"
+            return "<tr>" + "".join(f"<{tag}>{html.escape(in_xml(cell))}</{tag}>" for cell in cells) + "</tr>\n"
 
         head, body = row(self.heading, "th"), "".join(row(self.cells(record), "td") for record in records)
-        return f'<table class="prefq">\n<caption>{html.escape(self.question)}</caption>\n<thead>\n{head}</thead>\n<tbody>\n{body}</tbody>\n</table>'
+        return f'<table class="prefq">\n<caption>{html.escape(in_xml(self.question))}</caption>\n<thead>\n{head}</thead>\n<tbody>\n{body}</tbody>\n</table>'
 
     def to_csv(self, target: Target = None) -> Optional[str]:
-        """Comma-separated values, with the names in front: into a file, or as a text where none is given."""
-        text = io.StringIO(newline="")
-        writer = csv.writer(text, lineterminator="\n")
+        """Comma-separated values, with the names in front: into a file, or as a text where none is given. A text with a lone surrogate, which UTF-8 does not
+        have, is a ValueError that names its row, and the file is as it was."""
+        lines = Lines()
+        # With these line ends, each cell with a part of one stands in quotes.
+        writer = csv.writer(lines, lineterminator=LINE_END)
         writer.writerow(self.heading)
         writer.writerows(map(self.cells, self))
-        return _given(text.getvalue(), target)
+        text = "".join(lines)
+        if target is not None and SURROGATE.search(text):
+            raise ValueError(self._not_writable())
+        return _given(text, target)
+
+    def _not_writable(self) -> str:
+        """The first text that no file of UTF-8 can have."""
+        name = next(filter(SURROGATE.search, self.names), None)
+        if name is not None:
+            return f"the name of column {self.names.index(name) + 1} is {name!r}, which UTF-8 does not have"
+        return next(f"row {record.id}, column {name!r} is {cell!r}, which UTF-8 does not have"
+                    for record in self for name, cell in zip(self.heading, self.cells(record)) if SURROGATE.search(cell))
 
     def to_json(self, target: Target = None, *, indent: Optional[int] = None) -> Optional[str]:
-        """A list of objects: into a file, or as a text where none is given. Decimals keep all their digits, dates are texts, and what is missing is null."""
+        """A list of objects: into a file, or as a text where none is given. Decimals keep all their digits, dates are texts, and what is missing is null.
+        Lone surrogates, which UTF-8 does not have, are written as \\ud800 and so on, as JSON has them."""
         apart, begin, end = (", ", "", "") if indent is None else (",\n" + 2 * indent * " ", "\n" + 2 * indent * " ", "\n" + indent * " ")
         line = "" if indent is None else "\n" + indent * " "
         objects = []
@@ -125,7 +140,8 @@ class Answer(List[Record]):
             pairs = [f"{json.dumps(name, ensure_ascii=False)}: {_json(value, self._column(place))}" for place, (name, value) in enumerate(zip(self.heading, values))]
             objects.append("{" + begin + apart.join(pairs) + end + "}")
         between = ", " if indent is None else f",{line}"
-        return _given("[" + (line if objects else "") + between.join(objects) + ("\n" if indent is not None and objects else "") + "]\n", target)
+        text = "[" + (line if objects else "") + between.join(objects) + ("\n" if indent is not None and objects else "") + "]\n"
+        return _given(SURROGATE.sub(lambda found: f"\\u{ord(found[0]):x}", text), target)
 
     def _column(self, place: int) -> Optional[Column]:
         return self.columns[place - 2] if place >= 2 else None
@@ -154,8 +170,20 @@ class Answer(List[Record]):
             return list(self)
 
 
+class Lines(List[str]):
+    """What a `csv.writer` writes, each record with a line feed behind it."""
+
+    def write(self, line: str) -> None:
+        self.append(line[:-len(LINE_END)] + "\n")
+
+
+def _padded(cell: str, places: int, right: bool) -> str:
+    blanks = " " * (places - width(cell))
+    return blanks + cell if right else cell + blanks
+
+
 def _short(cell: str) -> str:
-    line = " ".join(cell.split())
+    line = visible(" ".join(cell.split()))
     return line if len(line) <= WIDEST else line[:WIDEST - 1] + "…"
 
 

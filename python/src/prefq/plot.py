@@ -12,6 +12,7 @@ from .errors import Refused
 from .hints import unknown_column
 from .kinds import Booleans, Choices, Clock, Texts
 from .questions import Base, Converse, Product, Question, Term, read_question
+from .visible import in_xml
 
 WIDTH, HEIGHT = 720, 480
 LEFT, RIGHT, TOP, BOTTOM = 96, 150, 44, 56
@@ -235,7 +236,7 @@ def _svg_axes(what: Drawing, xs: Scale, ys: Scale) -> List[str]:
         parts += [f'<path d="M{left} {ys.at(place):.1f}h-5" stroke="#444"/>', _text(left - 8, ys.at(place) + 4, text, anchor="end")]
     middle = (TOP + bottom) / 2
     return [*parts, _text((left + WIDTH - RIGHT) / 2, HEIGHT - 12, label_of(what.x), anchor="middle"),
-            f'<text x="18" y="{middle}" text-anchor="middle" transform="rotate(-90 18 {middle})">{html.escape(label_of(what.y))}</text>']
+            f'<text x="18" y="{middle}" text-anchor="middle" transform="rotate(-90 18 {middle})">{_escaped(label_of(what.y))}</text>']
 
 
 def _svg_legend(what: Drawing) -> List[str]:
@@ -254,7 +255,11 @@ def _circle(point: Point, xs: Scale, ys: Scale, radius: float, colour: str) -> s
 
 
 def _text(x: float, y: float, text: str, anchor: str = "start", size: int = 12) -> str:
-    return f'<text x="{x:.1f}" y="{y:.1f}" text-anchor="{anchor}" font-size="{size}">{html.escape(text)}</text>'
+    return f'<text x="{x:.1f}" y="{y:.1f}" text-anchor="{anchor}" font-size="{size}">{_escaped(text)}</text>'
+
+
+def _escaped(text: str) -> str:
+    return html.escape(in_xml(text))
 
 
 def _levels(what: Drawing) -> List[Optional[int]]:

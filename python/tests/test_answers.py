@@ -1,0 +1,91 @@
+"""What an answer writes: files that come back as they were, valid XML, and text that does not steer a terminal."""
+import csv
+import io
+import json
+import tempfile
+import unittest
+import unicodedata
+from pathlib import Path
+from xml.etree import ElementTree
+
+import prefq
+from prefq.answer import Answer
+from prefq.columns import Column
+from prefq.records import Record
+from prefq.visible import visible, width
+from support import TestCase
+
+TEXTS = ["a\rb", "\r", "a\nb", "a\r\nb", '"', ",", " x ", "\x1b[31mred", "\t", "plain"]
+
+
+class Answers(TestCase):
+    def setUp(self):
+        folder = tempfile.TemporaryDirectory()
+        self.addCleanup(folder.cleanup)
+        self.path = Path(folder.name, "answer")
+
+    def answer(self, texts, question="best low(x)", name="text"):
+        records = [Record([(name, text), ("x", number)], id=number, level=1) for number, text in enumerate(texts, 1)]
+        return Answer(question, [Column(name, "text"), Column("x", "whole")], records)
+
+    def test_csv_comes_back_as_it_was(self):
+        answer = self.answer(TEXTS)
+        answer.to_csv(self.path)
+        for lines in (io.StringIO(answer.to_csv(), newline=""), io.StringIO(self.path.read_bytes().decode(), newline="")):
+            self.assertEqual([row[2] for row in csv.reader(lines)][1:], TEXTS)
+        self.assertEqual(self.answer(["a", "b"]).to_csv(), "level,id,text,x\n1,1,a,1\n1,2,b,2\n")
+
+    def test_a_frame_reads_its_own_csv(self):
+        texts = ["a\rb", "a\nb", "plain"]
+        with prefq.Frame.from_records([{"text": text, "x": 1} for text in texts]) as frame:
+            frame.best("best low(x)").to_csv(self.path)
+        with prefq.Frame.from_csv(self.path) as again:
+            self.assertEqual([row.text for row in again.rows()], texts)
+
+    def test_lone_surrogates(self):
+        """UTF-8 does not have them: JSON escapes them, pictures and HTML replace them, and a CSV file is refused before it is touched."""
+        texts = ["good", "a\ud800b", "\udcff"]
+        answer = self.answer(texts, "best low(x) & pos(text, '\ud800')")
+        self.path.write_text("as before")
+        with self.refuses(ValueError, r"row 2, column 'text' is 'a\ud800b', which UTF-8 does not have"):
+            answer.to_csv(self.path)
+        self.assertEqual(self.path.read_text(), "as before")
+        with self.refuses(ValueError, r"the name of column 1 is '\ud800', which UTF-8 does not have"):
+            self.answer(["good"], name="\ud800").to_csv(self.path)
+        self.assertIn("a\ud800b", answer.to_csv())
+        answer.to_json(self.path)
+        self.assertEqual([record["text"] for record in json.loads(self.path.read_text(encoding="utf-8"))], texts)
+        for text in (answer.to_html(), answer.to_svg(), answer.to_text(), repr(answer)):
+            text.encode()
+        answer.to_svg(self.path)
+        ElementTree.parse(self.path)
+
+    def test_pictures_and_html_are_xml(self):
+        for sign in ("\x00", "\x01", "\x1b", "\x0b", "\ufffe", "\uffff", "\ud800", "<", "&", "\x7f", "\x85"):
+            answer = self.answer([f"a{sign}b"], f"best low(x) & pos(text, '{sign}')", f"te{sign}xt")
+            with self.subTest(sign=sign):
+                ElementTree.fromstring(answer.to_svg(x=f"te{sign}xt", y="x"))
+                ElementTree.fromstring(answer.to_svg(x="x", y=f"te{sign}xt"))
+                ElementTree.fromstring(answer.to_html())
+
+    def test_text_does_not_steer_a_terminal(self):
+        texts = ["\x1b[2J\x1b[31mred", "\x9b31m", "bell\x07", "\u202eturned", "\x00", "e\u0301", "👩\u200d👩"]
+        answer = self.answer(texts, name="na\x1bme")
+        for text in (repr(answer), answer.to_text()):
+            self.assertEqual([line.split()[2] for line in text.splitlines()], [r"na\x1bme", r"\x1b[2J\x1b[31mred", r"\x9b31m", r"bell\x07", r"\u202eturned", r"\x00", *texts[5:]])
+        self.assertIn("\x1b[2J", answer.to_csv())
+        self.assertEqual(json.loads(answer.to_json())[0]["na\x1bme"], texts[0])
+
+    def test_wide_signs_stand_in_line(self):
+        lines = self.answer(["東京", "Köln", "ab"]).to_text().splitlines()
+        self.assertEqual({width(line) for line in lines}, {width(lines[0])})
+
+    def test_each_control_sign_is_visible(self):
+        for number in range(0x110000):
+            sign = chr(number)
+            if unicodedata.category(sign) in ("Cc", "Cs"):
+                self.assertTrue(visible(sign).isprintable(), number)
+
+
+if __name__ == "__main__":
+    unittest.main()
