@@ -6,7 +6,7 @@ answer of a picture are those of one version. Where the table's program ends, it
 import threading
 from typing import Any, Callable, Dict, List, Mapping, NamedTuple, Optional, Tuple, TypeVar
 
-from .columns import Column
+from .columns import Column, listed
 from .errors import Ended, Refused
 from .frame import Frame, without_twins
 from .hints import unknown_column
@@ -33,6 +33,21 @@ class Found(NamedTuple):
     level: int
     id: int
     numbers: Numbers
+
+
+class Changed(Refused):
+    """Others have changed a row since the version that was seen, so it is neither updated nor deleted.
+
+    `version` is the one now; `values` are those that have changed since the one that was seen, as they are now, by the names of their columns.
+    """
+
+    def __init__(self, message: str, version: int, values: Dict[str, Any]) -> None:
+        super().__init__(message, "changed")
+        self.version = version
+        self.values = values
+
+    def __reduce__(self):  # type: ignore[no-untyped-def]
+        return type(self), (self.args[0], self.version, self.values)
 
 
 class Picture(NamedTuple):
@@ -70,6 +85,9 @@ class Desk:
         self._rows: Dict[int, Held] = {number: Held(number, tuple(numbers)) for number, numbers in frame.table.rows()}
         self._at = {number: number for number in self._rows}
         self._next = max(self._rows, default=0) + 1
+        # The versions in which the cells of a row changed last, by its id; none of a row that is as it came.
+        self._since: Dict[int, Tuple[int, ...]] = {}
+        self._subscribed: List[Callable[[], None]] = []
 
     def __enter__(self) -> "Desk":
         return self
@@ -81,8 +99,12 @@ class Desk:
         """Ends the table, and wakes who waits for a change."""
         with self._changed:
             self._closed = True
-            self._changed.notify_all()
+            self._wake()
         self.table.close()
+
+    @property
+    def is_closed(self) -> bool:
+        return self._closed
 
     def __len__(self) -> int:
         return len(self._rows)
@@ -103,23 +125,39 @@ class Desk:
             return self._next - 1
         return self._change(change)
 
-    def update(self, id: int, values: Mapping[str, Any]) -> None:
-        """Gives a row these values; the others stay."""
+    def update(self, id: int, values: Mapping[str, Any], *, seen: Optional[int] = None) -> None:
+        """Gives a row these values; the others stay. With the version that was `seen`, no value is overwritten that others have changed since: `Changed` has
+        what it is now. Without it the last one counts."""
         def change(table: Table) -> None:
             at = self._place(id)
-            before = dict(zip(self._named, self._rows[at].numbers))
-            numbers = self._encoded(values, before)
+            before = self._rows[at].numbers
+            numbers = self._encoded(values, dict(zip(self._named, before)))
+            self._check_unchanged(id, [name in values for name in self._named], seen)
             table.update(at, numbers)
             self._rows[at] = Held(id, numbers)
+            self._since[id] = tuple(version if new == old else self.version + 1 for new, old, version in zip(numbers, before, self._versions(id)))
         self._change(change)
 
-    def delete(self, id: int) -> None:
-        """Deletes a row."""
-        def change(table: Table) -> None:
+    def delete(self, id: int, *, seen: Optional[int] = None) -> Dict[str, Any]:
+        """Deletes a row, and returns its values. With the version that was `seen`, a row that others have changed since stays: `Changed` has what is new."""
+        def change(table: Table) -> Dict[str, Any]:
             at = self._place(id)
+            self._check_unchanged(id, [True] * len(self.columns), seen)
             table.delete(at)
-            del self._rows[at], self._at[id]
-        self._change(change)
+            del self._at[id]
+            self._since.pop(id, None)
+            return self.record(self._rows.pop(at).numbers)
+        return self._change(change)
+
+    def subscribe(self, call: Callable[[], None]) -> Callable[[], None]:
+        """Has this called after each change and at the close, by the thread that makes it, so it must be quick. Returns what ends it."""
+        with self._changed:
+            self._subscribed.append(call)
+
+        def end() -> None:
+            with self._changed:
+                self._subscribed.remove(call)
+        return end
 
     def wait(self, seen: Optional[int], seconds: float) -> int:
         """The version, as soon as it is another than `seen`, but after this number of seconds at the latest."""
@@ -170,12 +208,34 @@ class Desk:
             raise Refused(f"no such row {id}", "client", 7)
         return self._at[id]
 
+    def _versions(self, id: int) -> Tuple[int, ...]:
+        """The versions in which the cells of a row changed last."""
+        return self._since.get(id, (1,) * len(self.columns))
+
+    def _check_unchanged(self, id: int, wanted: List[bool], seen: Optional[int]) -> None:
+        """Refuses a change of the columns that are wanted, where others have changed one of them since the version that was seen."""
+        if seen is None:
+            return
+        if seen > self.version:     # of another desk: nothing of this one was seen
+            seen = 0
+        are_new = [version > seen for version in self._versions(id)]
+        if any(is_new and is_wanted for is_new, is_wanted in zip(are_new, wanted)):
+            values = self.record(self._rows[self._at[id]].numbers)
+            names = [column.name for column, is_new, is_wanted in zip(self.columns, are_new, wanted) if is_new and is_wanted]
+            raise Changed(f"somebody else has changed {listed(names)} of row {id} since", self.version,
+                          {column.name: values[column.name] for column, is_new in zip(self.columns, are_new) if is_new})
+
     def _change(self, change: Callable[[Table], Result]) -> Result:
         with self._changed:
             result = self._surviving(change)
             self.version += 1
-            self._changed.notify_all()
+            self._wake()
             return result
+
+    def _wake(self) -> None:
+        self._changed.notify_all()
+        for call in self._subscribed:
+            call()
 
     def _surviving(self, call: Callable[[Table], Result]) -> Result:
         """A call of the table; where its program has ended, it is started again with the rows as they are, and called once more, a few times at most."""
