@@ -19,9 +19,10 @@ from urllib.parse import urlencode
 
 import prefq
 from prefq import pictures
-from prefq import server as server_module
+from prefq import replies
 from prefq.desk import Desk
-from prefq.server import MOST_BODY, Server
+from prefq.replies import MOST_BODY
+from prefq.server import Server
 from support import TestCase, kill, standing_still
 
 EXAMPLES = Path(__file__).resolve().parents[2] / "examples"
@@ -49,14 +50,19 @@ def served(records=RECORDS, **options):
             thread.join()
 
 
+def get(server, path, method="GET", body=None, headers=None):
+    """A reply, and its body."""
+    with contextlib.closing(http.client.HTTPConnection(*server.server_address[:2], timeout=30)) as connection:
+        given = {"Content-Type": "application/json"} if body is not None else {}
+        connection.request(method, path, json.dumps(body) if isinstance(body, (dict, list)) else body, {**given, **(headers or {})})
+        reply = connection.getresponse()
+        return reply, reply.read()
+
+
 def ask(server, method, path, body=None, headers=None):
     """The status of a reply and its JSON."""
-    connection = http.client.HTTPConnection(*server.server_address[:2], timeout=30)
-    with contextlib.closing(connection):
-        given = {"Content-Type": "application/json"} if body is not None else {}
-        connection.request(method, path, body if body is None or isinstance(body, (bytes, str)) else json.dumps(body), {**given, **(headers or {})})
-        reply = connection.getresponse()
-        return reply.status, json.loads(reply.read())
+    reply, received = get(server, path, method, body, headers)
+    return reply.status, json.loads(received)
 
 
 def picture(server, question=QUESTION, **axes):
@@ -107,24 +113,38 @@ def exchange(server, data):
         return b"".join(iter(lambda: connection.recv(65_536), b""))
 
 
-class Pictures(TestCase):
+class Served(TestCase):
+    """Tests of what any server of the page replies."""
+
+    served = staticmethod(served)
+
+
+class Pictures(Served):
     def test_about_and_the_files_of_the_page(self):
-        with served(title="Hotels", questions=["best low(Distance)"]) as server:
+        with self.served(title="Hotels", questions=["best low(Distance)"]) as server:
             status, about = ask(server, "GET", "/about")
             self.assertEqual((status, about["title"], about["questions"], about["editable"]), (200, "Hotels", ["best low(Distance)"], True))
             self.assertEqual([(column["name"], column["spelled"], column["axis"]) for column in about["columns"]],
                              [("Hotel", "Hotel", False), ("Price (EUR)", '"Price (EUR)"', True), ("Distance", "Distance", True), ("Opened", "Opened", True)])
-            for path, kind in [("/", b"text/html"), ("/page.css", b"text/css"), ("/page.js", b"text/javascript"), ("/plot.js", b"text/javascript")]:
-                reply = exchange(server, f"GET {path} HTTP/1.1\r\nHost: localhost\r\nConnection: close\r\n\r\n".encode())
-                self.assertTrue(reply.startswith(b"HTTP/1.1 200 "), reply[:200])
-                self.assertIn(b"Content-Type: " + kind, reply)
-                self.assertIn(b"default-src 'none'", reply)
-                self.assertNotIn(b"http://", reply.replace(b"http://www.w3.org/2000/svg", b""))
+            for path, kind in [("/", "text/html"), ("/page.css", "text/css"), ("/page.js", "text/javascript"), ("/edit.js", "text/javascript"), ("/parts.js", "text/javascript"), ("/plot.js", "text/javascript")]:
+                reply, body = get(server, path)
+                self.assertEqual((reply.status, reply.getheader("Content-Type")), (200, f"{kind}; charset=utf-8"))
+                self.assertIn("default-src 'none'", reply.getheader("Content-Security-Policy"))
+                self.assertNotIn(b"http://", body.replace(b"http://www.w3.org/2000/svg", b""))
             for path in ("/no", "/../serve.py", "/page/../../serve.py", "/page.js/", "/rows"):
                 self.assertEqual(ask(server, "GET", path)[0], 404, path)
 
+    def test_heads_alone(self):
+        with self.served() as server:
+            for path, status in [("/", 200), ("/about", 200), (f"/picture?{urlencode({'question': QUESTION})}", 200), ("/events", 200), ("/no", 404), ("/picture?question=x", 400)]:
+                reply, body = get(server, path, "HEAD")
+                self.assertEqual((reply.status, body), (status, b""), path)
+                if path != "/events":
+                    self.assertEqual(reply.getheader("Content-Length"), str(len(get(server, path)[1])), path)
+            self.assertEqual(ask(server, "OPTIONS", "/rows")[0], 501)
+
     def test_a_picture(self):
-        with served() as server:
+        with self.served() as server:
             status, shown = picture(server)
             self.assertEqual((status, shown["version"], shown["count"], shown["found"], shown["axes"]), (200, 1, 4, 4, ["Price (EUR)", "Distance"]))
             self.assertEqual([(row["id"], row["level"], row["x"], row["y"]) for row in shown["best"]], [(1, 1, 59.9, 900), (2, 1, 49.5, 2500), (4, 1, None, 100), (3, 2, 80, 1200)])
@@ -139,26 +159,12 @@ class Pictures(TestCase):
 
     def test_twins_of_a_distinct_clause(self):
         records = [{"Hotel": name, "Price (EUR)": price, "Distance": 1} for name, price in [("a", "5"), ("b", None), ("c", "5"), ("d", "5")]]
-        with served(records) as server:
+        with self.served(records) as server:
             shown = picture(server, 'skyline of distinct "Price (EUR)" min, Distance min')[1]
             self.assertEqual([row["id"] for row in shown["best"]], [1])
 
-    def test_texts_alone(self):
-        with Desk(prefq.Frame.from_records([{"Hotel": "b'"}, {"Hotel": "a"}])) as desk, Server(desk) as server:
-            self.assertEqual(server.about["questions"], ["best pos(Hotel, 'b''')"])
-            shown = pictures.picture(desk, server.about["questions"][0])
-            self.assertEqual(([row["cells"] for row in shown["best"]], shown["axes"]), ([["b'"]], [None, None]))
-
-    def test_a_large_table_is_sampled(self):
-        records = [{"Hotel": str(number), "Price (EUR)": number, "Distance": 5} for number in range(3000)]
-        with served(records) as server:
-            shown = picture(server, "best low(Distance)")[1]
-            self.assertEqual((shown["count"], shown["found"], len(shown["best"]), shown["others"]), (3000, 3000, pictures.MOST_BEST, []))
-            shown = picture(server, 'best low("Price (EUR)")')[1]
-            self.assertEqual((shown["found"], len(shown["others"])), (1, 1500))
-
     def test_a_question_is_refused_at_its_character(self):
-        with served() as server:
+        with self.served() as server:
             for question, place, said in [("best low(Distanse)", 9, "did you mean Distance"), ("low(Distance)", 0, "write best low(Distance)"), ("best low(Distance) *", 20, "breaks off"),
                                           ("best pos(Hotel, 'Über', Nö)", 24, "unexpected Nö"), ("", 0, "begins with"), ("best low(Hotel)", 5, "no order"),
                                           ("best low(Distance)\nas 1 room", 19, "unexpected as"), ("best low(Distance) <script>", 19, "unexpected <")]:
@@ -168,6 +174,123 @@ class Pictures(TestCase):
                 with Events(server, question) as events:
                     self.assertEqual(events.next(), ("refused", shown))
                     self.assertEqual(events.next()[0], "end")
+
+
+class Changes(Served):
+    def test_insert_update_delete(self):
+        with self.served() as server:
+            self.assertEqual(ask(server, "POST", "/rows", {"Hotel": "New", "Price (EUR)": "9.5", "Distance": 9, "Opened": ""}), (201, {"id": 5}))
+            self.assertEqual(picture(server)[1]["best"][0]["cells"], ["New", "9.50", "9", ""])
+            self.assertEqual(ask(server, "PUT", "/rows/5", {"Price (EUR)": 1200.25}), (200, {"id": 5}))
+            self.assertEqual({row["id"]: row["cells"] for row in picture(server)[1]["best"]}[5], ["New", "1200.25", "9", ""])
+            self.assertEqual(ask(server, "DELETE", "/rows/5"), (200, {"id": 5, "values": {"Hotel": "New", "Price (EUR)": "1200.25", "Distance": "9", "Opened": None}}))
+            self.assertEqual(ask(server, "DELETE", "/rows/5")[0], 404)
+            self.assertEqual(ask(server, "PUT", "/rows/99", {"Distance": 1})[0], 404)
+            shown = picture(server)[1]
+            self.assertEqual((shown["version"], shown["count"]), (4, 4))
+
+    def test_wrong_values_change_nothing(self):
+        with self.served() as server:
+            for body, said in [({"Hotell": "x"}, "did you mean Hotel"), ({"Price (EUR)": "9.999"}, "decimals"), ({"Price (EUR)": "cheap"}, "no number"), ({"Distance": True}, "Distance"),
+                               ({"Distance": 1.5}, "no whole number"), ({"Distance": 10**30}, "does not fit"), ({"Opened": "2001-02-30"}, "no date"), ({"Hotel": ["a"]}, "no text"),
+                               ({"Hotel": {"a": 1}}, "no text"), ({"Distance": "1e400"}, ""), ({"Distance": float("inf")}, ""), ({"Price (EUR)": 10**400}, "")]:
+                for method, path in [("POST", "/rows"), ("PUT", "/rows/1")]:
+                    status, shown = ask(server, method, path, body)
+                    self.assertEqual(status, 400, (body, shown))
+                    self.assertIn(said, shown["error"])
+            self.assertEqual((server.desk.version, len(server.desk)), (1, 4))
+
+    def test_bodies_that_are_no_values(self):
+        with self.served() as server:
+            for body in (b"{", b"", b"\xff\xfe", b"[" * 50_000, b"[]", b"7", b"null", b'"x"', b'{"Distance": 1} 2', b'{"Distance": ' + b"9" * 20_000 + b"}"):
+                self.assertEqual(ask(server, "POST", "/rows", body)[0], 400, body[:40])
+            self.assertEqual(ask(server, "POST", "/rows", b"{}", {"Content-Type": "text/plain"})[0], 415)
+            self.assertEqual(ask(server, "POST", "/rows", b" " * (MOST_BODY + 1))[0], 413)
+            self.assertEqual(ask(server, "POST", "/other", {})[0], 404)
+            for path in ("/rows/x", "/rows/-1", "/rows/1/2", "/rows/", f"/rows/{10**30}"):
+                self.assertEqual(ask(server, "PUT", path, {})[0], 404, path)
+            self.assertEqual(len(server.desk), 4)
+
+    def test_several_requests_of_one_connection(self):
+        with self.served() as server, contextlib.closing(http.client.HTTPConnection(*server.server_address[:2], timeout=30)) as connection:
+            for number in range(3):
+                connection.request("POST", "/rows", json.dumps({"Hotel": str(number)}), {"Content-Type": "application/json"})
+                self.assertEqual(json.loads(connection.getresponse().read()), {"id": 5 + number})
+
+    def test_rows_that_cannot_be_changed(self):
+        with self.served(editable=False) as server:
+            for method, path, body in [("POST", "/rows", {}), ("PUT", "/rows/1", {"Distance": 1}), ("DELETE", "/rows/1", None)]:
+                self.assertEqual(ask(server, method, path, body)[0], 403)
+            self.assertFalse(ask(server, "GET", "/about")[1]["editable"])
+
+    def test_a_full_table(self):
+        with self.served() as server:
+            with mock.patch.object(prefq.Table, "insert", side_effect=prefq.Refused("full needed 9", "client", 8)):
+                status, shown = ask(server, "POST", "/rows", {"Hotel": "x"})
+            self.assertEqual((status, shown["number"]), (409, 8))
+            self.assertEqual(ask(server, "POST", "/rows", {"Hotel": "x"}), (201, {"id": 5}))
+
+
+class Streams(Served):
+    def test_several_browsers_see_the_same(self):
+        with self.served() as server, Events(server) as first, Events(server) as second:
+            self.assertEqual(first.reply.getheader("Content-Type"), "text/event-stream; charset=utf-8")
+            begun = first.next()
+            self.assertEqual((begun[0], begun), ("message", second.next()))
+            ask(server, "POST", "/rows", {"Hotel": "New", "Price (EUR)": 1, "Distance": 1})
+            shown = first.until(2)
+            self.assertEqual((shown["version"], shown["best"][0]["cells"][0]), (2, "New"))
+            self.assertEqual(second.until(2), shown)
+            for number in range(50):
+                server.desk.update(5, {"Price (EUR)": number})
+            self.assertEqual(first.until(52), second.until(52))
+
+    def test_a_picture_is_made_once_for_all_who_watch(self):
+        with self.served() as server, mock.patch.object(Desk, "picture", autospec=True, side_effect=Desk.picture) as made:
+            with contextlib.ExitStack() as stack:
+                watching = [stack.enter_context(Events(server)) for _ in range(8)]
+                for events in watching:
+                    events.next()
+                server.desk.update(1, {"Distance": 1})
+                for events in watching:
+                    self.assertEqual(events.until(2)["version"], 2)
+            self.assertEqual(made.call_count, 2)
+
+    def test_a_sign_of_life(self):
+        with mock.patch.object(replies, "SECONDS_QUIET", 0.2), self.served() as server, Events(server) as events:
+            events.next()
+            self.assertTrue(events.reply.readline().startswith(b": "))
+
+    def test_too_many_browsers(self):
+        with mock.patch.object(replies, "MOST_STREAMS", 1), mock.patch.object(replies, "SECONDS_QUIET", 0.1), self.served() as server:
+            with Events(server) as events:
+                events.next()
+                self.assertEqual(ask(server, "GET", "/events")[0], 503)
+            end = time.monotonic() + 20
+            while True:
+                with Events(server) as events:
+                    if events.reply.status == 200:
+                        break
+                self.assertLess(time.monotonic(), end)
+                time.sleep(0.1)
+
+
+class OfADesk(TestCase):
+    """Whatever serves it."""
+
+    def test_texts_alone(self):
+        with Desk(prefq.Frame.from_records([{"Hotel": "b'"}, {"Hotel": "a"}])) as desk, Server(desk) as server:
+            self.assertEqual(server.site.about["questions"], ["best pos(Hotel, 'b''')"])
+            shown = pictures.picture(desk, server.site.about["questions"][0])
+            self.assertEqual(([row["cells"] for row in shown["best"]], shown["axes"]), ([["b'"]], [None, None]))
+
+    def test_a_large_table_is_sampled(self):
+        records = [{"Hotel": str(number), "Price (EUR)": number, "Distance": 5} for number in range(3000)]
+        with served(records) as server:
+            shown = picture(server, "best low(Distance)")[1]
+            self.assertEqual((shown["count"], shown["found"], len(shown["best"]), shown["others"]), (3000, 3000, pictures.MOST_BEST, []))
+            shown = picture(server, 'best low("Price (EUR)")')[1]
+            self.assertEqual((shown["found"], len(shown["others"])), (1, 1500))
 
     def test_each_picture_is_one_snapshot(self):
         """While rows change, the answer of a picture is that over exactly its rows."""
@@ -201,130 +324,10 @@ class Pictures(TestCase):
             self.assertEqual(versions, sorted(versions))
             self.assertGreater(len(set(versions)), 10)
 
-
-class Changes(TestCase):
-    def test_insert_update_delete(self):
-        with served() as server:
-            self.assertEqual(ask(server, "POST", "/rows", {"Hotel": "New", "Price (EUR)": "9.5", "Distance": 9, "Opened": ""}), (201, {"id": 5}))
-            self.assertEqual(picture(server)[1]["best"][0]["cells"], ["New", "9.50", "9", ""])
-            self.assertEqual(ask(server, "PUT", "/rows/5", {"Price (EUR)": 1200.25}), (200, {"id": 5}))
-            self.assertEqual({row["id"]: row["cells"] for row in picture(server)[1]["best"]}[5], ["New", "1200.25", "9", ""])
-            self.assertEqual(ask(server, "DELETE", "/rows/5"), (200, {"id": 5}))
-            self.assertEqual(ask(server, "DELETE", "/rows/5")[0], 404)
-            self.assertEqual(ask(server, "PUT", "/rows/99", {"Distance": 1})[0], 404)
-            shown = picture(server)[1]
-            self.assertEqual((shown["version"], shown["count"]), (4, 4))
-
-    def test_wrong_values_change_nothing(self):
-        with served() as server:
-            for body, said in [({"Hotell": "x"}, "did you mean Hotel"), ({"Price (EUR)": "9.999"}, "decimals"), ({"Price (EUR)": "cheap"}, "no number"), ({"Distance": True}, "Distance"),
-                               ({"Distance": 1.5}, "no whole number"), ({"Distance": 10**30}, "does not fit"), ({"Opened": "2001-02-30"}, "no date"), ({"Hotel": ["a"]}, "no text"),
-                               ({"Hotel": {"a": 1}}, "no text"), ({"Distance": "1e400"}, ""), ({"Distance": float("inf")}, ""), ({"Price (EUR)": 10**400}, "")]:
-                for method, path in [("POST", "/rows"), ("PUT", "/rows/1")]:
-                    status, shown = ask(server, method, path, body)
-                    self.assertEqual(status, 400, (body, shown))
-                    self.assertIn(said, shown["error"])
-            self.assertEqual((server.desk.version, len(server.desk)), (1, 4))
-
     def test_whole_numbers_that_are_too_large_for_a_float(self):
         with Desk(prefq.Frame.from_records([{"x": 1.5}])) as desk:
             with self.refuses(ValueError, "column 'x'", "too large"):
                 desk.insert({"x": 10**400})
-
-    def test_bodies_that_are_no_values(self):
-        with served() as server:
-            for body in (b"{", b"", b"\xff\xfe", b"[" * 50_000, b"[]", b"7", b"null", b'"x"', b'{"Distance": 1} 2', b'{"Distance": ' + b"9" * 20_000 + b"}"):
-                self.assertEqual(ask(server, "POST", "/rows", body)[0], 400, body[:40])
-            self.assertEqual(ask(server, "POST", "/rows", b"{}", {"Content-Type": "text/plain"})[0], 415)
-            self.assertEqual(ask(server, "POST", "/rows", b" " * (MOST_BODY + 1))[0], 413)
-            self.assertEqual(ask(server, "POST", "/other", {})[0], 404)
-            for path in ("/rows/x", "/rows/-1", "/rows/1/2", "/rows/", f"/rows/{10**30}"):
-                self.assertEqual(ask(server, "PUT", path, {})[0], 404, path)
-            self.assertEqual(len(server.desk), 4)
-
-    def test_requests_that_are_no_requests(self):
-        head = b"POST /rows HTTP/1.1\r\nHost: 127.0.0.1\r\nContent-Type: application/json\r\n"
-        with served() as server:
-            for data, status in [(head + b"\r\n", b"411"), (head + b"Content-Length: -1\r\n\r\n", b"411"), (head + b"Content-Length: 1e3\r\n\r\n", b"411"),
-                                 (head + b"Content-Length: 99999999999\r\n\r\n", b"413"), (head + b"Content-Length: 50\r\n\r\n{", b"400"),
-                                 (b"GET / HTTP/1.1\r\nHost: evil.example\r\nConnection: close\r\n\r\n", b"403"), (b"PATCH / HTTP/1.1\r\nHost: 127.0.0.1\r\n\r\n", b"501"),
-                                 (b"GET /" + b"a" * 70_000 + b" HTTP/1.1\r\n\r\n", b"414"), (b"\x16\x03\x01\r\n\r\n", b"<!D")]:
-                reply = exchange(server, data)
-                self.assertEqual(reply.split(None, 2)[1] if reply.startswith(b"HTTP") else reply[:3], status, (data[:80], reply[:200]))
-            # The body of a refused request is not taken for the next request.
-            inner = b"DELETE /rows/1 HTTP/1.1\r\nHost: 127.0.0.1\r\n\r\n"
-            reply = exchange(server, b"POST /other HTTP/1.1\r\nHost: 127.0.0.1\r\nContent-Length: %d\r\n\r\n" % len(inner) + inner)
-            self.assertEqual((reply.count(b"HTTP/1.1 "), len(server.desk)), (1, 4))
-            self.assertEqual(picture(server)[0], 200)
-
-    def test_several_requests_of_one_connection(self):
-        with served() as server, contextlib.closing(http.client.HTTPConnection(*server.server_address[:2], timeout=30)) as connection:
-            for number in range(3):
-                connection.request("POST", "/rows", json.dumps({"Hotel": str(number)}), {"Content-Type": "application/json"})
-                self.assertEqual(json.loads(connection.getresponse().read()), {"id": 5 + number})
-
-    def test_a_slow_request_holds_up_nobody(self):
-        with served() as server, socket.create_connection(server.server_address[:2]) as slow:
-            slow.sendall(b"POST /rows HTTP/1.1\r\nHost: 127.0.0.1\r\n")
-            with self.within(5):
-                self.assertEqual(picture(server)[0], 200)
-
-    def test_rows_that_cannot_be_changed(self):
-        with served(editable=False) as server:
-            for method, path, body in [("POST", "/rows", {}), ("PUT", "/rows/1", {"Distance": 1}), ("DELETE", "/rows/1", None)]:
-                self.assertEqual(ask(server, method, path, body)[0], 403)
-            self.assertFalse(ask(server, "GET", "/about")[1]["editable"])
-
-    def test_a_full_table(self):
-        with served() as server:
-            with mock.patch.object(prefq.Table, "insert", side_effect=prefq.Refused("full needed 9", "client", 8)):
-                status, shown = ask(server, "POST", "/rows", {"Hotel": "x"})
-            self.assertEqual((status, shown["number"]), (409, 8))
-            self.assertEqual(ask(server, "POST", "/rows", {"Hotel": "x"}), (201, {"id": 5}))
-
-
-class Streams(TestCase):
-    def test_several_browsers_see_the_same(self):
-        with served() as server, Events(server) as first, Events(server) as second:
-            self.assertEqual(first.reply.getheader("Content-Type"), "text/event-stream; charset=utf-8")
-            begun = first.next()
-            self.assertEqual((begun[0], begun), ("message", second.next()))
-            ask(server, "POST", "/rows", {"Hotel": "New", "Price (EUR)": 1, "Distance": 1})
-            shown = first.until(2)
-            self.assertEqual((shown["version"], shown["best"][0]["cells"][0]), (2, "New"))
-            self.assertEqual(second.until(2), shown)
-            for number in range(50):
-                server.desk.update(5, {"Price (EUR)": number})
-            self.assertEqual(first.until(52), second.until(52))
-
-    def test_a_picture_is_made_once_for_all_who_watch(self):
-        with served() as server, mock.patch.object(Desk, "picture", autospec=True, side_effect=Desk.picture) as made:
-            with contextlib.ExitStack() as stack:
-                watching = [stack.enter_context(Events(server)) for _ in range(8)]
-                for events in watching:
-                    events.next()
-                server.desk.update(1, {"Distance": 1})
-                for events in watching:
-                    self.assertEqual(events.until(2)["version"], 2)
-            self.assertEqual(made.call_count, 2)
-
-    def test_a_sign_of_life(self):
-        with mock.patch.object(server_module, "SECONDS_QUIET", 0.2), served() as server, Events(server) as events:
-            events.next()
-            self.assertTrue(events.reply.readline().startswith(b": "))
-
-    def test_too_many_browsers(self):
-        with mock.patch.object(server_module, "MOST_STREAMS", 1), mock.patch.object(server_module, "SECONDS_QUIET", 0.1), served() as server:
-            with Events(server) as events:
-                events.next()
-                self.assertEqual(ask(server, "GET", "/events")[0], 503)
-            end = time.monotonic() + 20
-            while True:
-                with Events(server) as events:
-                    if events.reply.status == 200:
-                        break
-                self.assertLess(time.monotonic(), end)
-                time.sleep(0.1)
 
 
 class Restart(TestCase):
@@ -344,7 +347,7 @@ class Restart(TestCase):
             kill(server.desk.table)
             self.assertEqual(ask(server, "POST", "/rows", {"Hotel": "Last"}), (201, {"id": 6}))
             kill(server.desk.table)
-            self.assertEqual(ask(server, "DELETE", "/rows/6"), (200, {"id": 6}))
+            self.assertEqual(ask(server, "DELETE", "/rows/6")[0], 200)
 
     def test_the_program_stands_still(self):
         with Desk(prefq.Frame.from_records(RECORDS, kinds=KINDS, timeout=0.5)) as desk, standing_still(desk.table):
@@ -392,6 +395,8 @@ class Restart(TestCase):
                 self.assertEqual(status, 503)
                 self.assertIn("/no/such/program", shown["error"])
                 self.assertEqual(ask(server, "POST", "/rows", {"Hotel": "x"})[0], 503)
+                with Events(server, "best high(Distance)") as events:       # and the browser will ask again
+                    self.assertEqual((events.next()[0], events.next()[0]), ("failed", "end"))
             self.assertEqual(picture(server)[1]["count"], 4)
 
 

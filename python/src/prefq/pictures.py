@@ -12,6 +12,7 @@ from .kinds import Choices, Clock, Texts
 MOST_BEST = 500         # rows of an answer that are sent; a page is no place for more
 MOST_OTHERS = 2000      # other rows that are drawn
 MOST_SHOWN = 64         # pictures that are kept for whoever asks next
+MOST_AT_ONCE = 2        # pictures that are made at a time: more of them would hold up changes, and be made no sooner
 DAY = datetime.date(1970, 1, 1).toordinal()
 
 
@@ -41,6 +42,7 @@ class Shown:
     def __init__(self, desk: Desk) -> None:
         self._desk = desk
         self._lock = threading.Lock()
+        self._making = threading.BoundedSemaphore(MOST_AT_ONCE)
         self._made: Dict[Tuple[str, ...], Made] = {}
 
     def get(self, question: str, axes: Sequence[Optional[str]]) -> Tuple[int, str]:
@@ -53,8 +55,9 @@ class Shown:
                 del self._made[next(iter(self._made))]
         with made.lock:
             if made.version != self._desk.version:
-                found = picture(self._desk, question, axes)
-                made.version, made.text = found["version"], json.dumps(found)
+                with self._making:
+                    found = picture(self._desk, question, axes)
+                    made.version, made.text = found["version"], json.dumps(found)
             return made.version, made.text
 
 

@@ -24,6 +24,7 @@ def parser() -> argparse.ArgumentParser:
     found.add_argument("file", metavar="FILE.csv", help="comma-separated values with names in the first line")
     found.add_argument("--port", type=int, default=8765, help="where the page is (8765); 0 takes a free one")
     found.add_argument("--host", default="127.0.0.1", help="the address that is listened on (127.0.0.1, which nobody else reaches); with another one anybody who reaches it sees and changes rows")
+    found.add_argument("--allow-host", metavar="NAME", action="append", default=[], help="a name under which the page may be asked for, beside the address and localhost, as that of a proxy or of this machine in its network; given again, further ones; * is any")
     found.add_argument("--question", action="append", default=[], help="a question to begin with; given again, further examples")
     found.add_argument("--columns", help="names of the columns to take, with commas between them; a table has 16 at most")
     found.add_argument("--read-only", action="store_true", help="rows cannot be changed")
@@ -47,7 +48,8 @@ def main(arguments: Optional[Sequence[str]] = None) -> int:
         try:
             for question in options.question:
                 desk.read(question)
-            server = Server(desk, host=options.host, port=options.port, title=Path(options.file).name, questions=options.question, editable=not options.read_only)
+            server = Server(desk, host=options.host, port=options.port, title=Path(options.file).name, questions=options.question, editable=not options.read_only,
+                            allow_hosts=options.allow_host)
         except Error as why:
             print(f"prefq: {why}", file=sys.stderr)
             return 2

@@ -1,65 +1,53 @@
-"""A page in the browser over rows that change: http.server, server-sent events, and the files in the folder page.
+"""The page over http.server, which needs nothing but Python: `prefq.replies` says what is replied, and `prefq.asgi` is for servers that people have already.
 
-    GET /about                   the columns, and questions to begin with
-    GET /picture?question=..     the answer and the other rows at one version, as JSON; &x=..&y=.. choose the axes
-    GET /events?question=..      the same as server-sent events, at once and after each change; `event: refused` where the question is
-    POST /rows                   {"Price": 59.9, ..}, a new row; replies its id
-    PUT /rows/7                  {"Price": 64.9}, other values for a row
-    DELETE /rows/7
-
-What is wrong is replied as JSON with an `error`, and of a question with its `place`, a character: 400 for what cannot be read, 404 for rows that are not
-there, 409 for what the table refuses, 413 for what is too large, 503 where no table can be started.
+Each connection has a thread. A request has to come within its time, and where there are too many connections, the one that has kept a request waiting for longest
+is ended for a new one.
 """
-import json
+import contextlib
+import errno
+import io
 import re
 import socket
 import sys
 import threading
 import time
+from email.utils import formatdate
+from http import HTTPStatus
 from http.server import BaseHTTPRequestHandler, ThreadingHTTPServer
-from pathlib import Path
 from socketserver import TCPServer
-from typing import Any, Callable, Dict, Optional, Sequence, Tuple
-from urllib.parse import parse_qs, urlsplit
+from typing import Any, Dict, Iterable, Optional, Sequence, Set, Tuple, Union
+from urllib.parse import urlsplit
 
-from . import pictures
-from .columns import quoted, spelled
+from . import replies
 from .desk import Desk
-from .errors import Error, Refused
-from .kinds import Choices, Texts
+from .errors import Ended
+from .hosts import Hosts
+from .replies import FAULTS, Reply, Request, Route, Site, Watch, Wrong, as_json
 
-PAGE = Path(__file__).with_name("page")
-FILES = {"/": ("index.html", "text/html"), "/page.css": ("page.css", "text/css"), "/page.js": ("page.js", "text/javascript"), "/plot.js": ("plot.js", "text/javascript")}
-POLICY = ("default-src 'none'; script-src 'self'; style-src 'self'; connect-src 'self'; img-src 'self' data:; base-uri 'none'; form-action 'none'; "
-          "frame-ancestors 'none'")
-MOST_BODY = 65_536          # bytes of a request
-MOST_STREAMS = 200          # browsers that watch
-SECONDS_BETWEEN = 0.1       # pictures of one browser
-SECONDS_QUIET = 15.0        # until a sign of life is sent
-ROW = re.compile(r"/rows/(\d{1,18})")
-
-
-class Wrong(Exception):
-    """A request that is replied with this status."""
-
-    def __init__(self, status: int, message: str) -> None:
-        super().__init__(message)
-        self.status = status
+MOST_CONNECTIONS = 400      # more than the browsers that may watch, fewer than the files that a program may have open
+SECONDS_IDLE = 30.0         # until the first byte of another request
+MOST_HEAD = 65_536          # bytes of the first line of a request, and of those below it
+SEND_BUFFER = 65_536        # bytes that the system keeps for a browser that watches; it would take millions, from one that reads nothing
+NO_DESCRIPTORS = (errno.EMFILE, errno.ENFILE, errno.ENOBUFS, errno.ENOMEM)
+BLANK = (b"\r\n", b"\n")
+HEADER = re.compile(rb"[!#$%&'*+.^_`|~0-9A-Za-z-]+:[^\0\r\n]*\r?\n")
 
 
 class Server(ThreadingHTTPServer):
-    """Serves a desk. `port` 0 takes a free port; `url` says where it is."""
+    """Serves a desk. `port` 0 takes a free port; `url` says where it is. `allow_hosts` are names under which the page may be asked for, beside the address that is
+    listened on and localhost."""
 
     daemon_threads = True
     request_queue_size = 64
 
-    def __init__(self, desk: Desk, *, host: str = "127.0.0.1", port: int = 0, title: str = "prefq", questions: Sequence[str] = (), editable: bool = True) -> None:
-        self.desk, self.editable = desk, editable
-        self.about = pictures.about(desk, title, list(questions) or [first_question(desk)], editable)
-        self.shown = pictures.Shown(desk)
+    def __init__(self, desk: Desk, *, host: str = "127.0.0.1", port: int = 0, title: str = "prefq", questions: Sequence[str] = (), editable: bool = True,
+                 allow_hosts: Sequence[str] = ()) -> None:
+        self.desk = desk
+        self.site = Site(desk, Hosts(host, allow_hosts), title=title, questions=questions, editable=editable)
         self.closing = threading.Event()
-        self.streams = threading.BoundedSemaphore(MOST_STREAMS)
-        self.local = host in ("127.0.0.1", "::1", "localhost")
+        self._lock = threading.Lock()
+        self._open: Set[socket.socket] = set()
+        self._reading: Dict[socket.socket, None] = {}       # those whose request is not there yet, the one that waits for longest first
         self.address_family = socket.AF_INET6 if ":" in host else socket.AF_INET
         super().__init__((host, port), Handler)
 
@@ -81,206 +69,236 @@ class Server(ThreadingHTTPServer):
         self.closing.set()
         super().server_close()
 
+    def get_request(self) -> Tuple[socket.socket, Any]:
+        try:
+            return super().get_request()
+        except OSError as why:
+            if why.errno in NO_DESCRIPTORS:     # whoever waits here is still there, so this would be tried again at once
+                self._make_room()
+                time.sleep(0.1)
+            raise
+
+    def process_request(self, request: Any, client_address: Any) -> None:
+        with self._lock:
+            is_full = len(self._open) >= MOST_CONNECTIONS
+        if is_full and not self._make_room():
+            with contextlib.suppress(OSError):
+                request.settimeout(1)
+                full = as_json(503, {"error": f"{MOST_CONNECTIONS} connections are open already"})
+                request.sendall(head(full.status, full.headers(), True) + full.body)
+            return self.shutdown_request(request)
+        with self._lock:
+            self._open.add(request)
+        self.begin_reading(request)
+        super().process_request(request, client_address)
+
+    def shutdown_request(self, request: Any) -> None:
+        with self._lock:
+            self._open.discard(request)
+            self._reading.pop(request, None)
+        super().shutdown_request(request)
+
+    def begin_reading(self, connection: socket.socket) -> None:
+        """From now on this connection waits for a request."""
+        with self._lock:
+            self._reading.pop(connection, None)
+            self._reading[connection] = None
+
+    def end_reading(self, connection: socket.socket) -> bool:
+        """Its request is there. Whether the connection is still open, too: what it asks for is not done else."""
+        with self._lock:
+            return self._reading.pop(connection, self) is None
+
+    def _make_room(self) -> bool:
+        """Ends the connection that has kept a request waiting for longest; whether there is one."""
+        with self._lock:
+            found = next(iter(self._reading), None)
+            if found is not None:
+                del self._reading[found]
+                with contextlib.suppress(OSError):
+                    found.shutdown(socket.SHUT_RDWR)
+            return found is not None
+
+
+class Received(io.RawIOBase):
+    """What a connection sends until a moment, `until`, on the clock of time.monotonic."""
+
+    def __init__(self, connection: socket.socket) -> None:
+        super().__init__()
+        self._connection = connection
+        self.until = 0.0
+
+    def readable(self) -> bool:
+        return True
+
+    def readinto(self, buffer: Any) -> int:
+        left = self.until - time.monotonic()
+        if left <= 0:
+            raise socket.timeout
+        self._connection.settimeout(left)
+        return self._connection.recv_into(buffer)
+
 
 class Handler(BaseHTTPRequestHandler):
     """One connection."""
 
     protocol_version = "HTTP/1.1"
-    server_version = "prefq"
-    sys_version = ""
-    timeout = 30.0
+    default_request_version = "HTTP/1.0"        # to 0.9 http.server says what is wrong without a status
+    disable_nagle_algorithm = True
     server: Server
 
-    def log_message(self, *_: Any) -> None:
-        pass
+    def setup(self) -> None:
+        super().setup()
+        self.rfile.close()
+        self._received = Received(self.connection)
+        self.rfile = io.BufferedReader(self._received)
 
-    def do_GET(self) -> None:
-        self._answer(self._get)
-
-    def do_POST(self) -> None:
-        self._answer(self._post)
-
-    def do_PUT(self) -> None:
-        self._answer(self._put)
-
-    def do_DELETE(self) -> None:
-        self._answer(self._delete)
-
-    def _get(self) -> None:
-        path = urlsplit(self.path).path
-        if path in FILES:
-            name, kind = FILES[path]
-            self._send(200, (PAGE / name).read_bytes(), f"{kind}; charset=utf-8")
-        elif path == "/about":
-            self._send_json(200, self.server.about)
-        elif path == "/picture":
-            self._send(200, self._picture()[1].encode(), "application/json")
-        elif path == "/events":
-            self._events()
-        else:
-            raise Wrong(404, f"there is no {path}")
-
-    def _post(self) -> None:
-        if urlsplit(self.path).path != "/rows":
-            raise Wrong(404, "rows are added by POST /rows")
-        self._send_json(201, {"id": self.server.desk.insert(self._values())})
-
-    def _put(self) -> None:
-        id = self._row()
-        self.server.desk.update(id, self._values())
-        self._send_json(200, {"id": id})
-
-    def _delete(self) -> None:
-        id = self._row()
-        self.server.desk.delete(id)
-        self._send_json(200, {"id": id})
-
-    def _answer(self, method: Callable[[], None]) -> None:
-        """Replies what the method replies, or what is wrong."""
-        self._unread = "Content-Length" in self.headers or "Transfer-Encoding" in self.headers
+    def handle_one_request(self) -> None:
+        """Reads a request and replies to it."""
+        self.close_connection = True
         try:
-            try:
-                self._check_host()
-                method()
-            except Wrong as why:
-                self._send_json(why.status, {"error": str(why)})
-            except Refused as why:
-                status = 404 if (why.kind, why.number) == ("client", 7) else 400 if why.kind == "term" else 409
-                self._send_json(status, reason(why))
-            except Error as why:
-                self._send_json(503, reason(why))
-            except (TypeError, ValueError) as why:
-                self._send_json(400, {"error": str(why)})
+            self.server.begin_reading(self.connection)
+            asked = self._read()
+            if self.server.end_reading(self.connection) and asked:
+                self._reply(*asked)
         except OSError:                 # the browser has gone
             self.close_connection = True
 
-    def _check_host(self) -> None:
-        """A page of another site that has its name resolved to this machine is no page of ours."""
-        name = re.sub(r":\d*$", "", self.headers.get("Host", ""))
-        if self.server.local and name not in ("127.0.0.1", "localhost", "[::1]"):
-            raise Wrong(403, f"this is not {name}")
+    def _read(self) -> Optional[Tuple[Union[Route, Watch], bytes]]:
+        """What a request asks for, and its body. None where none comes, and where it is refused, which is replied."""
+        self._is_unread, self.command = True, ""
+        if not self._begins():
+            return None
+        try:
+            self._received.until = time.monotonic() + replies.SECONDS_REQUEST
+            if not self._read_head():
+                return None
+            path, _, query = self.path.partition("?")
+            asked = self.server.site.route(Request(self.command, urlsplit(path).path, query, replies.joined(self.headers.items())))
+            return asked, self._body() if isinstance(asked, Route) and asked.takes_body else b""
+        except socket.timeout:
+            self._refuse(replies.too_slow())
+        except FAULTS as why:
+            self._refuse(why)
+        return None
 
-    def _row(self) -> int:
-        found = ROW.fullmatch(urlsplit(self.path).path)
-        if not found:
-            raise Wrong(404, "a row is /rows/ID")
-        if not self.server.editable:
-            raise Wrong(403, "the rows here cannot be changed")
-        return int(found[1])
+    def _begins(self) -> bool:
+        """Waits for the first byte of a request."""
+        self._received.until = time.monotonic() + SECONDS_IDLE
+        try:
+            return bool(self.rfile.peek(1))
+        except socket.timeout:
+            return False
 
-    def _values(self) -> Dict[str, Any]:
-        """The body of a request: values by the names of columns."""
-        if not self.server.editable:
-            raise Wrong(403, "the rows here cannot be changed")
-        # Browsers send this kind from another site only after a question to this server, which it does not answer.
-        if self.headers.get("Content-Type", "").partition(";")[0].strip().lower() != "application/json":
-            raise Wrong(415, "values are sent as application/json")
+    def _read_head(self) -> bool:
+        """Whether there is a request. What http.server does not read as one, it has replied."""
+        self.raw_requestline = self.rfile.readline(MOST_HEAD + 1)
+        while self.raw_requestline in BLANK:        # some clients send one behind a body
+            self.raw_requestline = self.rfile.readline(MOST_HEAD + 1)
+        if len(self.raw_requestline) > MOST_HEAD:
+            raise Wrong(414, f"a line has at most {MOST_HEAD} bytes")
+        return bool(self.raw_requestline) and self.parse_request()
+
+    def parse_request(self) -> bool:
+        """Takes no head of which a proxy in front of this server may read something else than http.server does."""
+        behind, self.rfile = self.rfile, io.BytesIO(self._header_lines())
+        try:
+            if not super().parse_request():
+                return False
+        finally:
+            self.rfile = behind
+        counts = [len(self.headers.get_all(name, [])) for name in ("Transfer-Encoding", "Content-Length", "Host")]
+        if counts[0] or counts[1] > 1 or counts[2] != 1 or len(self.requestline.split()) != 3:
+            self.close_connection = True
+            raise Wrong(400, "a request has a version, one Host, and one Content-Length at most, and comes in no chunks")
+        self._is_unread = self.headers.get("Content-Length", "0") != "0"
+        return True
+
+    def _header_lines(self) -> bytes:
+        """The lines below the first one, to the blank one."""
+        lines, left = [], MOST_HEAD
+        while not lines or lines[-1] not in BLANK:
+            lines.append(self.rfile.readline(left + 1))
+            left -= len(lines[-1])
+            if left < 0:
+                raise Wrong(431, f"a head has at most {MOST_HEAD} bytes")
+            if lines[-1] not in BLANK and not HEADER.fullmatch(lines[-1]):
+                raise Wrong(400, "a line of the head is no header")
+        return b"".join(lines)
+
+    def send_error(self, code: int, message: Optional[str] = None, explain: Optional[str] = None) -> None:
+        """What http.server refuses is replied as all else is."""
+        self._refuse(Wrong(code, message or HTTPStatus(code).phrase))
+
+    def _body(self) -> bytes:
         length = self.headers.get("Content-Length", "")
         if not re.fullmatch("[0-9]{1,18}", length):
             raise Wrong(411, "the length of the body is missing")
-        if int(length) > MOST_BODY:
-            raise Wrong(413, f"at most {MOST_BODY} bytes are read")
         body = self.rfile.read(int(length))
-        self._unread = False
+        if len(body) < int(length):
+            raise Wrong(400, "the body ends before its length")
+        self._is_unread = False
+        return body
+
+    def _reply(self, asked: Union[Route, Watch], body: bytes) -> None:
         try:
-            values = json.loads(body.decode())
-        except (ValueError, RecursionError):
-            raise Wrong(400, "the body is no JSON") from None
-        if not isinstance(values, dict):
-            raise Wrong(400, "the body is no JSON object of values by the names of columns")
-        return {name: None if value == "" else value for name, value in values.items()}
+            if isinstance(asked, Watch):
+                with asked:
+                    self._stream(asked)
+            else:
+                self._send(asked.reply(body))
+        except FAULTS as why:
+            self._refuse(why)
 
-    def _picture(self) -> Tuple[int, str]:
-        """The picture that is asked for: its version and its text."""
-        given = parse_qs(urlsplit(self.path).query, keep_blank_values=True)
-        question = given.get("question", [self.server.about["questions"][0]])[0]
-        return self.server.shown.get(question, [given[axis][0] if axis in given else None for axis in ("x", "y")])
-
-    def _events(self) -> None:
-        if not self.server.streams.acquire(blocking=False):
-            raise Wrong(503, f"{MOST_STREAMS} pages watch already")
-        try:
-            self.close_connection = True
-            self.send_response(200)
-            self._send_headers("text/event-stream; charset=utf-8")
-            self.send_header("Connection", "close")
-            self.end_headers()
-            self._stream()
-        finally:
-            self.server.streams.release()
-
-    def _stream(self) -> None:
-        """Sends a picture, and another one after each change, until the browser goes."""
-        seen: Optional[int] = None
-        while not self.server.closing.is_set():
+    def _stream(self, watch: Watch) -> None:
+        """Sends a picture, and another one after each change, until the browser goes or the desk is closed."""
+        self.close_connection = True
+        self.connection.setsockopt(socket.SOL_SOCKET, socket.SO_SNDBUF, SEND_BUFFER)
+        self._write(head(200, replies.headers(replies.EVENTS), self.close_connection))
+        is_last = self.command == "HEAD"
+        while not is_last and not self.server.closing.is_set():
             try:
-                if self.server.desk.wait(seen, SECONDS_QUIET) == seen:
-                    self._write(": nothing has changed\n\n")
-                    continue
-                seen, picture = self._picture()
-            except Error as why:
-                self._write(f"event: refused\ndata: {json.dumps(reason(why))}\n\n")
+                is_quiet = self.server.desk.wait(watch.seen, replies.SECONDS_QUIET) == watch.seen
+            except Ended:
                 return
-            self._write(f"data: {picture}\n\n")
-            time.sleep(SECONDS_BETWEEN)
+            text, is_last = (replies.SIGN_OF_LIFE, False) if is_quiet else watch.event()
+            self._write(text.encode())
+            time.sleep(0 if is_quiet or is_last else replies.SECONDS_BETWEEN)
 
-    def _write(self, text: str) -> None:
-        self.wfile.write(text.encode())
-        self.wfile.flush()
+    def _refuse(self, why: Exception) -> None:
+        self._send(self.server.site.refusal(why))
 
-    def _send_json(self, status: int, value: Any) -> None:
-        self._send(status, json.dumps(value).encode(), "application/json")
-
-    def _send(self, status: int, body: bytes, kind: str) -> None:
-        if self._unread:
-            self.close_connection = True        # a body that nobody has read would be taken for the next request
-        self.send_response(status)
-        self._send_headers(kind)
-        self.send_header("Content-Length", str(len(body)))
-        if self.close_connection:
-            self.send_header("Connection", "close")
-        self.end_headers()
-        self.wfile.write(body)
-        if self._unread:
+    def _send(self, reply: Reply) -> None:
+        self.close_connection = self.close_connection or self._is_unread        # a body that nobody has read would be taken for the next request
+        shown = head(reply.status, reply.headers(), self.close_connection)
+        self._write(shown if self.command == "HEAD" else shown + reply.body)
+        if self._is_unread:
             self._drain()
 
+    def _write(self, data: bytes) -> None:
+        """Sends this, as long as the browser goes on taking it."""
+        self.connection.settimeout(replies.SECONDS_STALLED)
+        left = memoryview(data)
+        while left:
+            left = left[self.connection.send(left):]
+
     def _drain(self) -> None:
-        """Reads what is left of a body, some of it: a browser that still sends may not see a reply before."""
-        self.wfile.flush()
-        self.connection.settimeout(1)
+        """Reads what is left of a request, for a moment: a browser that still sends may not see a reply before."""
+        self._received.until = time.monotonic() + 1
         for _ in range(16):
-            if not self.connection.recv(MOST_BODY):
+            if not self._received.read(MOST_HEAD):
                 break
 
-    def _send_headers(self, kind: str) -> None:
-        self.send_header("Content-Type", kind)
-        self.send_header("Content-Security-Policy", POLICY)
-        self.send_header("X-Content-Type-Options", "nosniff")
-        self.send_header("Referrer-Policy", "no-referrer")
-        self.send_header("Cache-Control", "no-store")
 
-
-def reason(why: Error) -> Dict[str, Any]:
-    """A refusal as JSON. A place is that of a character of the question."""
-    place = why.place
-    if why.question is not None and place is not None:
-        place = len(why.question.encode(errors="replace")[:place].decode(errors="ignore"))
-    message = str(why) if why.question is None else str(why).partition("\n")[0]
-    return {"error": message, "kind": why.kind, "number": why.number, "question": why.question, "place": place}
-
-
-def first_question(desk: Desk) -> str:
-    """A question to begin with: the first two columns that are no texts, the smaller the better; or a first text."""
-    columns = [spelled(column.name) for column in desk.columns if pictures.is_axis(column)][:2]
-    if columns:
-        return f"top_level 2 {' * '.join(f'low({name})' for name in columns)}"
-    kind = desk.columns[0].kind
-    return f"best pos({spelled(desk.columns[0].name)}, {quoted(next(iter(kind.texts), '') if isinstance(kind, (Texts, Choices)) else '')})"
+def head(status: int, headers: Iterable[Tuple[str, str]], is_last: bool) -> bytes:
+    """The head of a reply, which may be the last one of its connection."""
+    lines = [f"HTTP/1.1 {status} {HTTPStatus(status).phrase}", f"Date: {formatdate(usegmt=True)}", *(f"{name}: {value}" for name, value in headers)]
+    return "\r\n".join([*lines, *["Connection: close"] * is_last, "", ""]).encode()
 
 
 def run(server: Server) -> None:
     """Serves until Ctrl-C."""
-    print(f"{server.about['title']}: {server.url} (Ctrl-C ends it)", file=sys.stderr, flush=True)
+    print(f"{server.site.about['title']}: {server.url} (Ctrl-C ends it)", file=sys.stderr, flush=True)
     try:
         server.serve_forever()
     except KeyboardInterrupt:

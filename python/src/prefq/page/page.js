@@ -1,18 +1,14 @@
-// The page: asks a question, shows each picture that the server sends, and changes rows.
+// The page: asks a question, and shows each picture that the server sends.
+import {edit, remove, save} from "./edit.js";
+import {$, element, isNumber} from "./parts.js";
 import {draw, levelName, make, shape} from "./plot.js";
 
-const $ = id => document.getElementById(id);
 const EXCERPT = 72;
+const AGAIN = 3000;     // milliseconds until a server that refused to be watched is asked again
 let about, picture, stream;
 
-function element(tag, properties = {}, ...children) {
-  const made = Object.assign(document.createElement(tag), properties);
-  made.append(...children);
-  return made;
-}
-
 async function begin() {
-  about = await (await fetch("/about")).json();
+  about = await (await fetch("about")).json();
   document.title = $("title").textContent = about.title;
   $("examples").append(element("option", {textContent: "choose …", value: ""}), ...about.questions.map(text => element("option", {textContent: text, value: text})));
   for (const axis of ["x", "y"]) {
@@ -24,21 +20,24 @@ async function begin() {
   listen();
 }
 
-function isNumber(column) {
-  return Boolean(column) && ["whole", "decimal", "float"].includes(column.kind);
-}
-
 function listen() {
   const asked = {question: $("question").value.trim().replace(/\s*\n\s*/g, " ")};
   for (const axis of ["x", "y"]) if ($(axis).value) asked[axis] = $(axis).value;
   if (stream) stream.close();
-  stream = new EventSource(`/events?${new URLSearchParams(asked)}`);
+  stream = new EventSource(`events?${new URLSearchParams(asked)}`);
   stream.addEventListener("message", event => show(JSON.parse(event.data)));
   stream.addEventListener("refused", event => {
     event.target.close();
     refuse(JSON.parse(event.data), asked.question);
   });
-  stream.addEventListener("error", () => { $("state").textContent = "The server does not answer. Trying again …"; });
+  let failure = "";
+  stream.addEventListener("failed", event => { failure = JSON.parse(event.data).error; });
+  stream.addEventListener("error", event => {
+    $("state").textContent = `${failure || "The server does not answer"}. Trying again …`;
+    failure = "";
+    // The browser tries again by itself, but not where it was replied that it may not watch.
+    if (event.target.readyState === EventSource.CLOSED) setTimeout(() => { if (stream === event.target) listen(); }, AGAIN);
+  });
 }
 
 function refuse(reason, question) {
@@ -49,11 +48,13 @@ function refuse(reason, question) {
   $("state").textContent = "The question is refused; the picture is that of the question before.";
 }
 
-// The question with a caret below its character; of a long one the part around it.
+// The question with a caret below its character, the number `place`; of a long one the part around it.
 function pointed(question, place) {
-  const begin = question.length > EXCERPT ? Math.max(0, Math.min(place - EXCERPT / 2, question.length - EXCERPT)) : 0;
-  const before = (begin ? "…" : "") + question.slice(begin, place), after = question.slice(place + 1, begin + EXCERPT) + (question.length > begin + EXCERPT ? "…" : "");
-  return element("pre", {}, before, element("mark", {textContent: question[place] || " "}), `${after}\n${" ".repeat(before.length)}`, element("span", {className: "caret", textContent: "^"}));
+  const signs = [...question], begin = signs.length > EXCERPT ? Math.max(0, Math.min(place - EXCERPT / 2, signs.length - EXCERPT)) : 0;
+  const before = (begin ? "…" : "") + signs.slice(begin, place).join(""), after = signs.slice(place + 1, begin + EXCERPT).join("") + (signs.length > begin + EXCERPT ? "…" : "");
+  // Signs that may be as wide as two stand above the caret too, unseen.
+  const space = before.split(/([^ -~…]+)/).map((part, at) => at % 2 ? element("span", {className: "unseen", textContent: part}) : " ".repeat(part.length));
+  return element("pre", {}, before, element("mark", {textContent: signs[place] || " "}), `${after}\n`, ...space, element("span", {className: "caret", textContent: "^"}));
 }
 
 function show(received) {
@@ -66,7 +67,7 @@ function show(received) {
   const more = received.found > received.best.length ? `, of which the first ${received.best.length} are shown` : "";
   $("summary").textContent = `${received.found} of ${received.count} rows are in the answer${more}${levels > 1 ? `: ${first} in the first level, ${received.found - first} behind it` : ""}.`;
   $("notes").textContent = received.notes.length ? `Note: ${received.notes.join("; ")}` : "";
-  fillTable(received.best);
+  fillTable(received);
   redraw();
 }
 
@@ -98,15 +99,15 @@ function order() {
   return [...new Set([...(name < 0 ? [] : [name]), ...asked, ...about.columns.keys()])];
 }
 
-function fillTable(rows) {
+function fillTable({best, version}) {
   const places = order(), body = $("rows").tBodies[0], focus = document.activeElement;
   const head = (textContent, column) => element("th", {scope: "col", textContent, className: isNumber(column) ? "number" : ""});
   $("rows").tHead.replaceChildren(element("tr", {}, head("Level"), ...places.map(at => head(about.columns[at].name, about.columns[at])), ...(about.editable ? [head("Change")] : [])));
-  body.replaceChildren(...rows.map(row => {
+  body.replaceChildren(...best.map(row => {
     const cells = places.map(at => element("td", {textContent: row.cells[at], className: isNumber(about.columns[at]) ? "number" : ""}));
     const line = element("tr", {}, element("td", {textContent: row.level, className: levelName(row.level)}), ...cells);
     line.dataset.id = row.id;
-    if (about.editable) line.append(element("td", {}, action("Edit", row, edit), " ", action("Remove", row, remove)));
+    if (about.editable) line.append(element("td", {}, action("Edit", row, () => edit(about.columns, row, version)), " ", action("Remove", row, () => remove(row, version))));
     return line;
   }));
   // The button that had the focus has it again, where its row is still there.
@@ -116,66 +117,8 @@ function fillTable(rows) {
 
 function action(name, row, act) {
   const button = element("button", {type: "button", textContent: name, ariaLabel: `${name} ${row.cells[0]}`});
-  button.addEventListener("click", () => act(row));
+  button.addEventListener("click", act);
   return button;
-}
-
-async function send(method, path, values) {
-  const reply = await fetch(path, {method, headers: {"Content-Type": "application/json"}, body: values && JSON.stringify(values)});
-  const received = await reply.json().catch(() => ({error: `the server replies ${reply.status}`}));
-  if (!reply.ok) throw new Error(received.error);
-  return received;
-}
-
-function valuesOf(cells) {
-  return Object.fromEntries(about.columns.map((column, at) => [column.name, cells[at]]));
-}
-
-function edit(row) {
-  $("what").textContent = row ? `Change ${row.cells[0]}` : "Add a row";
-  $("fields").replaceChildren(...about.columns.map((column, at) => element("label", {}, column.name, field(column, row ? row.cells[at] : ""))));
-  $("wrong").hidden = true;
-  $("editor").dataset.id = row ? row.id : "";
-  $("editor").showModal();
-}
-
-function field(column, value) {
-  if (column.kind === "bool") {
-    const select = element("select", {name: column.name}, ...[["", "unknown"], ["true", "yes"], ["false", "no"]].map(([value, textContent]) => element("option", {value, textContent})));
-    select.value = value;
-    return select;
-  }
-  const input = element("input", {name: column.name, type: column.kind === "date" ? "date" : "text", value, autocomplete: "off"});
-  if (isNumber(column)) input.inputMode = "decimal";
-  return input;
-}
-
-async function save(event) {
-  event.preventDefault();
-  const values = Object.fromEntries(new FormData($("values"))), id = $("editor").dataset.id;
-  try {
-    await (id ? send("PUT", `/rows/${id}`, values) : send("POST", "/rows", values));
-    $("editor").close();
-    said(id ? "Changed." : "Added.");
-  } catch (why) {
-    $("wrong").textContent = why.message;
-    $("wrong").hidden = false;
-  }
-}
-
-async function remove(row) {
-  try {
-    await send("DELETE", `/rows/${row.id}`);
-    const undo = element("button", {type: "button", textContent: "Undo"});
-    undo.addEventListener("click", () => send("POST", "/rows", valuesOf(row.cells)).then(() => said("Added again."), why => said(why.message)));
-    said(`${row.cells[0]} is removed. `, undo);
-  } catch (why) {
-    said(why.message);
-  }
-}
-
-function said(...parts) {
-  $("done").replaceChildren(...parts);
 }
 
 function choose(event) {
@@ -185,10 +128,14 @@ function choose(event) {
 }
 
 $("ask").addEventListener("submit", event => { event.preventDefault(); listen(); });
-$("question").addEventListener("keydown", event => { if (event.key === "Enter" && !event.shiftKey) { event.preventDefault(); listen(); } });
+$("question").addEventListener("keydown", event => { if (event.key === "Enter" && !event.shiftKey && !event.isComposing) { event.preventDefault(); listen(); } });
 $("examples").addEventListener("change", event => { if (event.target.value) { $("question").value = event.target.value; event.target.value = ""; listen(); } });
-$("add").addEventListener("click", () => edit(null));
-$("values").addEventListener("submit", event => { if (event.submitter?.value === "save") save(event); });
+$("add").addEventListener("click", () => edit(about.columns));
+$("values").addEventListener("submit", event => {
+  if (event.submitter?.value === "cancel") return;
+  event.preventDefault();
+  save();
+});
 document.addEventListener("pointerover", choose);
 document.addEventListener("focusin", choose);
 // With another width all points stand elsewhere at once; they move only where their values do.
