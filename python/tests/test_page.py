@@ -5,6 +5,7 @@ import unittest
 from pathlib import Path
 from urllib.parse import urlencode
 
+import test_asgi
 from browser import Browser, chromium
 from support import TestCase, kill
 from test_serve import ask, served
@@ -23,7 +24,11 @@ RECORDS = [
 
 
 @unittest.skipUnless(chromium(), "chromium is not installed")
-class Page(TestCase):
+class Paged(TestCase):
+    """Tests of a page in a browser."""
+
+    records = RECORDS
+
     @classmethod
     def setUpClass(cls):
         cls.browser = Browser()
@@ -35,7 +40,7 @@ class Page(TestCase):
     def setUp(self):
         self.browser.faults.clear()
         self.browser.size(1200, 860)
-        context = served(RECORDS, title="Hotels", questions=[QUESTION, "best high(Distance)"])
+        context = served(self.records, title="Hotels", questions=[QUESTION, "best high(Distance)"])
         self.server = context.__enter__()
         self.addCleanup(context.__exit__, None, None, None)
         self.open()
@@ -61,6 +66,8 @@ class Page(TestCase):
     def rows(self, column=2):
         return self.browser.js(f"[...document.querySelectorAll('#rows tbody tr')].map(row => row.children[{column - 1}].textContent)")
 
+
+class Page(Paged):
     def test_the_first_screen(self):
         page = self.browser
         self.assertEqual((page.text("h1"), page.js("document.title")), ("Hotels", "Hotels"))
@@ -111,6 +118,15 @@ class Page(TestCase):
         page.until("!document.getElementById('refusal').hidden")
         shown, caret = page.text("#refusal pre").split("\n")[:2]
         self.assertEqual((len(shown) < 80, shown[caret.index("^"):]), (True, "lo(Distance)"))
+
+    def test_the_caret_stands_right_behind_signs_of_two_units(self):
+        for before in ("", "😀", "𝄞𝄞", "城市", "…"):
+            for question, wrong in [(f'best pos(Hotel, \'{before}\') * lo(Distance)', "l"), (f"best pos(Hotel, '{before}') * 😀", "😀"), ("best " + f"pos(Hotel, '{before}') * " * 8 + "lo(Distance)", "l")]:
+                self.ask(question)
+                self.browser.until(f"!document.getElementById('refusal').hidden && document.querySelector('#refusal mark').textContent === {json.dumps(wrong)}"
+                                   f" && document.querySelector('#refusal pre').textContent.includes({json.dumps(before)})")
+                left = self.browser.js("[document.querySelector('#refusal mark'), document.querySelector('#refusal .caret')].map(part => part.getBoundingClientRect().left)")
+                self.assertAlmostEqual(left[0], left[1], delta=1, msg=question)
 
     def test_names_are_text(self):
         self.ask("top_level 9 low(Opened)")
@@ -174,6 +190,17 @@ class Page(TestCase):
                 "\t".join(cells) for cells in [["1", "Garden", "170.00", "170", "1999-01-31", "Edit Remove"], ["1", "River", "30.00", "490", "2010-02-03", "Edit Remove"],
                                                ["2", "Quay", "40.00", "1200", "2001-05-01", "Edit Remove"], ["2", "Alpine", "99.00", "540", "", "Edit Remove"]]))
             self.assertEqual(other.faults, [])
+
+    @test_asgi.CAN_BE_MOUNTED
+    def test_below_a_path_of_another_program(self):
+        with test_asgi.mounted("/my/hotels") as server:
+            self.browser.open(f"http://127.0.0.1:{server.server_address[1]}/my/hotels/")
+            self.browser.until("document.querySelectorAll('#rows tbody tr').length === 4")
+            self.browser.click('tr[data-id="2"] button')
+            self.browser.fill('#fields [name="Distance"]', "77")
+            self.browser.click("#save")
+            self.browser.until("document.getElementById('state').textContent === 'Live, version 2'")
+            self.assertEqual(server.desk.picture("best low(Distance)").best[0].id, 2)
 
     def test_a_phone_in_the_dark(self):
         page = self.browser
