@@ -10,8 +10,8 @@
                                      turns an answer
 
 tests/quick.sh and tests/all.sh are short names of the first two. Needs the Rattle kit and Python 3.9, and but for `quick` a C compiler, on
-Linux. Tests of the Python package that need pandas, matplotlib, dask or Chromium are skipped, with a line that says so, where these are not
-installed; they are counted apart from the checks, which pass without them. Leaves nothing behind but the folders out/, which git ignores.
+Linux. Tests of the Python package that need pandas, matplotlib, dask, uvicorn, starlette or Chromium are skipped, with a line that says so, where
+these are not installed; they are counted apart from the checks, which pass without them. Leaves nothing behind but the folders out/, which git ignores.
 """
 import contextlib
 import os

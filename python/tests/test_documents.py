@@ -21,7 +21,7 @@ TOP = Path(__file__).resolve().parent.parent.parent
 DOCUMENTS = [TOP / "README.md", TOP / "docs/PYTHON.md", TOP / "python/README.md"]
 BLOCK = re.compile(r"^```(?P<kind>python|text)\n(?P<code>.*?)^```$|^# (?P<heading>[^\n]*)$", re.MULTILINE | re.DOTALL)
 # Where one of these is not installed, a section that names it is not run.
-OPTIONAL = ["pandas", "matplotlib", "distributed"]
+OPTIONAL = ["pandas", "matplotlib", "distributed", "starlette"]
 
 
 def sections(document):

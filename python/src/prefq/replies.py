@@ -27,7 +27,7 @@ from .columns import quoted, spelled
 from .desk import Changed, Desk
 from .errors import Error, Refused
 from .hosts import Hosts
-from .kinds import Texts
+from .kinds import Choices, Texts
 
 PAGE = Path(__file__).with_name("page")
 SCRIPTS = ("page.js", "edit.js", "plot.js", "parts.js")
@@ -260,4 +260,4 @@ def first_question(desk: Desk) -> str:
     if columns:
         return f"top_level 2 {' * '.join(f'low({name})' for name in columns)}"
     kind = desk.columns[0].kind
-    return f"best pos({spelled(desk.columns[0].name)}, {quoted(next(iter(kind.texts), '') if isinstance(kind, Texts) else '')})"
+    return f"best pos({spelled(desk.columns[0].name)}, {quoted(next(iter(kind.texts), '') if isinstance(kind, (Texts, Choices)) else '')})"
