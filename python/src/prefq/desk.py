@@ -4,12 +4,15 @@ A desk keeps its rows in Python too. Each change is made there and in the table 
 answer of a picture are those of one version. Where the table's program ends, it is started again with these rows.
 """
 import threading
-from typing import Any, Callable, Dict, List, Mapping, NamedTuple, Optional, Tuple, TypeVar
+from types import MappingProxyType
+from typing import Any, Callable, Dict, Iterable, List, Mapping, NamedTuple, Optional, Tuple, TypeVar
 
 from .columns import Column, listed
 from .errors import Ended, Refused
 from .frame import Frame, without_twins
 from .hints import unknown_column
+from .kinds import Texts
+from .opened import is_outgrown, moved_columns, size_of_code_books, wider_kinds
 from .questions import Question, read_question
 from .table import Table
 from .translate import columns_in, plan
@@ -51,9 +54,11 @@ class Changed(Refused):
 
 
 class Picture(NamedTuple):
-    """All rows at one version, and the answer to a question over exactly these; the columns of the question in their order, and what is said of its values."""
+    """All rows at one version with the columns that their numbers stand for, and the answer to a question over exactly these; the columns of the question in their
+    order, and what is said of its values."""
 
     version: int
+    columns: List[Column]
     rows: List[Held]
     best: List[Found]
     asked: List[Column]
@@ -73,11 +78,9 @@ class Desk:
     """
 
     def __init__(self, frame: Frame, *, program: Optional[str] = None) -> None:
-        self.columns = list(frame.columns)
         self.version = 1
         self.table = frame.table                # that is asked now
-        self._named = {column.name: column for column in self.columns}
-        self._names = {id(column): name for column, name in zip(self.columns, frame.table.columns)}
+        self._take_columns(frame.columns)
         self._program = program
         self._changed = threading.Condition()
         self._closed = False
@@ -114,16 +117,15 @@ class Desk:
         return {column.name: column.decode(number) for column, number in zip(self.columns, numbers)}
 
     def insert(self, values: Mapping[str, Any]) -> int:
-        """Adds a row of these values, by the names of their columns, and returns its id. A value that is not given is missing."""
-        numbers = self._encoded(values, {})
-
+        """Adds a row of these values, by the names of their columns, and returns its id. A value that is not given is missing. Kinds grow as by `Frame.insert`."""
         def change(table: Table) -> int:
+            numbers = self._encoded(values, {})
             at = table.insert(numbers)
             self._rows[at] = Held(self._next, numbers)
             self._at[self._next] = at
             self._next += 1
             return self._next - 1
-        return self._change(change)
+        return self._change(change, values)
 
     def update(self, id: int, values: Mapping[str, Any], *, seen: Optional[int] = None) -> None:
         """Gives a row these values; the others stay. With the version that was `seen`, no value is overwritten that others have changed since: `Changed` has
@@ -136,7 +138,9 @@ class Desk:
             table.update(at, numbers)
             self._rows[at] = Held(id, numbers)
             self._since[id] = tuple(version if new == old else self.version + 1 for new, old, version in zip(numbers, before, self._versions(id)))
-        self._change(change)
+        with self._changed:
+            self._place(id)
+            self._change(change, values)
 
     def delete(self, id: int, *, seen: Optional[int] = None) -> Dict[str, Any]:
         """Deletes a row, and returns its values. With the version that was `seen`, a row that others have changed since stays: `Changed` has what is new."""
@@ -173,10 +177,9 @@ class Desk:
 
     def picture(self, text: str) -> Picture:
         """The rows and the answer to a question at one version."""
-        question = self.read(text)
         for last in [False] * TRIES + [True]:
             try:
-                return self._picture(text, question)
+                return self._picture(text)
             except Ended:
                 if last:
                     raise
@@ -184,8 +187,9 @@ class Desk:
                     self._surviving(Table.room)
         raise AssertionError
 
-    def _picture(self, text: str, question: Question) -> Picture:
+    def _picture(self, text: str) -> Picture:
         with self._changed:
+            question, columns = self.read(text), self.columns
             planned = plan(text, question, self._names)
             try:
                 query = self._surviving(lambda table: table.query(planned.text))
@@ -194,14 +198,34 @@ class Desk:
             version, rows = self.version, dict(self._rows)
         with query:
             best = [Found(row.level, *rows[row.id]) for row in without_twins(query.answer(), planned)]
-        return Picture(version, list(rows.values()), best, columns_in(question), planned.unknown)
+        return Picture(version, columns, list(rows.values()), best, columns_in(question), planned.unknown)
 
     def _encoded(self, values: Mapping[str, Any], before: Mapping[str, int]) -> Numbers:
         """The numbers of a row; those from before where no value is given."""
         for name in values:
             if name not in self._named:
                 raise ValueError(unknown_column(name, list(self._named)))
-        return tuple(before[name] if name in before and name not in values else column.encode(values.get(name)) for name, column in self._named.items())
+        given = [column for name, column in self._named.items() if name in values or name not in before]
+        numbers = dict(before)
+        # Texts last, so that a value that another column refuses adds none to a code book.
+        for column in sorted(given, key=lambda column: isinstance(column.kind, Texts)):
+            numbers[column.name] = column.encode(values.get(column.name))
+        return tuple(numbers[name] for name in self._named)
+
+    def _take_columns(self, columns: Iterable[Column]) -> None:
+        self.columns = list(columns)
+        self._named = {column.name: column for column in self.columns}
+        self._names = {id(column): name for column, name in zip(self.columns, self.table.columns)}
+        self._code_books = size_of_code_books(self.columns)
+
+    def _fit(self, values: Mapping[str, Any]) -> None:
+        """Makes the columns wider that are too narrow for these values, and code books smaller that are mostly texts of no row: the table is opened anew then."""
+        kinds = wider_kinds(self.columns, [values.get(column.name) for column in self.columns])
+        if kinds or is_outgrown(self.columns, self._code_books, len(self._rows)):
+            held = list(self._rows.values())
+            columns, lists = moved_columns(self.columns, kinds, [list(numbers) for numbers in zip(*(row.numbers for row in held))])
+            self._take_columns(columns)
+            self._open([Held(row.id, numbers) for row, numbers in zip(held, zip(*lists))])
 
     def _place(self, id: int) -> int:
         if id not in self._at:
@@ -225,8 +249,9 @@ class Desk:
             raise Changed(f"somebody else has changed {listed(names)} of row {id} since", self.version,
                           {column.name: values[column.name] for column, is_new in zip(self.columns, are_new) if is_new})
 
-    def _change(self, change: Callable[[Table], Result]) -> Result:
+    def _change(self, change: Callable[[Table], Result], values: Mapping[str, Any] = MappingProxyType({})) -> Result:
         with self._changed:
+            self._fit(values)
             result = self._surviving(change)
             self.version += 1
             self._wake()

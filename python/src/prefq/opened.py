@@ -49,7 +49,7 @@ class Opened:
         self.below = {id(column): f"c{place}" for place, column in enumerate(columns)}
         self.ids = ids
         self._options = options
-        self._size = self._code_books()
+        self._code_books = size_of_code_books(self.columns)
         # Texts last, so that a record that another column refuses adds none to a code book.
         self._order = sorted(range(len(self.columns)), key=lambda place: isinstance(self.columns[place].kind, Texts))
         self.table = Table(list(self.below.values()), rows, **options)
@@ -68,38 +68,55 @@ class Opened:
         return numbers
 
     def wider(self, records: Sequence[Any]) -> Dict[str, Kind]:
-        """The kinds of the columns that grow so that they have the values of these records."""
+        """The kinds of the columns that become wider so that they have the values of these records."""
         found: Dict[str, Kind] = {}
         for record in records:
-            for column, value in zip(self.columns, values_of(record, self.columns)):
-                kind = found.get(column.name, column.kind).widened(value) if column.grows and value is not None else None
-                if kind is not None:
-                    found[column.name] = kind
+            found.update(wider_kinds([column.of_kind(found.get(column.name, column.kind)) for column in self.columns], values_of(record, self.columns)))
         return found
 
     def is_outgrown(self) -> bool:
         """Whether the code books may be mostly texts that no row has any more."""
-        return self._code_books() > 2 * self._size + BYTES_OF_GROWTH + BYTES_A_ROW * self.table.count
+        return is_outgrown(self.columns, self._code_books, self.table.count)
 
     def anew(self, kinds: Mapping[str, Kind], last: int) -> "Opened":
         """The same rows under the same ids in a new table, whose columns have these kinds; `last` is the last id that was given. Takes the time of reading all
         rows and opening a table. No change may come meanwhile; open queries go on, and keep the table that they are of."""
         pairs = self.table.rows()
-        lists = [list(numbers) for numbers in zip(*(numbers for _, numbers in pairs))] or [[] for _ in self.columns]
-        columns = []
-        for place, column in enumerate(self.columns):
-            kind, lists[place] = moved(column, kinds.get(column.name, column.kind), lists[place])
-            columns.append(column.of_kind(kind))
-            columns[-1].has_gaps = LEAST in lists[place]
+        columns, lists = moved_columns(self.columns, kinds, [list(numbers) for numbers in zip(*(numbers for _, numbers in pairs))])
         return Opened(columns, list(zip(*lists)), self._options, Ids([self.ids.outside(id) for id, _ in pairs], last))
 
     def missing_row(self, id: int) -> Refused:
         """What is said of a row that is not there."""
         return Refused(f"no such row {id}", "client", 7)
 
-    def _code_books(self) -> int:
-        """About how many bytes they take."""
-        return sum(column.kind.size for column in self.columns if isinstance(column.kind, Texts))
+
+def size_of_code_books(columns: Sequence[Column]) -> int:
+    """About how many bytes the code books of columns take."""
+    return sum(column.kind.size for column in columns if isinstance(column.kind, Texts))
+
+
+def is_outgrown(columns: Sequence[Column], size: int, rows: int) -> bool:
+    """Whether code books that had this size may be mostly texts that none of so many rows has any more."""
+    return size_of_code_books(columns) > 2 * size + BYTES_OF_GROWTH + BYTES_A_ROW * rows
+
+
+def wider_kinds(columns: Sequence[Column], values: Sequence[Any]) -> Dict[str, Kind]:
+    """The kinds of the columns that become wider so that they have these values."""
+    found: Dict[str, Kind] = {}
+    for column, value in zip(columns, values):
+        kind = column.kind.widened(value) if column.grows and value is not None else None
+        if kind is not None:
+            found[column.name] = kind
+    return found
+
+
+def moved_columns(columns: Sequence[Column], kinds: Mapping[str, Kind], lists: List[List[int]]) -> Tuple[List[Column], List[List[int]]]:
+    """Columns that have these kinds, where one is given, and their numbers; with code books of just the texts that there are."""
+    moves = [moved(column, kinds.get(column.name, column.kind), numbers) for column, numbers in zip(columns, lists or [[] for _ in columns])]
+    found = [column.of_kind(kind) for column, (kind, _) in zip(columns, moves)]
+    for column, (_, numbers) in zip(found, moves):
+        column.has_gaps = LEAST in numbers
+    return found, [numbers for _, numbers in moves]
 
 
 def moved(column: Column, kind: Kind, numbers: List[int]) -> Tuple[Kind, List[int]]:

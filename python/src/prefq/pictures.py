@@ -26,14 +26,16 @@ def about(desk: Desk, title: str, questions: Sequence[str], editable: bool) -> D
 def picture(desk: Desk, question: str, axes: Sequence[Optional[str]] = (None, None)) -> Dict[str, Any]:
     """The rows and the answer at one version. Axes are names of columns; those that are not given are the first two of the question that are no texts."""
     seen = desk.picture(question)
-    x, y = chosen(desk, seen.asked, axes)
-    label = next((place for place, column in enumerate(desk.columns) if isinstance(column.kind, (Texts, Choices))), None)
-    best = [{"id": row.id, "level": row.level, "cells": texts(desk, row.numbers), "x": at(desk, row, x), "y": at(desk, row, y)} for row in seen.best[:MOST_BEST]]
+    columns = seen.columns
+    x, y = chosen(columns, seen.asked, axes)
+    label = next((place for place, column in enumerate(columns) if isinstance(column.kind, (Texts, Choices))), None)
+    best = [{"id": row.id, "level": row.level, "cells": texts(columns, row.numbers), "x": at(columns, row, x), "y": at(columns, row, y)}
+            for row in seen.best[:MOST_BEST]]
     among = {row.id for row in seen.best}
     others = sample([row for row in seen.rows if row.id not in among])
-    points = [[row.id, at(desk, row, x), at(desk, row, y), "" if label is None else texts(desk, row.numbers)[label]] for row in others]
+    points = [[row.id, at(columns, row, x), at(columns, row, y), "" if label is None else texts(columns, row.numbers)[label]] for row in others]
     return {"version": seen.version, "question": question, "count": len(seen.rows), "found": len(seen.best), "best": best, "others": points,
-            "notes": list(seen.notes), "asked": [column.name for column in seen.asked], "axes": [None if axis is None else desk.columns[axis].name for axis in (x, y)]}
+            "notes": list(seen.notes), "asked": [column.name for column in seen.asked], "axes": [None if axis is None else columns[axis].name for axis in (x, y)]}
 
 
 class Shown:
@@ -74,19 +76,19 @@ def is_axis(column: Column) -> bool:
     return not isinstance(column.kind, (Texts, Choices, Clock))
 
 
-def chosen(desk: Desk, asked: Sequence[Column], axes: Sequence[Optional[str]]) -> List[Optional[int]]:
+def chosen(columns: Sequence[Column], asked: Sequence[Column], axes: Sequence[Optional[str]]) -> List[Optional[int]]:
     """The places of the columns of both axes. None, where there is no further column, stands for the number of the row."""
-    places = {column.name: place for place, column in enumerate(desk.columns) if is_axis(column)}
-    rest = [places[column.name] for column in [*asked, *desk.columns] if column.name in places]
-    rest = [place for place in dict.fromkeys(rest) if desk.columns[place].name not in axes]
+    places = {column.name: place for place, column in enumerate(columns) if is_axis(column)}
+    rest = [places[column.name] for column in [*asked, *columns] if column.name in places]
+    rest = [place for place in dict.fromkeys(rest) if columns[place].name not in axes]
     return [places[name] if name in places else rest.pop(0) if rest else None for name in axes]
 
 
-def at(desk: Desk, row: Any, axis: Optional[int]) -> Any:
+def at(columns: Sequence[Column], row: Any, axis: Optional[int]) -> Any:
     """Where a row stands on an axis: a number; days or seconds since 1970 for dates and times; None where the value is missing."""
     if axis is None:
         return row.id
-    value = desk.columns[axis].decode(row.numbers[axis])
+    value = columns[axis].decode(row.numbers[axis])
     if isinstance(value, datetime.datetime):
         return value.replace(tzinfo=value.tzinfo or datetime.timezone.utc).timestamp()
     if isinstance(value, datetime.date):
@@ -96,9 +98,9 @@ def at(desk: Desk, row: Any, axis: Optional[int]) -> Any:
     return float(value) if isinstance(value, Decimal) else value
 
 
-def texts(desk: Desk, numbers: Numbers) -> List[str]:
+def texts(columns: Sequence[Column], numbers: Numbers) -> List[str]:
     """The values of a row as a file has them."""
-    return [column.text(column.decode(number)) for column, number in zip(desk.columns, numbers)]
+    return [column.text(column.decode(number)) for column, number in zip(columns, numbers)]
 
 
 def sample(rows: List[Held]) -> List[Held]:

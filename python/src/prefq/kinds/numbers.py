@@ -104,6 +104,11 @@ class Whole(Number):
 
     def widened(self, value: Any) -> Optional[Kind]:
         try:
+            self.encode(value)
+            return None
+        except (TypeError, ValueError):
+            pass
+        try:
             decimals = decimals_of(value if isinstance(value, str) else str(value), self.form if isinstance(value, str) else PLAIN)
         except (ValueError, InvalidOperation):
             return None
