@@ -3,7 +3,7 @@ import datetime
 import re
 from array import array
 from decimal import Decimal
-from typing import Any, Iterable, List, Optional, Sequence
+from typing import Any, Iterable, List, Optional, Sequence, Tuple
 
 from .checks import LEAST, MOST
 from .columns import is_missing
@@ -12,14 +12,17 @@ from .kinds import Booleans, Clock, Dates, Decimals, Floats, Kind, Texts, Times,
 from .kinds.booleans import WORDS as WORDS_OF_TRUTH
 from .kinds.forms import NUMBER, PLAIN, Form
 from .kinds.moments import DAY, MOMENT, offset_of
-from .kinds.numbers import FLOAT, MOST_DECIMALS, are_in_range, decimals_of, whole_numbers
+from .kinds.numbers import FLOAT, MOST_DECIMALS, are_in_range, decimals_of, scaled_numbers, whole_numbers
 from .missing import WORDS, folded
 
 WHOLE = re.compile(r"[+-]?\d+")
 # Such digits are a postal code or an article number: as a number they would lose their zeros.
 LEADING_ZERO = re.compile(r"[+-]?0\d+")
-# What a column may have that is not read at once: what Python reads beside digits, a zero in front, and the number that stands for a missing value.
-NOT_AT_ONCE = ("_", " ", "\n0", "\n-0", "\n+0", str(LEAST))
+# What a column may have that is not read at once: what Python reads beside digits, and the number that stands for a missing value.
+NOT_AT_ONCE = ("_", " ", str(LEAST))
+# Digits behind a zero in front are a code, not a number; where none of these stands there, there are none.
+ZEROS = ("\n0", "\n-0", "\n+0")
+ZERO_IN_FRONT = re.compile(r"\n[+-]?0\d+(?=\n)")
 # So many texts are looked at for what is said of a column.
 LOOKED_AT = 2000
 MOST_PROPOSED = 3
@@ -40,15 +43,24 @@ def kind_of_texts(texts: Sequence[str], form: Form = PLAIN) -> Kind:
     return Texts()
 
 
-def whole_column(texts: Sequence[str]) -> "Optional[array[int]]":
-    """The numbers of a column of plain whole numbers without gaps, found all at once; None where it is any other column."""
-    joined = "\n" + "\n".join(texts)
-    if not texts or any(sign in joined for sign in NOT_AT_ONCE):
+def plain_column(texts: Sequence[str]) -> "Optional[Tuple[Kind, array[int]]]":
+    """The kind and the numbers of a column of plain whole numbers or decimals without gaps, found all at once; None where it is any other column."""
+    joined = "\n" + "\n".join(texts) + "\n"
+    if not texts or any(sign in joined for sign in NOT_AT_ONCE) or any(sign in joined for sign in ZEROS) and ZERO_IN_FRONT.search(joined):
         return None
     try:
-        return array("q", map(int, texts))
+        if "." not in joined:
+            return Whole(), array("q", map(int, texts))
+        decimals = most_decimals(texts)
+        numbers = scaled_numbers(texts, decimals) if decimals <= MOST_DECIMALS else None
+        return None if numbers is None or LEAST in numbers else (Decimals(decimals), array("q", numbers))
     except (ValueError, OverflowError):
         return None
+
+
+def most_decimals(texts: Sequence[str]) -> int:
+    """How many decimals plain numbers without exponents have at most."""
+    return max((len(part) for _, _, part in (text.partition(".") for text in texts)), default=0)
 
 
 def plain_numbers(texts: Sequence[str], form: Form) -> Optional[List[str]]:
@@ -69,7 +81,8 @@ def kind_of_numbers(texts: Sequence[str]) -> Kind:
         if wholes and are_in_range(wholes):
             return Whole()
     elif all(map(NUMBER.fullmatch, texts)):
-        decimals = max(map(decimals_of, texts))
+        has_exponents = any("e" in text or "E" in text for text in texts)
+        decimals = max(map(decimals_of, texts)) if has_exponents else most_decimals(texts)
         if decimals <= MOST_DECIMALS and max(abs(Decimal(text)) for text in texts) * 10**decimals <= MOST:
             return Decimals(decimals)
     return Floats() if first_inexact(texts) is None else Texts()

@@ -8,7 +8,7 @@ from .checks import LEAST, MOST, MOST_COLUMNS
 from .columns import Column, is_missing, listed
 from .errors import Refused
 from .hints import unknown_column
-from .infer import kind_of_texts, kind_of_values, whole_column
+from .infer import kind_of_texts, kind_of_values, plain_column
 from .kinds import Decimals, Kind, Texts, Whole, kind_named
 from .kinds.forms import PLAIN, Form
 from .kinds.numbers import Number
@@ -160,9 +160,9 @@ class ColumnReader:
     def _part(self, texts: List[str], *, is_whole_column: bool = False) -> Part:
         """Some rows, or all of a column at once, whose kind is then that of all of its texts."""
         if self._given is None and self._form.is_plain and not self._missing.are_numbers and not is_whole_column:
-            numbers = whole_column(texts)
-            if numbers is not None:
-                return Part(Whole(), numbers, {})
+            plain = plain_column(texts)
+            if plain is not None:
+                return Part(*plain, {})
         found = Distinct.of(texts, self._missing)
         kind = self._given or (kind_of_texts(found.values, self._form) if found.values else Texts() if is_whole_column else None)
         if isinstance(kind, Texts):

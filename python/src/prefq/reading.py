@@ -15,7 +15,7 @@ from .hints import nearest
 
 DELIMITERS = ",;\t|"
 # Rows that are read at a time.
-CHUNK = 65_536
+CHUNK = 8_192
 # What is looked at to find the delimiter, and whether a file is text at all.
 SAMPLE_BYTES = 65_536
 SAMPLE_ROWS = 50

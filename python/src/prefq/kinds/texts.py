@@ -28,8 +28,7 @@ class Texts(Kind):
         code = self._codes.get(text)
         if code is not None:
             return code
-        with ADDING:
-            return self._added(text)
+        return self.read_all([text])[0]
 
     def encode(self, value: Any) -> int:
         if not isinstance(value, str):
@@ -45,22 +44,18 @@ class Texts(Kind):
     def read_all(self, texts: Sequence[str]) -> List[int]:
         codes = self._codes
         with ADDING:
-            for text in dict.fromkeys(texts):
-                if text not in codes:
-                    self._added(text)
+            # Texts of numpy are of a type of their own.
+            new = [str(text) for text in dict.fromkeys(texts) if text not in codes]
+            begin = len(self._texts) + 1
+            self._texts += new
+            codes.update(zip(new, range(begin, begin + len(new))))
+            self.size += sum(map(len, new)) + BYTES_OF_A_TEXT * len(new)
         return list(map(codes.__getitem__, texts))
 
     @property
     def texts(self) -> List[str]:
         """The texts of the column, in the order in which they came."""
         return list(self._texts)
-
-    def _added(self, text: str) -> int:
-        if text not in self._codes:
-            self._texts.append(str(text))
-            self._codes[self._texts[-1]] = len(self._texts)
-            self.size += len(text) + BYTES_OF_A_TEXT
-        return self._codes[text]
 
 
 class Choices(Kind):
