@@ -141,8 +141,10 @@ class Connections(TestCase):
                 with socket.create_connection(server.server_address[:2], timeout=30) as slow, self.within(5):
                     slow.sendall(data)
                     with contextlib.suppress(OSError):
-                        while not select.select([slow], [], [], 0.05)[0]:
+                        for _ in range(60):
                             slow.sendall(b"x")
+                            if select.select([slow], [], [], 0.05)[0]:
+                                break
                     self.assertTrue(slow.recv(100).startswith(b"HTTP/1.1 408 "))
             self.assertEqual(len(server.desk), 4)
 
@@ -151,7 +153,7 @@ class Connections(TestCase):
             silent = [stack.enter_context(socket.create_connection(server.server_address[:2], timeout=30)) for _ in range(8)]
             with self.within(5):
                 self.assertEqual(ask(server, "GET", "/about")[0], 200)
-            self.assertEqual([connection.recv(1) for connection in silent[:5]], [b""] * 5)
+                self.assertEqual([connection.recv(1) for connection in silent[:5]], [b""] * 5)
 
     def test_connections_that_are_in_use_are_not_ended(self):
         with mock.patch.object(server_module, "MOST_CONNECTIONS", 2), served() as server, Events(server) as first, Events(server) as second:

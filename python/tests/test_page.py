@@ -202,6 +202,16 @@ class Page(Paged):
             self.browser.until("document.getElementById('state').textContent === 'Live, version 2'")
             self.assertEqual(server.desk.picture("best low(Distance)").best[0].id, 2)
 
+    def test_the_server_is_started_anew_with_other_rows(self):
+        with served(self.records) as server:
+            port = server.server_address[1]
+            self.browser.open(server.url)
+            self.browser.until("document.querySelectorAll('#rows tbody tr').length === 5")
+        other = [{"Hotel": "Other", "Price (EUR)": 1, "Distance": 2, "Opened": None}]
+        with served(other, port=port, title="Others"):
+            self.browser.until("document.title === 'Others' && document.querySelectorAll('#rows tbody tr').length === 1")
+            self.browser.faults.clear()         # that the server was away
+
     def test_a_phone_in_the_dark(self):
         page = self.browser
         page.call("Emulation.setEmulatedMedia", features=[{"name": "prefers-color-scheme", "value": "dark"}])

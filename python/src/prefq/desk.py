@@ -154,14 +154,10 @@ class Desk:
         return self._change(change)
 
     def subscribe(self, call: Callable[[], None]) -> Callable[[], None]:
-        """Has this called after each change and at the close, by the thread that makes it, so it must be quick. Returns what ends it."""
-        with self._changed:
-            self._subscribed.append(call)
-
-        def end() -> None:
-            with self._changed:
-                self._subscribed.remove(call)
-        return end
+        """Has this called after each change and at the close, by the thread that makes it, so it must be quick. Returns what ends it. Neither waits for a change that
+        is under way, so an event loop may call them."""
+        self._subscribed.append(call)
+        return lambda: self._subscribed.remove(call)
 
     def wait(self, seen: Optional[int], seconds: float) -> int:
         """The version, as soon as it is another than `seen`, but after this number of seconds at the latest."""
@@ -259,7 +255,7 @@ class Desk:
 
     def _wake(self) -> None:
         self._changed.notify_all()
-        for call in self._subscribed:
+        for call in list(self._subscribed):
             call()
 
     def _surviving(self, call: Callable[[Table], Result]) -> Result:

@@ -1,7 +1,7 @@
 """Which requests come from the page itself: the names that it is asked for under, and the sites that send requests here."""
 import ipaddress
 import re
-from typing import Mapping, Optional, Sequence, Tuple
+from typing import Mapping, Optional, Sequence, Union
 from urllib.parse import urlsplit
 
 HOST = re.compile(r"(?P<name>\[[0-9a-f:.]+\]|[^\[\]:/@?#\\\s]+)(?::(?P<port>[0-9]{0,5}))?", re.IGNORECASE)
@@ -58,7 +58,7 @@ def plain(name: str) -> str:
     return str(found) if found else name.lower().rstrip(".")
 
 
-def address(name: str) -> Optional[ipaddress._BaseAddress]:
+def address(name: str) -> Union[ipaddress.IPv4Address, ipaddress.IPv6Address, None]:
     """The address that a name spells, in brackets or without; None where it spells none."""
     try:
         found = ipaddress.ip_address(name.strip("[]"))

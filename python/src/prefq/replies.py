@@ -16,6 +16,7 @@ rows that are not there, 409 for what the table refuses, 413 for what is too lar
 """
 import json
 import re
+import secrets
 import threading
 from functools import partial
 from pathlib import Path
@@ -42,6 +43,7 @@ SECONDS_QUIET = 15.0        # until a sign of life is sent
 SECONDS_STALLED = 10.0      # that a browser may take nothing of what is sent
 SECONDS_REQUEST = 10.0      # from the first byte of a request to its last
 SIGN_OF_LIFE = ": nothing has changed\n\n"
+COME_AGAIN = "retry: 1000\n\n"      # milliseconds, where the stream breaks
 ROW = re.compile(r"/rows/(\d{1,18})")
 VERSION = re.compile(r"\d{1,18}")
 
@@ -107,13 +109,14 @@ class Watch:
 
     def event(self) -> Tuple[str, bool]:
         """The event for the picture as it is now, and whether it is the last one, as where the question is refused."""
+        first = "" if self.seen else COME_AGAIN
         try:
             self.seen, picture = self._site.shown.get(self._question, self._axes)
         except (Error, TypeError, ValueError) as why:
             # Browsers ask again where a stream ends. Those that hear that it was refused do not.
             name = "failed" if isinstance(why, Error) and not isinstance(why, Refused) else "refused"
-            return f"event: {name}\ndata: {json.dumps(reason(why))}\n\n", True
-        return f"data: {picture}\n\n", False
+            return f"{first}event: {name}\ndata: {json.dumps(reason(why))}\n\n", True
+        return f"{first}data: {picture}\n\n", False
 
 
 class Site:
@@ -121,7 +124,8 @@ class Site:
 
     def __init__(self, desk: Desk, hosts: Hosts, *, title: str, questions: Sequence[str], editable: bool) -> None:
         self.desk, self.hosts = desk, hosts
-        self.about = pictures.about(desk, title, list(questions) or [first_question(desk)], editable)
+        # A page that finds another `run` here is one of rows that are no more.
+        self.about = {**pictures.about(desk, title, list(questions) or [first_question(desk)], editable), "run": secrets.token_hex(8)}
         self.shown = pictures.Shown(desk)
         self.streams = threading.BoundedSemaphore(MOST_STREAMS)
 

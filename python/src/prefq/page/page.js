@@ -7,8 +7,12 @@ const EXCERPT = 72;
 const AGAIN = 3000;     // milliseconds until a server that refused to be watched is asked again
 let about, picture, stream;
 
+async function read() {
+  return (await fetch("about")).json();
+}
+
 async function begin() {
-  about = await (await fetch("about")).json();
+  about = await read();
   document.title = $("title").textContent = about.title;
   $("examples").append(element("option", {textContent: "choose …", value: ""}), ...about.questions.map(text => element("option", {textContent: text, value: text})));
   for (const axis of ["x", "y"]) {
@@ -30,11 +34,14 @@ function listen() {
     event.target.close();
     refuse(JSON.parse(event.data), asked.question);
   });
-  let failure = "";
+  let failure = "", broken = false;
+  // Where the server was started anew, its columns and rows may be others.
+  stream.addEventListener("open", async () => { if (broken && (await read()).run !== about.run) location.reload(); });
   stream.addEventListener("failed", event => { failure = JSON.parse(event.data).error; });
   stream.addEventListener("error", event => {
     $("state").textContent = `${failure || "The server does not answer"}. Trying again …`;
     failure = "";
+    broken = true;
     // The browser tries again by itself, but not where it was replied that it may not watch.
     if (event.target.readyState === EventSource.CLOSED) setTimeout(() => { if (stream === event.target) listen(); }, AGAIN);
   });
