@@ -15,7 +15,7 @@ from email.utils import formatdate
 from http import HTTPStatus
 from http.server import BaseHTTPRequestHandler, ThreadingHTTPServer
 from socketserver import TCPServer
-from typing import Any, Dict, Iterable, Optional, Sequence, Set, Tuple, Union
+from typing import Any, Dict, Iterable, List, Optional, Sequence, Set, Tuple, Union
 from urllib.parse import urlsplit
 
 from . import replies
@@ -151,7 +151,8 @@ class Handler(BaseHTTPRequestHandler):
         super().setup()
         self.rfile.close()
         self._received = Received(self.connection)
-        self.rfile = io.BufferedReader(self._received)
+        self._incoming = io.BufferedReader(self._received)
+        self.rfile = self._incoming
 
     def handle_one_request(self) -> None:
         """Reads a request and replies to it."""
@@ -186,7 +187,7 @@ class Handler(BaseHTTPRequestHandler):
         """Waits for the first byte of a request."""
         self._received.until = time.monotonic() + SECONDS_IDLE
         try:
-            return bool(self.rfile.peek(1))
+            return bool(self._incoming.peek(1))
         except socket.timeout:
             return False
 
@@ -201,12 +202,12 @@ class Handler(BaseHTTPRequestHandler):
 
     def parse_request(self) -> bool:
         """Takes no head of which a proxy in front of this server may read something else than http.server does."""
-        behind, self.rfile = self.rfile, io.BytesIO(self._header_lines())
+        self.rfile = io.BytesIO(self._header_lines())
         try:
             if not super().parse_request():
                 return False
         finally:
-            self.rfile = behind
+            self.rfile = self._incoming
         counts = [len(self.headers.get_all(name, [])) for name in ("Transfer-Encoding", "Content-Length", "Host")]
         if counts[0] or counts[1] > 1 or counts[2] != 1 or len(self.requestline.split()) != 3:
             self.close_connection = True
@@ -216,7 +217,8 @@ class Handler(BaseHTTPRequestHandler):
 
     def _header_lines(self) -> bytes:
         """The lines below the first one, to the blank one."""
-        lines, left = [], MOST_HEAD
+        lines: List[bytes] = []
+        left = MOST_HEAD
         while not lines or lines[-1] not in BLANK:
             lines.append(self.rfile.readline(left + 1))
             left -= len(lines[-1])
