@@ -159,8 +159,9 @@ class Mounted(TestCase):
         for root, path, raw, within in [("", "/about", b"/about", "/about"), ("/h", "/about", b"/h/about", "/about"), ("/h", "/h/about", b"/h/about", "/about"), ("/h", "/about", b"/about", "/about"),
                                         ("/rows", "/rows/7", b"/rows/rows/7", "/rows/7"), ("/h", "/h", b"/h", ""), ("/h", "/hotel", b"/hotel", "/hotel"), ("/h", "/h/", None, "/"),
                                         ("/a b", "/about", b"/a%20b/about", "/about")]:
-            scope = {"root_path": root, "path": path, **({} if raw is None else {"raw_path": raw})}
+            scope = {"root_path": root, "path": path, "raw_path": raw}
             self.assertEqual(asgi.path_within(scope), within, scope)
+        self.assertEqual(asgi.path_within({"path": "/about"}), "/about")
 
 
 class Alone(TestCase):

@@ -77,6 +77,13 @@ class Edits(Paged):
         self.until_closed()
         self.assertEqual((self.browser.text("#done"), self.server.desk.version), ("Nothing was changed.", 1))
 
+    def test_two_clicks_are_one_change(self):
+        self.browser.click("#add")
+        self.fill("Hotel", "New")
+        self.browser.js("document.getElementById('save').click(); document.getElementById('values').requestSubmit(document.getElementById('save'))")
+        self.until_closed()
+        self.assertEqual((self.server.desk.version, len(self.server.desk)), (2, 3))
+
     def test_what_two_have_changed_is_asked_for(self):
         self.edit(1)
         self.server.desk.update(1, {"Price (EUR)": "20", "Distance": 900, "Opened": "2020-02-02"})

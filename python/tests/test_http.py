@@ -6,7 +6,6 @@ import json
 import re
 import select
 import socket
-import statistics
 import time
 import unittest
 from unittest import mock
@@ -124,7 +123,7 @@ class Requests(TestCase):
                 connection.request("GET", "/about")
                 connection.getresponse().read()
                 seconds.append(time.monotonic() - begun)
-            self.assertLess(statistics.median(seconds), 0.03)
+            self.assertLess(sorted(seconds)[2], 0.03)
 
 
 class Connections(TestCase):
@@ -172,8 +171,8 @@ class Connections(TestCase):
     def test_a_request_of_a_connection_that_was_ended_is_not_done(self):
         with served() as server, socket.create_connection(server.server_address[:2], timeout=30) as connection:
             connection.sendall(HEAD + b"Content-Length: %d\r\n\r\n" % len(ROW) + ROW[:-1])
-            time.sleep(0.1)
-            server._make_room()
+            while not server._make_room():
+                time.sleep(0.01)
             with contextlib.suppress(OSError):
                 connection.sendall(ROW[-1:])
                 connection.recv(1)

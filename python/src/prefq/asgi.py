@@ -100,7 +100,7 @@ class Application:
 def path_within(scope: Message) -> str:
     """The path below the one where the application is mounted, which some frameworks take away from `path`, and others do not."""
     root, path = scope.get("root_path", ""), scope["path"]
-    whole = unquote(scope.get("raw_path", b"").decode("latin-1")) or path
+    whole = unquote((scope.get("raw_path") or b"").decode("latin-1")) or path
     return str(whole[len(root):] if f"{whole}/".startswith(f"{root}/") else path)
 
 

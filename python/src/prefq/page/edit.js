@@ -104,6 +104,8 @@ export function edit(columns, row, version) {
 }
 
 export async function save() {
+  if ($("save").disabled) return;
+  $("save").disabled = true;          // until there is a reply: a second click would be another change
   const changed = opened.fields.filter(field => field.isChanged);
   const values = Object.fromEntries(changed.map(field => [field.column.name, field.value]));
   try {
@@ -114,6 +116,8 @@ export async function save() {
   } catch (why) {
     $("wrong").textContent = why.reply?.kind === "changed" ? compare(why.reply) : why.status === 404 ? "Somebody else has removed this row." : why.message;
     $("wrong").hidden = false;
+  } finally {
+    $("save").disabled = false;
   }
 }
 
