@@ -100,6 +100,19 @@ class Versions(TestCase):
                 thread.join()
             self.assertEqual(desk.picture("best low(count)").rows[0].numbers, (30,))
 
+    def test_a_refused_change_leaves_no_text_behind(self):
+        with Desk(prefq.Frame.from_records(RECORDS, kinds=KINDS)) as desk:
+            texts = desk.columns[0].kind.texts
+            desk.update(1, {"Hotel": "Quay <b>"})
+            for change in (lambda: desk.insert({"Hotel": "x", "Price (EUR)": "cheap"}), lambda: desk.update(1, {"Hotel": "y", "Distance": "far"}), lambda: desk.update(99, {"Hotel": "z"}),
+                           lambda: desk.insert({"Hotel": "x", "Stars": 1})):
+                with self.assertRaises((ValueError, prefq.Refused)):
+                    change()
+            desk.update(1, {"Distance": 5})
+            with self.assertRaises(Changed):
+                desk.update(1, {"Hotel": "w", "Distance": 6}, seen=1)
+            self.assertEqual(desk.columns[0].kind.texts, texts)
+
     def test_a_conflict_can_be_pickled(self):
         why = pickle.loads(pickle.dumps(Changed("row 7", 12, {"x": 1})))
         self.assertEqual((str(why), why.kind, why.version, why.values), ("row 7", "changed", 12, {"x": 1}))

@@ -133,8 +133,8 @@ class Desk:
         def change(table: Table) -> None:
             at = self._place(id)
             before = self._rows[at].numbers
-            numbers = self._encoded(values, dict(zip(self._named, before)))
             self._check_unchanged(id, [name in values for name in self._named], seen)
+            numbers = self._encoded(values, dict(zip(self._named, before)))
             table.update(at, numbers)
             self._rows[at] = Held(id, numbers)
             self._since[id] = tuple(version if new == old else self.version + 1 for new, old, version in zip(numbers, before, self._versions(id)))
@@ -197,13 +197,12 @@ class Desk:
         return Picture(version, columns, list(rows.values()), best, columns_in(question), planned.unknown)
 
     def _encoded(self, values: Mapping[str, Any], before: Mapping[str, int]) -> Numbers:
-        """The numbers of a row; those from before where no value is given."""
+        """The numbers of a row; those from before where no value is given. Texts come last, so that one that is refused with another value leaves nothing behind."""
         for name in values:
             if name not in self._named:
                 raise ValueError(unknown_column(name, list(self._named)))
         given = [column for name, column in self._named.items() if name in values or name not in before]
         numbers = dict(before)
-        # Texts last, so that a value that another column refuses adds none to a code book.
         for column in sorted(given, key=lambda column: isinstance(column.kind, Texts)):
             numbers[column.name] = column.encode(values.get(column.name))
         return tuple(numbers[name] for name in self._named)

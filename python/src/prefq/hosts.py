@@ -34,7 +34,7 @@ class Hosts:
         host = headers.get("host", "")
         found = HOST.fullmatch(host)
         if not found or not self.has(found["name"]):
-            return f"the page here is not that of {host or 'no name'}"
+            return f"the page here is not that of {host or 'no name'}, or --allow-host (from Python allow_hosts) has to say so"
         origin = headers.get("origin")
         if origin is not None and not is_of(origin, found["name"], found["port"] or ""):
             return f"a page of {origin} cannot ask here"
