@@ -128,6 +128,20 @@ class Tasks(TestCase):
                 self.assertEqual(len(await table.best(QUESTION)), 4)
         self.run_async(main)
 
+    def test_a_client_that_garbage_has_is_waited_for_a_second_at_most(self):
+        async def main():
+            async with await self.open(clients=1) as table:
+                query = await table.query(QUESTION)
+                query.itself = query
+                del query
+                return [row.id for row in await asyncio.wait_for(table.best(QUESTION), 20)]
+
+        gc.disable()
+        try:
+            self.assertEqual(self.run_async(main), SKYLINE)
+        finally:
+            gc.enable()
+
     def test_dead_and_closed(self):
         async def main():
             table = await self.open()

@@ -17,7 +17,7 @@ from itertools import count
 from unittest import mock
 
 import prefq
-from support import QUESTION, TestCase, hotels, in_a_fork, is_running, numbers, raised_after
+from support import QUESTION, TestCase, hotels, in_a_fork, is_running, numbers, raised_after, standing_still
 
 NEVER = 30
 TIMES = int(os.environ.get("PREFQ_TIMES", "1"))
@@ -149,6 +149,23 @@ class Garbage(TestCase):
             self.assertEqual([query.answer()[0].id for query in queries], [1, 9])
             with self.refuses(prefq.Refused, "this query has ended", number=4):
                 query.answer()
+
+    def test_a_finalizer_waits_for_no_call_of_another_thread(self):
+        """Else two calls of two tables, each with garbage of the other one, would wait for each other."""
+        with numbers(9) as table:
+            holder = Holder(table, "best low(x)")
+            with standing_still(table):
+                other = threading.Thread(target=table.get, args=(1,))
+                other.start()
+                time.sleep(0.1)
+                del holder
+                collects = threading.Thread(target=gc.collect)
+                collects.start()
+                collects.join(5)
+                self.assertFalse(collects.is_alive())
+                self.assertTrue(other.is_alive())
+            other.join(NEVER)
+            self.assertEqual(len([table.query("best low(x)") for _ in range(8)]), 8)
 
     def test_clients_that_garbage_has_are_waited_for_a_second_at_most(self):
         gc.disable()

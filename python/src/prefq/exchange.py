@@ -47,7 +47,7 @@ def has_ended() -> Refused:
 class Exchange:
     """The exchanges with a process, which belongs to the Python process that started it.
 
-    - `queries`: who has which client's open query; `dropped`: holders of queries that nobody has any more, which are abandoned before the next command
+    - `queries`: who has which client's open query; `dropped`: holders of queries that nobody wants any more, which are abandoned before the next command
     - `rows`: the number of rows
     """
 
@@ -96,16 +96,15 @@ class Exchange:
         return self._whole(lambda: self._many(pieces, reply))
 
     def settle(self) -> None:
-        """Abandons the queries that nobody has any more, if there are any."""
+        """Abandons the queries that nobody wants any more, if there are any."""
         if self.dropped or self._ended is not None:
             self._whole(lambda: None)
 
     def abandon(self, holder: Holder) -> None:
-        """Abandons a query; before the next command, where this thread is in the middle of one, as a finalizer or a signal handler may be."""
-        self.ours()
+        """Has a query abandoned before the next command. A finalizer or a signal handler, which may run in the middle of any call, waits for nothing here."""
         self.dropped.append(holder)
         if not self._is_under_way_here():
-            self.settle()
+            self.check()
 
     def give_back(self, holder: Holder) -> None:
         """Its query has ended."""

@@ -31,7 +31,7 @@ class Partition:
 Source = Union[Partition, str, "os.PathLike[str]", Any]
 
 
-def listed(partitions: Iterable[Source]) -> List[Source]:
+def partitions_of(partitions: Iterable[Source]) -> List[Source]:
     """The partitions, where they are a list of some: a single one would be taken for a list of its letters or columns, and all rows of a DataFrame of Dask be
     pulled through one process."""
     for what, is_one, instead in [("a DataFrame of Dask", _is_of_dask, "give its partitions, client.compute(frame.to_delayed())"),

@@ -28,7 +28,7 @@ from uuid import uuid4
 
 from .checks import MOST_ROWS, header, seconds, text_of_question
 from .errors import Ended, Error, Refused, refused
-from .partition import Partition, Source, listed, text_of
+from .partition import Partition, Source, partitions_of, text_of
 from .program import find_program
 from .rows import Row
 
@@ -200,7 +200,7 @@ def best(partitions: Iterable[Source], question: str, *, map: Callable[..., Any]
     >>> [row.id for row in best([january, february], "best low(price) * low(dist)")]
     [1, 2, 3]
     """
-    partitions = listed(partitions)
+    partitions = partitions_of(partitions)
     if not partitions:
         raise ValueError("there is no partition")
     rows: List[Row] = []
