@@ -101,7 +101,8 @@ class Exact(unittest.TestCase):
         self.assertGreater(right, refused)
 
     def test_levels_are_asked_for_in_turn(self):
-        for question, levels in [("at_least 100 low(price) by city", [4, 16, 64, 100]), ("at_least 3 low(price)", [3]), ("best low(price)", [None])]:
+        for question, levels in [("at_least 100 low(price) by city", [4, 16, 64, 100]), ("at_least 3 low(price)", [3]), ("best low(price)", [None]),
+                                 ("at_least 000000003 low(price)", [3]), (f"at_least {'9' * 5000} low(price)", [None])]:
             self.assertEqual([job.levels for job in parts._jobs(Job(question))], levels)
 
     def test_a_chain_needs_as_many_levels_as_rows(self):
@@ -273,7 +274,7 @@ class Refusals(unittest.TestCase):
             best([Partition(["a", "b"], [[1]])], "best low(a)")
 
     def test_a_question_is_refused_at_its_own_place(self):
-        for question, place in [("best low(prize)", 9), ("at_least 40 low(prize)", 16), ("at_least 1001 low(price)", 9), ("at_least40 low(price)", 0),
+        for question, place in [("best low(prize)", 9), ("at_least 40 low(prize)", 16), ("at_least 1001 low(price)", 9), (f"at_least {'9' * 900} low(price)", 9), ("at_least40 low(price)", 0),
                                 ("at_least 5 low(price) by town", 25), ("skyline of price", 16)]:
             with self.subTest(question=question), self.assertRaises(prefq.Refused) as caught:
                 best([Partition(COLUMNS, [[1, 2, 3]])], question)

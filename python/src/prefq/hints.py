@@ -18,7 +18,7 @@ SLIPS = {
     "group": "write by and the column",
     "order": "low(x) prefers the smallest value of x, high(x) the largest",
     "where": "a question has no conditions: pos(x, 'value') and between(x, 1, 5) prefer rows",
-    "true": "there are no conditions: pos(x, 'value') prefers a value, between(x, 1, 5) a range, high(x) true of true and false",
+    "true": "there are no conditions: pos(x, 'value') prefers a value, between(x, 1, 5) a range, and high(x) prefers true to false",
     "empty": "there is no empty preference: leave it out",
     "select": "a question begins with best, as in best low(x) * low(y)",
     "distinct": "write skyline of distinct x min, y max",

@@ -220,7 +220,8 @@ def best(partitions: Iterable[Source], question: str, *, map: Callable[..., Any]
 def _jobs(job: Job) -> Iterator[Job]:
     """The jobs to try, in turn: `at_least k` asks for 4, 16, 64 levels and so on, at most k, since k levels hold k rows and mostly a few do."""
     found = AT_LEAST.match(job.question)
-    wanted = int(found[1]) if found else 0
+    digits = found[1].lstrip("0") if found else ""
+    wanted = int(digits) if 0 < len(digits) <= len(str(MOST_LEVELS)) else 0
     if not 1 <= wanted <= MOST_LEVELS:
         yield job       # the count is refused, or there is none
         return
