@@ -2,6 +2,8 @@
 
 Nothing of the package is used here. A term compares two rows and returns BETTER, WORSE, SAME or NEITHER; `turned` is the converse. A missing value is None.
 """
+import datetime
+
 BETTER, WORSE, SAME, NEITHER = "better", "worse", "same", "neither"
 
 
@@ -24,13 +26,19 @@ class Scored:
 
 
 class Low(Scored):
+    """By the order of the values, or that of what `order` makes of them."""
+
+    def __init__(self, name, text, order=None):
+        super().__init__(name, text)
+        self.order = order
+
     def score(self, value):
-        return value
+        return self.order(value) if self.order else value
 
 
-class High(Scored):
+class High(Low):
     def compare(self, a, b, turned=False):
-        return Low(self.name, "").compare(a, b, not turned)
+        return Scored.compare(self, a, b, not turned)
 
 
 class Between(Scored):
@@ -38,11 +46,18 @@ class Between(Scored):
 
     def __init__(self, name, text, low, high):
         super().__init__(name, text)
-        self.low, self.high = low, high
+        self.low, self.high = on_a_scale(low), on_a_scale(high)
 
     def score(self, value):
-        zero = self.low - self.low
+        value, zero = on_a_scale(value), self.low - self.low
         return max(self.low - value, zero, value - self.high)
+
+
+def on_a_scale(value):
+    """What has distances: of times of day, those from midnight."""
+    if not isinstance(value, datetime.time):
+        return value
+    return datetime.timedelta(hours=value.hour, minutes=value.minute, seconds=value.second, microseconds=value.microsecond)
 
 
 class Layered:

@@ -1,9 +1,15 @@
-"""Random frames of all kinds of columns, gaps among them, against a plain evaluation of the question on Python's values."""
+"""Random frames of all kinds of columns, gaps among them, against a plain evaluation of the question on Python's values.
+
+PREFQ_TEST_COUNT is how many questions are asked, and PREFQ_TEST_SEED begins other ones.
+"""
 import csv
 import io
+import os
 import random
 import unittest
+import unittest.mock
 import warnings
+from decimal import Decimal
 
 import prefq
 import random_frames
@@ -15,20 +21,103 @@ try:
 except ImportError:
     pandas = None
 
-FRAMES = 200
+QUESTIONS = int(os.environ.get("PREFQ_TEST_COUNT", 1000))
+SEED = int(os.environ.get("PREFQ_TEST_SEED", 20260501))
+QUESTIONS_OF_A_FRAME = 6
+MOST = 2**63 - 1
 
 
-def opened(columns, records, way):
-    """The frame of these records, which comes in this way."""
-    if way == "csv":
+class Door:
+    """A way in which records become a frame; its columns have no kind of their own unless they are `given`."""
+
+    further = (random_frames.Written, random_frames.WrittenDates)
+
+    def __init__(self, random_, columns, records):
+        self.random, self.columns, self.records = random_, columns, records
+        self.given = {name: kind.spelling for name, kind in columns.items() if self.is_given(kind)}
+
+    def is_given(self, kind):
+        return kind.is_given
+
+    def value(self, name, value):
+        """A value as it is inserted: that, or a text of the file that spells it."""
+        is_text = value is not None and name in self.given and self.random.random() < 0.5
+        return self.columns[name].cell(value) if is_text else value
+
+    def record(self, record):
+        return {name: self.value(name, value) for name, value in record.items()}
+
+
+class Records(Door):
+    def is_given(self, kind):
+        return type(kind) in (random_frames.Choice, random_frames.Written) or self.random.random() < 0.2
+
+    def opened(self):
+        return prefq.Frame.from_records(list(map(self.record, self.records)), kinds=self.given)
+
+
+class Texts(Records):
+    """All values are texts, as those of csv.DictReader."""
+
+    def is_given(self, kind):
+        return True
+
+    def opened(self):
+        rows = [{name: None if value is None else self.columns[name].cell(value) for name, value in record.items()} for record in self.records]
+        return prefq.Frame.from_records(rows, kinds=self.given)
+
+
+class Empty(Records):
+    def is_given(self, kind):
+        return True
+
+    def opened(self):
+        frame = prefq.Frame.empty(list(self.columns), self.given)
+        half = len(self.records) // 2
+        for record in self.records[:half]:
+            frame.insert(self.record(record))
+        frame.insert_many(map(self.record, self.records[half:]))
+        return frame
+
+
+class File(Door):
+    def opened(self):
         text = io.StringIO()
         writer = csv.writer(text)
-        writer.writerow(columns)
-        writer.writerows([["" if record[name] is None else kind.cell(record[name]) for name, kind in columns.items()] for record in records])
-        return prefq.Frame.from_csv(io.StringIO(text.getvalue()), delimiter=",")
-    if way == "dataframe":
-        return prefq.Frame.from_dataframe(pandas.DataFrame(records, columns=list(columns), dtype="object"))
-    return prefq.Frame.from_records(records)
+        writer.writerow(self.columns)
+        writer.writerows([["" if record[name] is None else kind.cell(record[name]) for name, kind in self.columns.items()] for record in self.records])
+        return prefq.Frame.from_csv(io.StringIO(text.getvalue()), delimiter=",", kinds=self.given)
+
+
+class Chunks(File):
+    """A file that is read some rows at a time."""
+
+    def opened(self):
+        with unittest.mock.patch("prefq.reading.CHUNK", 7):
+            return super().opened()
+
+
+class DataFrame(Records):
+    further = (random_frames.Categories,)
+
+    def is_given(self, kind):
+        return type(kind) is random_frames.Choice
+
+    def dataframe(self):
+        frame = pandas.DataFrame(self.records, columns=list(self.columns), dtype="object")
+        for name, kind in self.columns.items():
+            if isinstance(kind, random_frames.Categories):
+                frame[name] = pandas.Categorical(frame[name], kind.some, ordered=True)
+            elif isinstance(kind, random_frames.Times) and self.random.random() < 0.5:
+                frame[name] = pandas.to_datetime(frame[name], utc=kind.zone is not None)
+        return frame
+
+    def opened(self):
+        self.frame = self.dataframe()
+        return prefq.Frame.from_dataframe(self.frame, kinds=self.given)
+
+
+DOORS = [Records, File, Texts, Chunks, Empty] + [DataFrame] * (pandas is not None)
 
 
 class RandomFrames(TestCase):
@@ -37,18 +126,39 @@ class RandomFrames(TestCase):
         self.assertEqual(list(zip(answer.levels, answer.ids)), asked.answer(rows), asked.text)
         self.assertEqual([dict(record) for record in answer], [rows[record.id] for record in answer], asked.text)
 
-    def changed(self, random_, frame, rows, columns):
+    def changed(self, door, frame, rows):
         """Makes some changes, also missing values in columns that had none."""
-        for _ in range(4):
-            record = random_frames.record(random_, columns, dict.fromkeys(columns, 0.2))
-            rows[frame.insert(record)] = record
-        record = random_frames.record(random_, columns, dict.fromkeys(columns, 0.2))
-        name = random_.choice(list(columns))
-        frame.update(1, {name: record[name]})
-        rows[1] = {**rows[1], name: record[name]}
-        gone = random_.choice(list(rows))
+        columns = door.columns
+        for _ in range(3):
+            self.inserted(door, frame, rows, random_frames.record(door.random, columns, dict.fromkeys(columns, 0.2)))
+        self.finer(door, frame, rows)
+        record = random_frames.record(door.random, columns, dict.fromkeys(columns, 0.2))
+        name = door.random.choice(list(columns))
+        if takes(frame, door, rows, {name: record[name]}):
+            frame.update(1, {name: door.value(name, record[name])})
+            rows[1] = {**rows[1], name: record[name]}
+        gone = door.random.choice(list(rows))
         frame.delete(gone)
         del rows[gone]
+
+    def finer(self, door, frame, rows):
+        """A record comes whose numbers are finer than the column."""
+        numbers = [name for name, kind in door.columns.items() if isinstance(kind, random_frames.Numbers)]
+        if numbers:
+            name = door.random.choice(numbers)
+            value = door.columns[name].draw_finer(door.random)
+            record = {**random_frames.record(door.random, door.columns, dict.fromkeys(door.columns, 0.2)), name: value}
+            if self.inserted(door, frame, rows, record):
+                door.columns[name].finer.append(value)
+
+    def inserted(self, door, frame, rows, record):
+        """Inserts a record, if the frame takes it; else sees that it is refused and nothing is changed."""
+        if takes(frame, door, rows, record):
+            rows[frame.insert(door.record(record))] = record
+            return True
+        with self.assertRaises(ValueError):
+            frame.insert(door.record(record))
+        return False
 
     def explained(self, random_, frame, rows, asked):
         """Why some row is not in the answer."""
@@ -59,24 +169,53 @@ class RandomFrames(TestCase):
             levels = asked.levels_of(rows)
             self.assertEqual(list(zip(why.levels, why.ids)), sorted((levels[other], other) for other in why.ids), asked.text)
 
+    def selected(self, door, rows, asked):
+        """The same by psel, which has the labels of the DataFrame."""
+        found = prefq.psel(door.frame, asked.text, kinds=door.given)
+        self.assertEqual(list(zip(found[".level"], found.index + 1)), asked.answer(rows), asked.text)
+
+    def one(self, random_, kind_of_door):
+        """A frame by a door, with its questions."""
+        columns, records = random_frames.frame(random_, kind_of_door.further)
+        door = kind_of_door(random_, columns, records)
+        rows = dict(enumerate(records, 1))
+        ask = random_frames.Questions(random_, columns)
+        with door.opened() as frame:
+            for _ in range(3):
+                self.same(frame, rows, ask.question())
+            if isinstance(door, DataFrame):
+                self.selected(door, rows, ask.question())
+            self.changed(door, frame, rows)
+            for _ in range(2):
+                self.same(frame, rows, ask.question())
+            self.explained(random_, frame, rows, ask.question())
+            self.assertEqual({row.id: dict(row) for row in frame.rows()}, rows)
+
     def test_as_by_a_plain_evaluation(self):
-        seed = random.Random(20260501)
-        ways = ["records", "csv"] + ["dataframe"] * (pandas is not None)
-        with warnings.catch_warnings():
-            warnings.simplefilter("ignore", prefq.UnknownValue)
-            for number in range(FRAMES):
-                way = ways[number % len(ways)]
-                columns, records = random_frames.frame(seed, with_floats=way != "csv")
-                rows = dict(enumerate(records, 1))
-                ask = random_frames.Questions(seed, columns)
-                with self.subTest(frame=number, way=way), opened(columns, records, way) as frame:
-                    for _ in range(3):
-                        self.same(frame, rows, ask.question())
-                    self.changed(seed, frame, rows, columns)
-                    for _ in range(2):
-                        self.same(frame, rows, ask.question())
-                    self.explained(seed, frame, rows, ask.question())
-                    self.assertEqual({row.id: dict(row) for row in frame.rows()}, rows)
+        for number in range(QUESTIONS // QUESTIONS_OF_A_FRAME):
+            door = DOORS[number % len(DOORS)]
+            with self.subTest(frame=number, door=door.__name__), warnings.catch_warnings():
+                warnings.simplefilter("ignore", prefq.UnknownValue)
+                self.one(random.Random(SEED + number), door)
+
+
+def takes(frame, door, rows, record):
+    """Whether the frame has room for the numbers of a record: those that grow fit 64 bits with the decimals of all."""
+    for name, kind in door.columns.items():
+        value = record.get(name)
+        if value is None or not isinstance(kind, random_frames.Numbers):
+            continue
+        has = frame.columns[list(door.columns).index(name)].kind.decimals
+        needs = max(has, decimals(value))
+        some = [value] + [row[name] for row in rows.values() if row[name] is not None] * (needs > has)
+        if needs > has and name in door.given or any(abs(Decimal(number).scaleb(needs)) > MOST for number in some):
+            return False
+    return True
+
+
+def decimals(value):
+    """How many decimals a number needs."""
+    return max(0, -Decimal(value).normalize().as_tuple().exponent)
 
 
 class TheConverse(unittest.TestCase):
