@@ -26,10 +26,10 @@ class Missing:
         return (len(text) <= self._longest or text[0].isspace() or text[-1].isspace()) and folded(text) in self.words
 
     def in_a_column_of(self, kind: Kind) -> FrozenSet[str]:
-        """The words that are missing in a column of this kind, folded. What is a choice of the column is a value."""
-        if self._is_given:
-            return self.words - frozenset(map(folded, kind.texts)) if isinstance(kind, Choices) else self.words
-        return frozenset() if isinstance(kind, (Texts, Choices)) else self.words
+        """The words that are missing in a column of this kind, folded. What is a choice of the column, or its word for true or false, is a value."""
+        if not self._is_given and isinstance(kind, (Texts, Choices)):
+            return frozenset()
+        return self.words - frozenset(map(folded, kind.words))
 
 
 def folded(text: str) -> str:

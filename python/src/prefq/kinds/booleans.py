@@ -1,7 +1,7 @@
 """Columns of true and false."""
-from typing import Any, Optional
+from typing import Any, Optional, Sequence
 
-from .kind import Kind, NotRead
+from .kind import Kind, NotRead, word
 
 WORDS = {"true": True, "false": False, "yes": True, "no": False}
 
@@ -14,13 +14,17 @@ class Booleans(Kind):
     measured = False
 
     def __init__(self, true: Optional[str] = None, false: Optional[str] = None) -> None:
-        if (true is None) != (false is None) or true is not None and true.lower() == str(false).lower():
+        self._own = None if true is None or false is None else (true.strip(), false.strip())
+        if (true is None) != (false is None) or self._own and (not all(self._own) or len(set(map(str.lower, self._own))) == 1):
             raise ValueError("a bool column has no words of its own, or two: one for true and another one for false")
-        self._own = None if true is None or false is None else (true, false)
         self._words = {**WORDS, **({} if self._own is None else {self._own[0].lower(): True, self._own[1].lower(): False})}
 
     def __repr__(self) -> str:
-        return "bool" if self._own is None else f"bool({', '.join(self._own)})"
+        return "bool" if self._own is None else f"bool({', '.join(map(word, self._own))})"
+
+    @property
+    def words(self) -> Sequence[str]:
+        return self._own or ()
 
     def read(self, text: str) -> int:
         truth = self._words.get(text.strip().lower())

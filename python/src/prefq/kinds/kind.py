@@ -47,6 +47,21 @@ class Kind:
         """The numbers of many texts, where they are found all at once; None where one has to look at each."""
         return None
 
+    @property
+    def words(self) -> Sequence[str]:
+        """The words that a file has for its values, where these were given: they are never taken for missing."""
+        return ()
+
     def widened(self, value: Any) -> Optional["Kind"]:
         """The kind that has the values of this one and also this value, where kinds of this sort grow."""
         return None
+
+
+def word(text: str) -> str:
+    """A word in the spelling of a kind, in quotes where it needs them."""
+    return text if text and text == text.strip() and not set(text) & set(",'\"()") else quoted(text)
+
+
+def quoted(text: str) -> str:
+    """A word in quotes."""
+    return '"' + text.replace('"', '""') + '"'

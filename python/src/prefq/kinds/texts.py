@@ -2,7 +2,7 @@
 import threading
 from typing import Any, Dict, List, Optional, Sequence
 
-from .kind import Kind, NotRead
+from .kind import Kind, NotRead, word
 
 # Held while a new text gets its code, in any code book.
 ADDING = threading.Lock()
@@ -72,12 +72,16 @@ class Choices(Kind):
             raise ValueError(f"a choice stands twice among {', '.join(map(str, choices))}")
 
     def __repr__(self) -> str:
-        return f"choice({', '.join(map(quoted_choice, self.texts))})"
+        return f"choice({', '.join(map(word, self.texts))})"
 
     @property
     def texts(self) -> List[str]:
         """The choices as a file has them, in their order."""
         return [self.of.text(self.of.decode(number)) for number in self._numbers]
+
+    @property
+    def words(self) -> Sequence[str]:
+        return self.texts
 
     @property
     def example(self) -> str:  # type: ignore[override]
@@ -111,8 +115,3 @@ class Choices(Kind):
         if place is None:
             raise NotRead(f"{value!r} is none of {', '.join(map(repr, self.texts))}")
         return place
-
-
-def quoted_choice(text: str) -> str:
-    """A choice as it stands in the spelling of a kind."""
-    return text if text == text.strip() and text and not set(text) & set(",'\"()") else '"' + text.replace('"', '""') + '"'
