@@ -205,7 +205,8 @@ class Frame:
         range(2, 4)
         """
         with self._change():
-            inside = self.table.insert_many(self._numbers(list(records)))
+            numbers = self._numbers(list(records))      # By this the table may become another one.
+            inside = self.table.insert_many(numbers)
             if not inside:
                 return inside
             first = self._opened.ids.outside(inside[0])
@@ -313,6 +314,8 @@ class Frame:
                 wider = self._opened.wider(records)
                 if not wider:
                     raise
+            for record in records:
+                self._opened.numbers(record, wider)     # What is refused then, too, changes nothing.
             if id is not None:
                 self._of_row(id, self.table.get)
             self._open_anew(wider)

@@ -59,12 +59,13 @@ class Opened:
         """The names of the columns."""
         return list(self.by_name)
 
-    def numbers(self, record: Any) -> List[int]:
-        """The numbers of a record."""
+    def numbers(self, record: Any, kinds: Mapping[str, Kind] = {}) -> List[int]:
+        """The numbers of a record, where these columns have other kinds."""
         values = values_of(record, self.columns)
         numbers = [0] * len(values)
         for place in self._order:
-            numbers[place] = self.columns[place].encode(values[place])
+            column = self.columns[place]
+            numbers[place] = (column.of_kind(kinds[column.name]) if column.name in kinds else column).encode(values[place])
         return numbers
 
     def wider(self, records: Sequence[Any]) -> Dict[str, Kind]:
@@ -83,7 +84,7 @@ class Opened:
         rows and opening a table. No change may come meanwhile; open queries go on, and keep the table that they are of."""
         pairs = self.table.rows()
         columns, lists = moved_columns(self.columns, kinds, [list(numbers) for numbers in zip(*(numbers for _, numbers in pairs))])
-        return Opened(columns, list(zip(*lists)), self._options, Ids([self.ids.outside(id) for id, _ in pairs], last))
+        return Opened(columns, list(zip(*lists)), {**self._options, "capacity": self.table.capacity}, Ids([self.ids.outside(id) for id, _ in pairs], last))
 
     def missing_row(self, id: int) -> Refused:
         """What is said of a row that is not there."""
@@ -105,7 +106,7 @@ def wider_kinds(columns: Sequence[Column], values: Sequence[Any]) -> Dict[str, K
     found: Dict[str, Kind] = {}
     for column, value in zip(columns, values):
         kind = column.kind.widened(value) if column.grows and value is not None else None
-        if kind is not None:
+        if kind is not None and not takes(column.kind, value):
             found[column.name] = kind
     return found
 
@@ -117,6 +118,15 @@ def moved_columns(columns: Sequence[Column], kinds: Mapping[str, Kind], lists: L
     for column, (_, numbers) in zip(found, moves):
         column.has_gaps = LEAST in numbers
     return found, [numbers for _, numbers in moves]
+
+
+def takes(kind: Kind, value: Any) -> bool:
+    """Whether a kind has this value."""
+    try:
+        kind.encode(value)
+    except (TypeError, ValueError, OverflowError):
+        return False
+    return True
 
 
 def moved(column: Column, kind: Kind, numbers: List[int]) -> Tuple[Kind, List[int]]:

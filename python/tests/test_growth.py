@@ -1,0 +1,262 @@
+"""Kinds grow: a column takes numbers with more decimals by opening its table anew under the same ids, or refuses them and stays as it was."""
+import io
+import os
+import threading
+import unittest.mock
+import warnings
+from decimal import Decimal
+
+import prefq
+from support import TestCase, is_running
+
+try:
+    import pandas
+except ImportError:
+    pandas = None
+
+MOST = 2**63 - 1
+
+
+def prices(*numbers, **options):
+    return prefq.Frame.from_records([{"price": number, "name": f"n{id}"} for id, number in enumerate(numbers, 1)], **options)
+
+
+def kinds(frame):
+    return [str(column.kind) for column in frame.columns]
+
+
+def rows(frame):
+    return {row.id: tuple(row.values()) for row in frame.rows()}
+
+
+class Growth(TestCase):
+    def test_of_whole_numbers_and_decimals(self):
+        with prices(60, 50) as frame:
+            for value, kind in [(59.9, "decimal(1)"), ("59.95", "decimal(2)"), (Decimal("0.125"), "decimal(3)"), (7, "decimal(3)"), ("1e-5", "decimal(5)"), (None, "decimal(5)"), (1.5, "decimal(5)")]:
+                id = frame.insert({"price": value})
+                self.assertEqual((frame.get(id).price, kinds(frame)[0]), (None if value is None else Decimal(str(value)), kind))
+            self.assertEqual([row.price for row in frame.rows()][:4], [60, 50, Decimal("59.9"), Decimal("59.95")])
+            self.assertEqual((len(frame), frame.rows()[-1].id), (9, 9))
+
+    def test_from_each_source(self):
+        frames = [prices(60, 50), prefq.Frame.from_csv(io.StringIO("price,name\n60,n1\n50,n2\n"))]
+        if pandas is not None:
+            frames.append(prefq.Frame.from_dataframe(pandas.DataFrame({"price": [60, 50], "name": ["n1", "n2"]}, index=["a", "b"])))
+        for frame in frames:
+            with frame:
+                frame.insert({"price": 59.9})
+                self.assertEqual(frame.best("best around(price, 59.93)").ids, [3])
+        if pandas is not None:
+            with prefq.Frame.from_dataframe(pandas.DataFrame({"price": [60, 50]}, index=["a", "b"])) as frame:
+                frame.insert({"price": 59.9})
+                found = frame.best("top_level 9 low(price)").to_dataframe()
+                self.assertEqual((list(found.index), list(found["price"])), (["b", 3, "a"], [50, 59.9, 60]))
+
+    def test_ids_stay(self):
+        with prices(*range(1, 11)) as frame:
+            frame.delete(3)
+            frame.delete(10)
+            self.assertEqual(frame.insert({"price": "0.5"}), 11)
+            self.assertEqual(list(frame.insert_many([{"price": "0.25"}, {"price": 3}])), [12, 13])
+            frame.delete(11)
+            frame.update(12, {"price": "0.125"})
+            self.assertEqual(frame.insert({"price": 1}), 14)
+            self.assertEqual(list(rows(frame)), [1, 2, 4, 5, 6, 7, 8, 9, 12, 13, 14])
+            self.assertEqual((frame.get(4).name, frame.get(12).price, frame.get(13).price), ("n4", Decimal("0.125"), 3))
+            for id in (3, 10, 11, 15, 10**9, 0):
+                for call in (frame.get, frame.delete, lambda id: frame.update(id, {"price": 1}), lambda id: frame.why(id, "best low(price)")):
+                    with self.refuses(prefq.Refused, f"no such row {id}", kind="client", number=7):
+                        call(id)
+
+    def test_what_is_asked_afterwards(self):
+        with prices(5, 4, 4, 6) as frame:
+            frame.delete(1)
+            frame.update(4, {"price": "4.0625"})
+            frame.insert_many([{"price": 4, "name": "n2"}, {"name": "n2"}])
+            self.assertEqual(frame.best("top_level 3 low(price)").ids, [2, 3, 5, 4, 6])
+            self.assertEqual(frame.best("skyline of distinct price min").ids, [2])
+            self.assertEqual(frame.best("best low(price) by name").ids, [2, 3, 4, 5])
+            self.assertEqual(frame.why(6, "best low(price)").ids, [2, 3, 5, 4])
+            self.assertEqual(frame.best("best low(price)").all_records(), frame.rows())
+            self.assertEqual(repr(frame), "<prefq.Frame of price, name: 5 rows>")
+
+    def test_an_update_and_many_inserts(self):
+        with prices(60, 50) as frame:
+            frame.update(1, {"price": "59.9"})
+            self.assertEqual(rows(frame), {1: (Decimal("59.9"), "n1"), 2: (50, "n2")})
+            frame.update(2, ["1.25", "other"])
+            self.assertEqual((rows(frame)[2], kinds(frame)[0]), ((Decimal("1.25"), "other"), "decimal(2)"))
+            frame.insert_many([{"price": 1}, {"price": "0.001"}, {"price": "0.0001"}])
+            self.assertEqual(kinds(frame)[0], "decimal(4)")
+
+    def test_only_columns_that_need_it(self):
+        with prefq.Frame.from_records([{"x": 9 * 10**18, "y": 1}]) as frame:
+            frame.insert({"x": "5.0", "y": "1.5"})
+            self.assertEqual((kinds(frame), rows(frame)[2]), (["whole", "decimal(1)"], (5, Decimal("1.5"))))
+
+    def test_18_decimals(self):
+        with prices(9, 0) as frame:
+            frame.insert({"price": Decimal("1e-18")})
+            self.assertEqual((kinds(frame)[0], frame.best("best low(price)").ids, rows(frame)[3][0]), ("decimal(18)", [2], Decimal("1e-18")))
+            self.refused(frame, Decimal("1e-19"), "more than 18 decimals")
+            self.refused(frame, 10, "does not fit")
+
+    def refused(self, frame, value, *says):
+        """The value is refused by each change, and nothing is changed."""
+        before = rows(frame), kinds(frame), frame.room(), frame.table
+        for call in (frame.insert, lambda record: frame.update(1, record), lambda record: frame.insert_many([{"price": 3}, record])):
+            with self.refuses(ValueError, "column 'price'", *says):
+                call({"price": value})
+        self.assertEqual((rows(frame), kinds(frame), frame.room()), before[:3])
+        self.assertIs(frame.table, before[3])
+
+    def test_numbers_that_no_longer_fit(self):
+        with prices(MOST, 1) as frame:
+            self.refused(frame, "0.5", f"column 'price' (whole): it has {MOST}, and with 1 decimal a column has numbers from")
+        with prices(1, 2) as frame:
+            self.refused(frame, "922337203685477580.75", "922337203685477580.75")
+
+    def test_a_record_of_which_another_value_is_refused(self):
+        with prefq.Frame.from_records([{"price": 1, "stars": 3, "name": "n1"}]) as frame:
+            table = frame.table
+            for record in ({"price": "0.5", "stars": "many"}, {"stars": "0.5", "price": "1e19"}, {"price": "0.5", "name": 7}):
+                for call in (frame.insert, lambda record: frame.update(1, record), lambda record: frame.insert_many([{"price": "0.25"}, record])):
+                    with self.assertRaises((ValueError, TypeError)):
+                        call(record)
+            self.assertEqual((rows(frame), kinds(frame), frame.table is table), ({1: (1, 3, "n1")}, ["whole", "whole", "text"], True))
+
+    def test_what_is_no_number_that_somebody_wrote(self):
+        with prices(60, 50) as frame:
+            for value in (0.1 + 0.2, 0.1 + 0.7, 1 / 3, 0.1 * 3, float("inf"), Decimal("Infinity"), "", "-", "59,9", "many", "0x1p-3", "1e-19", 1e-300):
+                self.refused(frame, value)
+        with prices(Decimal("0.5")) as frame:
+            self.refused(frame, 0.1 + 0.2, "0.30000000000000004 has more than 1 decimal")
+
+    def test_kinds_that_are_given_do_not_grow(self):
+        for frame in [prices(60, 50, kinds={"price": "whole"}), prefq.Frame.empty(["price", "name"], {"price": "decimal(1)", "name": "text"}),
+                      prefq.Frame([prefq.Column("price", "whole"), prefq.Column("name", "text")], [[60, "n1"]]),
+                      prefq.Frame.from_csv(io.StringIO("price,name\n60,n1\n"), kinds={"price": "decimal(1)"})]:
+            with frame:
+                if not len(frame):
+                    frame.insert({"price": 1})
+                self.refused(frame, "59.95", "59.95 is no whole number" if kinds(frame)[0] == "whole" else "59.95 has more than 1 decimal")
+
+    def test_an_update_of_a_row_that_is_not_there(self):
+        with prices(60, 50) as frame:
+            table = frame.table
+            with self.refuses(prefq.Refused, "no such row 7", number=7):
+                frame.update(7, {"price": "0.5"})
+            self.assertEqual((kinds(frame)[0], frame.table is table), ("whole", True))
+
+    def test_the_room_stays(self):
+        with prefq.Frame.from_records([{"price": number} for number in range(1500)]) as frame:
+            capacity = frame.table.capacity
+            for id in range(1, 1400):
+                frame.delete(id)
+            frame.insert({"price": "0.5"})
+            self.assertEqual((frame.table.capacity, frame.room()), (capacity, capacity - 102))
+        with prices(1, 2, capacity=3) as frame:
+            frame.insert({"price": "0.5"})
+            with self.refuses(prefq.Refused, "full", number=8):
+                frame.insert({"price": "0.25"})
+            self.assertEqual(len(frame), 3)
+
+
+class WhileOthersAsk(TestCase):
+    def test_an_open_query_goes_on(self):
+        """It is of the table that there was, whose program ends after it."""
+        with prices(60, 50, 70) as frame:
+            old = frame.table
+            pid = old.pid
+            with old.query("best low(c0)") as query:
+                frame.insert({"price": "0.5"})
+                frame.delete(2)
+                query.scan()
+                self.assertEqual([row.values[0] for row in query.answer()], [50])
+            del query
+            self.assertIsNot(frame.table, old)
+            self.assertTrue(is_running(pid))
+            del old
+            self.assertEqual(frame.best("best low(price)").ids, [4])
+            self.assertEqual(len(children() - {frame.table.pid}), 0)
+
+    def test_a_question_between_two_tables(self):
+        """The frame grows while a question is on its way: the answer is that of one table or the other, with its values."""
+        with prices(60, 50) as frame:
+            asked, came = frame.table.query, []
+
+            def late(text):
+                if not came:
+                    came.append("a question")
+                    came.append(frame.insert({"price": "0.5"}))
+                return asked(text)
+
+            with unittest.mock.patch.object(frame.table, "query", late):
+                answer = frame.best("top_level 9 low(price)")
+            self.assertEqual([(row.id, row.price) for row in answer], [(2, 50), (1, 60)])
+            self.assertEqual(frame.best("best low(price)").ids, [3])
+
+    def test_many_threads(self):
+        """Four threads insert finer and finer numbers, and ask: each answer has one row, the least that there was."""
+        problems, ids = [], []
+        with prefq.Frame.from_records([{"price": 1000, "who": 0}]) as frame:
+            def work(who):
+                try:
+                    for step in range(12):
+                        value = Decimal(4 * (12 - step) + who) + Decimal(1).scaleb(-step)
+                        ids.append((frame.insert({"price": value, "who": who}), value, who))
+                        for row in frame.best("best low(price)"):
+                            assert row.price <= value, (row, value)
+                        assert frame.get(ids[-1][0]).keys() == {"price", "who"}
+                except BaseException as why:
+                    problems.append(why)
+
+            threads = [threading.Thread(target=work, args=(who,)) for who in range(4)]
+            for thread in threads:
+                thread.start()
+            for thread in threads:
+                thread.join()
+            self.assertEqual(problems, [])
+            self.assertEqual(rows(frame), {1: (1000, 0), **{id: (value, who) for id, value, who in ids}})
+            self.assertEqual((len(rows(frame)), kinds(frame)[0]), (49, "decimal(11)"))
+
+
+class CodeBooks(TestCase):
+    def test_they_become_small_again(self):
+        """Texts that no row has any more, and those of refused records, are let go."""
+        with prefq.Frame.from_records([{"name": "Lyon", "x": 1}, {"name": "Bern", "x": 2}]) as frame:
+            for number in range(60):
+                with self.assertRaises(ValueError):
+                    frame.insert({"name": f"{number} " + "a" * 50_000, "x": "many"})
+            self.assertLess(frame.columns[0].kind.size, 10_000)
+            for number in range(100):
+                frame.delete(frame.insert({"name": f"{number} " + "b" * 50_000, "x": 1}))
+            self.assertLess(frame.columns[0].kind.size, 2_500_000)
+            self.assertEqual(frame.insert({"name": "Lyon", "x": 0}), 103)
+            self.assertEqual((rows(frame)[1], frame.best("best pos(name, 'Lyon') & low(x)").ids), (("Lyon", 1), [103]))
+
+    def test_a_text_that_was_deleted_is_warned_of_once_the_table_is_opened_anew(self):
+        with prefq.Frame.from_records([{"name": "Lyon", "x": 1}, {"name": "Bern", "x": 2}]) as frame:
+            frame.delete(1)
+            frame.insert({"x": "0.5"})
+            with warnings.catch_warnings(record=True) as caught:
+                warnings.simplefilter("always")
+                frame.best("best pos(name, 'Lyon')")
+            self.assertIn("no row of 'name' has 'Lyon'", str(caught[0].message))
+
+
+class Empty(TestCase):
+    def test_a_frame_without_rows(self):
+        with prefq.Frame.empty(["hotel", "price", "size"], {"price": "decimal(2)", "hotel": "text", "size": "choice(S, M)"}) as frame:
+            self.assertEqual((len(frame), frame.rows(), frame.best("best low(price)"), kinds(frame)), (0, [], [], ["text", "decimal(2)", "choice(S, M)"]))
+            self.assertEqual(frame.insert(["Ritz", "129.99", "M"]), 1)
+        for names, given, says in [(["a", "b"], {"a": "whole"}, "has to be given its kind: b"), (["a"], {"a": "whole", "c": "whole"}, "no column 'c'"), ([], {}, "there are no columns"),
+                                   (["a", "a"], {"a": "whole"}, "two columns are called 'a'")]:
+            with self.refuses(prefq.Refused, says):
+                prefq.Frame.empty(names, given)
+
+
+def children():
+    """The processes that this one has begun and that run."""
+    with open(f"/proc/self/task/{threading.get_native_id()}/children") as file:
+        return {int(word) for word in file.read().split() if is_running(int(word)) and os.path.exists(f"/proc/{word}/exe")}
