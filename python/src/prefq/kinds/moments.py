@@ -4,21 +4,24 @@ import re
 from fractions import Fraction
 from typing import Any, List, Optional
 
-from .kind import Kind, NotRead
+from .kind import Kind, NotRead, quoted
 
 DAY = re.compile(r"\d{4}-\d\d-\d\d", re.ASCII)
-MOMENT = re.compile(r"(\d{4}-\d\d-\d\d)(?:[T ](\d\d:\d\d)(:\d\d)?(?:[.,](\d{1,9}))?\s*(Z|[+-]\d\d:?\d\d)?)?", re.ASCII)
-TIME_OF_DAY = re.compile(r"(\d\d:\d\d)(:\d\d)?(?:[.,](\d{1,9}))?", re.ASCII)
+HOURS = r"(\d\d:\d\d)(?:(:\d\d)(?:[.,](\d{1,9}))?)?"
+# Zones of before 1900 have seconds.
+MOMENT = re.compile(rf"(\d{{4}}-\d\d-\d\d)(?:[T ]{HOURS}\s*(Z|[+-]\d\d:?\d\d(?::\d\d)?)?)?", re.ASCII)
+TIME_OF_DAY = re.compile(HOURS, re.ASCII)
 EPOCH = datetime.datetime(1970, 1, 1)
 MICROSECOND = datetime.timedelta(microseconds=1)
-# A date and a time that tell apart what a format has.
+# A date and a time that tell apart what a format has; and one whose day may be a month.
 SAMPLE = datetime.datetime(2031, 12, 25, 23, 58, 59)
+TURNED = datetime.datetime(2031, 12, 11, 10, 9, 8, 7)
 
 
 class Format:
     """The format of a date or a time, in the signs of Python's strptime, as %d.%m.%Y. Where it has a year of two digits, one of four is read too.
 
-    What ISO 8601 writes is read beside it, unless the format itself has texts of that look.
+    What ISO 8601 writes is read beside it, unless the format has texts of that look for other dates.
     """
 
     def __init__(self, signs: str, what: str, *, has_hours: bool) -> None:
@@ -29,7 +32,8 @@ class Format:
             raise ValueError(f"the format {signs!r} cannot be read: {why}") from None
         if back.date() != SAMPLE.date() or has_hours and back.hour != SAMPLE.hour or "%z" in signs.lower():
             raise ValueError(f"the format {signs!r} is not that of a {what}: it has %d, %m and %Y" + (" and %H" if has_hours else ""))
-        self._leaves_iso = self._parsed("2031-12-11") is None
+        looks = [str(TURNED.date()), *(TURNED.isoformat(sign, unit) for sign in " T" for unit in ("minutes", "seconds", "microseconds"))]
+        self._leaves_iso = all(parsed is None or parsed.date() == TURNED.date() for parsed in map(self._parsed, looks))
 
     def read(self, text: str) -> Optional[datetime.datetime]:
         """What a text of the format says; None where it is one of ISO 8601, which is read as such."""
@@ -66,10 +70,12 @@ class Dates(Kind):
         self._format = None if format is None else Format(format, "date", has_hours=False)
 
     def __repr__(self) -> str:
-        return f'date("{self._format.signs}")' if self._format else "date"
+        return f"date({quoted(self._format.signs)})" if self._format else "date"
 
     def read(self, text: str) -> int:
         found = self._format.read(text) if self._format else None
+        if found is not None and found.time() != datetime.time():
+            raise NotRead(f"{text!r} has a time of day beside its date")
         return (day(text) if found is None else found).toordinal()
 
     def encode(self, value: Any) -> int:
@@ -109,7 +115,7 @@ class Times(Kind):
         self._format = None if format is None else Format(format, "date with a time", has_hours=True)
 
     def __repr__(self) -> str:
-        inside = [*([str(self.zone)] if self.zone else []), *([f'"{self._format.signs}"'] if self._format else [])]
+        inside = [*([name_of(self.zone)] if self.zone else []), *([quoted(self._format.signs)] if self._format else [])]
         return f"time({', '.join(inside)})" if inside else "time"
 
     def read(self, text: str) -> int:
@@ -143,7 +149,15 @@ class Times(Kind):
         return Fraction(nanoseconds_of(text, self.zone), self.nanoseconds)
 
     def text(self, value: Any) -> str:
-        return self._format.written(value) if self._format else str(value)
+        text = self._format.written(value) if self._format else str(value)
+        return text if self._format is None or self.zone is None or self._is_read_as(text, value) else str(value)
+
+    def _is_read_as(self, text: str, value: Any) -> bool:
+        """Whether a text without a zone is read as this value: the clocks of a zone show some times twice."""
+        try:
+            return self.read(text) == self.encode(value)
+        except ValueError:
+            return False
 
 
 class Clock(Kind):
@@ -226,11 +240,18 @@ def zone_of(offset: str) -> datetime.tzinfo:
     """The zone of Z or of an offset such as +02:00."""
     if offset == "Z":
         return datetime.timezone.utc
-    hours, minutes = int(offset[1:3]), int(offset[-2:])
-    if hours > 23 or minutes > 59:
+    digits = offset[1:].replace(":", "")
+    hours, minutes, seconds = int(digits[:2]), int(digits[2:4]), int(digits[4:] or 0)
+    if hours > 23 or minutes > 59 or seconds > 59:
         raise NotRead(f"{offset} is no offset of a time zone")
-    distance = datetime.timedelta(hours=hours, minutes=minutes)
+    distance = datetime.timedelta(hours=hours, minutes=minutes, seconds=seconds)
     return datetime.timezone(-distance if offset[0] == "-" else distance)
+
+
+def name_of(zone: datetime.tzinfo) -> str:
+    """The name of a zone in the spelling of a kind: UTC+02:00, or that of the system."""
+    offset = zone.utcoffset(None)
+    return str(zone if offset is None else datetime.timezone(offset))
 
 
 def universal(value: datetime.datetime) -> datetime.datetime:

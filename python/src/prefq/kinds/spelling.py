@@ -14,7 +14,7 @@ from .texts import Choices, Texts
 SPELLED = re.compile(r"(?P<name>[a-z]+)(?:\((?P<inside>.*)\))?", re.DOTALL)
 OPTION = re.compile(r"\s*(?P<name>thousands|decimal|unit)\s*=")
 WORD = re.compile(r"""\s*(?:"(?P<double>(?:[^"]|"")*)"|'(?P<single>(?:[^']|'')*)'|(?P<plain>[^,"'\s][^,]*))\s*(?P<end>,|$)""", re.DOTALL)
-OFFSET = re.compile(r"UTC([+-]\d\d:\d\d)")
+OFFSET = re.compile(r"UTC([+-]\d\d:\d\d(?::\d\d)?)")
 THERE_ARE = "there are whole, decimal(2), float, bool, date, time, clock, text, choice(first, second, ..)"
 
 
