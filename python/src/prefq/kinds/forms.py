@@ -78,7 +78,8 @@ class Form:
     @lru_cache(maxsize=None)
     def _pattern(self) -> "re.Pattern[str]":
         unit, decimal, thousands = re.escape(self.unit), re.escape(self.decimal), re.escape(self.thousands)
-        digits = rf"\d{{1,3}}(?:{thousands}\d{{3}})+|\d+" if self.thousands else r"\d+"
+        # 0,123 has a decimal comma: no thousands begin with a zero.
+        digits = rf"(?!0)\d{{1,3}}(?:{thousands}\d{{3}})+|\d+" if self.thousands else r"\d+"
         before, behind = (rf"(?P<before>{unit})?\s*", rf"\s*(?P<behind>{unit})?") if self.unit else ("(?P<before>)", "(?P<behind>)")
         opened, closed = (r"(?P<open>\()?\s*", r"\s*(?P<close>\))?") if self.parentheses else ("(?P<open>)", "(?P<close>)")
         return re.compile(rf"{opened}(?:(?P<sign>[+-])\s*)?{before}(?P<whole>{digits})?(?:{decimal}(?P<part>\d*))?(?P<exponent>[eE][+-]?\d{{1,4}})?{behind}{closed}")

@@ -62,7 +62,7 @@ class Whole(Number):
         return int(10**self.decimals)
 
     def read(self, text: str) -> int:
-        return self._scaled(Fraction(self.plain(text)), text)
+        return self._scaled(fraction_of(self.plain(text)), text)
 
     def encode(self, value: Any) -> int:
         if isinstance(value, str):
@@ -90,7 +90,7 @@ class Whole(Number):
         """Numbers of a question are always plain."""
         if not NUMBER.fullmatch(text.strip()):
             raise NotRead(f"{text!r} is no number")
-        return Fraction(text.strip()) * self.scale
+        return fraction_of(text.strip()) * self.scale
 
     def text(self, value: Any) -> str:
         return self.form.written(format(value, "f") if isinstance(value, Decimal) else str(value))
@@ -136,7 +136,7 @@ class Decimals(Whole):
         return Decimals(self.decimals, form)
 
     def fits(self) -> str:
-        return f"with {self.decimals} decimals a column has numbers from {self.decode(LEAST + 1)} to {self.decode(MOST)}"
+        return f"with {self.decimals} decimal{'s' * (self.decimals != 1)} a column has numbers from {self.decode(LEAST + 1)} to {self.decode(MOST)}"
 
     def decode(self, number: int) -> Decimal:
         return Decimal(number).scaleb(-self.decimals, WIDE)
@@ -210,6 +210,14 @@ def exact(value: Any) -> Fraction:
         raise NotRead(f"{shown(value)} is no number that fits") from None
     except TypeError:
         raise TypeError(f"{value!r} is no number") from None
+
+
+def fraction_of(plain: str) -> Fraction:
+    """The exact number of a plain text."""
+    try:
+        return Fraction(plain)
+    except ValueError:
+        raise NotRead("a number of thousands of digits does not fit") from None     # Python reads no such whole number.
 
 
 def decimals_of(text: str, form: Form = PLAIN) -> int:
