@@ -21,6 +21,8 @@ from .reading import Dialect, is_blank, read_csv
 from .records import Record
 from .select import names_in, selected
 
+# Names of columns and the parentheses of a kind may both have =.
+KIND_GIVEN = re.compile(r"(?P<column>.*?)=(?P<kind>[^=]*|[^=(]*\(.*\)\s*)", re.DOTALL)
 EXAMPLES = """examples:
   python -m prefq ask hotels.csv "best low(Price) * high(Stars)"
   python -m prefq ask hotels.csv "best pos(City, 'Lyon') & low(\\"Price (EUR)\\")" --csv > best.csv
@@ -226,10 +228,10 @@ def kinds_of(words: Sequence[str]) -> Dict[str, str]:
     """The kinds that the command line gives."""
     found = {}
     for word in words:
-        name, sign, kind = word.rpartition("=")
-        if not sign:
+        given = KIND_GIVEN.fullmatch(word)
+        if not given:
             raise ValueError(f"--kind {word}: write COLUMN=KIND, as in --kind 'Stars=decimal(1)'")
-        found[name] = kind
+        found[given["column"]] = given["kind"]
     return found
 
 
