@@ -181,7 +181,7 @@ def _inner_oddity(texts: Sequence[str]) -> Optional[str]:
     """What keeps texts that all look like numbers or like dates from being such a column."""
     if all(map(FLOAT.fullmatch, texts)):
         zero = next(filter(LEADING_ZERO.fullmatch, texts), None)
-        return f"{zero} begins with a zero" if zero else f"{_short(first_inexact(texts) or texts[0])} does not fit 64 bits: the kind float rounds it"
+        return f"{zero} begins with a zero" if zero else f"{_short(_first_too_great(texts))} does not fit 64 bits: the kind float rounds it"
     if all(map(MOMENT.fullmatch, texts)):
         zones = {bool(MOMENT.fullmatch(text)[5]) for text in texts}  # type: ignore[index]
         if len(zones) > 1:
@@ -191,9 +191,17 @@ def _inner_oddity(texts: Sequence[str]) -> Optional[str]:
     return None
 
 
+def _first_too_great(texts: Sequence[str]) -> str:
+    """The first number that no column of whole numbers or decimals has; where each fits one, the first that a float does not keep."""
+    alone = (text for text in texts if not isinstance(kind_of_numbers([text]), Whole) and first_inexact([text]))
+    return next(alone, None) or first_inexact(texts) or texts[0]
+
+
 def proposal(texts: Sequence[str]) -> Optional[str]:
-    """The kinds that read all of these texts where the plain ones do not, with an example."""
-    spellings = [*_number_kinds(texts), *_moment_kinds(texts), *_bool_kinds(texts)]
+    """The kinds that read all of these texts, with an example: the plain one first, where the texts are no file's, or that has another form."""
+    plain = kind_of_texts(texts)
+    others = [*_moment_kinds(texts), *_bool_kinds(texts)] if isinstance(plain, Texts) else []
+    spellings = [*([] if isinstance(plain, Texts) else [str(plain)]), *_number_kinds(texts, plain), *others]
     reading = [kind for kind in map(kind_named, spellings) if all(_is_read(kind, text) for text in texts)]
     # Of several that read the same, the first.
     kinds = list({tuple(_without_form(kind, text) for text in texts): kind for kind in reversed(reading)}.values())[::-1]
@@ -201,12 +209,12 @@ def proposal(texts: Sequence[str]) -> Optional[str]:
         return None
     odd = next((text for text in texts if not FLOAT.fullmatch(text)), texts[0])
     said = [f"the kind {kind} reads {_without_form(kind, odd)}" for kind in kinds[:MOST_PROPOSED]]
-    return f"{_short(odd)} is not plain: {', or '.join(said)}"
+    return f"{_short(odd)} is {'not plain' if isinstance(plain, Texts) else 'a text'}: {', or '.join(said)}"
 
 
-def _number_kinds(texts: Sequence[str]) -> List[str]:
+def _number_kinds(texts: Sequence[str], plain: Kind) -> List[str]:
     """The kinds of numbers that these texts may have: thousands, decimal commas, a unit, parentheses."""
-    if all(map(FLOAT.fullmatch, texts)) or not all(re.search(r"\d", text) for text in texts):
+    if isinstance(plain, Texts) and all(map(FLOAT.fullmatch, texts)) or not all(re.search(r"\d", text) for text in texts):
         return []
     around = {part for text in texts for part in re.findall(r"[^\d\s.,'()+\-eE]+", text)}
     unit = f', unit="{around.pop()}"' if len(around) == 1 and '"' not in "".join(around) else ""
