@@ -107,7 +107,9 @@ class DataFrame(Records):
         frame = pandas.DataFrame(self.records, columns=list(self.columns), dtype="object")
         for name, kind in self.columns.items():
             if isinstance(kind, random_frames.Categories):
-                frame[name] = pandas.Categorical(frame[name], kind.some, ordered=True)
+                # By the values pandas would take great numbers for one another, where some are missing.
+                codes = [-1 if record[name] is None else kind.some.index(record[name]) for record in self.records]
+                frame[name] = pandas.Categorical.from_codes(codes, kind.some, ordered=True)
             elif isinstance(kind, random_frames.Times) and self.random.random() < 0.5:
                 frame[name] = pandas.to_datetime(frame[name], utc=kind.zone is not None)
         return frame
@@ -148,16 +150,32 @@ class RandomFrames(TestCase):
             name = door.random.choice(numbers)
             value = door.columns[name].draw_finer(door.random)
             record = {**random_frames.record(door.random, door.columns, dict.fromkeys(door.columns, 0.2)), name: value}
-            if self.inserted(door, frame, rows, record):
+            if door.random.choice([self.inserted, self.updated])(door, frame, rows, record):
                 door.columns[name].finer.append(value)
 
     def inserted(self, door, frame, rows, record):
-        """Inserts a record, if the frame takes it; else sees that it is refused and nothing is changed."""
+        """Inserts a record, or two, if the frame takes it; else sees that it is refused and nothing is changed."""
+        if door.random.random() < 0.5:
+            insert = frame.insert_many
+            records = [record, *[rows[1]] * (len(rows) % 2)]
+        else:
+            insert, records = lambda some: [frame.insert(some[0])], [record]
         if takes(frame, door, rows, record):
-            rows[frame.insert(door.record(record))] = record
+            rows.update(zip(insert(list(map(door.record, records))), records))
             return True
         with self.assertRaises(ValueError):
-            frame.insert(door.record(record))
+            insert(list(map(door.record, records)))
+        return False
+
+    def updated(self, door, frame, rows, record):
+        """Gives a row the values of a record, if the frame takes them."""
+        id = door.random.choice(list(rows))
+        if takes(frame, door, rows, record):
+            frame.update(id, door.record(record))
+            rows[id] = record
+            return True
+        with self.assertRaises(ValueError):
+            frame.update(id, door.record(record))
         return False
 
     def explained(self, random_, frame, rows, asked):

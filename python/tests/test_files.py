@@ -1,0 +1,291 @@
+"""CSV as people have it: words that are missing or are values, thousands and units, encodings, ends of lines, names that stand twice, and an answer that comes back."""
+import csv
+import gzip
+import io
+import json
+import os
+import random
+import subprocess
+import sys
+import tempfile
+import time
+import unittest.mock
+from datetime import date, time as clock
+from decimal import Decimal
+from pathlib import Path
+
+import prefq
+import random_frames
+from support import TestCase
+from test_ask import run
+
+PEOPLE = "name,sex,mass\nLuke,male,77\nR2-D2,none,32\nLobot,NA,-\nC-3PO,none,NA\nLeia,female,49\n"
+CARS = "car,AirBags,Price\nTercel,Driver only,9.8\nFestiva,None,7.4\nSentra,None,11.8\n"
+AIR_BAGS = "choice(None, Driver only, Driver & Passenger)"
+
+
+def from_text(text, **options):
+    return prefq.Frame.from_csv(io.StringIO(text), **options)
+
+
+def values(frame, name):
+    return [row[name] for row in frame.rows()]
+
+
+class Missing(TestCase):
+    def test_a_word_is_a_value_among_texts_and_missing_among_numbers(self):
+        with from_text(PEOPLE) as frame:
+            self.assertEqual(values(frame, "sex"), ["male", "none", "NA", "none", "female"])
+            self.assertEqual(values(frame, "mass"), [77, 32, None, None, 49])
+            self.assertEqual(frame.notes, ["column 'mass': '-' (1 row), 'NA' (1 row) taken for missing; missing=[..] says otherwise"])
+            self.assertEqual(frame.best("best low(mass) by sex").ids, [1, 2, 3, 5])
+
+    def test_a_word_that_a_choice_or_a_bool_names_is_a_value(self):
+        with from_text(CARS, kinds={"AirBags": AIR_BAGS}) as frame:
+            self.assertEqual(frame.best("best low(AirBags) & low(Price)").ids, [2])
+            self.assertEqual(frame.notes, [])
+        done = run("ask", "-", "best low(AirBags) & low(Price)", "--csv", "--kind", f"AirBags={AIR_BAGS}", text=CARS)
+        self.assertEqual((done.returncode, done.stdout, done.stderr), (0, "level,id,car,AirBags,Price\n1,2,Festiva,None,7.4\n", ""))
+        with from_text("n,pool\n1,Y\n2,-\n3,\n", kinds={"pool": "bool(Y, -)"}, missing=["-", "none"]) as frame:
+            self.assertEqual(values(frame, "pool"), [True, False, None])
+
+    def test_words_that_are_given(self):
+        """As they stand in the file, in any case, in every column; and then no others."""
+        with from_text(PEOPLE, missing=["NA", "-", "NONE"]) as frame:
+            self.assertEqual(values(frame, "sex"), ["male", None, None, None, "female"])
+            self.assertEqual(values(frame, "mass"), [77, 32, None, None, 49])
+        with from_text("x,y\n1,-\n?,NA\n", missing=["?"]) as frame:
+            self.assertEqual([dict(row) for row in frame.rows()], [{"x": 1, "y": "-"}, {"x": None, "y": "NA"}])
+        with from_text("x,y\n1,\nNA,2\n", missing=[]) as frame:
+            self.assertEqual([dict(row) for row in frame.rows()], [{"x": "1", "y": None}, {"x": "NA", "y": 2}])
+        with self.refuses(TypeError, "missing is a list of words"):
+            from_text(PEOPLE, missing="NA")
+        done = run("ask", "-", "best low(mass) by sex", "--csv", "--missing", "none", "--missing", "na", "--missing", "-", text=PEOPLE)
+        self.assertEqual([line[:3] for line in done.stdout.splitlines()[1:]], ["1,1", "1,2", "1,5"])
+
+    def test_words_that_python_inserts_are_texts(self):
+        with from_text("name,mass\nLuke,77\n") as frame:
+            for word in ["Null", "None", "NA", "n/a", "-", "nan", ""]:
+                self.assertEqual(frame.get(frame.insert({"name": word})).name, word)
+                if word:
+                    with self.refuses(ValueError, f"column 'mass' (whole): '{word}' is no number"):
+                        frame.insert({"mass": word})
+
+    def test_a_column_of_nothing_but_such_words_has_texts(self):
+        with from_text("x,y\n1,NA\n2,none\n") as frame:
+            self.assertEqual(values(frame, "y"), ["NA", "none"])
+
+
+class WrittenOtherwise(TestCase):
+    """Numbers, dates and truth values that are not plain: read where a kind says how; else the refusal names the kinds that would."""
+
+    def test_thousands(self):
+        text = 'x,qty\n1,"1,200"\n2,999\n3,"12,500"\n'
+        with from_text(text) as frame, self.refuses(prefq.Refused, "'1,200' is not plain: the kind whole(thousands=\",\") reads 1200, or the kind decimal(3, decimal=\",\") reads 1.200"):
+            frame.best("best high(qty)")
+        with from_text(text, kinds={"qty": 'whole(thousands=",")'}) as frame:
+            self.assertEqual((values(frame, "qty"), frame.best("best high(qty)").ids), ([1200, 999, 12500], [3]))
+        with from_text(text, thousands=",") as frame:
+            self.assertEqual(values(frame, "qty"), [1200, 999, 12500])
+
+    def test_a_point_is_no_decimal_point_where_that_is_a_comma(self):
+        text = "x;qty\n1;1.200\n2;999\n3;12.500\n"
+        with from_text(text, decimal=",") as frame, self.refuses(prefq.Refused, "column 'qty' has texts", "the kind whole(thousands=\".\", decimal=\",\") reads 1200"):
+            frame.best("best high(qty)")
+        with from_text(text, decimal=",", thousands=".") as frame:
+            self.assertEqual(values(frame, "qty"), [1200, 999, 12500])
+        done = run("ask", "-", "best high(qty)", "--decimal", ",", text=text)
+        self.assertEqual(done.returncode, 2)
+        done = run("ask", "-", "best high(qty)", "--decimal", ",", "--thousands", ".", "--csv", text=text)
+        self.assertEqual(done.stdout, "level,id,x,qty\n1,3,3,12.500\n")
+
+    def test_texts_that_are_no_files(self):
+        for text, kind in [("5", "whole reads 5"), ("7.50", "decimal(2) reads 7.50"), ("yes", "bool reads True"), ("2026-05-01", "date reads 2026-05-01")]:
+            with prefq.Frame.from_records([{"x": text}]) as frame, self.refuses(prefq.Refused, f"has texts ('{text}' is a text: the kind {kind}), which"):
+                frame.best("best low(x)")
+
+    def test_the_culprit_is_named(self):
+        with from_text("x;y\n1;57,40\n2;1.065,61\n3;5,00\n", decimal=",") as frame:
+            with self.refuses(prefq.Refused, "decimal(2, thousands=\".\", decimal=\",\") reads"):
+                frame.best("best low(y)")
+        with from_text("x;y;z\n1;160;2,62\n2;146,7;2,875\n", delimiter=";") as frame:
+            for name, kind in [("y", 'decimal(1, decimal=",")'), ("z", 'decimal(3, decimal=",")')]:
+                with self.refuses(prefq.Refused, kind):
+                    frame.best(f"best low({name})")
+
+    def test_thousands_do_not_begin_with_a_zero(self):
+        with from_text('x\n"0,123"\n"1,250"\n') as frame, self.refuses(prefq.Refused, "the kind decimal(3, decimal=\",\") reads 0.123),"):
+            frame.best("best low(x)")
+        with self.refuses(ValueError, "'0,123' is no number"):
+            from_text('x\n"0,123"\n', kinds={"x": 'whole(thousands=",")'})
+
+    def test_what_no_kind_reads_by_itself(self):
+        for cells, kind, found in [
+                (["$5.00", "$1,250.50"], 'decimal(2, thousands=",", unit="$")', [Decimal("5.00"), Decimal("1250.50")]),
+                (["5 %", "12.5 %"], 'decimal(1, unit="%")', [5, Decimal("12.5")]), (["(5.00)", "7.25"], "decimal(2, parentheses)", [-5, Decimal("7.25")]),
+                (["01.05.2026", "31.12.2025"], 'date("%d.%m.%Y")', [date(2026, 5, 1), date(2025, 12, 31)]), (["5/31/2026", "12/1/2025"], 'date("%m/%d/%Y")', [date(2026, 5, 31), date(2025, 12, 1)]),
+                (["17:30", "08:05:30"], "clock", [clock(17, 30), clock(8, 5, 30)]), (["Y", "N", "y"], "bool(y, n)", [True, False, True])]:
+            text = io.StringIO()
+            csv.writer(text).writerows([["n", "x"], *enumerate(cells)])
+            with self.subTest(kind=kind):
+                with from_text(text.getvalue(), delimiter=",") as frame, self.refuses(prefq.Refused, f"the kind {kind} reads"):
+                    frame.best("best low(x)")
+                with from_text(text.getvalue(), delimiter=",", kinds={"x": kind}) as frame:
+                    self.assertEqual((values(frame, "x"), str(frame.columns[1].kind)), (found, kind))
+
+    def test_kinds_on_the_command_line(self):
+        words = ("ask", "-", "best low(a)", "--csv", "--kind")
+        self.assertEqual(run(*words, 'a=decimal(2, thousands=",")', text='a,b\n"1,234.5",x\n999,y\n').stdout, "level,id,a,b\n1,2,999,y\n")
+        self.assertEqual(run(*words[:2], "best low('a=b')", *words[3:], "a=b=whole", text="a=b,c\n5,x\n").stdout, "level,id,a=b,c\n1,1,5,x\n")
+        for kind, says in [("decimal(²)", "no kind 'decimal(²)': it begins with the number of decimals"), ("decimal(2", "no kind 'decimal(2'"), ("decimal(99)", "0 to 18 decimals")]:
+            done = run(*words, f"a={kind}", text="a,b\n1,2\n")
+            self.assertEqual((done.returncode, done.stdout), (2, ""))
+            self.assertIn(says, done.stderr)
+
+
+class Columns(TestCase):
+    def test_only_columns_that_the_question_names_are_looked_at(self):
+        text = "id,x,pi,x2\n1234567890123456789,5,3.14159265358979323846,7\n9999999999999999999,4,2.5,8\n"
+        self.assertEqual(run("ask", "-", "best low(x)", "--csv", text=text).stdout, "level,id,.id,x,pi,x2\n".replace("level,id,.id", "level,.id,id") + "1,2,9999999999999999999,4,2.5,8\n")
+        done = run("ask", "-", text=text)
+        self.assertEqual((done.returncode, done.stdout), (0, "id: text ('9999999999999999999' does not fit 64 bits: the kind float rounds it)\nx: whole\n"
+                                                             "pi: text ('3.14159265358979323846' does not fit 64 bits: the kind float rounds it)\nx2: whole\n"))
+        with from_text(text) as frame:
+            self.assertEqual(frame.best("best low(x)")[0].pi, "2.5")
+
+    def test_names_that_stand_twice(self):
+        text = "a,b,a\n1,2,3\n4,1,6\n"
+        self.assertEqual(run("ask", "-", "best low(b)", "--csv", text=text).stdout, "level,id,a,b,a\n1,2,4,1,6\n")
+        self.assertIn("two columns are called 'a', those at places 1 and 3", run("ask", "-", "best low(a)", text=text).stderr)
+        with from_text(text, columns=["b"]) as frame:
+            self.assertEqual(values(frame, "b"), [2, 1])
+        for columns in (None, ["a"]):
+            with self.refuses(prefq.Refused, "two columns are called 'a'"):
+                from_text(text, columns=columns)
+
+    def test_words_of_other_programs(self):
+        for word, name in [("sep", "delimiter"), ("na_values", "missing"), ("skiprows", "skip"), ("dtype", "kinds"), ("usecols", "columns"), ("encodin", "encoding")]:
+            with self.refuses(TypeError, f"Frame.from_csv has no option '{word}'", repr(name)):
+                from_text("x\n1\n", **{word: ";"})
+        with self.refuses(TypeError, "psel has no option 'top'", "top_level"):
+            prefq.psel([{"x": 1}], "low(x)", top=10)
+
+    def test_many_columns(self):
+        names = ",".join(f"x{place}" for place in range(20_000))
+        begun = time.process_time()
+        with from_text(names + "\n" + ",".join(["1"] * 20_000) + "\n", columns=["x19999"]) as frame:
+            self.assertEqual(values(frame, "x19999"), [1])
+        self.assertLess(time.process_time() - begun, 2)
+
+
+class Files(TestCase):
+    def reads(self, data, **options):
+        """The records of a file with these bytes."""
+        with prefq.Frame.from_csv(io.BytesIO(data), **options) as frame:
+            return [dict(row) for row in frame.rows()]
+
+    def test_encodings_by_their_mark(self):
+        text = "city,x\nKöln,1\n"
+        for encoding in ("utf-8", "utf-8-sig", "utf-16", "utf-32"):
+            self.assertEqual(self.reads(text.encode(encoding)), [{"city": "Köln", "x": 1}])
+        self.assertEqual(self.reads(("\ufeff" + text).encode("utf-16-be")), [{"city": "Köln", "x": 1}])
+        self.assertEqual(self.reads(text.encode("utf-16-le"), encoding="utf-16-le"), [{"city": "Köln", "x": 1}])
+
+    def test_packed(self):
+        data = gzip.compress(b"city,x\nBern,1\n")
+        self.assertEqual(self.reads(data), [{"city": "Bern", "x": 1}])
+        with self.refuses(prefq.Refused, "cannot be unpacked"):
+            self.reads(data[:20])
+        with self.refuses(prefq.Refused, "is no text: its byte 3 is 0"):
+            self.reads(b"a,b\0\n1,2\n")
+
+    def test_ends_of_lines(self):
+        for end in ("\r", "\n", "\r\n"):
+            for last in (end, ""):
+                with self.subTest(end=end, last=last):
+                    self.assertEqual(self.reads(f'city,x{end}"a{end}b",1{end}c,2{last}'.encode()), [{"city": f"a{end}b", "x": 1}, {"city": "c", "x": 2}])
+        self.assertEqual(run("ask", "-", "best low(b)", "--csv", text="a,b\r1,2\r3,1\r").stdout, "level,id,a,b\n1,2,3,1\n")
+
+    def test_delimiters(self):
+        for text, names in [("Preis, netto;Menge, Stück;Ort\n5;2;Lyon\n7,5;1;Bern\n", ["Preis, netto", "Menge, Stück", "Ort"]), ("Name, Vorname;Preis\nMeier, Hans;12\n", ["Name, Vorname", "Preis"]),
+                            ("sep=|\na;b|c\n1;2|3\n", ["a;b", "c"]), ("a|b\n1|2\n", ["a", "b"]), ('"two\nlines";b\n1;2\n', ["two\nlines", "b"]), ("one\n1\n", ["one"])]:
+            with self.subTest(text=text), from_text(text) as frame:
+                self.assertEqual(frame.names, names)
+                self.assertEqual(len(frame), text.count("\n") - 1 - text.count("sep=") - text.count("two"))
+
+    def test_lines_that_are_not_as_the_others(self):
+        self.assertEqual(self.reads(b"Offers of May\n\nx,y\n1,2\n", skip=2), [{"x": 1, "y": 2}])
+        self.assertEqual(self.reads(b"x,y\n1,2\n   \n\n3,4,\n,\n"), [{"x": 1, "y": 2}, {"x": 3, "y": 4}, {"x": None, "y": None}])
+        self.assertEqual(self.reads(b"x,y,\n1,2,\n3,4,\n"), [{"x": 1, "y": 2}, {"x": 3, "y": 4}])
+        self.assertEqual(self.reads(b"x,y\n1\n3,4\n", null_padding=True), [{"x": 1, "y": None}, {"x": 3, "y": 4}])
+        with self.refuses(prefq.Refused, "line 3: it has 1 cells", "null_padding=True"):
+            self.reads(b"x,y\n1,2\n3\n")
+        with self.refuses(prefq.Refused, "line 4: it has 3 cells"):
+            self.reads(b"note\nx,y\n1,2\n1,2,3\n", skip=1)
+        self.assertIn("--null-padding fills short rows", run("ask", "-", "best low(x)", text="x,y\n1,2\n3\n").stderr)
+
+    def test_long_cells(self):
+        long = "a" * 200_000
+        self.assertEqual(self.reads(f"{long},x\n{long},1\n".encode()), [{long: long, "x": 1}])
+        self.assertEqual(self.reads(("x,y\n" + "0" * 200_000 + ",1\n").encode())[0]["y"], 1)
+
+    def test_closed_standard_streams(self):
+        for closed, status, says in [("<&-", 2, "standard input is closed"), (">&-", 1, "standard output is closed")]:
+            done = subprocess.run(["sh", "-c", f'printf "a,b\\n1,2\\n" | {{ "$0" -m prefq ask - "best low(a)" {closed}; }}', sys.executable], capture_output=True, encoding="utf-8", timeout=60)
+            self.assertEqual((done.returncode, done.stdout, done.stderr), (status, "", f"prefq: {says}\n"))
+
+    def test_what_never_ends_is_no_text(self):
+        with open("/dev/zero", "rb") as file, self.refuses(prefq.Refused, "is no text"):
+            prefq.Frame.from_csv(file)
+
+
+class ComesBack(TestCase):
+    """An answer in CSV is read as the values that it has."""
+
+    def again(self, records, kinds, with_kinds):
+        names = list(records[0])
+        with prefq.Frame.from_records([{**record, "all": 1} for record in records], kinds=kinds) as frame:
+            answer = frame.best("best low(all)")
+            self.assertEqual([dict(row) for row in answer], [{**record, "all": 1} for record in records])
+        kinds = {column.name: str(column.kind) for column in answer.columns} if with_kinds else None
+        with prefq.Frame.from_csv(io.StringIO(answer.to_csv()), columns=names, kinds=kinds) as again:
+            self.assertEqual([dict(row) for row in again.rows()], records)
+            self.assertEqual(again.notes, [])
+
+    def test_random_frames(self):
+        further = (random_frames.Written, random_frames.WrittenDates)
+        for number in range(40):
+            random_ = random.Random(number)
+            columns, records = random_frames.frame(random_, further)
+            is_seen = {name: not kind.is_given for name, kind in columns.items()}
+            with self.subTest(number=number):
+                self.again(records, {name: kind.spelling for name, kind in columns.items() if kind.is_given}, True)
+                if any(is_seen.values()):
+                    self.again([{name: value for name, value in record.items() if is_seen[name]} for record in records], None, False)
+
+    def test_words_and_ends_of_lines(self):
+        self.again([{"code": text, "x": 1} for text in ["NA", "None", "-", "null", "a\rb", "a\r\nb", 'say "x"', "a;b", " x "]], None, False)
+
+    def test_times_that_clocks_show_twice(self):
+        for kind in ("time(Europe/Berlin)", 'time(Europe/Berlin, "%d.%m.%Y %H:%M")'):
+            with from_text("x,at\n1,2026-10-25 02:30+01:00\n2,2026-10-25 02:30+02:00\n3,1890-01-01 00:00\n4,2026-05-01 10:00:00.000001\n", kinds={"at": kind}) as frame:
+                answer = frame.best("top_level 9 low(x)")
+            with prefq.Frame.from_csv(io.StringIO(answer.to_csv()), kinds={"at": kind}) as again:
+                self.assertEqual([row["at"].timestamp() for row in again.rows()], [row["at"].timestamp() for row in answer])
+
+    def test_read_in_parts(self):
+        """The same kinds and values, however many rows are read at a time."""
+        cells = {"a": ["1", "2.5", "NA", "", "7"], "b": ["NA", "none", "-", "x", ""], "c": ["1", "2", "x", "4", "NA"], "d": ["NA", "-", "", "none", "NA"], "e": ["yes", "", "NA", "no", "true"],
+                 "f": ["2026-05-01", "2026-05-01 10:00", "", "NA", "2026-05-02"], "g": ["9223372036854775807", "1", "0.5", "2", "3"], "h": ["1", "inf", "0.5", "NA", "1e300"]}
+        text = io.StringIO()
+        csv.writer(text).writerows([cells, *zip(*cells.values())])
+        found = []
+        for chunk in (1, 2, 3, 65_536):
+            with unittest.mock.patch("prefq.reading.CHUNK", chunk), from_text(text.getvalue()) as frame:
+                found.append((list(map(str, frame.columns)), frame.rows(), frame.notes))
+        self.assertEqual(found[1:], found[:-1])
+        self.assertEqual([str(column.kind) for column in frame.columns], ["decimal(1)", "text", "text", "text", "bool", "time", "text", "float"])
+
+    def test_json_has_the_values_of_columns_that_no_question_names(self):
+        done = run("ask", "-", "best low(x)", "--json", text="x,y,z\n1,2.50,NA\n")
+        self.assertEqual(json.loads(done.stdout, parse_float=Decimal), [{"level": 1, "id": 1, "x": 1, "y": Decimal("2.50"), "z": "NA"}])
