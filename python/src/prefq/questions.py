@@ -10,7 +10,7 @@ from typing import Callable, List, NamedTuple, NoReturn, Optional, Sequence, Tup
 from .columns import Column, quoted
 from .errors import Refused
 from .hints import hint_for, hint_for_mode, hint_for_value, unknown_column
-from .kinds import Texts
+from .kinds import Choices, Texts
 
 UNEXPECTED, UNKNOWN_COLUMN, NUMBER_RANGE, TOO_DEEP, TOO_LONG, BAD_COUNT, NO_MIN_OR_MAX, EMPTY_RANGE = 1, 2, 3, 4, 5, 6, 7, 9
 DEEPEST = 64
@@ -125,7 +125,7 @@ def explained(why: Refused, columns: Sequence[str]) -> Refused:
 
 def value_of(column: Column) -> str:
     """What could stand in the place of a value: one of the column's own, where these are texts, else how one is written."""
-    texts = column.kind.texts if isinstance(column.kind, Texts) else []
+    texts = column.kind.texts if isinstance(column.kind, (Choices, Texts)) else []
     short = next((text for text in texts if len(text) <= LONGEST_EXAMPLE), None)
     return f"a value of {column.name!r}, " + (f"written like {column.kind.example}" if short is None else f"such as {quoted(short)}")
 
