@@ -45,6 +45,7 @@ SKIPPED_TESTS = re.compile(r"\((\d+) tests\)$")
 LEFT_BY_HAND = """\
 left by hand (docs/CONTRIBUTING.md, "A release"):
 - the figures of docs/PERFORMANCE.md and the times of README.md, measured on this commit
+- real data sets, which packages of R have: python3 python/tests/real_data.py
 - the number of the version: VERSION in crates/prefq/src/args.rt, docs/GUIDE.md, python, CHANGELOG.md
 - a new kit: its name and its logic in README.md"""
 

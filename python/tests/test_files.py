@@ -173,9 +173,9 @@ class Columns(TestCase):
     def test_many_columns(self):
         names = ",".join(f"x{place}" for place in range(20_000))
         begun = time.process_time()
-        with from_text(names + "\n" + ",".join(["1"] * 20_000) + "\n", columns=["x19999"]) as frame:
-            self.assertEqual(values(frame, "x19999"), [1])
-        self.assertLess(time.process_time() - begun, 2)
+        done = run("ask", "-", "best low(x19999)", "--csv", text=names + "\n" + ",".join(["1"] * 20_000) + "\n")
+        self.assertEqual(done.stdout, f"level,id,{names}\n1,1" + ",1" * 20_000 + "\n")
+        self.assertLess(time.process_time() - begun, 3)
 
 
 class Files(TestCase):

@@ -386,8 +386,9 @@ class DataFrames(TestCase):
             self.assertEqual(frame.best("top_level 9 low(x)").ids, [2, 4, 1, 3])
 
     def test_texts_with_a_nul(self):
-        texts = ["x\0y", "x", "x\0z", "\0", "", None]
-        for values in (texts, pandas.Series(texts, dtype="string")):
+        some = ["x\0y", "x", "x\0z", "\0", ""]
+        for texts, dtype in ((some, "object"), ([*some, None], "object"), ([*some, None], "string")):
+            values = pandas.Series(texts, dtype=dtype)
             with prefq.Frame.from_dataframe(pandas.DataFrame({"t": values})) as frame:
                 self.assertEqual([row.t for row in frame.rows()], texts)
                 self.assertEqual(frame.best("best pos(t, 'x\0z')").ids, [3])
