@@ -209,10 +209,7 @@ def _offset(scanner):
     hours = scanner.exactly(2) if sign else None
     scanner.takes(":")
     minutes = scanner.exactly(2)
-    seconds = 0
-    if not scanner.is_at_end:
-        scanner.takes(":")
-        seconds = scanner.exactly(2)
+    seconds = scanner.exactly(2) if scanner.takes(":") else 0
     if None in (hours, minutes, seconds) or hours > 23 or minutes > 59 or seconds > 59:
         return None
     found = datetime.timedelta(hours=hours, minutes=minutes, seconds=seconds)

@@ -104,6 +104,12 @@ class WrittenOtherwise(TestCase):
             with prefq.Frame.from_records([{"x": text}]) as frame, self.refuses(prefq.Refused, f"has texts ('{text}' is a text: the kind {kind}), which"):
                 frame.best("best low(x)")
 
+    def test_a_sign_with_a_blank_behind_it(self):
+        """Is none of a plain number, and no reason to refuse the file."""
+        for cells in (["5", "- 5"], ["+ 5"], ["- 5", "NA", ""]):
+            with from_text("".join(f"{cell},x\n" for cell in ["a", *cells])) as frame:
+                self.assertEqual(values(frame, "a"), [cell or None for cell in cells])
+
     def test_the_culprit_is_named(self):
         with from_text("x;y\n1;57,40\n2;1.065,61\n3;5,00\n", decimal=",") as frame:
             with self.refuses(prefq.Refused, "decimal(2, thousands=\".\", decimal=\",\") reads"):

@@ -7,7 +7,7 @@ import datetime
 import io
 import os
 import random
-import unittest
+import unittest.mock
 import warnings
 from decimal import Decimal
 from fractions import Fraction
@@ -78,9 +78,9 @@ def among(*words):
     return lambda random_: random_.choice(words)
 
 
-def has_other_digits(text):
-    """Python's formats read some digits of other scripts."""
-    return not text.isascii()
+def is_read_by_python(text):
+    """Python's formats read some digits of other scripts, and a blank before a digit."""
+    return not text.isascii() or len(text.split()) > 1
 
 
 def asked_number(text):
@@ -103,8 +103,8 @@ CASES = [
     Case("bool", plain.truth, among("true", "False", "YES", "no")),
     Case('bool("on, all", none)', partial(plain.truth, true="on, all", false="none"), among("On, all", "none", "true", "no")),
     Case("date", plain.iso_date, dated(ISO[:1])),
-    Case('date("%d.%m.%Y")', plain.german_date, dated(["{d:%d.%m}.{d.year:04}", "{d.day}.{d.month}.{d.year:04}", "{d}"]), plain.iso_date, has_other_digits),
-    Case('date("%m/%d/%y")', plain.american_date, dated(["{d:%m/%d}/{y:02}", "{d:%m/%d}/{d.year:04}", "{d}"]), plain.iso_date, has_other_digits),
+    Case('date("%d.%m.%Y")', plain.german_date, dated(["{d:%d.%m}.{d.year:04}", "{d.day}.{d.month}.{d.year:04}", "{d}"]), plain.iso_date, is_read_by_python),
+    Case('date("%m/%d/%y")', plain.american_date, dated(["{d:%m/%d}/{y:02}", "{d:%m/%d}/{d.year:04}", "{d}"]), plain.iso_date, is_read_by_python),
     Case("time", plain.moment, dated(ISO)),
     Case("time(UTC)", partial(plain.moment, offsets=lambda local: [datetime.timedelta()]), dated([*ISO, "{d} {t}+02:00", "{d}T{t}Z", "{d} {t:%H:%M}-0330"])),
     Case("time(UTC+02:00)", partial(plain.moment, offsets=lambda local: [datetime.timedelta(hours=2)]), dated([*ISO, "{d} {t} +05:45"], 2)),
@@ -252,6 +252,34 @@ class Doors(TestCase):
                             frame.best(question)
 
 
+class Inferred(TestCase):
+    """Whatever kind a column of a file is taken for, each cell is read as the plain grammar of that kind reads it, is missing, or stays a text."""
+
+    def test_each_cell_is_what_it_was(self):
+        random_ = random.Random("inferred")
+        draws = [case.draw for case in CASES if not case.spelling.startswith(("choice", "text"))]
+        for _ in range(COUNT):
+            draw = random_.choice(draws)
+            cells = [random_.choice(HOSTILE[:160]) if random_.random() < 0.08 else random_.choice(["", "NA", "-", "none"]) if random_.random() < 0.1 else draw(random_) for _ in range(random_.randrange(1, 6))]
+            cells = [cell for cell in cells if "\0" not in cell]
+            with unittest.mock.patch("prefq.reading.CHUNK", random_.choice([2, 65_536])):
+                file = prefq.loading.File(prefq.reading.read_csv(csv_of(cells)))
+                column, numbers = file.column("x")
+            read = PLAIN_KINDS[column.kind.name]
+            values = [column.decode(number) for number in numbers]
+            self.assertEqual(len(values), len(cells))
+            for cell, value in zip(cells, values):
+                if value is None:
+                    self.assertTrue(not cell.strip() or column.kind.name != "text" and cell.strip().lower() in prefq.missing.WORDS, (cells, column))
+                else:
+                    self.assertEqual(comparable(value), read(cell), (cells, column))
+            self.assertEqual(bool(file.notes), column.kind.name != "text" and any(cell.strip().lower() in prefq.missing.WORDS for cell in cells))
+
+
+PLAIN_KINDS = {"whole": plain.decimal_number, "decimal": plain.number, "float": plain.binary_number, "bool": plain.truth, "date": plain.iso_date, "text": lambda text: text,
+               "time": lambda text: plain.moment(text, offsets=lambda local: [datetime.timedelta()]), "clock": plain.clock}
+
+
 def is_fine(case, text):
     """Whether a time is finer than the column has them: a question may name it."""
     return case.spelling.startswith("time") and "1234567" in text and case.asked(text.replace("1234567", "123456")) != REFUSED
@@ -267,10 +295,14 @@ def from_dataframe(texts, kind):
 
 def from_cells(texts, kind):
     """The frame of a file with these cells in the column x."""
+    return prefq.Frame.from_csv(csv_of(texts), delimiter=",", kinds={"x": kind})
+
+
+def csv_of(texts):
+    """A file with these cells in the column x."""
     text = io.StringIO()
-    writer = csv.writer(text)
-    writer.writerows([["n", "x"], *([number, cell] for number, cell in enumerate(texts))])
-    return prefq.Frame.from_csv(io.StringIO(text.getvalue()), delimiter=",", kinds={"x": kind})
+    csv.writer(text).writerows([["n", "x"], *enumerate(texts)])
+    return io.StringIO(text.getvalue())
 
 
 class NothingIsMadeOfNothing(TestCase):

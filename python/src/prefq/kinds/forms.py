@@ -43,6 +43,8 @@ class Form:
 
     def plain(self, text: str) -> Optional[str]:
         """The number in its plain form; None where the text is none of this form."""
+        if self.is_plain:
+            return text.strip() if NUMBER.fullmatch(text.strip()) else None
         found = self._pattern().fullmatch(text.strip())
         if not found or bool(found["open"]) != bool(found["close"]) or found["open"] and found["sign"] or found["before"] and found["behind"]:
             return None

@@ -43,8 +43,8 @@ class Number(Kind):
 
     def plain(self, text: str) -> str:
         """The plain form of the number that a text spells."""
-        plain = text.strip() if self.form.is_plain else self.form.plain(text)
-        if plain is None or not NUMBER.fullmatch(plain):
+        plain = self.form.plain(text)
+        if plain is None:
             raise NotRead(f"{text!r} is no number" + ("" if self.form.is_plain else f" as {self} has it"))
         return plain
 
