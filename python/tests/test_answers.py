@@ -4,7 +4,6 @@ import io
 import json
 import tempfile
 import unittest
-import unicodedata
 from pathlib import Path
 from xml.etree import ElementTree
 
@@ -81,10 +80,8 @@ class Answers(TestCase):
         self.assertEqual({width(line) for line in lines}, {width(lines[0])})
 
     def test_each_control_sign_is_visible(self):
-        for number in range(0x110000):
-            sign = chr(number)
-            if unicodedata.category(sign) in ("Cc", "Cs"):
-                self.assertTrue(visible(sign).isprintable(), number)
+        for number in [*range(0x20), *range(0x7f, 0xa0), 0xd800, 0xdfff, 0x202e, 0x2066]:
+            self.assertTrue(visible(chr(number)).isprintable(), number)
 
 
 if __name__ == "__main__":
