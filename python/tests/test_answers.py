@@ -69,9 +69,10 @@ class Answers(TestCase):
 
     def test_text_does_not_steer_a_terminal(self):
         texts = ["\x1b[2J\x1b[31mred", "\x9b31m", "bell\x07", "\u202eturned", "\x00", "e\u0301", "👩\u200d👩"]
+        shown = [r"na\x1bme", r"\x1b[2J\x1b[31mred", r"\x9b31m", r"bell\x07", r"\u202eturned", r"\x00", *texts[5:]]
         answer = self.answer(texts, name="na\x1bme")
         for text in (repr(answer), answer.to_text()):
-            self.assertEqual([line.split()[2] for line in text.splitlines()], [r"na\x1bme", r"\x1b[2J\x1b[31mred", r"\x9b31m", r"bell\x07", r"\u202eturned", r"\x00", *texts[5:]])
+            self.assertEqual([line.split()[2] for line in text.splitlines()], shown)
         self.assertIn("\x1b[2J", answer.to_csv())
         self.assertEqual(json.loads(answer.to_json())[0]["na\x1bme"], texts[0])
 
