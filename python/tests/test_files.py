@@ -230,6 +230,15 @@ class Files(TestCase):
             self.reads(b"note\nx,y\n1,2\n1,2,3\n", skip=1)
         self.assertIn("--null-padding fills short rows", run("ask", "-", "best low(x)", text="x,y\n1,2\n3\n").stderr)
 
+    def test_empty_lines_before_the_names(self):
+        """They are none of the rows, and neither are the names."""
+        for text, options in [("\n\na,b\n1,2\n\n3,4\n", {}), ("  \n\na;b\n1;2\n3;4\n", {}), ("note\n\na,b\n1,2\n3,4\n", {"skip": 1}), ("sep=|\r\n\r\na|b\r\n1|2\r\n3|4\r\n", {}), ("\n\na,b,\n1,2,\n3,4,\n", {})]:
+            with self.subTest(text=text):
+                self.assertEqual(self.reads(text.encode(), **options), [{"a": 1, "b": 2}, {"a": 3, "b": 4}])
+                with self.refuses(ValueError, f"line {text.replace(chr(13), '').split(chr(10)).index(text.replace(chr(13), '').strip().split(chr(10))[-1]) + 1}, column 'b' (bool): '4'"):
+                    self.reads(text.encode().replace(b"2", b"no"), kinds={"b": "bool"}, **options)
+        self.assertEqual(run("ask", "-", "best low(b)", "--csv", text="\n\na,b\n1,2\n3,1\n").stdout, "level,id,a,b\n1,2,3,1\n")
+
     def test_long_cells(self):
         long = "a" * 200_000
         self.assertEqual(self.reads(f"{long},x\n{long},1\n".encode()), [{long: long, "x": 1}])

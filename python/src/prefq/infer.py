@@ -194,7 +194,7 @@ def _inner_oddity(texts: Sequence[str]) -> Optional[str]:
 def _first_too_great(texts: Sequence[str]) -> str:
     """The first number that no column of whole numbers or decimals has; where each fits one, the first that a float does not keep."""
     alone = (text for text in texts if not isinstance(kind_of_numbers([text]), Whole) and first_inexact([text]))
-    return next(alone, None) or first_inexact(texts) or texts[0]
+    return next(alone, "") or first_inexact(texts) or texts[0]
 
 
 def proposal(texts: Sequence[str]) -> Optional[str]:

@@ -85,7 +85,7 @@ class Cells:
         width = len(self.names)
         reader = self._reader()
         with Refusing(self, reader):
-            next(reader)
+            self._names_in(reader)
             while rows := rows_of(reader):
                 if set(map(len, rows)) != {width}:
                     rows = list(self._squared(rows, first))
@@ -110,7 +110,7 @@ class Cells:
     def line(self, row: int) -> int:
         """The line in which a row ends, for what is said of it."""
         reader = self._reader()
-        next(reader)
+        self._names_in(reader)
         places = (reader.line_num for cells in reader if not self._is_empty(cells))
         return self._before + next(islice(places, row, None), 0)
 
@@ -179,7 +179,7 @@ class Cells:
     def _read_names(self) -> List[str]:
         reader = self._reader()
         with Refusing(self, reader):
-            cells: List[str] = next((cells for cells in reader if cells), [])
+            cells = self._names_in(reader)
         if not cells:
             raise Refused(f"{self.what} is empty: its first line has the names of the columns", "table")
         cells[0] = cells[0].lstrip("\ufeff")
@@ -187,10 +187,15 @@ class Cells:
             cells.pop()
         return [cell.strip() or f"column {place}" for place, cell in enumerate(cells, 1)]
 
+    def _names_in(self, reader: Any) -> List[str]:
+        """Reads as far as the line with the names, in front of which there may be empty ones; its cells."""
+        return next((cells for cells in reader if not is_empty_line(cells)), [])
+
     def _is_surplus(self, place: int) -> bool:
         """Whether the first rows have no text at this place either, as where each line ends in a delimiter."""
         reader = self._reader()
-        return all(len(row) <= place or is_blank(row[place]) for row in islice(reader, 1, SAMPLE_ROWS))
+        self._names_in(reader)
+        return all(len(row) <= place or is_blank(row[place]) for row in islice(reader, SAMPLE_ROWS))
 
 
 class Refusing:
@@ -260,7 +265,7 @@ def delimiter_of(lines: Sequence[str], *, is_cut: bool = False) -> str:
     """The delimiter that cuts the first rows alike, into most cells; of several, the one behind which fewer cells begin with a blank."""
     def worth(sign: str) -> Tuple[bool, int, int]:
         rows = list(_sample(lines, sign))
-        rows = rows[:-1] if is_cut and len(rows) > 1 else rows
+        rows = [row for row in (rows[:-1] if is_cut and len(rows) > 1 else rows) if not is_empty_line(row)]
         widths = {len(row) for row in rows if any(row)}
         first = rows[0] if rows else []
         return len(widths) == 1 and widths != {1}, len(first), -sum(cell.startswith(" ") for cell in first)
@@ -275,6 +280,11 @@ def _sample(lines: Sequence[str], delimiter: str) -> Iterator[List[str]]:
         yield from islice(reader, SAMPLE_ROWS)
     except csv.Error:
         return
+
+
+def is_empty_line(row: Sequence[str]) -> bool:
+    """Whether there is nothing, or nothing but blanks, in a line."""
+    return not row or len(row) == 1 and row[0].isspace()
 
 
 def is_blank(cell: str) -> bool:
