@@ -15,7 +15,7 @@ import test_serve
 from prefq import asgi, replies
 from prefq.desk import Desk
 from support import TestCase
-from test_serve import KINDS, RECORDS, Events, ask, exchange, get
+from test_serve import KINDS, RECORDS, Events, ask, exchange, get, kinds_of
 
 try:
     import uvicorn
@@ -61,7 +61,7 @@ def run(application, desk, site):
 
 @contextlib.contextmanager
 def served(records=RECORDS, **options):
-    with Desk(prefq.Frame.from_records(records, kinds=KINDS)) as desk:
+    with Desk(prefq.Frame.from_records(records, kinds=kinds_of(records))) as desk:
         application = asgi.application(desk, **options)
         with run(application, desk, application.site) as running:
             yield running

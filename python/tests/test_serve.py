@@ -36,10 +36,15 @@ KINDS = {"Hotel": "text", "Price (EUR)": "decimal(2)", "Distance": "whole", "Ope
 QUESTION = 'top_level 2 low("Price (EUR)") * low(Distance)'
 
 
+def kinds_of(records):
+    """The kinds of the columns that these records have."""
+    return {name: kind for name, kind in KINDS.items() if any(name in record for record in records)}
+
+
 @contextlib.contextmanager
 def served(records=RECORDS, **options):
     """A server on a free port, in a thread."""
-    desk = Desk(prefq.Frame.from_records(records, kinds=KINDS))
+    desk = Desk(prefq.Frame.from_records(records, kinds=kinds_of(records)))
     with desk, Server(desk, **options) as server:
         thread = threading.Thread(target=server.serve_forever, args=[0.05])
         thread.start()

@@ -346,6 +346,20 @@ class NothingIsMadeOfNothing(TestCase):
             self.assertEqual(frame.best(f"top_level {'0' * 5000}2 low(x)").ids, [1])
 
 
+class KindsThatAreGiven(TestCase):
+    def test_for_a_column_that_is_not_there(self):
+        """They are refused by each door, and not forgotten."""
+        doors = [lambda kinds: prefq.Frame.from_records([{"price": 1, "x": 2}], kinds=kinds), lambda kinds: prefq.Frame.from_csv(io.StringIO("price,x\n1,2\n"), kinds=kinds),
+                 lambda kinds: prefq.psel([{"price": 1, "x": 2}], "low(x)", kinds=kinds)]
+        if pandas is not None:
+            dataframe = pandas.DataFrame({"price": [1], "x": [2]})
+            doors += [lambda kinds: prefq.Frame.from_dataframe(dataframe, kinds=kinds), lambda kinds: prefq.psel(dataframe, "low(x)", kinds=kinds)]
+        for door in doors:
+            with self.refuses(prefq.Refused, "no column 'prise'; did you mean price?"):
+                door({"prise": "decimal(2)"})
+            door({"price": "decimal(2)"})
+
+
 class Moments(TestCase):
     def test_times_without_a_zone_are_those_that_the_clocks_show(self):
         """The clocks of Berlin, Kolkata and New York, by zones of pytz and of the system."""

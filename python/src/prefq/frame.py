@@ -104,7 +104,9 @@ class Frame:
         """
         check_options(options, ["columns", "kinds", *TABLE_OPTIONS], "Frame.from_records")
         rows = [_mapping(record, row) for row, record in enumerate(records, 1)]
-        names = chosen(list(dict.fromkeys(name for row in rows for name in row)), columns)
+        there = list(dict.fromkeys(name for row in rows for name in row))
+        names = chosen(there, columns)
+        check_known(list(kinds or ()), there)
         return cls._made([column_of_values(name, [row.get(name) for row in rows], kinds) for name in names], options)
 
     @classmethod
@@ -118,6 +120,7 @@ class Frame:
         if len(dataframe) > MOST_ROWS:
             raise Refused(f"the DataFrame has {len(dataframe)} rows, and a table holds {MOST_ROWS}: prefq.psel and prefq.parts ask more", "table")
         names = chosen(list(dataframe.columns), columns)
+        check_known(list(kinds or ()), list(dataframe.columns))
         return cls._made([encoded_series(dataframe[name], name, kinds) for name in names], options, index_of(dataframe.index))
 
     @classmethod

@@ -5,7 +5,7 @@ from .checks import whole
 from .columns import Column
 from .errors import Refused
 from .frame import TABLE_OPTIONS, Frame, warn_of, without_twins
-from .loading import Encoded
+from .loading import Encoded, check_known
 from .once import Zipped, ask_once
 from .questions import Mode, read_question
 from .reading import Progress, check_names, check_options
@@ -48,6 +48,7 @@ def mode_of(top_level: Optional[int], at_least: Optional[int]) -> Mode:
 
 def _of_dataframe(dataframe: Any, text: str, mode: Mode, kinds: Optional[Mapping[str, str]], options: Dict[str, Any]) -> Any:
     from .pandas_frames import encoded_series
+    check_known(list(kinds or ()), list(dataframe.columns))
     rows = selected(text, mode, list(dataframe.columns), lambda name: encoded_series(dataframe[name], name, kinds), **options)
     found = dataframe.iloc[[row.id - 1 for row in rows]].drop(columns=".level", errors="ignore")
     found.insert(0, ".level", [row.level for row in rows])
