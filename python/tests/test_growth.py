@@ -1,6 +1,5 @@
 """Kinds grow: a column takes numbers with more decimals by opening its table anew under the same ids, or refuses them and stays as it was."""
 import io
-import os
 import threading
 import unittest.mock
 import warnings
@@ -178,7 +177,7 @@ class WhileOthersAsk(TestCase):
             self.assertTrue(is_running(pid))
             del old
             self.assertEqual(frame.best("best low(price)").ids, [4])
-            self.assertEqual(len(children() - {frame.table.pid}), 0)
+            self.assertFalse(is_running(pid))
 
     def test_a_question_between_two_tables(self):
         """The frame grows while a question is on its way: the answer is that of one table or the other, with its values."""
@@ -254,9 +253,3 @@ class Empty(TestCase):
                                    (["a", "a"], {"a": "whole"}, "two columns are called 'a'")]:
             with self.refuses(prefq.Refused, says):
                 prefq.Frame.empty(names, given)
-
-
-def children():
-    """The processes that this one has begun and that run."""
-    with open(f"/proc/self/task/{threading.get_native_id()}/children") as file:
-        return {int(word) for word in file.read().split() if is_running(int(word)) and os.path.exists(f"/proc/{word}/exe")}
