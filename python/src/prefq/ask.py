@@ -1,7 +1,6 @@
 """`python -m prefq ask FILE.csv QUESTION`: the best rows of a file, in its own names and values."""
 import argparse
 import html
-import os
 import re
 import sys
 import time
@@ -20,6 +19,8 @@ from .missing import Missing
 from .reading import Dialect, is_blank, read_csv
 from .records import Record
 from .select import names_in, selected
+from .streams import FULL, NotWritten, complain, give_up_output, standard_input, write
+from .visible import in_xml, visible
 
 # Names of columns and the parentheses of a kind may both have =.
 KIND_GIVEN = re.compile(r"(?P<column>.*?)=(?P<kind>[^=]*|[^=(]*\(.*\)\s*)", re.DOTALL)
@@ -64,10 +65,11 @@ def add_file_options(found: argparse.ArgumentParser) -> None:
     found.add_argument("--null-padding", action="store_true", help="a row that is too short ends in missing values, and is not refused")
 
 
-def file_of(options: argparse.Namespace, source: Any, progress: Optional["Progress"] = None) -> File:
+def file_of(options: argparse.Namespace, progress: Optional["Progress"] = None) -> File:
     """The file of these options."""
     dialect = Dialect(options.encoding, options.delimiter, options.skip, options.null_padding)
-    return File(read_csv(source, dialect, progress), kinds_of(options.kind), Missing(options.missing), Form(options.decimal, options.thousands))
+    cells = read_csv(standard_input(), dialect, progress, "standard input") if options.file == "-" else read_csv(options.file, dialect, progress)
+    return File(cells, kinds_of(options.kind), Missing(options.missing), Form(options.decimal, options.thousands))
 
 
 # What is said of arguments of a function, and of options.
@@ -80,26 +82,18 @@ def main(arguments: Optional[Sequence[str]] = None) -> int:
     options = parser().parse_args(arguments)
     try:
         with warnings.catch_warnings():
-            warnings.showwarning = lambda message, *_: print(f"prefq: {message}", file=sys.stderr)
+            warnings.showwarning = lambda message, *_: complain(str(message))
             warnings.simplefilter("always", UnknownValue)
             run(options)
     except BrokenPipeError:
-        # Nobody reads any more, as behind `| head`.
-        os.dup2(os.open(os.devnull, os.O_WRONLY), sys.stdout.fileno())
+        give_up_output()        # Nobody reads any more, as behind `| head`.
         return 1
     except KeyboardInterrupt:
         return 130
-    except NotWritten as why:
-        print(f"prefq: {why}", file=sys.stderr)
-        return 1
-    except (Error, OSError, ValueError, TypeError, LookupError) as why:
-        print(f"prefq: {wrong(why)}", file=sys.stderr)
-        return 1 if isinstance(why, Ended) else 2
+    except (NotWritten, Error, OSError, ValueError, TypeError, LookupError) as why:
+        complain(wrong(why))
+        return 1 if isinstance(why, (Ended, NotWritten)) else 2
     return 0
-
-
-class NotWritten(Exception):
-    """The answer could not be written."""
 
 
 def wrong(why: BaseException) -> str:
@@ -117,7 +111,7 @@ def in_options(text: str) -> str:
 def run(options: argparse.Namespace) -> None:
     """Reads the file, asks, and prints."""
     progress = Progress()
-    file = file_of(options, standard_input() if options.file == "-" else options.file, progress)
+    file = file_of(options, progress)
     if options.question is None:
         file.load(dict.fromkeys(file.cells.names))
         progress.end()
@@ -130,37 +124,24 @@ def run(options: argparse.Namespace) -> None:
     progress.end()
     say(file.notes[name] for name in names_in(options.question, None, file.cells.names) if name in file.notes)
     if options.plot:
-        answer.to_svg(options.plot)
+        draw(answer, options.plot)
     write(written(answer, options.form))
 
 
 def say(notes: Iterable[str]) -> None:
     """Says on standard error what is to be known of an answer."""
     for note in notes:
-        print(f"prefq: {in_options(note)}", file=sys.stderr)
+        complain(visible(in_options(note)))
 
 
-def standard_input() -> Any:
-    if sys.stdin is None:
-        raise Refused("standard input is closed", "arguments")
-    return getattr(sys.stdin, "buffer", sys.stdin)
-
-
-def write(text: str) -> None:
-    """Writes to standard output."""
-    if sys.stdout is None:
-        raise NotWritten("standard output is closed")
+def draw(answer: Answer, path: str) -> None:
+    """Draws the answer into a file."""
     try:
-        sys.stdout.write(text)
-        sys.stdout.flush()
-    except BrokenPipeError:
-        raise
+        answer.to_svg(path)
     except OSError as why:
-        # What is left in its buffer cannot be written at the end either.
-        os.dup2(os.open(os.devnull, os.O_WRONLY), sys.stdout.fileno())
-        raise NotWritten(f"standard output: {why.strerror}") from None
-    except UnicodeEncodeError as why:
-        raise Refused(f"standard output is {why.encoding}, which does not have {why.object[why.start:why.end]!r}", "arguments") from None
+        if why.errno in FULL:
+            raise NotWritten(f"{path}: {why.strerror}") from None
+        raise
 
 
 def columns_of(file: File) -> List[str]:
@@ -169,7 +150,7 @@ def columns_of(file: File) -> List[str]:
     for name in file.cells.names:
         column, _ = file.column(name)
         why = oddity(column.kind.texts) if isinstance(column.kind, Texts) else None
-        lines.append(f"{name}: {column.kind}" + (f" ({in_options(why)})" if why else ""))
+        lines.append(visible(f"{name}: {column.kind}" + (f" ({in_options(why)})" if why else "")))
     return lines
 
 
@@ -213,7 +194,7 @@ class Progress:
         self._shown = False
 
     def __call__(self, what: str, done: int, total: int) -> None:
-        if time.monotonic() - self._begun > 1 and sys.stderr.isatty():
+        if time.monotonic() - self._begun > 1 and sys.stderr is not None and sys.stderr.isatty():
             much = f" {100 * done // total} %" if total else f" {done:,} rows" if done else ""
             print(f"\r\x1b[K{what}{much}", end="", file=sys.stderr, flush=True)
             self._shown = True
@@ -242,6 +223,6 @@ def written(answer: Answer, form: Optional[str]) -> str:
     if form == "json":
         return answer.to_json(indent=1) or ""
     if form == "html":
-        title = html.escape(answer.question)
+        title = html.escape(in_xml(answer.question))
         return f'<!doctype html>\n<html lang="en">\n<head><meta charset="utf-8"><title>{title}</title></head>\n<body>\n{answer.to_html()}\n</body>\n</html>\n'
     return answer.to_text() + "\n"

@@ -19,6 +19,9 @@ CHUNK = 8_192
 # What is looked at to find the delimiter, and whether a file is text at all.
 SAMPLE_BYTES = 65_536
 SAMPLE_ROWS = 50
+# A first line with the names of many columns is shorter.
+LONGEST_HEAD = 2**24
+END_OF_LINE = re.compile(rb"[\n\r]")
 # Python's own limit for a cell, 131,072 letters, is too low for texts.
 LONGEST_CELL = 2**31 - 1
 MARKS = ((b"\xef\xbb\xbf", "utf-8-sig"), (b"\xff\xfe\x00\x00", "utf-32"), (b"\x00\x00\xfe\xff", "utf-32"), (b"\xff\xfe", "utf-16"), (b"\xfe\xff", "utf-16"))
@@ -214,14 +217,14 @@ class Refusing:
             self._cells.refuse_line(self._reader, why)
 
 
-def read_csv(source: Source, dialect: Dialect = Dialect(), progress: Optional[Progress] = None) -> Cells:
-    """The cells of a file, or of an open one, which may be packed by gzip."""
+def read_csv(source: Source, dialect: Dialect = Dialect(), progress: Optional[Progress] = None, what: str = "the file") -> Cells:
+    """The cells of a file, or of an open one, which is called so in what is said of it; it may be packed by gzip."""
     if isinstance(source, (str, os.PathLike)):
         with open(source, "rb") as file:
             return Cells(content_of(file, str(source), dialect), str(source), dialect, progress)
     if not hasattr(source, "read"):
         raise TypeError(f"a file is a path or an open file, not {source!r}")
-    return Cells(content_of(source, "the file", dialect), "the file", dialect, progress)
+    return Cells(content_of(source, what, dialect), what, dialect, progress)
 
 
 def rows_of(reader: Any) -> List[List[str]]:
@@ -237,16 +240,28 @@ def rows_of(reader: Any) -> List[List[str]]:
 
 def content_of(file: IO[Any], what: str, dialect: Dialect) -> Content:
     """What an open file holds, which may be one of text. What is no text is refused before all of it is read."""
-    first = file.read(SAMPLE_BYTES)
-    if isinstance(first, str):
-        # A text of Python may have halves of characters, which UTF-8 does not write.
-        return Content((first + file.read()).encode("utf-8", "surrogatepass"), "utf-8", "surrogatepass")
-    if first[:2] == b"\x1f\x8b":
-        first = unpacked(first + file.read(), what)
-    encoding = dialect.encoding or encoding_of(first)
+    try:
+        first = file.read(SAMPLE_BYTES)
+        if isinstance(first, str):
+            # A text of Python may have halves of characters, which UTF-8 does not write.
+            return Content((first + file.read()).encode("utf-8", "surrogatepass"), "utf-8", "surrogatepass")
+        if first[:2] == b"\x1f\x8b":
+            first = unpacked(first + file.read(), what)
+        encoding = dialect.encoding or encoding_of(first)
+        check_text(first, encoding, what)
+        if len(first) == SAMPLE_BYTES and not END_OF_LINE.search(first):
+            first += file.read(LONGEST_HEAD)
+            if not END_OF_LINE.search(first) and len(first) > LONGEST_HEAD:
+                raise Refused(f"{what} is no table: its first line does not end within {len(first)} bytes", "table")
+        return Content(b"".join((first, file.read())), encoding)
+    except MemoryError:
+        raise Refused(f"{what} is larger than the memory that there is", "table") from None
+
+
+def check_text(first: bytes, encoding: str, what: str) -> None:
+    """Refuses what begins as no text does."""
     if b"\0" in first[:SAMPLE_BYTES] and "16" not in encoding and "32" not in encoding:
         raise Refused(f"{what} is no text: its byte {first.index(0)} is 0", "table")
-    return Content(b"".join((first, file.read())), encoding)
 
 
 def unpacked(data: bytes, what: str) -> bytes:

@@ -1,7 +1,6 @@
 """`python -m prefq serve FILE.csv`: a page on which a file is asked and changed."""
 import argparse
 import csv
-import sys
 from pathlib import Path
 from typing import Optional, Sequence
 
@@ -10,6 +9,7 @@ from .desk import SECONDS, Desk
 from .errors import Ended, Error
 from .frame import Frame
 from .server import Server, run
+from .streams import complain
 
 EXAMPLES = """examples:
   python -m prefq serve hotels.csv
@@ -41,7 +41,7 @@ def main(arguments: Optional[Sequence[str]] = None) -> int:
                                delimiter=options.delimiter, decimal=options.decimal, thousands=options.thousands, skip=options.skip,
                                null_padding=options.null_padding, timeout=SECONDS)
     except (Error, OSError, ValueError, TypeError, LookupError) as why:
-        print(f"prefq: {wrong(why)}".replace("by columns=[..]", "by --columns"), file=sys.stderr)
+        complain(wrong(why).replace("by columns=[..]", "by --columns"))
         return 1 if isinstance(why, Ended) else 2
     say(frame.notes)
     with Desk(frame) as desk:
@@ -51,10 +51,10 @@ def main(arguments: Optional[Sequence[str]] = None) -> int:
             server = Server(desk, host=options.host, port=options.port, title=Path(options.file).name, questions=options.question, editable=not options.read_only,
                             allow_hosts=options.allow_host)
         except Error as why:
-            print(f"prefq: {why}", file=sys.stderr)
+            complain(str(why))
             return 2
         except (OSError, OverflowError) as why:
-            print(f"prefq: {options.host}, port {options.port}: {why}", file=sys.stderr)
+            complain(f"{options.host}, port {options.port}: {why}")
             return 1
         run(server)
     return 0
