@@ -6,6 +6,7 @@ import warnings
 from decimal import Decimal
 
 import prefq
+from prefq.desk import Desk
 from support import TestCase, is_running
 
 try:
@@ -253,3 +254,33 @@ class Empty(TestCase):
                                    (["a", "a"], {"a": "whole"}, "two columns are called 'a'")]:
             with self.refuses(prefq.Refused, says):
                 prefq.Frame.empty(names, given)
+
+
+class OfADesk(TestCase):
+    """The rows of the page grow as those of a frame do."""
+
+    def rows(self, desk):
+        picture = desk.picture("best low(price)")
+        return {row.id: tuple(column.decode(number) for column, number in zip(picture.columns, row.numbers)) for row in picture.rows}
+
+    def test_ids_and_values_stay(self):
+        with Desk(prices(60, 50)) as desk:
+            before = desk.picture("best low(price)")
+            desk.delete(1)
+            self.assertEqual(desk.insert({"price": "48.5", "name": "n3"}), 3)
+            desk.update(2, {"price": 49.25})
+            self.assertEqual(self.rows(desk), {2: (Decimal("49.25"), "n2"), 3: (Decimal("48.5"), "n3")})
+            self.assertEqual([str(column.kind) for column in desk.columns], ["decimal(2)", "text"])
+            self.assertEqual([row.id for row in desk.picture("best low(price)").best], [3])
+            # A picture keeps the columns that its numbers stand for.
+            self.assertEqual([before.columns[0].decode(row.numbers[0]) for row in before.rows], [60, 50])
+
+    def test_a_refusal_leaves_it_as_it_was(self):
+        with Desk(prices(60, 50)) as desk:
+            before, version = self.rows(desk), desk.version
+            for call in (lambda: desk.insert({"price": ""}), lambda: desk.update(1, {"price": "-"}), lambda: desk.update(1, {"price": "922337203685477580.75"}),
+                         lambda: desk.update(3, {"price": 0.5}), lambda: desk.insert({"price": "0.5", "nam": "x"}), lambda: desk.insert({"price": "0.5", "name": 5})):
+                with self.assertRaises((ValueError, TypeError, prefq.Refused)):
+                    call()
+            self.assertEqual((self.rows(desk), desk.version), (before, version))
+            self.assertEqual([str(column.kind) for column in desk.columns][0], "whole")

@@ -11,7 +11,7 @@ from .columns import Column, listed
 from .errors import Ended, Refused
 from .frame import Frame, without_twins
 from .hints import unknown_column
-from .kinds import Texts
+from .kinds import Kind, Texts
 from .opened import is_outgrown, moved_columns, size_of_code_books, wider_kinds
 from .questions import Question, read_question
 from .table import Table
@@ -198,9 +198,6 @@ class Desk:
 
     def _encoded(self, values: Mapping[str, Any], before: Mapping[str, int]) -> Numbers:
         """The numbers of a row; those from before where no value is given. Texts come last, so that one that is refused with another value leaves nothing behind."""
-        for name in values:
-            if name not in self._named:
-                raise ValueError(unknown_column(name, list(self._named)))
         given = [column for name, column in self._named.items() if name in values or name not in before]
         numbers = dict(before)
         for column in sorted(given, key=lambda column: isinstance(column.kind, Texts)):
@@ -215,12 +212,25 @@ class Desk:
 
     def _fit(self, values: Mapping[str, Any]) -> None:
         """Makes the columns wider that are too narrow for these values, and code books smaller that are mostly texts of no row: the table is opened anew then."""
+        for name in values:
+            if name not in self._named:
+                raise ValueError(unknown_column(name, list(self._named)))
         kinds = wider_kinds(self.columns, [values.get(column.name) for column in self.columns])
+        if kinds:
+            self._check(values, kinds)
         if kinds or is_outgrown(self.columns, self._code_books, len(self._rows)):
             held = list(self._rows.values())
             columns, lists = moved_columns(self.columns, kinds, [list(numbers) for numbers in zip(*(row.numbers for row in held))])
             self._take_columns(columns)
             self._open([Held(row.id, numbers) for row, numbers in zip(held, zip(*lists))])
+
+    def _check(self, values: Mapping[str, Any], kinds: Mapping[str, Kind]) -> None:
+        """Refuses values that columns of these kinds do not take either, before anything is changed for them."""
+        for name, column in self._named.items():
+            if name in values:
+                # A code book of its own, which nobody keeps.
+                kind = Texts() if isinstance(column.kind, Texts) else kinds.get(name, column.kind)
+                column.of_kind(kind).encode(values[name])
 
     def _place(self, id: int) -> int:
         if id not in self._at:

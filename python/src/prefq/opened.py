@@ -106,7 +106,7 @@ def wider_kinds(columns: Sequence[Column], values: Sequence[Any]) -> Dict[str, K
     found: Dict[str, Kind] = {}
     for column, value in zip(columns, values):
         kind = column.kind.widened(value) if column.grows and value is not None else None
-        if kind is not None and not takes(column.kind, value):
+        if kind is not None:
             found[column.name] = kind
     return found
 
@@ -118,15 +118,6 @@ def moved_columns(columns: Sequence[Column], kinds: Mapping[str, Kind], lists: L
     for column, (_, numbers) in zip(found, moves):
         column.has_gaps = LEAST in numbers
     return found, [numbers for _, numbers in moves]
-
-
-def takes(kind: Kind, value: Any) -> bool:
-    """Whether a kind has this value."""
-    try:
-        kind.encode(value)
-    except (TypeError, ValueError, OverflowError):
-        return False
-    return True
 
 
 def moved(column: Column, kind: Kind, numbers: List[int]) -> Tuple[Kind, List[int]]:

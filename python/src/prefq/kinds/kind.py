@@ -53,7 +53,7 @@ class Kind:
         return ()
 
     def widened(self, value: Any) -> Optional["Kind"]:
-        """The kind that has the values of this one and also this value, where kinds of this sort grow."""
+        """The kind that has the values of this one and also this value, where this one has not, and kinds of this sort grow; else None."""
         return None
 
 

@@ -103,11 +103,8 @@ class Whole(Number):
         return found if found is not None and are_in_range(found) else None
 
     def widened(self, value: Any) -> Optional[Kind]:
-        try:
-            self.encode(value)
+        if self._has(value):
             return None
-        except (TypeError, ValueError):
-            pass
         try:
             decimals = decimals_of(value if isinstance(value, str) else str(value), self.form if isinstance(value, str) else PLAIN)
         except (ValueError, InvalidOperation):
@@ -115,6 +112,13 @@ class Whole(Number):
         if isinstance(value, float) and len(Decimal(str(value)).as_tuple().digits) > FLOAT_DIGITS:
             return None
         return Decimals(decimals, self.form) if self.decimals < decimals <= MOST_DECIMALS else None
+
+    def _has(self, value: Any) -> bool:
+        try:
+            self.encode(value)
+        except (TypeError, ValueError):
+            return False
+        return True
 
 
 class Decimals(Whole):
