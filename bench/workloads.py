@@ -241,10 +241,15 @@ def distinct(n):
     return [[i, i, i, i, i % 5, i] for i in range(n)]
 
 
-def independent_rows(n):
-    """Random numbers in each column, in a hundred groups."""
+def independent_rows(n, groups=100):
+    """Random numbers in each column, in a hundred groups where not said."""
     r = random.Random("independent rows")
-    return sorted([r.randrange(SCALE) for _ in range(4)] + [r.randrange(100), i] for i in range(n))
+    return sorted([r.randrange(SCALE) for _ in range(4)] + [r.randrange(groups), i] for i in range(n))
+
+
+def small_groups(n):
+    """The same, in 256 groups."""
+    return independent_rows(n, 256)
 
 
 def few_values(n):
@@ -283,6 +288,7 @@ SHAPES = {
     "priority": (independent_rows, "at_least 1000 low(a) & low(b)"),
     "levels": (independent_rows, "top_level 1000 low(a) * low(b)"),
     "groups": (independent_rows, "best low(a) * low(b) by g"),
+    "at-least-groups": (small_groups, "at_least 1000 low(a) by g"),
     "own-groups": (independent_rows, "best low(a) by id"),
     "independent-d4": (independent_rows, "best low(a) * low(b) * low(c) * low(d)"),
     "ties": (few_values, "best pos(g, 9)"),

@@ -3,7 +3,7 @@ use Rattle.pref_sky.proofs.Common.{◌≡◌, ℕ, zero, suc, ◌≤◌, Bool, t
 use Rattle.pref_sky.proofs.Common.{cases_lt, nat_tests, count_by-le-length, false_from_ne_true, length-map, entry_of, and_parts, and_from, lt-ltb, le-ltb, length-filter, filter-append, IsStrictOrder}
 use Rattle.pref_sky.proofs.Common.{Row, Entry, Ranked, best, rest, in_order_of_id, at_level, levels, count_before, at_least, Among, length-filter_both, ◌<◌, ◌-◌, get_or, take, leb, IsNonDecreasingBy}
 use Rattle.pref_sky.proofs.Common.{IsPartitionPoint, IsPartitionedBy, get_or_append_left, get_or-append_right, get_or-map, length-append, count_by, filter_agree, in_same_group, IsPartitionedBy-ltb}
-use Rattle.pref_sky.proofs.ListLaws.{sum_by-ones, filter_agree_among, from_map, in_map, none_pass, one_passes, among_place, all_pass, count_filtered, fails_behind, filter_parted, passes_before}
+use Rattle.pref_sky.proofs.ListLaws.{sum_by-ones, filter_agree_among, from_map, in_map, none_pass, one_passes, among_place, all_pass, fails_behind, filter_parted, passes_before}
 use Rattle.pref_sky.proofs.ListLaws.{count_append, count_cons}
 use Rattle.pref_sky.proofs.Merges.{comes_after, comes_after_upto, unbeaten_over, best_of_rest_is, is_at}
 use Rattle.pref_sky.proofs.IdOrder.{among_in_order, from_in_order}
@@ -102,7 +102,7 @@ filter_front : {E : Type 0} (p : E → Bool) (xs : List E) (n : ℕ) → IsParti
 filter_front p xs n point = filter_parted p xs n (passes_before p xs n point) (fails_behind p xs n point)
 
 -- where what passes stands in front, a place is in front where fewer places are than pass
-place_passes : {E : Type 0} (p : E → Bool) (xs : List E) → IsPartitionedBy p xs → (k : ℕ) (d : E) → k < length xs → p (get_or xs k d) ≡ ltb k (count_by p xs)
+pub place_passes : {E : Type 0} (p : E → Bool) (xs : List E) → IsPartitionedBy p xs → (k : ℕ) (d : E) → k < length xs → p (get_or xs k d) ≡ ltb k (count_by p xs)
 place_passes p [] parted k d inside = absurd (omega (arith, inside))
 place_passes p (x ∷ xs) parted zero d inside =
     let here = count_cons p x xs in
@@ -114,12 +114,6 @@ place_passes p (x ∷ xs) parted zero d inside =
     ]
 place_passes p (x ∷ xs) parted (suc k) d inside =
     grind (arith, nat_tests, count_cons p x xs, place_passes p xs (λ i j e le l. parted (suc i) (suc j) e (omega (arith, le)) (omega (arith, l))) k d (omega (arith, inside)), parted 0 (suc k) d (omega arith) inside)
-
--- the entries on the levels before that of an entry stand in front of where it begins
-pub count_in_front : (same : Row → Row → Bool) (xs : List Ranked) (r : Ranked) (n : ℕ) → IsPartitionPoint (λ (s : Ranked). ltb s.level r.level ≡ true) (λ (s : Ranked). ltb s.level r.level ≡ false) xs n
-    → count_before same xs r ≡ count_by (λ (s : Ranked). same s.row r.row) (take n xs)
-count_in_front same xs r n point =
-    sym (count_filtered (λ (s : Ranked). same s.row r.row) (λ (s : Ranked). ltb s.level r.level) xs) ∙ ap (count_by (λ (s : Ranked). same s.row r.row)) (filter_front (λ (s : Ranked). ltb s.level r.level) xs n point)
 
 -- levels are in order
 pub levels_sorted : (over : Entry → Entry → Bool) (all : List Entry) (n : ℕ) → IsNonDecreasingBy (λ (r : Ranked). r.level) (levels over all n)

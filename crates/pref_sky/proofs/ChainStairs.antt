@@ -168,10 +168,9 @@ in_order_if_far before (x ∷ xs) far = (
   in_order_if_far before xs (λ i j d p q. far (suc i) (suc j) d (omega arith) (omega arith)),
 )
 
--- what a sort ensures, where each call compares two entries so
-pub in_order_from_sort_by : (order : ChainOrder) {F : Type 0} {g : Mut F (Bor Entry × (Bor Entry × Unit {0})) Ordering} {f : F} (entries : List Entry) → IsSortedByClosure g f entries
-    → ((a : Bor Entry × (Bor Entry × Unit {0})) (r : Ordering) (f' : F) → Called g f a r f' → (is_lt r ≡ comes_before order a.0.now a.1.0.now) × (f' ≡ f)) → AreInOrder order entries
-in_order_from_sort_by order {g = g} {f = f} entries by called =
-    let before = comes_before order in
-    let weak = chain_is_weak before (before_is_chain order) in
-    in_order_if_far before entries (sorted_far before weak entries (by before weak (always_returns_same g (λ a r. is_lt r ≡ before a.0.now a.1.0.now) f called)))
+-- what a sort ensures, where each call compares two by a chain
+pub in_order_from_sort_by : {E : Type 0} (before : E → E → Bool) → IsChain before → {F : Type 0} {g : Mut F (Bor E × (Bor E × Unit {0})) Ordering} {f : F} (xs : List E) → IsSortedByClosure g f xs
+    → ((a : Bor E × (Bor E × Unit {0})) (r : Ordering) (f' : F) → Called g f a r f' → (is_lt r ≡ before a.0.now a.1.0.now) × (f' ≡ f)) → IsInOrder (λ a b. not (before b a)) xs
+in_order_from_sort_by before chain {g = g} {f = f} xs by called =
+    let weak = chain_is_weak before chain in
+    in_order_if_far before xs (sorted_far before weak xs (by before weak (always_returns_same g (λ a r. is_lt r ≡ before a.0.now a.1.0.now) f called)))

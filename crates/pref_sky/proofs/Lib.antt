@@ -12,6 +12,7 @@ pub mod ListLaws
 pub mod Ranks
 pub mod PartitionsLaws
 pub mod AtLeastLaws
+pub mod GroupedLaws
 pub mod SortedLevels
 pub mod LayersLaws
 pub mod PoolLaws

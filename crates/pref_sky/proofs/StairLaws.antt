@@ -18,7 +18,7 @@ pub filter_in_order : {E : Type 0} (before : E → E → Bool) (p : E → Bool) 
 filter_in_order before p [] h = h
 filter_in_order before p (e ∷ others) h = grind (arith, filter_in_order before p others h.1, from_filter p others)
 
-in_weaker_order : {E : Type 0} (before weaker : E → E → Bool) → ((a b : E) → before a b ≡ true → weaker a b ≡ true) → (xs : List E) → IsInOrder before xs → IsInOrder weaker xs
+pub in_weaker_order : {E : Type 0} (before weaker : E → E → Bool) → ((a b : E) → before a b ≡ true → weaker a b ≡ true) → (xs : List E) → IsInOrder before xs → IsInOrder weaker xs
 in_weaker_order before weaker then [] h = h
 in_weaker_order before weaker then (e ∷ others) h = ((λ x m. then e x (h.0 x m)), in_weaker_order before weaker then others h.1)
 

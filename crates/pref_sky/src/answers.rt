@@ -1,6 +1,6 @@
 //! The answer of an ask, from a partial result.
 
-ghost use Rattle.std.specs.Prelude.{◌≡◌, ◌<◌, [], Bool, List, map, nat_lt, count_by, filter, IfOk, All};
+ghost use Rattle.std.specs.Prelude.{◌≡◌, ◌<◌, [], Bool, List, map, nat_lt, filter, IfOk, All};
 ghost use Rattle.std.specs.List.Sorted.{IsNonDecreasingBy};
 ghost use Rattle.pref_term.specs.AskOrder.{order_of};
 ghost use Rattle.pref_term.specs.Better.{in_same_group};
@@ -11,24 +11,12 @@ ghost use Rattle.pref_sky.specs.declared.entry.Entry.{Entry};
 ghost use Rattle.pref_sky.specs.declared.entry.Ranked.{Ranked};
 
 use crate::entry::Ranked;
+use crate::grouped::{InFront, by_group, in_front};
 use crate::partial::Partial;
-use pref_term::{Ask, Mode, in_same_group};
+use pref_term::{Ask, Mode};
 use std::alloc::{AllocError, Global};
 
-/// Whether fewer than `k` of the entries before are of this one's group: stops at the k-th of them.
-fn has_fewer(columns: &[usize], k: usize, before: &[Ranked], entry: &Ranked) -> bool
-    requires { All (λ column. column < 16) columns.now }
-    ensures { result ≡ nat_lt (count_by (λ s. in_same_group columns.now s.row entry.now.row) before.now) k }
-{
-    before
-        .iter()
-        .filter(|other| in_same_group(columns, &other.row, &entry.row))
-        .take(k)
-        .count()
-        < k
-}
-
-/// Of each entry, which are in order of level, whether fewer than `k` of its group are on the levels before its own.
+/// Of each entry, whether fewer than `k` of its group are on the levels before its own.
 fn choose(
     alloc: Global,
     columns: &[usize],
@@ -36,18 +24,14 @@ fn choose(
     ranked: &[Ranked],
 ) -> Result<Vec<bool>, AllocError>
     requires { All (λ column. column < 16) columns.now }
-    ensures { IfOk result (λ chosen. IsNonDecreasingBy (λ r. r.level) ranked.now
-        → chosen.items ≡ map (λ r. nat_lt (count_before (in_same_group columns.now) ranked.now r) k) ranked.now) }
+    ensures { IfOk result (λ chosen. chosen.items ≡ map (λ r. nat_lt (count_before (in_same_group columns.now) ranked.now r) k) ranked.now) }
 {
-    let mut chosen = Vec::with_capacity(alloc, ranked.len())?;
-    let mut level = 0;
-    let mut above = 0;
-    for entry in ranked {
-        if level != entry.level {
-            level = entry.level;
-            above = ranked.partition_point(|other| other.level < entry.level);
-        }
-        chosen.push(has_fewer(columns, k, &ranked[..above], entry))?;
+    let placed = by_group(alloc, columns, ranked)?;
+    let mut chosen = vec![in alloc; false; ranked.len()]?;
+    let mut front = InFront { group: 0, level: 0 };
+    for (at, entry) in placed.iter().enumerate() {
+        front = in_front(columns, &placed, at, front);
+        chosen[entry.place] = front.level - front.group < k;
     }
     Ok(chosen)
 }
@@ -66,7 +50,7 @@ fn keep(ranked: &mut Vec<Ranked>, chosen: &[bool])
     ranked.truncate(count);
 }
 
-/// In each group the first levels that hold `k` entries together, from entries in order of level.
+/// In each group the first levels that hold `k` entries together.
 fn at_least(
     alloc: Global,
     columns: &[usize],
@@ -74,8 +58,7 @@ fn at_least(
     mut ranked: Vec<Ranked>,
 ) -> Result<Vec<Ranked>, AllocError>
     requires { All (λ column. column < 16) columns.now }
-    ensures { IfOk result (λ kept. IsNonDecreasingBy (λ r. r.level) ranked.items
-        → kept.items ≡ at_least (in_same_group columns.now) k ranked.items) }
+    ensures { IfOk result (λ kept. kept.items ≡ at_least (in_same_group columns.now) k ranked.items) }
 {
     let chosen = choose(alloc, columns, k, &ranked)?;
     keep(&mut ranked, &chosen);
@@ -100,9 +83,8 @@ fn keep_first_levels(ranked: &mut Vec<Ranked>, least: usize)
 /// The answer of an ask, in order of level, then id, from a partial result at [`Ask::cut`]: where this
 /// holds the levels up to the cut of some entries, it is the ask's selection from all of them.
 ///
-/// Cost: that of [`Partial::ranked`]. For "at least" in groups each held entry is also compared by its group's columns with those on the
-/// levels before, until `k` of its group are found; where a level begins is found by one binary search. Memory: the list alone,
-/// and for "at least" in groups a byte for each held entry.
+/// Cost: that of [`Partial::ranked`]. For "at least" in groups the held entries are also sorted by group and level, and then each is
+/// compared with the one before it. Memory: the list alone, and for "at least" in groups 17 bytes for each held entry.
 /// `Err` is out of memory.
 pub fn answer(alloc: Global, ask: &Ask, partial: &Partial) -> Result<Vec<Ranked>, AllocError>
     ensures { (entries : List Entry) → partial.now ≡ levels (entry_order (order_of ask.now)) entries (cut_of ask.now.mode)

@@ -15,7 +15,7 @@ use std::cmp::Ordering;
 
 /// Which of two rows stands first by the first of these columns in which they differ.
 #[inline(always)]
-fn compare_groups(columns: &[usize], a: &Row, b: &Row) -> Ordering
+pub(crate) fn compare_groups(columns: &[usize], a: &Row, b: &Row) -> Ordering
     requires { All (λ col. col < 16) columns.now }
     ensures less { is_lt result ≡ earlier_in columns.now a.now b.now }
     ensures greater { is_gt result ≡ earlier_in columns.now b.now a.now }

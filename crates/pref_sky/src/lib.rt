@@ -20,6 +20,7 @@ mod arrival;
 mod best;
 mod chain_order;
 mod entry;
+mod grouped;
 mod item;
 pub mod laws;
 mod layers;

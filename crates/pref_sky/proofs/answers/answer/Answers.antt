@@ -32,6 +32,4 @@ returns-in_ok-ranked-in-AtLeast-2 c entries held =
     let ranked = c.in_ok-ranked-in-AtLeast-2.field-0.items in
     let mode : AtLeast k ≡ ask.mode = sym (sym c.mode.ensures.mode ∙ c.in-AtLeast.is) in
     let decided = c.in_ok-ranked-in-AtLeast-2.ensures {u = tt} ∙ held in
-    IfOk-weaker c.at_least.result _ _ (λ v h.
-    h (in_order ask ranked entries decided) ∙ (ap (λ g. at_least (in_same_group g) k ranked) c.group-in-AtLeast-2.ensures.columns ∙ selected_from ask k ranked entries mode decided))
-    c.at_least.ensures
+    IfOk-weaker c.at_least.result _ _ (λ v h. h ∙ (ap (λ g. at_least (in_same_group g) k ranked) c.group-in-AtLeast-2.ensures.columns ∙ selected_from ask k ranked entries mode decided)) c.at_least.ensures

@@ -1,10 +1,11 @@
-use Rattle.pref_sky.proofs.Common.{◌≡◌, ◌≤◌, length, true, false, map, take, nat_lt, in_same_group, IsNonDecreasingBy, IsPartitionPoint, Ranked, count_before}
+use Rattle.pref_sky.proofs.Common.{◌≡◌, ◌<◌, ◌≤◌, ◌-◌, All, count_before, false, get_or, in_same_group, length, nat_lt, take}
+use Rattle.pref_sky.specs.Grouped.{IsCounted, entries, entry_at}
 use Rattle.pref_sky.proofs.answers.choose.Given as goal
 
--- those on the levels before the one so far stand in front
-abbrev pub invariant-loop-entry : goal.invariant-loop-entry
-invariant-loop-entry l =
-    (l.above ≤ length l.ranked)
-    × (IsNonDecreasingBy (λ r. r.level) l.ranked
-    → IsPartitionPoint (λ (r : Ranked). nat_lt r.level l.level ≡ true) (λ (r : Ranked). nat_lt r.level l.level ≡ false) l.ranked l.above
-    × (l.chosen.items ≡ map (λ r. nat_lt (count_before (in_same_group l.columns) l.ranked r) l.k) (take l.entry-index l.ranked)))
+-- those that came so far are decided, and what stands in front of the last of them is counted
+abbrev pub invariant-loop-at : goal.invariant-loop-at
+invariant-loop-at l =
+    (length l.chosen.items ≡ length l.ranked)
+    × ((l.front.group ≤ l.front.level) × (l.front.level ≤ l.at))
+    × (0 < l.at → IsCounted l.columns (entries l.entry-items) (entry_at l.entry-items (l.at - 1)) l.front)
+    × All (λ p. get_or l.chosen.items p.place false ≡ nat_lt (count_before (in_same_group l.columns) l.ranked p.entry.now) l.k) (take l.at l.entry-items)

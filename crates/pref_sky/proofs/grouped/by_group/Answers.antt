@@ -1,0 +1,38 @@
+use Rattle.pref_sky.proofs.Common.{◌≡◌, ◌<◌, ◌∙◌, get_or, All-permutation, Among, Bool, IsChain, IsInOrder, IsPermutation, IsPermutation-map, List, [], ◌∷◌, ap, arith, length, length-map, map, not, rules, subst, take_all, ℕ}
+use Rattle.pref_sky.proofs.ChainStairs.{in_order_from_sort_by}
+use Rattle.pref_sky.proofs.GroupedLaws.{order_chain}
+use Rattle.pref_sky.proofs.ListLaws.{among_place, from_map, same_if_permuted}
+use Rattle.pref_sky.specs.Grouped.{stands_before, entries}
+use Rattle.pref_sky.specs.declared.grouped.Placed.{Placed}
+use Rattle.pref_sky.proofs.grouped.by_group.Goals as goal
+
+-- a list in order by what it is mapped to
+mapped_in_order : {E F : Type 0} (f : E → F) (before : F → F → Bool) (xs : List E) → IsInOrder (λ a b. before (f a) (f b)) xs → IsInOrder before (map f xs)
+mapped_in_order f before [] ordered = ordered
+mapped_in_order f before (x ∷ xs) ordered = ((λ y m. let w = from_map f xs y m in ap (before (f x)) w.2 ∙ ordered.0 w.0 w.1), mapped_in_order f before xs ordered.1)
+
+placed_chain : (columns : List ℕ) → IsChain {E = Placed} (λ a b. stands_before columns a.entry.now b.entry.now)
+placed_chain columns = grind (arith, order_chain columns)
+
+pub returns : goal.returns
+returns c =
+    let columns = c.args.columns.now in
+    let ranked = c.args.ranked.now in
+    let placed = c.loop-place.placed.items in
+    let sorted = c.sort_unstable_by.new.self.items in
+    let moved = c.sort_unstable_by.ensures.permutation in
+    let whole : entries placed ≡ ranked = grind (arith, take_all) in
+    let before : Placed → Placed → Bool = λ a b. stands_before columns a.entry.now b.entry.now in
+    let places = map (λ (p : Placed). p.place) in
+    record {
+      moved = subst (λ l. IsPermutation l (entries sorted)) whole (IsPermutation-map (λ (p : Placed). p.entry.now) placed sorted moved);
+      in_order =
+          mapped_in_order (λ (p : Placed). p.entry.now) (λ a b. not (stands_before columns b a)) sorted
+          (in_order_from_sort_by before (placed_chain columns) sorted c.sort_unstable_by.ensures.sorted (λ a r q k. search rules));
+      at_place = All-permutation (λ (p : Placed). (p.place < length ranked) × (get_or ranked p.place p.entry.now ≡ p.entry.now)) placed sorted moved c.loop-place.invariant.1;
+      all =
+          λ place inside.
+          (same_if_permuted (places placed) (places sorted) (IsPermutation-map (λ (p : Placed). p.place) placed sorted moved)).there place
+          (subst (λ n. Among n (places placed)) (c.loop-place.invariant.2 place (omega arith))
+          (among_place (places placed) place 0 (omega (arith, inside, ap length whole, length-map placed (λ (p : Placed). p.entry.now), length-map placed (λ (p : Placed). p.place)))));
+    }
