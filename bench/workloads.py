@@ -346,6 +346,15 @@ def begins(rows, pairs, keeps):
     return lines + ["as 2 begin best low(x)", "as 2 abandon"] * pairs, options(2 * rows)
 
 
+def few_rows(cap, questions=1_000):
+    """Questions of a hundred rows in a table of this capacity."""
+    r = random.Random("few rows")
+    lines = table(["a", "b"], [[r.randrange(SCALE), r.randrange(SCALE)] for _ in range(100)])
+    for _ in range(questions):
+        lines += query(1, "best low(a) * low(b)", -(-cap // 1024))
+    return lines, options(cap)
+
+
 # what grows, by the number of rows; changes, live and churn have as many commands as slots
 GROWING = {
     "load": load,
@@ -459,6 +468,7 @@ ALL |= {f"churn-after-{changes}": lambda c=changes: churn(c, 30_000) for age in 
 ALL |= {f"gets-{kind}": lambda k=kind: gets(k, GETS) for kind in ("home", "moved", "deleted", "never")}
 ALL["gets-none"] = lambda: gets("home", 0)
 ALL |= {f"begins-beside-{beside}": lambda k=beside == "kept": begins(32_768, 2_000, k) for beside in ("kept", "none")}
+ALL |= {f"few-rows-in-{cap}": lambda cap=cap: few_rows(cap) for cap in (1_024, 65_536)}
 ALL |= {f"choice-{name}": make for name, (_, make) in CHOICES.items()}
 ALL |= {f"shape-{name}-{arrival}-b{block}-w{window}": lambda name=name, arrival=arrival, b=block, w=window: shape(name, arrival, ALL_ROWS, b, w)
         for name in SHAPES for arrival in ARRIVALS for block, window in blocks_and_windows(BLOCKS, WINDOWS)}

@@ -192,7 +192,7 @@ impl Machine {
     /// Scans the next block for the client's query, and returns how many are left.
     ///
     /// Refused `NoQuery` or `AllScanned`, or `OutOfMemory`. The query is then as it was. Cost: each slot of the block
-    /// once, and then that of adding its rows to a [`Partial`](pref_sky::Partial).
+    /// that was ever used, once, and then that of adding its rows to a [`Partial`](pref_sky::Partial).
     ///
     /// ```text
     /// for _ in 0..blocks {

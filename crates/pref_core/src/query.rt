@@ -86,8 +86,8 @@ impl Query {
     /// nor come twice: this holds as long as the query lives ([`next_block_is_new`](crate::laws::next_block_is_new)).
     ///
     /// Refused `AllScanned` where no block is left, else `OutOfMemory`; the query is
-    /// then as it was. Cost: each slot of the block once, and then that of adding its rows to a
-    /// [`Partial`](pref_sky::Partial).
+    /// then as it was. Cost: each slot of the block that was ever used, once, and then that of adding its rows
+    /// to a [`Partial`](pref_sky::Partial).
     pub fn scan(&mut self, alloc: Global, store: &Store) -> Result<u32, CoreFault>
         requires { NextIsNew self.old store.now.slots }
         ensures { Scans self.old store.now.slots result self.new }
@@ -99,7 +99,7 @@ impl Query {
     /// The entries that the next block shows, copied out of the store, so that [`add`](Query::add) needs no store.
     ///
     /// Refused `AllScanned` where no block is left, else `OutOfMemory`. Cost: each slot of the
-    /// block once.
+    /// block that was ever used, once.
     pub fn read(&self, alloc: Global, store: &Store) -> Result<Vec<Entry>, CoreFault>
         ensures { Reads self.now store.now.slots result }
     {

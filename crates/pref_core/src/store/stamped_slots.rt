@@ -19,6 +19,8 @@ use std::marker::Model;
 #[derive(Drop)]
 pub(crate) struct StampedSlots {
     slots: Vec<Option<Version>>,
+    /// How far the slots were ever used: those from this place on never were.
+    used: usize,
     stamp: u64,
 }
 
@@ -30,7 +32,7 @@ impl Model for StampedSlots {
 
     ghost view = { λ s. record { slots = s.slots.items; stamp = s.stamp } };
 
-    ghost invariant = { λ s. (1 ≤ length s.slots.items) × (length s.slots.items ≤ 65536) };
+    ghost invariant = { λ s. (1 ≤ length s.slots.items) × (length s.slots.items ≤ 65536) × (s.used ≤ length s.slots.items) × specs.AreUnused s.used s.slots.items };
 }
 
 impl StampedSlots {
@@ -56,7 +58,11 @@ impl StampedSlots {
             }))?;
         }
         slots.resize(capacity as usize, None)?;
-        Ok(StampedSlots { slots, stamp: made })
+        Ok(StampedSlots {
+            slots,
+            used: rows.len(),
+            stamp: made,
+        })
     }
 
     /// A copy of these slots.
@@ -66,6 +72,7 @@ impl StampedSlots {
         let slots = Vec::from_slice(alloc, &self.slots)?;
         Ok(StampedSlots {
             slots,
+            used: self.used,
             stamp: self.stamp,
         })
     }
@@ -172,12 +179,12 @@ impl StampedSlots {
         Ok(found)
     }
 
-    /// The slots of a block.
+    /// The slots of a block that were ever used.
     fn block(&self, block: u32, size: u32) -> &[Option<Version>]
-        ensures { result.now ≡ block_of block size self.now.slots }
+        ensures { (stamp : ℕ) → visible stamp result.now ≡ visible stamp (block_of block size self.now.slots) }
     {
-        let start = (block as usize * size as usize).min(self.slots.len());
-        let end = (start + size as usize).min(self.slots.len());
+        let start = (block as usize * size as usize).min(self.used);
+        let end = (start + size as usize).min(self.used);
         &self.slots[start..end]
     }
 
@@ -201,6 +208,7 @@ impl StampedSlots {
             birth: self.stamp,
             death: None,
         });
+        self.used = self.used.max(place as usize + 1);
     }
 
     /// The version at a place ends.

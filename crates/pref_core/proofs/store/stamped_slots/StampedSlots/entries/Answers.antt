@@ -8,4 +8,4 @@ pub loop-slot-init : goal.loop-slot-init
 loop-slot-init c = grind (arith, common_steps)
 
 pub returns : goal.returns
-returns c = grind (arith, common_steps)
+returns c = grind (arith, common_steps, c.block-slots.ensures c.args.stamp)
