@@ -1,10 +1,11 @@
 -- Laws of the levels, for the crates above: no entries have no levels, the order in which entries stand does not matter, what is held has different ids, and of twins the first is best.
 use Rattle.pref_sky.proofs.Common.{not, ◌≡◌, List, arith, RowOrder, Entry, best, entry_order, Among, ℕ, zero, suc, ◌<◌, Bool, [], ◌∷◌, ◌++◌, map, append_assoc, refl, sym, ◌∙◌, ap, append-nil, ◌==◌}
 use Rattle.pref_sky.proofs.Common.{flat_map, IsStrictOrder, Row, Best, TopLevel, AtLeast, Question, Ranked, rest, without_best, order_of, order_of_is_row_order, HaveDifferentIds, entry_of, held_after}
-use Rattle.pref_sky.proofs.Common.{levels, count_upto, selected, answer_of, at_least}
+use Rattle.pref_sky.proofs.Common.{levels, count_by, count_upto, cut_of, in_same_group, selected, answer_of, at_least, ◌≤◌}
+use Rattle.pref_sky.specs.Parts.{held_of_parts}
 use Rattle.pref_sky.specs.Twins.{IsFirstOfTwins}
 use Rattle.pref_term.specs.declared.ask.Mode.{Mode}
-use Rattle.pref_sky.proofs.ListLaws.{SameMembers, any_from, any_gives, count_and, count_within, from_filter, in_filter, count_append}
+use Rattle.pref_sky.proofs.ListLaws.{SameMembers, in_either, in_left, in_right, any_from, any_gives, count_and, count_within, from_filter, in_filter, count_append}
 use Rattle.pref_sky.proofs.Merges.{comes_after, different_best, entry_order_is_strict, entry_order_stays_in_groups, same_by_level}
 use Rattle.pref_sky.proofs.SortedLevels.{different_by_count, count_levels, merge}
 use Rattle.pref_sky.proofs.AtLeastLaws.{StaysInGroups, enough}
@@ -30,8 +31,13 @@ selected_of_same over strict same within (TopLevel k) xs ys levels_same = levels
 selected_of_same over strict same within (AtLeast k) xs ys levels_same = grind (arith, enough over strict same within xs k, enough over strict same within ys k)
 
 -- the order in which the entries stand does not matter
+levels_of_same : (over : Entry → Entry → Bool) → IsStrictOrder over → (xs ys : List Entry) → HaveDifferentIds xs → HaveDifferentIds ys → SameMembers xs ys → (n : ℕ) → levels over xs n ≡ levels over ys n
+levels_of_same over strict xs ys dx dy same n = grind (arith, same_by_level over strict xs ys n, different_best)
+
 pub answer_of_same : (ask : Question) (xs ys : List Entry) → HaveDifferentIds xs → HaveDifferentIds ys → SameMembers xs ys → answer_of ask xs ≡ answer_of ask ys
-answer_of_same ask xs ys dx dy same = grind (arith, entry_order_is_strict (order_of ask) (order_of_is_row_order ask), selected_of_same, entry_order_stays_in_groups ask, same_by_level, different_best)
+answer_of_same ask xs ys dx dy same =
+    let strict = entry_order_is_strict (order_of ask) (order_of_is_row_order ask) in
+    selected_of_same (entry_order (order_of ask)) strict (in_same_group ask.group) (entry_order_stays_in_groups ask) ask.mode xs ys (levels_of_same (entry_order (order_of ask)) strict xs ys dx dy same)
 
 -- what is held of entries has different ids
 pub held_differ : (over : Entry → Entry → Bool) (before new : List Entry) (n : ℕ) → HaveDifferentIds (before ++ new) → HaveDifferentIds (map entry_of (levels over before n) ++ new)
@@ -64,6 +70,65 @@ cut_into over strict cut before held (piece ∷ pieces) is different =
 pub held_after_pieces : (over : Entry → Entry → Bool) → IsStrictOrder over → (cut : ℕ) (pieces : List (List Entry)) → HaveDifferentIds (flat_map (λ piece. piece) pieces)
     → held_after over cut [] pieces ≡ levels over (flat_map (λ piece. piece) pieces) cut
 held_after_pieces over strict cut pieces different = cut_into over strict cut [] [] pieces (levels_of_none over cut) different
+
+-- ---- parts
+
+-- of two lists the first may come behind the second
+same_turned : (xs ys : List Entry) → SameMembers (xs ++ ys) (ys ++ xs)
+same_turned xs ys = grind (arith, in_either xs ys, in_left ys xs, in_right ys xs, in_either ys xs, in_left xs ys, in_right xs ys)
+
+behind_differ : (xs ys : List Entry) → HaveDifferentIds (xs ++ ys) → HaveDifferentIds (ys ++ xs)
+behind_differ xs ys different = different_by_count xs ys (ys ++ xs) different (λ p. omega (arith, count_append p ys xs))
+
+held_no_more : (over : Entry → Entry → Bool) (cut : ℕ) (p : Entry → Bool) (parts : List (List Entry)) → count_by p (held_of_parts over cut parts) ≤ count_by p (flat_map (λ part. part) parts)
+held_no_more over cut p [] = omega arith
+held_no_more over cut p (part ∷ parts) =
+    let held = map entry_of (levels over part cut) in
+    omega (
+      arith,
+      held_no_more over cut p parts,
+      count_append p held (held_of_parts over cut parts),
+      count_append p part (flat_map (λ (l : List Entry). l) parts),
+      count_levels over p part cut,
+      count_and p (λ e. not (comes_after over part cut e)) part,
+    )
+
+-- what parts hold has different ids, beside others too
+held_differ_beside : (over : Entry → Entry → Bool) (cut : ℕ) (xs : List Entry) (parts : List (List Entry)) → HaveDifferentIds (xs ++ flat_map (λ part. part) parts) → HaveDifferentIds (xs ++ held_of_parts over cut parts)
+held_differ_beside over cut xs parts different =
+    different_by_count xs (flat_map (λ (part : List Entry). part) parts) (xs ++ held_of_parts over cut parts) different (λ p. omega (arith, held_no_more over cut p parts, count_append p xs (held_of_parts over cut parts)))
+
+pub held_of_parts_differ : (over : Entry → Entry → Bool) (cut : ℕ) (parts : List (List Entry)) → HaveDifferentIds (flat_map (λ part. part) parts) → HaveDifferentIds (held_of_parts over cut parts)
+held_of_parts_differ over cut parts different = held_differ_beside over cut [] parts different
+
+-- the levels of what parts hold are those of all
+pub levels_of_held : (over : Entry → Entry → Bool) → IsStrictOrder over → (cut : ℕ) (parts : List (List Entry)) → HaveDifferentIds (flat_map (λ part. part) parts)
+    → levels over (held_of_parts over cut parts) cut ≡ levels over (flat_map (λ part. part) parts) cut
+levels_of_held over strict cut [] different = refl
+levels_of_held over strict cut (part ∷ parts) different =
+    let held = held_of_parts over cut parts in
+    let others = flat_map (λ (l : List Entry). l) parts in
+    let beside = held_differ_beside over cut part parts different in
+    let behind = behind_differ part held beside in
+    let last = behind_differ part others different in
+    merge over strict cut part held (held_differ over part held cut beside)
+    ∙ (levels_of_same over strict (part ++ held) (held ++ part) beside behind (same_turned part held) cut
+    ∙ (sym (merge over strict cut held part (held_differ over held part cut behind))
+    ∙ (ap (λ l. levels over (map entry_of l ++ part) cut) (levels_of_held over strict cut parts (first_differ others part last))
+    ∙ (merge over strict cut others part (held_differ over others part cut last)
+    ∙ levels_of_same over strict (others ++ part) (part ++ others) last different (same_turned others part) cut))))
+
+-- and so is the answer, whose cut is enough
+answer_by_cut : (over : Entry → Entry → Bool) → IsStrictOrder over → (same : Row → Row → Bool) → StaysInGroups over same → (mode : Mode) (xs ys : List Entry) → levels over xs (cut_of mode) ≡ levels over ys (cut_of mode) → selected over same mode xs ≡ selected over same mode ys
+answer_by_cut over strict same within Best xs ys levels_same = levels_same
+answer_by_cut over strict same within (TopLevel k) xs ys levels_same = levels_same
+answer_by_cut over strict same within (AtLeast k) xs ys levels_same = grind (arith, enough over strict same within xs k, enough over strict same within ys k)
+
+pub answer_of_held : (ask : Question) (parts : List (List Entry)) → HaveDifferentIds (flat_map (λ part. part) parts) → answer_of ask (held_of_parts (entry_order (order_of ask)) (cut_of ask.mode) parts) ≡ answer_of ask (flat_map (λ part. part) parts)
+answer_of_held ask parts different =
+    let over = entry_order (order_of ask) in
+    let strict = entry_order_is_strict (order_of ask) (order_of_is_row_order ask) in
+    answer_by_cut over strict (in_same_group ask.group) (entry_order_stays_in_groups ask) ask.mode (held_of_parts over (cut_of ask.mode) parts) (flat_map (λ part. part) parts) (levels_of_held over strict (cut_of ask.mode) parts different)
 
 -- an entry is kept just where no number of levels below its own holds k of its group
 pub kept_before_k : (same : Row → Row → Bool) (k : ℕ) (all : List Ranked) (r : Ranked) → Among r (at_least same k all) → (m : ℕ) → m < r.level → count_upto same all r.row m < k

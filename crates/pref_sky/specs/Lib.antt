@@ -1,6 +1,7 @@
 pub mod Members
 pub mod Best
 pub mod Levels
+pub mod Parts
 pub mod Grouped
 pub mod Twins
 pub mod Stairs

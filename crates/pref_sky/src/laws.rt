@@ -6,12 +6,14 @@ ghost use Rattle.pref_sky.specs.Answers.{answer_of, at_least, count_upto};
 ghost use Rattle.pref_sky.specs.Best.{best};
 ghost use Rattle.pref_sky.specs.Levels.{HaveDifferentIds, entry_of, entry_order, held_after, levels};
 ghost use Rattle.pref_sky.specs.Members.{Among, SameMembers};
+ghost use Rattle.pref_sky.specs.Parts.{held_of_parts};
 ghost use Rattle.pref_sky.specs.Twins.{IsFirstOfTwins};
 ghost use Rattle.pref_sky.specs.declared.entry.Entry.{Entry};
 ghost use Rattle.pref_sky.specs.declared.entry.Ranked.{Ranked};
 ghost use Rattle.pref_table.specs.declared.row.Row.{Row};
 ghost use Rattle.pref_term.specs.Order.{IsStrictOrder, RowOrder};
-ghost use Rattle.pref_term.specs.Question.{Question};
+ghost use Rattle.pref_term.specs.AskOrder.{order_of};
+ghost use Rattle.pref_term.specs.Question.{Question, cut_of};
 
 /// The merge law: whatever the pieces into which a list is cut, after the last one a partial result
 /// holds the levels of the whole list up to the cut.
@@ -20,6 +22,22 @@ pub fn cutting_does_not_matter()
     ensures { (over : Entry → Entry → Bool) → IsStrictOrder over → (cut : ℕ) (pieces : List (List Entry))
         → HaveDifferentIds (flat_map (λ piece. piece) pieces)
         → held_after over cut [] pieces ≡ levels over (flat_map (λ piece. piece) pieces) cut }
+{}
+
+/// The law of parts: the levels up to a cut of a list are those of what the levels of its parts hold, however it is cut into parts; and
+/// a question's answer from what its parts hold up to its own cut is that from the whole list. What parts hold has different ids too, so
+/// it may be a part in turn, to any depth.
+#[tactic(auto, using(crate::proofs::LevelLaws::levels_of_held, crate::proofs::LevelLaws::held_of_parts_differ, crate::proofs::LevelLaws::answer_of_held))]
+pub fn levels_of_parts()
+    ensures levels { (over : Entry → Entry → Bool) → IsStrictOrder over → (cut : ℕ) (parts : List (List Entry))
+        → HaveDifferentIds (flat_map (λ part. part) parts)
+        → levels over (held_of_parts over cut parts) cut ≡ levels over (flat_map (λ part. part) parts) cut }
+    ensures ids { (over : Entry → Entry → Bool) (cut : ℕ) (parts : List (List Entry))
+        → HaveDifferentIds (flat_map (λ part. part) parts)
+        → HaveDifferentIds (held_of_parts over cut parts) }
+    ensures answer { (ask : Question) (parts : List (List Entry))
+        → HaveDifferentIds (flat_map (λ part. part) parts)
+        → answer_of ask (held_of_parts (entry_order (order_of ask)) (cut_of ask.mode) parts) ≡ answer_of ask (flat_map (λ part. part) parts) }
 {}
 
 /// An answer depends on which entries there are, and not on their order.
