@@ -9,16 +9,26 @@ and constant of the code that they are about. Public contracts are those of what
 
 A section of DEFINITIONS.md names its folder in its heading. Its sentence `From .., so N lines: 1 of CRATE, 2 of CRATE` names definitions of
 that folder, and N is the number of lines of these and of all that they cite in turn, by crate, without comments, imports and what stands
-in a sentence `Not counted: ..` of the section. Needs Python 3.8.
+in a sentence `Not counted: ..` of the section. The views count too (`ghost view`) by which the section's crate, in contracts that cite these
+definitions, sees what functions take and return, but for a view by a definition that needs no reading: such a value shows itself through calls
+alone. A row of a section's table names files of its folder, in which each definition stands that it lists. Needs the Rattle kit, whose crate
+`csv` says what a record is, and Python 3.8.
 """
 import re
+import shutil
 import sys
+from dataclasses import dataclass
 from pathlib import Path
 from textwrap import fill
 
+from code_types import read_types, views_of
+
 TOP = Path(__file__).resolve().parent.parent
 DOCUMENT = TOP / "docs/DEFINITIONS.md"
+# The crates of this repository, lowest first, behind the one of the kit that they take definitions from.
+KIT_CRATE = "csv"
 CRATES = ["pref_table", "pref_term", "pref_sky", "pref_core", "pref_share", "pref_script"]
+ALL_CRATES = [KIT_CRATE, *CRATES]
 SPOKEN_OF = {"read_input", "write_result", "LiveTable"}
 
 HEAD = re.compile(r"(?:(?:abbrev|unfoldable|pub|record|data)\s+)+([^\s:(]+)")
@@ -26,6 +36,14 @@ IMPORT = re.compile(r"use Rattle\.(\w+)\.specs\.([\w.]+?)(?:\.\{([^}]*)\}| as (\
 ITEM = re.compile(r"^(?:impl(?:<[^>]*>)? (?:[\w<>: ]+ for )?(\w+)|pub trait (\w+)|( *)(?:pub )?fn (\w+))", re.MULTILINE)
 MUTUAL = re.compile(r"(?:(?:abbrev|unfoldable)\s+)?mutual\s*$")
 WORD = re.compile(r"[A-Za-z_]\w*|<>|>>=")
+
+
+@dataclass(frozen=True)
+class Function:
+    crate: str
+    name: str
+    # the words of what it takes and returns, and the type whose method it is
+    words: frozenset
 
 
 def imports(text):
@@ -60,11 +78,21 @@ def definitions_of(text):
     return lines, mutual
 
 
+def specs(crate):
+    """The folder of a crate's definitions."""
+    if crate != KIT_CRATE:
+        return TOP / "crates" / crate / "specs"
+    command = shutil.which("rt")
+    if not command:
+        sys.exit("the Rattle kit's command rt is not on the PATH")
+    return Path(command).resolve().parents[1] / "rattle" / crate / "specs"
+
+
 def read_definitions():
     """Each definition with its lines, the imports of each file, the files that need no reading, and the definitions inside a `mutual`."""
     lines, brought, private, mutual = {}, {}, set(), set()
-    for crate in CRATES:
-        for path in sorted((TOP / "crates" / crate / "specs").glob("*.antt")):
+    for crate in ALL_CRATES:
+        for path in sorted(specs(crate).glob("*.antt")):
             text, at = path.read_text(), (crate, path.stem)
             brought[at] = imports(text)
             if "No public contract cites this" in text:
@@ -120,7 +148,7 @@ def exported(crate):
 
 
 def cited_by_contracts(lines):
-    """Each definition that a public contract cites, with one function that cites it."""
+    """Each definition that a public contract cites, with the functions that cite it, and what they take and return."""
     found = {}
     for crate in CRATES:
         public = exported(crate)
@@ -134,30 +162,55 @@ def cited_by_contracts(lines):
                 if not name or not is_public or not ({name, owner} & public or path.name == "laws.rt"):
                     continue
                 end = re.compile(rf"^{indent}\{{|;$", re.MULTILINE).search(text, item.end())
-                clauses = re.findall(r"(?:ensures|requires)[^{]*\{(.*?)\}[ ;]*$", text[item.start() : end.end()], re.MULTILINE | re.DOTALL)
+                contract = text[item.start() : end.end()]
+                clauses = re.findall(r"(?:ensures|requires)[^{]*\{(.*?)\}[ ;]*$", contract, re.MULTILINE | re.DOTALL)
+                words = {*re.findall(r"\w+", re.split(r"\b(?:ensures|requires)\b", contract)[0])}
+                function = Function(crate, name, frozenset(words | ({owner} if words & {"self", "Self"} else set())))
                 for key in cited_in(" ".join(clauses), crate, "", lines, brought):
-                    found.setdefault(key, f"{crate} {name}")
+                    found.setdefault(key, []).append(function)
     return found
+
+
+def add_views(lines, brought, private):
+    """The types of the code, with each view added as a definition. Not added is one by a definition that needs no reading."""
+    types = read_types(TOP, CRATES)
+    for (crate, name), kind in types.items():
+        if kind.view:
+            key = view_key(crate, name)
+            brought[key[:2]] = imports(kind.text)
+            if not any(cited[:2] in private for cited in cited_in(kind.view, *key[:2], lines, brought[key[:2]])):
+                lines[key] = kind.view.splitlines()
+    return types
+
+
+def view_key(crate, name):
+    """Under what a view stands among the definitions."""
+    return crate, f"view of {name}", f"view of {name}"
+
+
+def seen_by(crate, roots, cited, types, lines):
+    """The views by which contracts of a crate that cite one of these definitions see what their functions take and return."""
+    named = {(crate, word) for root in roots for function in cited.get(root, []) if function.crate == crate for word in function.words}
+    return {view_key(*key) for key in views_of(named, types, CRATES, lambda key: view_key(*key) in lines)}
 
 
 def keys_named(text, crate, lines):
     """The definitions of a crate, or of those below it, that a text names."""
     for name in re.findall(r"`(\w+)`", text):
-        found = [key for key in lines if key[2] == name and CRATES.index(key[0]) <= CRATES.index(crate)]
+        found = [key for key in lines if key[2] == name and ALL_CRATES.index(key[0]) <= ALL_CRATES.index(crate)]
         if not found:
             sys.exit(f"DEFINITIONS.md: there is no {name}")
-        yield max(found, key=lambda key: CRATES.index(key[0]))
+        yield max(found, key=lambda key: ALL_CRATES.index(key[0]))
 
 
-def not_listed(document, without, lines, brought, private, mutual):
+def not_listed(document, without, cited, lines, brought, private, mutual):
     """What public contracts cite and the document does not list, each with a function that cites it, and so inside a `mutual`, but for what is behind some."""
     listed = set(re.findall(r"`([^`\s]+)`", document))
-    cited = cited_by_contracts(lines)
-    for key, by in sorted(cited.items()):
+    for key, (by, *_) in sorted(cited.items()):
         if key[:2] in private:
-            yield f"{by} cites {key[2]}, which stands in {key[0]} {key[1]}, a file that says that none does"
+            yield f"{by.crate} {by.name} cites {key[2]}, which stands in {key[0]} {key[1]}, a file that says that none does"
         elif key[2] not in listed:
-            yield f"{by} cites {key[2]} of {key[0]} {key[1]}, which is not listed"
+            yield f"{by.crate} {by.name} cites {key[2]} of {key[0]} {key[1]}, which is not listed"
     counted = behind(cited, without, lines, brought)
     for key in sorted(counted & mutual):
         if key[2] not in listed and key not in cited:
@@ -171,15 +224,25 @@ def in_one_line(text):
     return " ".join(text.split())
 
 
-def counts(section, crate, without, lines, brought):
+def misplaced(section, crate, lines):
+    """What the tables of a section have wrong of files: one that is not there, or a definition that stands in none of its row's files."""
+    for files, names in re.findall(r"^\| ([A-Z][\w, ]*) \| ([^|]*) \|", section, re.MULTILINE):
+        files = files.split(", ")
+        yield from (f"{crate} has no file {file} of definitions" for file in files if not (specs(crate) / f"{file}.antt").is_file())
+        for name in re.findall(r"`([^`]+)`", names):
+            if not any((crate, file, name) in lines for file in files):
+                yield f"{name} does not stand in {' or '.join(files)} of {crate}"
+
+
+def counts(section, crate, without, cited, types, lines, brought):
     """Each count of a section, as it is written, in one line, and as it should be."""
-    for start, roots, count in re.findall(r"^(From (.*?),\s+so\s+)(\d+\s+lines(?::\s[^.]*)?)\.", section, re.MULTILINE | re.DOTALL):
-        by_crate = {}
-        for key in behind(keys_named(roots, crate, lines), without, lines, brought):
+    for start, named, count in re.findall(r"^(From (.*?),\s+so\s+)(\d+\s+lines(?::\s[^.]*)?)\.", section, re.MULTILINE | re.DOTALL):
+        by_crate, roots = {}, {*keys_named(named, crate, lines)}
+        for key in behind(roots | seen_by(crate, roots, cited, types, lines), without, lines, brought):
             by_crate[key[0]] = by_crate.get(key[0], 0) + len(lines[key])
         right = f"{sum(by_crate.values())} lines"
         if len(by_crate) > 1:
-            right += ": " + ", ".join(f"{by_crate[name]} of {name}" for name in reversed(CRATES) if name in by_crate)
+            right += ": " + ", ".join(f"{by_crate[name]} of {name}" for name in reversed(ALL_CRATES) if name in by_crate)
         start = in_one_line(start)
         yield f"{start} {in_one_line(count)}", f"{start} {right}"
 
@@ -193,18 +256,20 @@ def with_count(document, written, right):
 
 def main():
     lines, brought, private, mutual = read_definitions()
+    types, cited = add_views(lines, brought, private), cited_by_contracts(lines)
     document, wrong, uncounted = DOCUMENT.read_text(), [], []
     for crate, section in re.findall(r"^## [^\n]*\(crates/(\w+)/specs\)\n(.*?)(?=^## |\Z)", document, re.MULTILINE | re.DOTALL):
         without = [key for rest in re.findall(r"Not\s+counted:\s(.*?)\.", section, re.DOTALL) for key in keys_named(rest, crate, lines)]
         uncounted += without
-        for written, right in counts(section, crate, without, lines, brought):
+        wrong += misplaced(section, crate, lines)
+        for written, right in counts(section, crate, without, cited, types, lines, brought):
             if sys.argv[1:] == ["--write"]:
                 document = with_count(document, written, right)
             elif written != right:
                 wrong.append(f"{crate}: not \"{written}\", but \"{right}\"")
     if sys.argv[1:] == ["--write"]:
         DOCUMENT.write_text(document)
-    wrong += not_listed(document, uncounted, lines, brought, private, mutual)
+    wrong += not_listed(document, uncounted, cited, lines, brought, private, mutual)
     print(*wrong, f"{len(wrong)} wrong", sep="\n")
     sys.exit(1 if wrong else 0)
 
