@@ -1,5 +1,5 @@
 //! Readers and writers that remember whether they have failed.
-ghost use Rattle.std.specs.Prelude.{◌≡◌, ◌<◌, true, false, IfOk, OnErr, OnOk};
+ghost use Rattle.std.specs.Prelude.{◌≡◌, ◌<◌, ◌⊎◌, true, false, length, IfOk, OnErr, OnOk};
 ghost use Rattle.std.specs.Io.{ReadsAtMost, WritesAtMost};
 ghost use Rattle.std.specs.Io.KnownBytes.{Keeps, ReadConsumes, WriteAppends};
 ghost use Rattle.pref_script.specs.Watched.{has_failed, inside};
@@ -7,7 +7,8 @@ ghost use Rattle.pref_script.specs.Watched.{has_failed, inside};
 use std::io;
 use std::io::{Read, Write};
 
-/// A reader or a writer that remembers whether it has failed: from its first error on, or from its first write of no byte.
+/// A reader or a writer that remembers whether it has failed: from its first error on, or from the first write that took none of its
+/// bytes.
 ///
 /// It is itself no `Read` or `Write`, so that all bytes go through its own calls.
 #[derive(Drop)]
@@ -62,17 +63,18 @@ impl<R: Read> Watched<R> {
 }
 
 impl<W: Write> Watched<W> {
-    /// Writes a prefix of `buf` and returns how many bytes it has; 0 counts as a failure. An error of the writer is returned
-    /// as it is; then no byte was written.
+    /// Writes a prefix of `buf` and returns how many bytes it has; 0 counts as a failure, but where `buf` is empty. An error
+    /// of the writer is returned as it is; then no byte was written.
     pub fn write(&mut self, buf: &[u8]) -> io::Result<usize>
         ensures bound { WritesAtMost result buf.now }
         ensures bytes { WriteAppends (W.contents (inside self.old)) (W.contents (inside self.new)) result buf.now }
         ensures fails { OnErr result (has_failed self.new ≡ true) }
-        ensures none { IfOk result (λ count. count ≡ 0 → has_failed self.new ≡ true) }
-        ensures goes { IfOk result (λ count. 0 < count → has_failed self.new ≡ has_failed self.old) }
+        ensures none { IfOk result (λ count. count ≡ 0 → 0 < length buf.now → has_failed self.new ≡ true) }
+        ensures goes { IfOk result (λ count. (0 < count) ⊎ (length buf.now ≡ 0) → has_failed self.new ≡ has_failed self.old) }
     {
         let result = self.inner.write(buf);
-        if !matches!(result, Ok(1..)) {
+        let took_none = matches!(result, Ok(0)) && !buf.is_empty();
+        if took_none || result.is_err() {
             self.failed = true;
         }
         result
