@@ -36,7 +36,7 @@ pub enum RunFault {
     /// The engine refuses the opening rows.
     #[error("opening: {0}")]
     Opening(CoreFault),
-    /// The clients on threads were stopped: by the gate, which in the program is always open, by a client in use or by a closed board.
+    /// The clients on threads were stopped: by the gate, which in the program is always open, or by a closed board.
     /// Nothing was written.
     #[error("threads: {0}")]
     Threads(ShareFault),

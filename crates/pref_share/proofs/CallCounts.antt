@@ -2,7 +2,7 @@
 use Rattle.pref_share.proofs.Common.{◌≡◌, ℕ, zero, suc, ◌+◌, ◌*◌, ◌^◌, ◌<◌, ◌≤◌, false, ◌==◌, List, [], ◌∷◌, length, Option, Some, None, refl, sym, ap, ◌∙◌, subst, arith, ⊎_elim, cases_eq}
 use Rattle.pref_share.proofs.Common.{same_Some, AllByRecursion, sum_by, ne_eqb, length-set, All-from_recursion, Call, Op, State, Client, Snapshot, seat, with_seat}
 use Rattle.pref_share.proofs.Common.{counted, begun_after, after, calls_of, begun_of, idle_clients, IsLegalCall, IsLegalHistory, state_after, numbered_of}
-use Rattle.pref_share.proofs.Common.{seat-with_seat_same, seat-with_seat_other, HasCall, history_of}
+use Rattle.pref_share.proofs.Common.{seat-with_seat_same, seat-with_seat_other, count_by, eq-eqb, true, history_of}
 use Rattle.std.proofs.lemmas.List.Sums.{sum_by-le}
 use Rattle.pref_core.proofs.BoundsLaws.{sum_by-set_suc, AllByRecursion-set}
 
@@ -82,19 +82,22 @@ none_own n s (op ∷ ops) client m legal is still =
     let rest = none_own n (after n s op.client op.call) ops client m legal.1 (calls_other n s client op apart ∙ is) still in
     ((ne_eqb _ _ (λ (e : op.client ≡ client). apart (sym e)), rest.0), rest.1 ∙ begun_other n s client op apart)) (cases_eq client op.client)
 
-pub further : (op : Op) (ops : List Op) (client number : ℕ) → HasCall ops client number → HasCall (op ∷ ops) client number
-further op ops client number h = record { place = suc h.place; op = h.op; there = h.there; by = h.by; counted = h.counted }
+count_own : (client : ℕ) (op : Op) (ops : List Op) → (op.client == client) ≡ true → count_by client (op ∷ ops) ≡ suc (count_by client ops)
+count_own client op ops own = rw own refl
 
--- each call that the counts tell of stands in the history
-pub has_call : (n : ℕ) (s : State) (ops : List Op) (client m number last : ℕ) → IsLegalHistory n s (history_of ops) → calls_of s client ≡ Some m → m < number
-    → calls_of (state_after n s (history_of ops)) client ≡ Some last → number ≤ last → HasCall ops client number
-has_call n s [] client m number last legal is low end high = let same : m ≡ last = same_Some _ _ (sym is ∙ end) in absurd (omega arith)
-has_call n s (op ∷ ops) client m number last legal is low end high =
+count_other : (client : ℕ) (op : Op) (ops : List Op) → (op.client == client) ≡ false → count_by client (op ∷ ops) ≡ count_by client ops
+count_other client op ops other = rw other refl
+
+-- along a legal history a client's count goes up by its calls
+pub calls_counted : (n : ℕ) (s : State) (ops : List Op) (client m : ℕ) → IsLegalHistory n s (history_of ops) → calls_of s client ≡ Some m → calls_of (state_after n s (history_of ops)) client ≡ Some (m + count_by client ops)
+calls_counted n s [] client m legal is = is ∙ ap Some (omega arith)
+calls_counted n s (op ∷ ops) client m legal is =
     ⊎_elim (λ (e : client ≡ op.client).
-    ⊎_elim (λ (here : number ≡ suc m). record { place = zero; op = op; there = refl; by = sym e; counted = own_number s op client m (caller n s op legal.0) e is ∙ sym here })
-    (λ (later : number ≡ suc m → ⊥). further op ops client number (has_call n (after n s op.client op.call) ops client (suc m) number last legal.1 (count_now n s op client m (caller n s op legal.0) e is) (omega (arith, later)) end high))
-    (cases_eq number (suc m)))
-    (λ (apart : client ≡ op.client → ⊥). further op ops client number (has_call n (after n s op.client op.call) ops client m number last legal.1 (calls_other n s client op apart ∙ is) low end high)) (cases_eq client op.client)
+    let one = count_own client op ops (eq-eqb op.client client (sym e)) in
+    calls_counted n (after n s op.client op.call) ops client (suc m) legal.1 (count_now n s op client m (caller n s op legal.0) e is) ∙ ap Some (omega (arith, one)))
+    (λ (apart : client ≡ op.client → ⊥).
+    let none = count_other client op ops (ne_eqb op.client client (λ e. apart (sym e))) in
+    calls_counted n (after n s op.client op.call) ops client m legal.1 (calls_other n s client op apart ∙ is) ∙ ap Some (omega (arith, none))) (cases_eq client op.client)
 
 -- all calls of all clients
 abbrev total : State → ℕ

@@ -2,7 +2,7 @@
 use Rattle.pref_share.proofs.Common.{◌≡◌, ◌==◌, ℕ, suc, ◌<◌, ◌≤◌, cond, List, [], ◌∷◌, ◌++◌, length, Some, refl, sym, ap, ◌∙◌, subst, arith, ◌⊎◌, inl, inr, eq-eqb, ne_eqb}
 use Rattle.pref_share.proofs.Common.{append-nil, length-append, IsPrefix, Op, Act, Reply, Opening, IsLegalFrom, calls_at, Standing, newcomer, StepsTo, Looks, Adds, Runs, none, then, RunsTo}
 use Rattle.std.proofs.lemmas.List.{same_from_push}
-use Rattle.pref_share.specs.SeenHistory.{IsIn}
+use Rattle.pref_share.specs.Reports.{StandsWithin}
 use Rattle.pref_share.proofs.PrefixLaws.{prefix_shorter}
 use Rattle.pref_share.proofs.HistoryLaws.{legal-prefix}
 use Rattle.pref_share.proofs.LastCalls.{last_own, last_number, last_other, last_one_of, IsOneOf, grown_further, Counts, counts}
@@ -23,7 +23,7 @@ longer p act reply u = record { acts = p.acts ++ act ∷ []; returned = p.return
 -- it is the part of the history that is this client's
 pub record IsPartAt (o : Opening) (history : List Op) (number : ℕ) (p : Part) : Type 0 where
   pub runs : RunsTo o (newcomer number) p.acts p.returned p.last
-  pub is_in : IsIn o history p.last
+  pub is_in : StandsWithin o history p.last
 
 -- the parts of all clients
 abbrev pub ArePartsAt : Opening → List Op → (ℕ → Part) → Type 0
@@ -82,7 +82,7 @@ LooksAt o history p act reply u = (step : StepsTo o p.last act reply u) × (step
 pub without_looks : (o : Opening) (history : List Op) (number : ℕ) (Holds : Part → Type 0)
     → ((p : Part) → IsPartAt o history number p → LooksNoMore o history number p → Holds p)
     → ((p : Part) (act : Act) (reply : Reply) (u : Standing) → IsPartAt o history number p → LooksAt o history p act reply u → Holds p → Holds (longer p act reply u))
-    → (acts : List Act) (returned : List Reply) (stands : List Standing) (s : Standing) → Runs o (newcomer number) acts returned stands s → IsIn o history s → Holds (record { acts = acts; returned = returned; last = s })
+    → (acts : List Act) (returned : List Reply) (stands : List Standing) (s : Standing) → Runs o (newcomer number) acts returned stands s → StandsWithin o history s → Holds (record { acts = acts; returned = returned; last = s })
 without_looks o history number Holds rest more _ _ _ _ none h =
     rest (nothing_done number) (record { runs = record { stands = []; runs = none }; is_in = h }) (go (seen_all [] history h.inside))
   where
@@ -96,13 +96,13 @@ without_looks o history number Holds rest more _ _ _ _ (then acts returned stand
     here : IsPartAt o history number (longer before act reply u)
     here = record { runs = record { stands = stands ++ u ∷ []; runs = then acts returned stands t act reply u runs step }; is_in = h }
 
-    looked : u.seen ≡ history → Looks t u step.at → (IsIn o history t → Holds before) → Holds (longer before act reply u)
+    looked : u.seen ≡ history → Looks t u step.at → (StandsWithin o history t → Holds before) → Holds (longer before act reply u)
     looked whole looks shorter =
         let at_is : step.at ≡ history = sym looks.seen ∙ whole in
-        let is_in : IsIn o history t = record { inside = subst (IsPrefix t.seen) at_is step.further; alone = ap (calls_at o history) (sym step.same) ∙ h.alone ∙ ap Some looks.counted } in
+        let is_in : StandsWithin o history t = record { inside = subst (IsPrefix t.seen) at_is step.further; alone = ap (calls_at o history) (sym step.same) ∙ h.alone ∙ ap Some looks.counted } in
         more before act reply u (record { runs = record { stands = stands; runs = runs }; is_in = is_in }) (step, at_is, whole) (shorter is_in)
 
-    go : (u.seen ≡ history) ⊎ (length u.seen < length history) → Looks t u step.at ⊎ Adds o t act u step.at → (IsIn o history t → Holds before) → Holds (longer before act reply u)
+    go : (u.seen ≡ history) ⊎ (length u.seen < length history) → Looks t u step.at ⊎ Adds o t act u step.at → (StandsWithin o history t → Holds before) → Holds (longer before act reply u)
     go (inr l) joins shorter = rest (longer before act reply u) here (behind l)
     go (inl whole) (inl looks) shorter = looked whole looks shorter
     go (inl whole) (inr adds) shorter = rest (longer before act reply u) here (joined (record {
@@ -118,7 +118,7 @@ without_looks o history number Holds rest more _ _ _ _ (then acts returned stand
     }))
 
 -- the client whose call the last one is has seen the whole history
-not_behind : (o : Opening) (before : List Op) (op : Op) (s : Standing) → IsLegalFrom o (before ++ op ∷ []) → IsIn o (before ++ op ∷ []) s → Counts o op.client s → IsPrefix s.seen before → ⊥
+not_behind : (o : Opening) (before : List Op) (op : Op) (s : Standing) → IsLegalFrom o (before ++ op ∷ []) → StandsWithin o (before ++ op ∷ []) s → Counts o op.client s → IsPrefix s.seen before → ⊥
 not_behind o before op s legal h c inside =
     let least = grown_further o s.seen before op.client s.counter inside (legal-prefix o before (before ++ op ∷ []) (op ∷ [], refl) legal) c.grown in
     let counted : Some op.number ≡ Some s.counter = sym (last_own o before op legal) ∙ ap (calls_at o (before ++ op ∷ [])) (sym c.same) ∙ h.alone in
@@ -127,7 +127,7 @@ not_behind o before op s legal h c inside =
     let most : s.counter ≤ least.count = least.more in
     omega arith
 
-shorter_before : (o : Opening) (before : List Op) (op : Op) (s : Standing) → IsIn o (before ++ op ∷ []) s → length s.seen < length (before ++ op ∷ []) → IsPrefix s.seen before
+shorter_before : (o : Opening) (before : List Op) (op : Op) (s : Standing) → StandsWithin o (before ++ op ∷ []) s → length s.seen < length (before ++ op ∷ []) → IsPrefix s.seen before
 shorter_before o before op s h l = prefix_shorter s.seen before (before ++ op ∷ []) h.inside (op ∷ [], refl) (omega (arith, l, length-append before (op ∷ [])))
 
 pub never_empty : (before : List Op) (op : Op) → before ++ op ∷ [] ≡ [] → ⊥
@@ -142,7 +142,7 @@ pub last_at : (o : Opening) (before : List Op) (op : Op) (number : ℕ) (p : Par
 last_at o before op number p last = same_from_push last.step.at before last.adds.op op (sym last.adds.seen ∙ last.whole)
 
 -- the parts of all others are in the history before it
-others_before : (o : Opening) (before : List Op) (op : Op) (number : ℕ) (p : Part) → (number ≡ op.client → ⊥) → Counts o number p.last → IsIn o (before ++ op ∷ []) p.last → LooksNoMore o (before ++ op ∷ []) number p → IsIn o before p.last
+others_before : (o : Opening) (before : List Op) (op : Op) (number : ℕ) (p : Part) → (number ≡ op.client → ⊥) → Counts o number p.last → StandsWithin o (before ++ op ∷ []) p.last → LooksNoMore o (before ++ op ∷ []) number p → StandsWithin o before p.last
 others_before o before op number p apart c h looks = record { inside = go looks; alone = sym (last_other o before op p.last.number (λ e. apart (sym c.same ∙ e))) ∙ h.alone }
   where
     go : LooksNoMore o (before ++ op ∷ []) number p → IsPrefix p.last.seen before

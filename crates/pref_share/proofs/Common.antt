@@ -8,7 +8,7 @@ pub use Rattle.std.proofs.lemmas.List.Elements.{All-from_recursion, All-get_or, 
 pub use Rattle.std.proofs.lemmas.Option.{get_or_from_slice_get, same_Some, slice_get_cases, slice_get_within}
 pub use Rattle.std.specs.Global.{Vec}
 pub use Rattle.std.specs.List.{All, AllByRecursion, filter, sum_by}
-pub use Rattle.std.specs.Option.{option_map, option_or, unwrap_or}
+pub use Rattle.std.specs.Option.{option_map}
 pub use Rattle.std.specs.Vec.Iter.{into_iter_items}
 pub use Rattle.core.specs.Mem.{manually_drop_value}
 pub use Rattle.logbook.specs.Pages.{Book, Cell, Moves, Nib, adds, cell, gives, keeps, may_write, no_nib}
@@ -33,13 +33,14 @@ pub use Rattle.pref_core.specs.declared.event.Act.TheVariants.{Abandon, Begin, C
 pub use Rattle.pref_core.specs.declared.event.Reply.{Reply}
 pub use Rattle.pref_core.specs.declared.fault.CoreFault.{CoreFault}
 pub use Rattle.pref_core.specs.declared.fault.CoreFault.TheVariants.{AllScanned, NoQuery, NoSuchClient, NoSuchRow, NoSuchRow as MissingRow, NotDone, OutOfMemory, QueryOpen, Spent}
-pub use Rattle.pref_share.specs.Clients.{Begins, Changes, Commits, Finishes, HasLeft, IsAnswer, IsInUse, Joins, RefusesCall, RefusesChange, RefusesFinish, Sees, asks_for_memory, own_refusal}
-pub use Rattle.pref_share.specs.SeenHistory.{Asks, AsksOrNone, GivesNone, IsAhead, IsAppended, IsJoined, MayJoin, Stands, outcome_or_refusal, snapshot_at}
-pub use Rattle.pref_share.specs.Openings.{HasCall, IsLegalFrom, LegalIsHistory, MayFollow, Opening, calls_at, contents_at, first_contents, first_state, history_of, state_at}
-pub use Rattle.pref_share.specs.Reports.{AreReports, AreTaken, Did, DidActs, Ends, IsFirstStopped, IsFoundInUse, IsWithin, RefusesRun, StandsWithin, WasLetIn}
+pub use Rattle.pref_share.specs.Clients.{Begins, Changes, Commits, Finishes, HasLeft, IsAnswer, Joins, RefusesCall, RefusesChange, RefusesFinish, Sees, asks_for_memory, own_refusal}
+pub use Rattle.pref_share.specs.Book.{IsPageOf, count_by}
+pub use Rattle.pref_share.specs.SeenHistory.{Asks, AsksOrNone, GivesNone, IsAppended, IsJoined, IsTurn, JoinsBehind, RefusesToJoin, Stands, outcome_or_refusal, snapshot_at}
+pub use Rattle.pref_share.specs.Openings.{IsLegalFrom, LegalIsHistory, MayFollow, Opening, calls_at, contents_at, first_contents, first_state, history_of, state_at}
+pub use Rattle.pref_share.specs.Reports.{AreReports, AreTaken, Did, DidActs, Ends, IsFirstStopped, IsWithin, RefusesRun, StandsWithin, WasLetIn}
 pub use Rattle.pref_share.specs.Runs.{Adds, IsJointRun, IsPart, IsStep, Looks, Performs, Runs, RunsTo, StepsTo, StopsAt, call_of, member_of, nobody, none, open_of, step_by, then}
 pub use Rattle.pref_share.specs.ClientReads.{HasMore, RefusesGet, RefusesScan, Scanned, room_at, row_after}
-pub use Rattle.pref_share.specs.TaskResults.{AreWorked, DidTask, IsFirstOf, Settles, report_of}
+pub use Rattle.pref_share.specs.TaskResults.{AreWorked, DidTask, IsFirstOf, report_of}
 pub use Rattle.pref_share.specs.Standing.{Asking, Standing, newcomer, newcomers}
 pub use Rattle.pref_share.specs.Views.{AreLetIn, Fits, HoldsHistory, Kept, Knows, Opens, Reads, Stays, stamped}
 pub use Rattle.pref_share.specs.declared.fault.ShareFault.{ShareFault}

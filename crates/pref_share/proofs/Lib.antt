@@ -1,6 +1,6 @@
 pub mod Common
 pub mod PrefixLaws
-pub mod BookSteps
+pub mod PageSteps
 pub mod HistoryLaws
 pub mod CallCounts
 pub mod ViewsLaws

@@ -1,7 +1,7 @@
 -- What a refusal of a client's call is as the reply to an act.
-use Rattle.pref_share.proofs.Common.{◌≡◌, ℕ, suc, true, Some, None, Result, Ok, Err, IfErr, refl, sym, ap, ◌∙◌, subst, Call, CallUpdate, CallDelete, CallCommit, CallBegin, CallFinish, CallAbandon, NoRow}
+use Rattle.pref_share.proofs.Common.{◌≡◌, ℕ, true, Some, None, Result, Ok, Err, IfErr, refl, sym, ap, ◌∙◌, subst, Call, CallUpdate, CallDelete, CallCommit, CallBegin, CallFinish, CallAbandon, NoRow}
 use Rattle.pref_share.proofs.Common.{NoRoom, Act, Insert, Update, Delete, Commit, Begin, Scan, Finish, Abandon, Get, Room, NoQuery, AllScanned, NotDone, NoSuchRow, OutOfMemory, is_change, ShareFault}
-use Rattle.pref_share.proofs.Common.{Core, ClientInUse, Held, Closed, Opening, IsLegalFrom, HasCall, Standing, Sees, IsInUse, asks_for_memory, RefusesCall, RefusesChange, RefusesFinish, RefusesScan}
+use Rattle.pref_share.proofs.Common.{Core, Closed, Opening, IsLegalFrom, Standing, asks_for_memory, RefusesCall, RefusesChange, RefusesFinish, RefusesScan}
 use Rattle.pref_share.proofs.Common.{RefusesGet, Performs, call_of, Bool, false, Option, None, cond, nat_lt, ◌^◌, is_some, refusal_by_query, own_refusal, CoreFault, Spent}
 use Rattle.std.specs.Prelude.{IsErrAnd}
 use Rattle.pref_core.specs.declared.fault.CoreFault.TheVariants.{Full}
@@ -22,39 +22,30 @@ wants_memory Abandon call e h = let same : CallAbandon ≡ call = cc in absurd (
 wants_memory (Get id) call e h = absurd (cc)
 wants_memory Room call e h = absurd (cc)
 
--- a client that is in use stops
-pub stops_in_use : (o : Opening) (s t : Standing) (number : ℕ) → IsInUse o s number t → Sees o s t × ((number ≡ suc t.counter) × HasCall t.seen t.number number)
-stops_in_use o s t number h = (h.sees, (h.next ∙ ap suc (sym h.sees.counted), subst (λ n. HasCall t.seen n number) (sym h.sees.same) h.holds))
-
 pub change_refused : (o : Opening) (s t : Standing) (act : Act) (call : Call) (fault : ShareFault) → IsLegalFrom o s.seen → is_change call ≡ true → call_of act ≡ Some call → RefusesChange o s call fault t → Performs o s act (reply_or_stop fault) t
 change_refused o s t act call (Core (NoSuchRow id)) l c a h = refused_change o s t act call (NoRow id) (NoSuchRow id) h c a (λ done x. refl)
 change_refused o s t act call (Core (Full needed)) l c a h = refused_change o s t act call (NoRoom needed) (Full needed) h c a (λ done x. refl)
 change_refused o s t act call (Core OutOfMemory) l c a h = (sees_same o s t l h.2, (refl, wants_memory act call a h.0))
 change_refused o s t act call (Core fault) l c a h = refused_by_itself o s t act call fault (sees_same o s t l h.1) a h.0
-change_refused o s t act call (ClientInUse number) l c a h = stops_in_use o s t number h.1
 change_refused o s t act call fault l c a h = absurd h
 
 pub quiet_refused : (o : Opening) (s t : Standing) (act : Act) (call : Call) (fault : ShareFault) → IsLegalFrom o s.seen → call_of act ≡ Some call → RefusesCall o s call fault t → Performs o s act (reply_or_stop fault) t
 quiet_refused o s t act call (Core OutOfMemory) l a h = absurd h
 quiet_refused o s t act call (Core fault) l a h = refused_by_itself o s t act call fault (sees_same o s t l h.1) a h.0
-quiet_refused o s t act call (ClientInUse number) l a h = stops_in_use o s t number h.1
 quiet_refused o s t act call fault l a h = absurd h
 
 pub finish_refused : (o : Opening) (s t : Standing) (fault : ShareFault) → IsLegalFrom o s.seen → RefusesFinish o s fault t → Performs o s Finish (reply_or_stop fault) t
 finish_refused o s t (Core (NotDone left)) l h = not_done o s t left (sees_same o s t l h.2) h.0 h.1
 finish_refused o s t (Core OutOfMemory) l h = (sees_same o s t l h.2, (refl, refl))
 finish_refused o s t (Core fault) l h = refused_by_itself o s t Finish CallFinish fault (sees_same o s t l h.1) refl h.0
-finish_refused o s t (ClientInUse number) l h = stops_in_use o s t number h.2
 finish_refused o s t fault l h = absurd h
 
 pub scan_refused : (o : Opening) (s t : Standing) (fault : ShareFault) → IsLegalFrom o s.seen → RefusesScan o s fault t → Performs o s Scan (reply_or_stop fault) t
 scan_refused o s t (Core NoQuery) l h = no_query o s t (sees_same o s t l h.1) h.0
 scan_refused o s t (Core AllScanned) l h = all_scanned o s t h.0.asking (sees_same o s t l h.1) h.0.is_open h.0.done
 scan_refused o s t (Core OutOfMemory) l h = (h.1, (refl, refl))
-scan_refused o s t (Core fault) l h = absurd h
-scan_refused o s t (ClientInUse number) l h = stops_in_use o s t number h.1
-scan_refused o s t (Held client) l h = absurd h
 scan_refused o s t Closed l h = (sees_same o s t l h.1, refl)
+scan_refused o s t fault l h = absurd h
 
 pub get_refused : (o : Opening) (s t : Standing) (id : ℕ) (fault : ShareFault) → IsLegalFrom o s.seen → RefusesGet o s id fault t → Performs o s (Get id) (reply_or_stop fault) t
 get_refused o s t id (Core core) l h = subst (λ x. Performs o s (Get id) (reply_or_stop (Core x)) t) (sym h.0) (got o s t id None h.1 h.2)

@@ -1,77 +1,40 @@
 -- The reports of clients, and what follows from them of the whole run.
-use Rattle.pref_share.proofs.Common.{length-map, ◌≡◌, ℕ, suc, ◌<◌, ◌+◌, ◌^◌, Bool, true, false, List, [], ◌++◌, length, map, get_or, Option, Some, None, slice_get, refl, sym, ap, ◌∙◌, subst, arith, inl, inr}
-use Rattle.pref_share.proofs.Common.{same_Some, ⊎_elim, option_or, All, append-nil, length-append, All-get_or, slice_get_within, get_or_from_slice_get, Vec, IsPrefix, Op, Act, Reply, ShareFault}
-use Rattle.pref_share.proofs.Common.{ClientInUse, Opening, IsLegalFrom, HasCall, calls_at, Standing, Sees, IsInUse, RunsTo, StopsAt, IsJointRun, IsPart, Ends, Did, DidActs}
-use Rattle.pref_share.proofs.Common.{IsFoundInUse, IsWithin, StandsWithin, AreReports, AreTaken, IsFirstStopped, AreWorked, DidTask, IsFirstOf, Settles, report_of, Worked, Listed}
-use Rattle.std.specs.Option.{is_some}
+use Rattle.pref_share.proofs.Common.{length-map, ◌≡◌, ℕ, ◌<◌, ◌+◌, ◌^◌, Bool, false, List, [], ◌++◌, length, map, get_or, Option, Some, None, slice_get, refl, sym, ap, ◌∙◌, subst, arith}
+use Rattle.pref_share.proofs.Common.{same_Some, All, append-nil, length-append, All-get_or, slice_get_within, get_or_from_slice_get, Vec, Op, Act, Reply, ShareFault}
+use Rattle.pref_share.proofs.Common.{Opening, IsLegalFrom, calls_at, Standing, RunsTo, StopsAt, IsJointRun, IsPart, Ends, Did, DidActs}
+use Rattle.pref_share.proofs.Common.{IsWithin, StandsWithin, AreReports, AreTaken, IsFirstStopped, AreWorked, DidTask, IsFirstOf, report_of, Worked, Listed}
 use Rattle.pref_share.specs.declared.run.Report.{Report}
 use Rattle.pref_share.proofs.PairLaws.{Pairs, choose, pairs_all, pairs_at, pairs_cut, pairs_length}
-use Rattle.pref_share.proofs.PrefixLaws.{prefix_self, prefix_trans}
-use Rattle.pref_share.proofs.RefusalReplies.{stops_in_use}
+use Rattle.pref_share.proofs.PrefixLaws.{prefix_trans}
 use Rattle.pref_share.proofs.RunsLaws.{there, mapped, length_replies, behind, given_at}
 
-sees_on : (o : Opening) (s t u : Standing) → Sees o s t → Sees o t u → Sees o s u
-sees_on o s t u a b = record { further = prefix_trans s.seen t.seen u.seen a.further b.further; legal = b.legal; counted = b.counted ∙ a.counted; same = b.same ∙ a.same; query = b.query ∙ a.query }
-
--- why a client stopped that is found in use is so still, and where it had not stopped it is that it is in use
-ends_in_use : (o : Opening) (said : ℕ → Bool → Type 0) (s t : Standing) (rest : List Act) (stopped : Option ShareFault) → IsInUse o s (suc s.counter) t → Ends said s rest stopped
-    → Ends said t rest (option_or stopped (Some (ClientInUse (suc s.counter))))
-ends_in_use o said s t rest stopped in_use h = grind (arith)
-
--- a client that is found in use has stopped
-is_stopped : (stopped : Option ShareFault) (fault : ShareFault) → is_some (option_or stopped (Some fault)) ≡ true
-is_stopped stopped fault = grind (arith)
-
--- what a client did is so still where it is settled, which says then that it shares the history, or is in use
-did_settled : {J T : Type 0} (o : Opening) (says : ℕ → ℕ → Bool → Type 0) (took : T → List Reply → Type 0) (s : Standing) (acts : List Act) (history : List Op) (old new : Worked J T) → DidTask o says took s acts old → Settles o history old new
-    → DidTask o says took s acts new × StandsWithin o history new.client new.stopped
-did_settled {J} {T} o says took s acts history old new d (inl h) = grind (arith)
-did_settled {J} {T} o says took s acts history old new (replies, taken, did) (inr h) = (
-  (
-    replies,
-    subst (λ (t : T). took t replies) (sym h.task) taken,
-    record {
-      done = did.done;
-      rest = did.rest;
-      in_order = did.in_order;
-      last = did.last;
-      runs = did.runs;
-      let_in = did.let_in;
-      since = sees_on o did.last old.client new.client did.since h.in_use.sees;
-      ends = subst (λ (x : Option ShareFault). Ends (λ client. says client (length did.done)) new.client did.rest x) (sym h.stopped) (ends_in_use o (λ client. says client (length did.done)) old.client new.client did.rest old.stopped h.in_use did.ends);
-    },
-  ),
-  record { inside = subst (λ (l : List Op). IsPrefix l history) (sym h.seen) (prefix_self history); alone = inr (ap is_some h.stopped ∙ is_stopped old.stopped (ClientInUse (suc old.client.counter)), h.seen, holds) },
-)
-  where
-    holds : HasCall history new.client.number (suc new.client.counter)
-    holds = let in_use = (stops_in_use o old.client new.client (suc old.client.counter) h.in_use).1 in subst (λ n. HasCall history new.client.number n) in_use.0 (subst (λ (l : List Op). HasCall l new.client.number (suc old.client.counter)) h.seen in_use.1)
-
--- What came of all tasks, from what each worker did and what was found after the joins.
-pub are_worked : {A J T : Type 0} (o : Opening) (says : ℕ → ℕ → Bool → Type 0) (left : T → List Act) (took : T → T → List Reply → Type 0) (history : List Op) (client : A → Standing) (task : A → T) (jobs : List A) (before after : List (Worked J T))
-    (clients : List Standing) (tasks : List T) → map client jobs ≡ clients → map task jobs ≡ tasks → IsLegalFrom o history → length before ≡ length jobs → length after ≡ length before
-    → ((i : ℕ) (job : A) (d : Worked J T) → i < length jobs → DidTask o says (took (task (get_or jobs i job))) (client (get_or jobs i job)) (left (task (get_or jobs i job))) (get_or before i d))
-    → ((i : ℕ) (d : Worked J T) → i < length before → Settles o history (get_or before i d) (get_or after i d)) → AreWorked o says left took clients tasks after
-are_worked {A} {J} {T} o says left took history client task jobs before after clients tasks paired listed legal worked kept did settles = record {
+-- What came of all tasks, from what each worker did and from the history after the joins.
+pub are_worked : {A J T : Type 0} (o : Opening) (says : ℕ → ℕ → Bool → Type 0) (left : T → List Act) (took : T → T → List Reply → Type 0) (history : List Op) (client : A → Standing) (task : A → T) (jobs : List A) (all : List (Worked J T))
+    (clients : List Standing) (tasks : List T) → map client jobs ≡ clients → map task jobs ≡ tasks → IsLegalFrom o history → length all ≡ length jobs
+    → ((i : ℕ) (job : A) (d : Worked J T) → i < length jobs → DidTask o says (took (task (get_or jobs i job))) (client (get_or jobs i job)) (left (task (get_or jobs i job))) (get_or all i d))
+    → ((i : ℕ) (d : Worked J T) → i < length all → StandsWithin o history (get_or all i d).client) → AreWorked o says left took clients tasks all
+are_worked {A} {J} {T} o says left took history client task jobs all clients tasks paired listed legal worked did within = record {
   history = history;
   legal = legal;
-  each_worked = kept ∙ worked ∙ sym (length-map jobs client) ∙ ap length paired;
+  each_worked = worked ∙ sym (length-map jobs client) ∙ ap length paired;
   each = each;
 }
   where
-    each : (i : ℕ) (s : Standing) (t : T) → slice_get clients i ≡ Some s → slice_get tasks i ≡ Some t → (w : Worked J T) × (slice_get after i ≡ Some w) × DidTask o says (took t) s (left t) w × StandsWithin o history w.client w.stopped
+    each : (i : ℕ) (s : Standing) (t : T) → slice_get clients i ≡ Some s → slice_get tasks i ≡ Some t → (w : Worked J T) × (slice_get all i ≡ Some w) × DidTask o says (took t) s (left t) w × StandsWithin o history w.client
     each i s t at listed_at =
         let given = given_at client task jobs clients tasks paired listed i s t at listed_at in
         let j : A = given.0 in
         let short : i < length jobs = slice_get_within jobs i j given.1 in
-        let found = there after i (omega (arith, short, worked, kept)) in
+        let found = there all i (omega (arith, short, worked)) in
         let w : Worked J T = found.0 in
-        let old : Worked J T = get_or before i w in
-        let done : DidTask o says (took (task j)) (client j) (left (task j)) old = subst (λ (x : A). DidTask o says (took (task x)) (client x) (left (task x)) old) (get_or_from_slice_get jobs i j j given.1) (did i j w short) in
-        let mine : DidTask o says (took t) s (left t) old = subst (λ (x : T). DidTask o says (took x) s (left x) old) given.3 (subst (λ (x : Standing). DidTask o says (took (task j)) x (left (task j)) old) given.2 done) in
-        let settled : Settles o history old w = subst (λ (x : Worked J T). Settles o history old x) (get_or_from_slice_get after i w w found.1) (settles i w (omega (arith, short, worked))) in
-        let both = did_settled o says (took t) s (left t) history old w mine settled in
-        (w, found.1, both.0, both.1)
+        let is : get_or all i w ≡ w = get_or_from_slice_get all i w w found.1 in
+        let done : DidTask o says (took (task j)) (client j) (left (task j)) (get_or all i w) = subst (λ (x : A). DidTask o says (took (task x)) (client x) (left (task x)) (get_or all i w)) (get_or_from_slice_get jobs i j j given.1) (did i j w short) in
+        let mine : DidTask o says (took t) s (left t) (get_or all i w) = subst (λ (x : T). DidTask o says (took x) s (left x) (get_or all i w)) given.3 (subst (λ (x : Standing). DidTask o says (took (task j)) x (left (task j)) (get_or all i w)) given.2 done) in (
+          w,
+          found.1,
+          subst (λ (x : Worked J T). DidTask o says (took t) s (left t) x) is mine,
+          subst (λ (x : Worked J T). StandsWithin o history x.client) is (within i w (omega (arith, short, worked))),
+        )
 
 -- what the lists of two kinds at one place are
 same_at : {A B C : Type 0} (f : A → C) (g : B → C) (xs : List A) (ys : List B) → map f xs ≡ map g ys → (i : ℕ) (x : A) (y : B) → slice_get xs i ≡ Some x → slice_get ys i ≡ Some y → f x ≡ g y
@@ -114,15 +77,14 @@ joint {J} o says clients lists reports out all none given = record {
         let (r, r_at, did, within) = all.each i s list at listed_at in
         let went_on : r.stopped ≡ None = subst (λ (x : Report J). x.stopped ≡ None) (get_or_from_slice_get reports i r r r_at) (All-get_or (λ (x : Report J). x.stopped ≡ None) reports i r (slice_get_within reports i r r_at) none) in
         let nothing_left : did.rest ≡ [] = subst (λ (x : Option ShareFault). Ends (λ client. says client (length did.done)) r.client did.rest x) went_on did.ends in
-        let did_all : did.done ≡ list.items = sym (did.in_order ∙ ap (λ rest. did.done ++ rest) nothing_left ∙ append-nil did.done) in
-        let alone : calls_at o all.history r.client.number ≡ Some r.client.counter = ⊎_elim (λ e. e) (λ (x : IsFoundInUse all.history r.client r.stopped). let apart : true ≡ is_some {T = ShareFault} None = sym x.0 ∙ ap is_some went_on in absurd (cc)) within.alone in (
+        let did_all : did.done ≡ list.items = sym (did.in_order ∙ ap (λ rest. did.done ++ rest) nothing_left ∙ append-nil did.done) in (
           r.replies,
           ap (λ (l : List (Vec Reply)). slice_get l i) given ∙ mapped (λ x. x.replies) reports i r r_at,
           record {
             last = did.last;
             runs = subst (λ (l : List Act). RunsTo o s l r.replies.items did.last) did_all did.runs;
             inside = prefix_trans did.last.seen r.client.seen all.history did.since.further within.inside;
-            alone = ap (calls_at o all.history) (sym did.since.same) ∙ alone ∙ ap Some did.since.counted;
+            alone = ap (calls_at o all.history) (sym did.since.same) ∙ within.alone ∙ ap Some did.since.counted;
           },
         )
 
@@ -172,7 +134,7 @@ module _ {J T X : Type 0} (o : Opening) (says : ℕ → ℕ → Bool → Type 0)
     stopped : report.stopped ≡ w.stopped
     taken : (t : T) → slice_get tasks i ≡ Some t → took t w.task report.replies.items
     did : (s : Standing) (list : Vec Act) → slice_get clients i ≡ Some s → slice_get acts i ≡ Some list → Did o says s list.items report
-    within : StandsWithin o h.history w.client w.stopped
+    within : StandsWithin o h.history w.client
 
   as_many : length tasks ≡ length acts
   as_many = omega (arith, ap length listed, length-map acts (λ (l : Vec Act). l.items), length-map tasks left)
@@ -210,7 +172,7 @@ module _ {J T X : Type 0} (o : Opening) (says : ℕ → ℕ → Bool → Type 0)
               let s_same : s ≡ other_s = same_Some s other_s (sym s_at ∙ other_s_at) in
               let l_same : list ≡ other = same_Some list other (sym l_at ∙ other_at) in
               subst (λ (x : Vec Act). Did o says other_s x.items report) l_same (subst (λ (x : Standing). Did o says x list.items report) s_same done);
-          within = subst (λ (x : Worked J T). StandsWithin o h.history x.client x.stopped) same within;
+          within = subst (λ (x : Worked J T). StandsWithin o h.history x.client) same within;
         },
       )
 
@@ -228,7 +190,7 @@ module _ {J T X : Type 0} (o : Opening) (says : ℕ → ℕ → Bool → Type 0)
           report,
           r_at,
           r.did s list at l_at,
-          subst (λ (x : Option ShareFault). StandsWithin o h.history report.client x) (sym r.stopped) (subst (λ (x : Standing). StandsWithin o h.history x w.stopped) (sym r.client) r.within),
+          subst (λ (x : Standing). StandsWithin o h.history x) (sym r.client) r.within,
         );
   }
 

@@ -24,6 +24,7 @@ use Rattle.pref_core.proofs.event.BoxedCommit.TheSendSync as boxed_commits
 use Rattle.pref_core.proofs.event.Reply.TheSendSync as replies
 use Rattle.pref_core.proofs.setup.Setup.TheSendSync as setups
 use Rattle.pref_share.proofs.history.Prefix.TheSendSync as prefixes
+use Rattle.pref_share.proofs.page.Page.TheSendSync as pages
 use Rattle.pref_share.proofs.published.Published.TheSendSync as published
 use Rattle.pref_core.specs.contracts.event.Act as act
 use Rattle.pref_share.specs.contracts.task.Listed as listed
@@ -65,7 +66,10 @@ client_inside J N = declared_send (client_fields.the_type J N) (
         search (sendable, as_row_send, prefixes.the_send),
         (
           search (sendable, as_row_send, options.the_send, asking_send),
-          (search (sendable, as_row_send, readers.the_field_send, heap.the_send, published.the_sync, heap.the_sync, frees) depth 9, tt),
+          (
+            search (sendable, as_row_send, pages.the_send),
+            (search (sendable, as_row_send, readers.the_field_send, heap.the_send, published.the_sync, heap.the_sync, frees) depth 9, tt),
+          ),
         ),
       ),
     ),

@@ -1,8 +1,8 @@
 -- What a client's counter and query are along the history that it sees.
 use Rattle.pref_share.proofs.Common.{first_contents, ◌≡◌, ℕ, suc, ◌^◌, ◌<◌, ◌≤◌, true, false, ◌&&◌, ◌==◌, List, [], ◌∷◌, ◌++◌, Option, Some, None, is_some, Result, Ok, refl, sym, ap}
-use Rattle.pref_share.proofs.Common.{◌∙◌, subst, arith, MatchResult, IfOk, IfErr, AllByRecursion, unwrap_or, Vec, IsPrefix, Call, Op, ShareFault, CoreFault, State, Client}
+use Rattle.pref_share.proofs.Common.{◌∙◌, subst, arith, MatchResult, IfOk, IfErr, AllByRecursion, Vec, IsPrefix, Call, Op, ShareFault, CoreFault, State, Client}
 use Rattle.pref_share.proofs.Common.{Snapshot, is_change, calls_of, begun_of, begun_after, after, refusal, refusal_of, Contents, StandsFor, Shows, ShowsBegin}
-use Rattle.pref_share.proofs.Common.{eqb-true, same_number, state_after, begin, NextIsNew, IsScanned, Answers, begun_after-change, Opening, IsLegalFrom, HasCall}
+use Rattle.pref_share.proofs.Common.{eqb-true, same_number, state_after, begin, NextIsNew, IsScanned, Answers, begun_after-change, Opening, IsLegalFrom}
 use Rattle.pref_share.proofs.Common.{history_of, contents_at, state_at, calls_at, Asking, Standing, Sees, Joins, Changes, RefusesChange, IsAnswer, own_refusal}
 use Rattle.pref_share.proofs.Common.{AsksOrNone, Asks, Stands, IsAppended, IsJoined, GivesNone, snapshot_at, outcome_or_refusal}
 use Rattle.pref_term.specs.Question.{Question}
@@ -18,10 +18,12 @@ use Rattle.pref_core.proofs.VisibleAfterOp.{begun_kept}
 use Rattle.pref_core.proofs.QueryLaws.{stays_on_its_way, begun_on_its_way, next_is_new_on_its_way, scanned_on_its_way, answers_the_begin}
 use Rattle.pref_share.proofs.PrefixLaws.{prefix_self, prefix_trans}
 use Rattle.pref_share.proofs.HistoryLaws.{legal-more, legal-prefix, legal_stands, legal_capacity, ran-append, state_at-append, rest_history, legal_is_history}
-use Rattle.pref_share.proofs.CallCounts.{IsGrown, calls_in, begun_in, further, calls_own, begun_own, none_own, has_call, calls_few, idle_seat}
+use Rattle.pref_share.proofs.CallCounts.{IsGrown, calls_in, begun_in, calls_own, begun_own, none_own, calls_counted, calls_few, idle_seat}
 use Rattle.pref_share.proofs.LastCalls.{last_caller, grown_further}
+use Rattle.pref_share.proofs.Common.{⊎_elim, same_Some, first_state, OutOfMemory, IsTurn, JoinsBehind, RefusesToJoin, count_by}
+use Rattle.pref_share.specs.declared.client.calls.Joined.{Joined}
 use Rattle.pref_share.proofs.Common.{rules, Bool, cond, nat_lt, added, begins_row, ended, missing, success_outcome, Added, Done, Full, NoRow}
-use Rattle.pref_core.specs.State.{needed_after}
+use Rattle.pref_core.specs.State.{needed_after, outcome}
 
 none_ends : (client : ℕ) (ops : List Op) → AllByRecursion (λ op. (op.client == client) ≡ false) ops → AllByRecursion (λ op. ends_query client op ≡ false) ops
 none_ends client [] h = tt
@@ -64,23 +66,19 @@ stands_whole o number counter seen query legal one_of count follows = record { l
 grown : (o : Opening) (number counter : ℕ) (seen longer : List Op) (query : Option Asking) → Stands o number counter seen query → IsPrefix seen longer → IsLegalFrom o longer → IsGrown (calls_at o longer number) counter
 grown o number counter seen longer query h p legal = grown_further o h.at longer number counter (prefix_trans h.at seen longer h.before p) legal (record { count = counter; is = h.count; more = omega arith })
 
--- where the whole history counts no more calls than the client, it holds just its calls, ..
-pub even : (o : Opening) (number counter last : ℕ) (seen whole : List Op) (query : Option Asking) → Stands o number counter seen query → IsPrefix seen whole → IsLegalFrom o whole → last ≡ unwrap_or (calls_at o whole number) 0 → last ≤ counter → calls_at o whole number ≡ Some counter
-even o number counter last seen whole query h p legal is le = grind (arith, grown o number counter seen whole query h p legal)
+-- a legal history counts the calls that it holds of a client
+counted_at : (o : Opening) (ops : List Op) (number : ℕ) → IsLegalFrom o ops → (0 < number) × (number ≤ o.limits.clients) → calls_at o ops number ≡ Some (count_by number ops)
+counted_at o ops number legal one_of = calls_counted o.limits.capacity (first_state o) ops number 0 (legal_is_history o ops legal) (ap calls_in (idle_seat o.limits.clients number one_of.0 one_of.1)) ∙ ap Some (omega arith)
 
-has_later : (xs ys : List Op) (client number : ℕ) → HasCall ys client number → HasCall (xs ++ ys) client number
-has_later [] ys client number h = h
-has_later (x ∷ xs) ys client number h = further x (xs ++ ys) client number (has_later xs ys client number h)
-
--- .. and else it holds the client's next call
-pub ahead : (o : Opening) (number counter last : ℕ) (seen whole : List Op) (query : Option Asking) → Stands o number counter seen query → IsPrefix seen whole → IsLegalFrom o whole → last ≡ unwrap_or (calls_at o whole number) 0 → counter < last → HasCall whole number (suc counter)
-ahead o number counter last seen whole query h p legal is more =
-    let (rest, at_whole) = prefix_trans h.at seen whole h.before p in
-    let g = grown o number counter seen whole query h p legal in
-    let same : last ≡ g.count = is ∙ ap (λ (x : Option ℕ). unwrap_or x 0) g.is in
-    let counted = ap (λ s. calls_of s number) (sym (state_at-append o h.at rest) ∙ ap (state_at o) at_whole) ∙ g.is in
-    subst (λ l. HasCall l number (suc counter)) at_whole
-    (has_later h.at rest number (suc counter) (has_call o.limits.capacity (state_at o h.at) rest number counter (suc counter) g.count (rest_history o h.at rest (subst (IsLegalFrom o) (sym at_whole) legal)) h.count (omega arith) counted (omega arith)))
+-- where the whole history holds no more calls of a client than it made, it holds just these
+pub even : (o : Opening) (number counter made : ℕ) (seen whole : List Op) (query : Option Asking) → Stands o number counter seen query → made ≡ counter → IsTurn o number made seen whole → calls_at o whole number ≡ Some counter
+even o number counter made seen whole query h same turn =
+    let g = grown o number counter seen whole query h turn.further turn.legal in
+    let is = counted_at o whole number turn.legal h.one_of in
+    let all : g.count ≡ count_by number whole = same_Some _ _ (sym g.is ∙ is) in
+    let more : counter ≤ g.count = g.more in
+    let few : count_by number whole ≤ made = turn.few in
+    is ∙ ap Some (omega arith)
 
 -- a client makes no more calls than it may
 pub counter_small : (o : Opening) (number counter : ℕ) (seen : List Op) (query : Option Asking) → Stands o number counter seen query → counter ≤ 2 ^ 56
@@ -99,9 +97,16 @@ is_added o old call returned seen stamp j = grind (arith, legal-more, last_calle
 change_ends_none : (call : Call) → is_change call ≡ true → is_end call ≡ false
 change_ends_none call h = grind (arith)
 
+-- the end of a query asks for no memory, and is done
+pub end_takes_no_memory : (call : Call) → is_end call ≡ true → nat_lt 0 (added call) ≡ true → ⊥
+end_takes_no_memory call ends h = grind (arith)
+
+pub end_done : (n : ℕ) (state : State) (call : Call) → is_end call ≡ true → outcome n state call ≡ Done
+end_done n state call ends = grind (arith)
+
 -- the client after a change, ..
 pub stands_changed : (o : Opening) (old : Standing) (call : Call) (returned : Outcome) (seen : List Op) (stamp counter : ℕ) → Stands o old.number old.counter old.seen old.query → IsJoined o old call returned seen stamp → is_change call ≡ true → counter ≡ suc old.counter → Stands o old.number counter seen old.query
-stands_changed o old call returned seen stamp counter h j change up = grind (arith, is_added o old call returned seen stamp j, change_ends_none call change, and-false, begun_after-change, stands_whole, followed, moved_up, further)
+stands_changed o old call returned seen stamp counter h j change up = grind (arith, is_added o old call returned seen stamp j, change_ends_none call change, and-false, begun_after-change, stands_whole, followed, moved_up)
 
 -- .. after a begin, ..
 pub stands_begun : (o : Opening) (old : Standing) (returned : Outcome) (seen : List Op) (stamp counter : ℕ) (ask : Question) → Stands o old.number old.counter old.seen old.query → IsJoined o old Begin returned seen stamp → counter ≡ suc old.counter
@@ -126,7 +131,7 @@ stands_ended o old call returned seen stamp counter h j ends up = grind (arith, 
 
 -- what the call tells
 pub joins : (o : Opening) (old new : Standing) (call : Call) (returned : Outcome) (seen : List Op) (stamp : ℕ) → own_refusal old call ≡ None → IsJoined o old call returned seen stamp → new.seen ≡ seen → new.counter ≡ suc old.counter → new.number ≡ old.number → Joins o old call returned new
-joins o old new call returned seen stamp accepted j same up number = grind (arith, further, legal_capacity, legal-more)
+joins o old new call returned seen stamp accepted j same up number = grind (arith, legal_capacity, legal-more)
 
 -- the table at an open query's begin is what the slots show there
 shows_begun : (contents : Contents) (state : State) (client : ℕ) (snapshot : Snapshot) → StandsFor contents state → begun_of state client ≡ Some snapshot → Shows contents.slots snapshot.commits snapshot.table
@@ -195,6 +200,18 @@ joined o old call returned history seen stamp p legal is added commits = record 
   alone = is;
   commits = commits;
 }
+
+pub joined_behind : (o : Opening) (old : Standing) (made : ℕ) (call : Call) (j : Joined (List Op)) → Stands o old.number old.counter old.seen old.query → made ≡ old.counter → JoinsBehind o old.number made old.seen call j → IsJoined o old call j.outcome j.seen j.stamp
+joined_behind o old made call j stands same h =
+    joined o old call j.outcome h.before j.seen j.stamp h.turn.further h.turn.legal (even o old.number old.counter made old.seen h.before old.query stands same h.turn) h.appended h.commits
+
+-- a call that the client's own counter and query let in is refused for want of memory alone
+pub only_memory : (o : Opening) (old : Standing) (made : ℕ) (call : Call) (fault : CoreFault) → Stands o old.number old.counter old.seen old.query → made ≡ old.counter → own_refusal old call ≡ None → RefusesToJoin o old.number made old.seen call fault
+    → (fault ≡ OutOfMemory) × (nat_lt 0 (added call) ≡ true)
+only_memory o old made call fault stands same accepted h =
+    let is = even o old.number old.counter made old.seen h.before old.query stands same h.turn in
+    let follows = moved_up o old.number old.counter old.seen h.before old.query stands h.turn.further h.turn.legal is in
+    ⊎_elim (λ (returned : refusal (state_at o h.before) old.number call ≡ Some fault). absurd (cc (returned, same_refusal o old h.before call is follows, accepted))) (λ memory. memory) h.why
 
 -- what a change tells by its outcome
 pub change_returned : (o : Opening) (old new : Standing) (call : Call) (returned : Outcome) (result : Result Outcome ShareFault) → result ≡ outcome_or_refusal returned → Joins o old call returned new → new.query ≡ old.query

@@ -11,7 +11,7 @@ use Rattle.pref_share.specs.declared.fault.ShareFault.{ShareFault}
 use Rattle.pref_share.specs.declared.fault.ShareFault.TheVariants.{Core, ClientInUse, Held, Closed}
 use Rattle.pref_share.specs.Openings.{Opening, IsLegalFrom, contents_at, state_at, calls_at}
 use Rattle.pref_share.specs.Standing.{Asking, Standing}
-use Rattle.pref_share.specs.Clients.{Sees, IsInUse, HasLeft, HasNoneLeft}
+use Rattle.pref_share.specs.Clients.{Sees, HasLeft, HasNoneLeft}
 use mathlib.Core.List.{IsPrefix}
 
 -- A block was scanned, of the slots that the history leaves which was seen then.
@@ -38,7 +38,7 @@ RefusesScan o old (Core NoQuery) new = (old.query ≡ None) × (new ≡ old)
 RefusesScan o old (Core AllScanned) new = HasNoneLeft old × (new ≡ old)
 RefusesScan o old (Core OutOfMemory) new = HasMore old × Sees o old new
 RefusesScan o old (Core fault) new = ⊥
-RefusesScan o old (ClientInUse number) new = HasMore old × IsInUse o old number new
+RefusesScan o old (ClientInUse number) new = ⊥
 RefusesScan o old (Held client) new = ⊥
 RefusesScan o old Closed new = HasMore old × (new ≡ old)
 

@@ -22,7 +22,7 @@ use Rattle.pref_core.specs.Limits.{blocks}
 use Rattle.pref_share.specs.declared.fault.ShareFault.{ShareFault}
 use Rattle.pref_share.specs.declared.fault.ShareFault.TheVariants.{Core, ClientInUse, Held, Closed}
 use Rattle.pref_share.specs.declared.fault.BeginFault.{BeginFault}
-use Rattle.pref_share.specs.Openings.{Opening, IsLegalFrom, HasCall, state_at, calls_at}
+use Rattle.pref_share.specs.Openings.{Opening, IsLegalFrom, state_at, calls_at}
 use Rattle.pref_share.specs.Standing.{Asking, Standing}
 
 -- why the client's call gets no number, by its own counter and query
@@ -59,12 +59,6 @@ pub record Sees (o : Opening) (old new : Standing) : Type 0 where
   pub same : new.number ≡ old.number
   pub query : new.query ≡ old.query
 
--- what was seen holds a call of this client that it has not made: the next one by its own counter
-pub record IsInUse (o : Opening) (old : Standing) (number : ℕ) (new : Standing) : Type 0 where
-  pub sees : Sees o old new
-  pub holds : HasCall new.seen old.number number
-  pub next : number ≡ suc old.counter
-
 -- whether a change asks for memory: for the places of new rows in the index
 abbrev pub asks_for_memory : Call → Bool
 asks_for_memory call = nat_lt 0 (added call)
@@ -75,7 +69,7 @@ RefusesChange o old call (Core (MissingRow id)) new = Changes o old call (NoSuch
 RefusesChange o old call (Core (TooFull needed)) new = Changes o old call (Full needed) new
 RefusesChange o old call (Core OutOfMemory) new = (asks_for_memory call ≡ true) × (own_refusal old call ≡ None) × (new ≡ old)
 RefusesChange o old call (Core fault) new = (own_refusal old call ≡ Some fault) × (new ≡ old)
-RefusesChange o old call (ClientInUse number) new = (own_refusal old call ≡ None) × IsInUse o old number new
+RefusesChange o old call (ClientInUse number) new = ⊥
 RefusesChange o old call (Held client) new = ⊥
 RefusesChange o old call Closed new = ⊥
 
@@ -83,7 +77,7 @@ RefusesChange o old call Closed new = ⊥
 abbrev pub RefusesCall : Opening → Standing → Call → ShareFault → Standing → Type 0
 RefusesCall o old call (Core OutOfMemory) new = ⊥
 RefusesCall o old call (Core fault) new = (own_refusal old call ≡ Some fault) × (new ≡ old)
-RefusesCall o old call (ClientInUse number) new = (own_refusal old call ≡ None) × IsInUse o old number new
+RefusesCall o old call (ClientInUse number) new = ⊥
 RefusesCall o old call (Held client) new = ⊥
 RefusesCall o old call Closed new = ⊥
 
@@ -123,11 +117,11 @@ pub record Finishes (o : Opening) (old : Standing) (ranked : List Ranked) (new :
   pub query : new.query ≡ None
   pub answer : IsAnswer o old ranked
 
--- the same, for a finish: memory, and whether the client is in use, are met where no block is left
+-- the same, for a finish: memory is met where no block is left
 abbrev pub RefusesFinish : Opening → Standing → ShareFault → Standing → Type 0
 RefusesFinish o old (Core (NotDone left)) new = (own_refusal old Finish ≡ None) × HasLeft old left × (new ≡ old)
 RefusesFinish o old (Core OutOfMemory) new = (own_refusal old Finish ≡ None) × HasNoneLeft old × (new ≡ old)
 RefusesFinish o old (Core fault) new = (own_refusal old Finish ≡ Some fault) × (new ≡ old)
-RefusesFinish o old (ClientInUse number) new = (own_refusal old Finish ≡ None) × HasNoneLeft old × IsInUse o old number new
+RefusesFinish o old (ClientInUse number) new = ⊥
 RefusesFinish o old (Held client) new = ⊥
 RefusesFinish o old Closed new = ⊥

@@ -1,5 +1,5 @@
 -- What a board opens with, and the histories that may follow. (this project)
-use Rattle.std.specs.Prelude.{◌≡◌, ℕ, ◌≤◌, List, map, length, Option, Some, slice_get}
+use Rattle.std.specs.Prelude.{ℕ, ◌≤◌, List, map, length, Option}
 use Rattle.pref_core.specs.Rows.{Row}
 use Rattle.pref_core.specs.declared.call.Op.{Op}
 use Rattle.pref_core.specs.Limits.{Limits, AreAllowed}
@@ -45,14 +45,6 @@ MayFollow o ops op = IsLegal (state_at o ops) (contents_at o ops) op
 -- how many calls of this client there are
 abbrev pub calls_at : Opening → List Op → ℕ → Option ℕ
 calls_at o ops client = calls_of (state_at o ops) client
-
--- one of the operations is this client's call of this number
-pub record HasCall (ops : List Op) (client number : ℕ) : Type 0 where
-  pub place : ℕ
-  pub op : Op
-  pub there : slice_get ops place ≡ Some op
-  pub by : op.client ≡ client
-  pub counted : op.number ≡ number
 
 -- The calls of legal operations are a legal history of the sequential table.
 abbrev pub LegalIsHistory : Type 0

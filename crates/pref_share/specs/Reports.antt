@@ -1,5 +1,5 @@
 -- What is reported of clients that ran acts on threads, and why a run is refused. (this project)
-use Rattle.std.specs.Prelude.{◌≡◌, ℕ, suc, ◌<◌, Bool, true, false, List, [], ◌∷◌, ◌++◌, length, All, slice_get, Option, Some, None, is_some, ◌⊎◌}
+use Rattle.std.specs.Prelude.{◌≡◌, ℕ, ◌<◌, Bool, true, false, List, [], ◌∷◌, ◌++◌, length, All, slice_get, Option, Some, None, ◌⊎◌}
 use Rattle.std.specs.Global.{Vec}
 use mathlib.Core.List.{IsPrefix}
 use Rattle.pref_core.specs.declared.call.Op.{Op}
@@ -9,7 +9,7 @@ use Rattle.pref_core.specs.declared.fault.CoreFault.TheVariants.{OutOfMemory}
 use Rattle.pref_share.specs.declared.fault.ShareFault.{ShareFault}
 use Rattle.pref_share.specs.declared.fault.ShareFault.TheVariants.{Core, Held}
 use Rattle.pref_share.specs.declared.run.Report.{Report}
-use Rattle.pref_share.specs.Openings.{Opening, IsLegalFrom, HasCall, calls_at}
+use Rattle.pref_share.specs.Openings.{Opening, IsLegalFrom, calls_at}
 use Rattle.pref_share.specs.Standing.{Standing, newcomers}
 use Rattle.pref_share.specs.Clients.{Sees}
 use Rattle.pref_share.specs.Interleavings.{IsSequential}
@@ -40,17 +40,13 @@ pub record DidActs (o : Opening) (says : ℕ → ℕ → Bool → Type 0) (s : S
 abbrev pub Did : {J : Type 0} → Opening → (ℕ → ℕ → Bool → Type 0) → Standing → List Act → Report J → Type 0
 Did o says s acts report = DidActs o says s acts report.client report.replies.items report.stopped
 
--- The client is in use: it stopped, and has seen the whole history, which holds its next call, though it has not made it.
-abbrev pub IsFoundInUse : List Op → Standing → Option ShareFault → Type 0
-IsFoundInUse history client stopped = (is_some stopped ≡ true) × (client.seen ≡ history) × HasCall history client.number (suc client.counter)
-
--- The client has seen a beginning of the history, which holds just the calls that it made, unless it is in use.
-pub record StandsWithin (o : Opening) (history : List Op) (client : Standing) (stopped : Option ShareFault) : Type 0 where
+-- The client has seen a beginning of the history, which holds just the calls that it made.
+pub record StandsWithin (o : Opening) (history : List Op) (client : Standing) : Type 0 where
   pub inside : IsPrefix client.seen history
-  pub alone : (calls_at o history client.number ≡ Some client.counter) ⊎ IsFoundInUse history client stopped
+  pub alone : calls_at o history client.number ≡ Some client.counter
 
 abbrev pub IsWithin : {J : Type 0} → Opening → List Op → Report J → Type 0
-IsWithin o history report = StandsWithin o history report.client report.stopped
+IsWithin o history report = StandsWithin o history report.client
 
 -- What came of the acts of all clients, one list for each: there is one legal history of which all have seen a beginning.
 pub record AreReports {J : Type 0} (o : Opening) (says : ℕ → ℕ → Bool → Type 0) (clients : List Standing) (acts : List (Vec Act)) (reports : List (Report J)) : Type 0 where

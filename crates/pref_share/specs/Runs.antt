@@ -16,7 +16,7 @@ use Rattle.pref_core.specs.Step.{Open, Member, System, Step, state_of, step}
 use Rattle.pref_core.specs.Systems.{may_want_memory}
 use Rattle.pref_share.specs.declared.fault.ShareFault.{ShareFault}
 use Rattle.pref_share.specs.declared.fault.ShareFault.TheVariants.{Core, ClientInUse, Held, Closed}
-use Rattle.pref_share.specs.Openings.{Opening, IsLegalFrom, HasCall, state_at, calls_at}
+use Rattle.pref_share.specs.Openings.{Opening, IsLegalFrom, state_at, calls_at}
 use Rattle.pref_share.specs.Standing.{Asking, Standing}
 use Rattle.pref_share.specs.Clients.{Sees}
 
@@ -112,12 +112,11 @@ abbrev pub WantsMemoryNext : List Act → Type 0
 WantsMemoryNext [] = ⊥
 WantsMemoryNext (next ∷ more) = may_want_memory next ≡ true
 
--- Why a client stops that is so then, with these acts left: out of memory, at an act that may ask for it; in use, where what it has seen
--- holds its next call, which has this number, though it has not made it; held before an act, of which the gate says this by the client's
--- number; or closed, at an act that is no numbered call.
+-- Why a client stops that is so then, with these acts left: out of memory, at an act that may ask for it; held before an act, of which
+-- the gate says this by the client's number; or closed, at an act that is no numbered call.
 abbrev pub StopsAt : (ℕ → Type 0) → Standing → List Act → ShareFault → Type 0
 StopsAt held s rest (Core fault) = (fault ≡ OutOfMemory) × WantsMemoryNext rest
-StopsAt held s rest (ClientInUse number) = (number ≡ suc s.counter) × HasCall s.seen s.number number
+StopsAt held s rest (ClientInUse number) = ⊥
 StopsAt held s rest (Held client) = (client ≡ s.number) × (0 < length rest) × held client
 StopsAt held s rest Closed = ReadsNext rest
 

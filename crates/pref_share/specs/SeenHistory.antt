@@ -1,6 +1,6 @@
 -- No public contract cites this.
 -- What the history that a client has seen says of its counter and its open query, and what becomes of its calls.
-use Rattle.std.specs.Prelude.{◌≡◌, ℕ, suc, ◌<◌, ◌≤◌, List, [], ◌∷◌, ◌++◌, Option, Some, None, Result, Ok, Err}
+use Rattle.std.specs.Prelude.{◌≡◌, ◌⊎◌, ℕ, suc, ◌<◌, ◌≤◌, nat_lt, true, List, [], ◌∷◌, ◌++◌, Option, Some, None, Result, Ok, Err}
 use mathlib.Core.List.{IsPrefix}
 use Rattle.pref_core.specs.declared.call.Call.{Call}
 use Rattle.pref_core.specs.declared.call.Op.{Op}
@@ -8,13 +8,13 @@ use Rattle.pref_core.specs.declared.call.Outcome.{Outcome}
 use Rattle.pref_core.specs.declared.call.Outcome.TheVariants.{Added}
 use Rattle.pref_core.specs.declared.fault.CoreFault.{CoreFault}
 use Rattle.pref_core.specs.declared.fault.CoreFault.TheVariants.{NotDone, OutOfMemory}
-use Rattle.pref_core.specs.State.{Snapshot, begun_of, refusal_by_outcome}
+use Rattle.pref_core.specs.State.{Snapshot, added, begun_of, refusal, refusal_by_outcome}
 use Rattle.pref_core.specs.Queries.{IsOnItsWay}
-use Rattle.pref_share.specs.declared.client.calls.Joining.{Joining}
-use Rattle.pref_share.specs.declared.client.calls.Joining.TheVariants.{Joined, Ahead}
+use Rattle.pref_share.specs.Book.{count_by}
+use Rattle.pref_share.specs.declared.client.calls.Joined.{Joined}
 use Rattle.pref_share.specs.declared.fault.ShareFault.{ShareFault}
 use Rattle.pref_share.specs.declared.fault.ShareFault.TheVariants.{Core}
-use Rattle.pref_share.specs.Openings.{Opening, IsLegalFrom, MayFollow, HasCall, contents_at, state_at, calls_at}
+use Rattle.pref_share.specs.Openings.{Opening, IsLegalFrom, MayFollow, contents_at, state_at, calls_at}
 use Rattle.pref_share.specs.Standing.{Asking, Standing}
 use Rattle.pref_share.specs.Clients.{HasLeft, HasNoneLeft}
 
@@ -62,16 +62,25 @@ pub record IsJoined (o : Opening) (old : Standing) (call : Call) (returned : Out
   pub alone : calls_at o before old.number ≡ Some old.counter
   pub commits : stamp ≡ (state_at o seen).commits
 
--- the whole history holds the client's next call
-pub record IsAhead (o : Opening) (old : Standing) (whole : List Op) : Type 0 where
-  pub further : IsPrefix old.seen whole
-  pub legal : IsLegalFrom o whole
-  pub holds : HasCall whole old.number (suc old.counter)
+-- The history under the lock, when a client calls: it goes on with what the client has seen, and holds no more calls of it than it has
+-- made.
+pub record IsTurn (o : Opening) (number made : ℕ) (seen before : List Op) : Type 0 where
+  pub further : IsPrefix seen before
+  pub legal : IsLegalFrom o before
+  pub few : count_by number before ≤ made
 
--- what becomes of a call that is let in to join
-abbrev pub MayJoin : Opening → Standing → Call → Joining (List Op) → Type 0
-MayJoin o old call (Joined seen outcome stamp) = IsJoined o old call outcome seen stamp
-MayJoin o old call (Ahead seen) = IsAhead o old seen
+-- The call joined there.
+pub record JoinsBehind (o : Opening) (number made : ℕ) (seen : List Op) (call : Call) (joined : Joined (List Op)) : Type 0 where
+  pub before : List Op
+  pub turn : IsTurn o number made seen before
+  pub appended : IsAppended o before number call joined.outcome joined.seen
+  pub commits : joined.stamp ≡ (state_at o joined.seen).commits
+
+-- It gets no number there, or there is no memory for it.
+pub record RefusesToJoin (o : Opening) (number made : ℕ) (seen : List Op) (call : Call) (fault : CoreFault) : Type 0 where
+  pub before : List Op
+  pub turn : IsTurn o number made seen before
+  pub why : (refusal (state_at o before) number call ≡ Some fault) ⊎ ((fault ≡ OutOfMemory) × (nat_lt 0 (added call) ≡ true))
 
 -- the outcome of a change, or the refusal that it is
 abbrev pub outcome_or_refusal : Outcome → Result Outcome ShareFault
@@ -87,8 +96,3 @@ abbrev pub GivesNone : Standing → CoreFault → Type 0
 GivesNone s (NotDone left) = HasLeft s left
 GivesNone s OutOfMemory = HasNoneLeft s
 GivesNone s fault = ⊥
-
--- the client has seen a beginning of the history, which holds just the calls that it made
-pub record IsIn (o : Opening) (history : List Op) (s : Standing) : Type 0 where
-  pub inside : IsPrefix s.seen history
-  pub alone : calls_at o history s.number ≡ Some s.counter

@@ -1,18 +1,14 @@
 -- No public contract cites this.
 -- What the parts of a run know of its tasks and its reports.
-use Rattle.std.specs.Prelude.{◌≡◌, ℕ, suc, Bool, List, ◌∷◌, ◌++◌, length, All, slice_get, Some, None, ◌⊎◌}
-use Rattle.std.specs.Option.{option_or}
+use Rattle.std.specs.Prelude.{◌≡◌, ℕ, Bool, List, ◌∷◌, ◌++◌, length, All, slice_get, Some, None}
 use Rattle.pref_core.specs.declared.call.Op.{Op}
 use Rattle.pref_core.specs.declared.event.Act.{Act}
 use Rattle.pref_core.specs.declared.event.Reply.{Reply}
 use Rattle.pref_share.specs.declared.fault.ShareFault.{ShareFault}
-use Rattle.pref_share.specs.declared.fault.ShareFault.TheVariants.{ClientInUse}
 use Rattle.pref_share.specs.declared.run.Report.{Report}
 use Rattle.pref_share.specs.declared.run.Worked.{Worked}
 use Rattle.pref_share.specs.declared.task.Listed.{Listed}
 use Rattle.pref_share.specs.Openings.{Opening, IsLegalFrom}
-use Rattle.pref_share.specs.Clients.{IsInUse}
-use Rattle.pref_share.specs.SeenHistory.{IsIn}
 use Rattle.pref_share.specs.Reports.{DidActs, StandsWithin}
 use Rattle.pref_share.specs.Standing.{Standing}
 
@@ -26,23 +22,7 @@ pub record AreWorked {J T : Type 0} (o : Opening) (says : ℕ → ℕ → Bool �
   pub legal : IsLegalFrom o history
   pub each_worked : length all ≡ length clients
   pub each : (i : ℕ) (client : Standing) (task : T) → slice_get clients i ≡ Some client → slice_get tasks i ≡ Some task
-      → (worked : Worked J T) × (slice_get all i ≡ Some worked) × DidTask o says (took task) client (left task) worked × StandsWithin o history worked.client worked.stopped
-
--- it stays
-pub record Stays {J T : Type 0} (o : Opening) (history : List Op) (old new : Worked J T) : Type 0 where
-  pub same : new ≡ old
-  pub is_in : IsIn o history old.client
-
--- its client is in use, which is reported where it had not stopped
-pub record TurnsInUse {J T : Type 0} (o : Opening) (history : List Op) (old new : Worked J T) : Type 0 where
-  pub task : new.task ≡ old.task
-  pub stopped : new.stopped ≡ option_or old.stopped (Some (ClientInUse (suc old.client.counter)))
-  pub in_use : IsInUse o old.client (suc old.client.counter) new.client
-  pub seen : new.client.seen ≡ history
-
--- what becomes of it by the whole history
-abbrev pub Settles : {J T : Type 0} → Opening → List Op → Worked J T → Worked J T → Type 0
-Settles o history old new = Stays o history old new ⊎ TurnsInUse o history old new
+      → (worked : Worked J T) × (slice_get all i ≡ Some worked) × DidTask o says (took task) client (left task) worked × StandsWithin o history worked.client
 
 -- what came of a list of acts, as a report
 abbrev pub report_of : {J : Type 0} → Worked J Listed → Report J

@@ -8,7 +8,7 @@ ghost use Rattle.pref_share.specs.Standing.{newcomers};
 use crate::book::{BoardBrand, BoardName};
 use crate::client::Client;
 use crate::fault::ShareFault;
-use crate::history::Prefix;
+use crate::history::{Prefix, Rights};
 use crate::publisher::Publisher;
 use pref_core::{CoreFault, Setup, Store};
 use pref_table::Row;
@@ -62,11 +62,11 @@ pub fn open_board<J: BoardBrand, R: Wait>(
     ensures other { IfErr result (λ fault. (fault ≡ ShareFault.Core CoreFault.OutOfMemory) ⊎ (fault ≡ ShareFault.Closed) ⊎ (setup.capacity < length rows.now)) }
 {
     let store = Store::new(alloc, &setup, rows)?;
-    let Some((history, nothing)) = name.begin::<J>() else {
+    let Some((history, mut rights, nothing)) = name.begin::<J>() else {
         return Err(ShareFault::Closed);
     };
     let mut publisher = Publisher::open(rt, alloc, store, history, setup.clients())?;
-    match all_clients(alloc, &mut publisher, &nothing, setup) {
+    match all_clients(alloc, &mut publisher, &mut rights, &nothing, setup) {
         Ok(clients) => Ok((
             Board {
                 publisher: Mutex::new(publisher),
@@ -80,13 +80,15 @@ pub fn open_board<J: BoardBrand, R: Wait>(
     }
 }
 
-/// The clients, who have seen nothing.
+/// The clients, who have seen nothing and made no call.
 fn all_clients<J: BoardBrand>(
     alloc: Global,
     publisher: &mut Publisher<J>,
+    rights: &mut Rights<J>,
     nothing: &Prefix<J>,
     setup: Setup,
 ) -> Result<Vec<Client<J>>, ShareFault>
+    requires rights { rights.old ≡ 1 }
     requires nothing { nothing.now ≡ [] }
     requires setup { setup ≡ J.opening.limits }
     ensures clients { IfOk result (λ all. all.items ≡ newcomers setup.clients) }
@@ -97,7 +99,10 @@ fn all_clients<J: BoardBrand>(
         let Ok(reader) = publisher.reader() else {
             return Err(ShareFault::Closed);
         };
-        let client = Client::new(client + 1, setup, nothing.again(), reader);
+        let Some(page) = rights.page() else {
+            return Err(ShareFault::Closed);
+        };
+        let client = Client::new(client + 1, setup, nothing.again(), page, reader);
         if all.push(client).is_err() {
             return Err(ShareFault::Core(CoreFault::OutOfMemory));
         }

@@ -1,27 +1,33 @@
-//! The book in which all operations of a board are noted, in one order. It exists in the proofs alone: what threads share of it is a
-//! word that says nothing.
+//! The book in which all operations of a board are noted. It exists in the proofs alone: what threads share of it are
+//! words that say nothing.
 //!
-//! Who has the pen of the next operation knows the whole history: a pen that has added an entry is home, and no pen can
-//! add two. So under the lock, where the pen lies, a beginning of the history that any client has seen is shown to begin
-//! it, and an operation is added behind it, by proof.
+//! It has a page for the history and one for each client. Who has the pen of a page knows all that stands there: a pen
+//! that has written an entry is home, and no pen can write two. The pen of the history lies under the lock, and each
+//! client has that of its own page. A call is written on its client's page, and then on that of the history, which by the
+//! rule of the book holds no more calls of a client than the client's page. So no call joins the history but by its
+//! client, who knows them all.
 //!
 //! ```text
-//! pen 2, home       added op A, which names pen 3
-//! pen 3, home       added op B, which names pen 4
-//! pen 4, not home   lies under the lock, and is to add what comes after B
+//! page 0, of the history, is begun    names pen 9
+//! page 1, of client 1, is begun       names pen 10
+//! page 1: call A                      names pen 11; pen 10 has written it, and is home
+//! page 0: call A                      names pen 12; pen 9 has written it, and is home
+//!
+//! pen 11, not home                    is with client 1, and is to write its next call
+//! pen 12, not home                    lies under the lock, and is to write what comes after A
 //! ```
 //!
-//! Each entry names, by its key, the pen that may add the next one, and this pen comes home as it does. So whoever
-//! has seen the entries as far as B, and has pen 4, knows that nothing follows B: else pen 4 would be home.
+//! Each entry names, by its key, the pen that may write the next one of its page, and this pen comes home as it does. So
+//! who has seen the entry that names pen 12, and has pen 12, knows that nothing follows it on its page: else pen 12 would
+//! be home.
 
-ghost use Rattle.std.specs.Prelude.{◌≡◌, [], List, MatchBool};
+ghost use Rattle.std.specs.Prelude.{◌≡◌, [], List};
 ghost use mathlib.Core.List.{IsPrefix};
-ghost use Rattle.logbook.specs.Pages.{may_write};
 ghost use Rattle.pref_share.specs.declared.entry.Entry.{Entry as EntryValue};
-ghost use Rattle.pref_share.specs.Book.{word_of, ops_of, first_key};
+ghost use Rattle.pref_share.specs.Book.{ops_of, pages};
 
 use crate::entry::Entry;
-use logbook::{Gain, Offer, Pen, Plain, Play, Rule, Seen, Start, Word};
+use logbook::{Gain, Opening, Pen, Pens, Plain, Play, Rule, Seen, Start, Word};
 use pref_core::Planned;
 use std::marker::{Brand, Model};
 
@@ -49,8 +55,8 @@ impl Rule<Entry, u64> for Law {
 /// A proof that the book reached some entries. It has no bytes.
 pub(crate) type Entries = Seen<Entry, u64, Law>;
 
-/// The word of the book.
-pub(crate) type PenWord = Word<Entry, u64, Law>;
+/// The word of a page.
+pub(crate) type PageWord = Word<Entry, u64, Law>;
 
 /// A proof that the book reached a history. It has no bytes.
 pub struct Witness {
@@ -128,7 +134,7 @@ impl Play<Entry, u64> for MakePen {
     ghost then = { Begins };
 }
 
-/// A step that shows that the history is whole.
+/// A step that shows that a page is whole.
 pub struct ShowWhole;
 
 impl Play<Entry, u64> for ShowWhole {
@@ -137,57 +143,48 @@ impl Play<Entry, u64> for ShowWhole {
     ghost then = { IsWhole };
 }
 
-/// A step that adds an operation.
-pub struct AppendOp;
+/// A step that writes an operation on a page.
+pub struct WriteOp;
 
-impl Play<Entry, u64> for AppendOp {
+impl Play<Entry, u64> for WriteOp {
     ghost use Rattle.pref_share.specs.Book.{Adds};
 
     ghost then = { Adds };
 }
 
-/// An operation, and the pen of the next one.
-pub(crate) struct Adding<'a> {
+/// An operation, the word of its page, and the pen of the next one.
+pub(crate) struct Writing<'a> {
     pub(crate) op: &'a Planned<'a>,
+    pub(crate) word: &'a PageWord,
     pub(crate) next: Pen,
 }
 
-/// A step asks for an operation, and for the pen that may add the next one.
-impl Plain<Adding<'_>, Entry, u64> for AppendOp {
-    ghost use Rattle.std.specs.Prelude.{None};
+/// A step asks for an operation on a page, and for the pen that may write the next one there.
+impl Plain<Writing<'_>, Entry, u64> for WriteOp {
+    ghost use Rattle.std.specs.Prelude.{None, Some};
     ghost use Rattle.pref_core.specs.Planned.{op_of};
 
-    ghost ask = { λ a. record { op = op_of a.op.now; key = a.next.nib.key } };
+    ghost ask = { λ a. record { page = a.word.now.key; key = a.next.nib.key; op = Some (op_of a.op.now) } };
 
     ghost state = { λ a. None };
 }
 
-/// For a step that adds nothing. No value of what it asks for is used.
+/// For a step that writes nothing. No value of what it asks for is used.
 impl Plain<ShowWhole, Entry, u64> for ShowWhole {
-    ghost use Rattle.std.specs.Prelude.{None, []};
-    ghost use Rattle.pref_core.specs.declared.call.Call.TheVariants.{Begin};
-    ghost use Rattle.pref_core.specs.declared.call.Outcome.TheVariants.{Done};
+    ghost use Rattle.std.specs.Prelude.{None};
 
-    ghost ask = { λ _. record { op = record { client = 0; number = 0; call = Begin; slots = []; outcome = Done }; key = 0 } };
+    ghost ask = { λ _. record { page = 0; key = 0; op = None } };
 
     ghost state = { λ _. None };
 }
 
-/// A pen, and whether it is the first.
-pub(crate) fn new_pen(turn: &PenWord, seen: &Entries) -> (Pen, bool)
-    requires { turn.now ≡ word_of seen.now.book }
-    ensures book { result.0.book ≡ seen.now.book }
-    ensures right { result.0.nib.right ≡ may_write }
-    ensures key { MatchBool result.1 (result.0.nib.key ≡ first_key) (Unit {0}) }
-{
-    let mut seen = seen.again();
-    let mut offer: Offer<Entry, u64, Law, NoTrade> = seen.plain::<NoTrade, ShowWhole, ShowWhole>(
-        &ShowWhole,
-    );
-    let mut pen = seen.no_pen();
-    let found = turn.compare_exchange::<MakePen, NoTrade>(0, 1, &mut seen, &mut offer, &mut pen);
-    let _word: PenWord = Word::tracked(0, &mut pen);
-    (pen, found == 0)
+/// A book that opens with no entry.
+pub struct Blank;
+
+impl Opening<Blank, Entry> for Blank {
+    ghost use Rattle.std.specs.Prelude.{[]};
+
+    ghost log = { λ count about. [] };
 }
 
 /// The identity of a board in contracts: the book of its history, its setup and its opening rows. Code that works with any board is generic
@@ -222,19 +219,19 @@ impl BoardBrand for Brand {
 /// ```
 #[derive(Drop)]
 pub struct BoardName {
-    pub(crate) turn: PenWord,
+    pub(crate) rights: Pens,
     pub(crate) seen: Entries,
     pub ghost empty: { seen.log ≡ [] },
-    pub ghost turn_is: { turn ≡ word_of seen.book },
+    pub ghost rights_are: { (rights.book ≡ seen.book) × (rights.next ≡ 0) × (rights.left ≡ pages) },
 }
+
+/// How many pages a book has: that of the history, and one for each of eight clients.
+const PAGES: usize = 9;
 
 impl BoardName {
     /// A name that no board has.
     pub fn new() -> BoardName {
-        let (seen, mut first, _second) = Seen::open(Start::alone(), 0, 0);
-        BoardName {
-            turn: Word::tracked(0, &mut first),
-            seen,
-        }
+        let (seen, rights) = Seen::open_row::<Blank, Blank>(&Blank, Start::alone(), PAGES);
+        BoardName { rights, seen }
     }
 }

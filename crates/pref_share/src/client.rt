@@ -4,19 +4,19 @@ mod acts;
 mod calls;
 mod reads;
 
-ghost use Rattle.std.specs.Prelude.{◌≡◌, suc, ◌<◌, ◌≤◌, [], length, IfErr, OnOk};
+ghost use Rattle.std.specs.Prelude.{◌≡◌, ◌<◌, ◌≤◌, [], length};
 ghost use mathlib.Core.List.{IsPrefix};
 ghost use Rattle.left_right.specs.Sides.{view};
 ghost use Rattle.pref_share.specs.Openings.{IsLegalFrom, first_contents};
 ghost use Rattle.pref_share.specs.Standing.{newcomer};
-ghost use Rattle.pref_share.specs.Clients.{Sees, IsInUse};
-ghost use Rattle.pref_share.specs.SeenHistory.{IsIn};
+ghost use Rattle.pref_share.specs.Clients.{Sees};
+ghost use Rattle.pref_share.specs.Reports.{StandsWithin};
+ghost use Rattle.pref_share.specs.Book.{IsPageOf};
 ghost use Rattle.pref_share.specs.Views.{Knows};
-ghost use Rattle.pref_share.specs.declared.fault.ShareFault.TheVariants.{ClientInUse};
 
 use crate::book::BoardBrand;
-use crate::fault::ShareFault;
 use crate::history::Prefix;
+use crate::page::Page;
 use crate::published::StoreReader;
 use crate::publisher::Publisher;
 use pref_core::{Query, Setup};
@@ -71,7 +71,8 @@ impl<J: BoardBrand> Model for Asking<J> {
 }
 
 /// One client of a board: it counts its numbered calls, and keeps its open query, its reader of the published table, and what it has
-/// seen of the history. It may be moved to a thread of its own.
+/// seen of the history. It may be moved to a thread of its own. The right to make calls of its number is its own: the history holds the
+/// calls that it made, and no others of its number.
 ///
 /// A client that is dropped with a query open keeps that query's versions needed.
 ///
@@ -88,6 +89,8 @@ pub struct Client<J: BoardBrand> {
     setup: Setup,
     seen: Prefix<J>,
     asking: Option<Asking<J>>,
+    // The calls that it has made, with the right to make more.
+    page: Page,
     reader: StoreReader,
 }
 
@@ -100,6 +103,7 @@ impl<J: BoardBrand> Drop for Client<J> {
             setup: _,
             seen: _,
             asking: _,
+            page: _,
             reader: _,
         } = self;
     }
@@ -110,6 +114,7 @@ impl<J: BoardBrand> Model for Client<J> {
     ghost use Rattle.left_right.specs.Sides.{view as view_of};
     ghost use Rattle.pref_share.specs.Openings.{first_contents};
     ghost use Rattle.pref_share.specs.Views.{Knows};
+    ghost use Rattle.pref_share.specs.Book.{IsPageOf};
     ghost use Rattle.pref_share.specs.SeenHistory.{Stands};
     ghost use Rattle.pref_share.specs.Standing.{Standing};
     ghost use Rattle.pref_term.specs.PreferenceCode.{coded_question};
@@ -121,15 +126,22 @@ impl<J: BoardBrand> Model for Client<J> {
 
     ghost view = { λ c. record { number = c.number; counter = c.counter; seen = c.seen; query = c.asking } };
 
-    ghost invariant = { λ c. Knows (first_contents J.opening) J.book (view_of c.reader.place) × (c.setup ≡ J.opening.limits) × Stands J.opening c.number c.counter c.seen c.asking };
+    ghost invariant = { λ c. Knows (first_contents J.opening) J.book (view_of c.reader.place) × (c.setup ≡ J.opening.limits) × Stands J.opening c.number c.counter c.seen c.asking × IsPageOf J.book c.number c.counter c.page };
 }
 
 impl<J: BoardBrand> Client<J> {
-    pub(crate) fn new(number: u8, setup: Setup, seen: Prefix<J>, reader: StoreReader) -> Client<J>
+    pub(crate) fn new(
+        number: u8,
+        setup: Setup,
+        seen: Prefix<J>,
+        page: Page,
+        reader: StoreReader,
+    ) -> Client<J>
         requires knows { Knows (first_contents J.opening) J.book (view reader.place) }
         requires number { (0 < number) × (number ≤ setup.clients) }
         requires setup { setup ≡ J.opening.limits }
         requires seen { seen ≡ [] }
+        requires page { IsPageOf J.book number 0 page }
         ensures { result ≡ newcomer number }
     {
         let seen = seen.again();
@@ -139,6 +151,7 @@ impl<J: BoardBrand> Client<J> {
             setup,
             seen,
             asking: None,
+            page,
             reader,
         }
     }
@@ -194,16 +207,12 @@ impl<J: BoardBrand> Client<J> {
         }
     }
 
-    /// Whether the whole history holds just the calls that it made. Where it does not, the client has seen all of it from now on.
-    pub(crate) fn reconcile(&mut self, publisher: &mut Publisher<J>) -> Result<(), ShareFault>
-        ensures same { publisher.new ≡ publisher.old }
-        ensures settled { OnOk result (IsIn J.opening publisher.old self.new × (self.new ≡ self.old)) }
-        ensures in_use { IfErr result (λ fault. (fault ≡ ClientInUse (suc self.old.counter)) × IsInUse J.opening self.old (suc self.old.counter) self.new × (self.new.seen ≡ publisher.old)) }
+    /// Shows that the whole history goes on with what it has seen, and holds just the calls that it made.
+    pub(crate) fn check(&mut self, publisher: &mut Publisher<J>)
+        ensures same { (publisher.new ≡ publisher.old) × (self.new ≡ self.old) }
+        ensures within { StandsWithin J.opening publisher.old self.old }
     {
         publisher.check(&self.seen);
-        if publisher.last(self.number) > self.counter {
-            return Err(self.in_use(publisher.whole()));
-        }
-        Ok(())
+        publisher.whole().count(&mut self.page);
     }
 }

@@ -12,8 +12,7 @@ use thiserror::Error;
 /// A refusal. Those of the table are tested in their order; `Spent`, `QueryOpen`, `NoQuery`, `AllScanned` and `NotDone`
 /// before the others of this type.
 ///
-/// After `OutOfMemory`, `ClientInUse` and `Closed` the client's counter and its query are as they were. A call refused `OutOfMemory`
-/// or `Closed` can be made again.
+/// After `OutOfMemory` and `Closed` the client's counter and its query are as they were, and the call can be made again.
 ///
 /// ```text
 /// match client.get(id) {
@@ -27,7 +26,7 @@ pub enum ShareFault {
     /// The table's refusal.
     #[error("{0}")]
     Core(CoreFault),
-    /// A history that continues what this client had seen holds a call of it that it has not made. No run is known to meet it.
+    /// The history holds a call of this client that it has not made. No call returns it: a call joins the history by its client alone.
     #[error("client in use at {number}")]
     ClientInUse {
         /// The number of that call.

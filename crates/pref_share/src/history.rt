@@ -1,70 +1,96 @@
 //! The history of a board: the whole of it, which lies under the lock, and its beginnings, which clients have seen.
 
-ghost use Rattle.std.specs.Prelude.{◌≡◌, ◌++◌, ◌∷◌, ◌≤◌, [], length, IfSome, MatchBool};
+ghost use Rattle.std.specs.Prelude.{◌≡◌, suc, ◌++◌, ◌∷◌, ◌+◌, ◌<◌, ◌≤◌, [], length, IfSome, MatchBool};
 ghost use mathlib.Core.List.{IsPrefix};
 ghost use Rattle.pref_core.specs.Limits.{AreAllowed};
 ghost use Rattle.pref_core.specs.Planned.{op_of};
+ghost use Rattle.pref_share.specs.Book.{IsPageOf, count_by, pages};
 ghost use Rattle.pref_share.specs.Openings.{IsLegalFrom, MayFollow};
 
-use crate::book::{
-    Adding, AppendOp, BoardBrand, BoardName, Entries, Law, NoTrade, PenWord, ShowWhole, Witness,
-    new_pen,
-};
-use crate::entry::Entry;
-use logbook::{Offer, Pen};
+use crate::book::{BoardBrand, BoardName, Entries, Witness};
+use crate::page::Page;
+use logbook::Pens;
 use pref_core::Planned;
 use std::marker::{Model, PhantomData};
 
-/// The whole history. Who has it alone may add to it. Contracts see its operations.
+/// The whole history. Who has it alone may add to it, and only the calls of clients whose pages are lent. Contracts see its
+/// operations.
 #[derive(Drop)]
 pub(crate) struct History<J: BoardBrand> {
-    turn: PenWord,
+    page: Page,
     len: u64,
-    seen: Entries,
-    pen: Pen,
     of: PhantomData<J>,
 }
 
 impl<J: BoardBrand> Model for History<J> {
     ghost use Rattle.std.specs.Prelude.{◌≡◌, List, length};
-    ghost use Rattle.logbook.specs.Pages.{may_write};
     ghost use Rattle.pref_core.specs.declared.call.Op.{Op};
-    ghost use Rattle.pref_share.specs.Book.{word_of, ops_of, key_after};
+    ghost use Rattle.pref_share.specs.Book.{history_page};
     ghost use Rattle.pref_share.specs.Openings.{IsLegalFrom};
 
     ghost Value = { List Op };
 
-    ghost view = { λ h. ops_of h.seen.log };
+    ghost view = { λ h. h.page.ops };
 
-    ghost invariant = { λ h. (h.turn ≡ word_of J.book) × (h.len ≡ length (ops_of h.seen.log)) × (h.seen.book ≡ J.book) × (h.pen.book ≡ J.book) × (h.pen.nib.right ≡ may_write) × (key_after h.seen.log ≡ h.pen.nib.key) × IsLegalFrom J.opening (ops_of h.seen.log) };
+    ghost invariant = { λ h. (h.page.number ≡ history_page) × (h.page.book ≡ J.book) × (h.len ≡ length h.page.ops) × IsLegalFrom J.opening h.page.ops };
+}
+
+/// The rights to begin the pages of the clients, in order of their numbers. Contracts see the next number.
+#[derive(Drop)]
+pub(crate) struct Rights<J: BoardBrand> {
+    pens: Pens,
+    seen: Entries,
+    of: PhantomData<J>,
+}
+
+impl<J: BoardBrand> Model for Rights<J> {
+    ghost use Rattle.std.specs.Prelude.{◌≡◌, ◌+◌, ℕ};
+    ghost use Rattle.pref_share.specs.Book.{pages};
+
+    ghost Value = { ℕ };
+
+    ghost view = { λ r. r.pens.next };
+
+    ghost invariant = { λ r. (r.pens.book ≡ r.seen.book) × (r.seen.book ≡ J.book) × (r.pens.next + r.pens.left ≡ pages) };
+}
+
+impl<J: BoardBrand> Rights<J> {
+    /// The page of the next client, on which nothing stands. No run returns `None`: each page is begun once.
+    pub(crate) fn page(&mut self) -> Option<Page>
+        requires { self.old < pages }
+        ensures rest { self.new ≡ self.old + 1 }
+        ensures page { IfSome result (λ page. page ≡ record { number = self.old; ops = []; book = J.book }) }
+    {
+        Page::begin(&mut self.pens, &self.seen)
+    }
 }
 
 impl BoardName {
-    /// The history, with the right to add to it, and the beginning that has seen nothing. This book has been begun by no one
-    /// else, so no run returns `None`.
-    pub(crate) fn begin<J: BoardBrand>(self) -> Option<(History<J>, Prefix<J>)>
+    /// The history, the rights to the pages of the clients, and the beginning that has seen nothing. This book has been begun by
+    /// no one else, so no run returns `None`.
+    pub(crate) fn begin<J: BoardBrand>(self) -> Option<(History<J>, Rights<J>, Prefix<J>)>
         requires book { self.seen.book ≡ J.book }
         requires legal { IsLegalFrom J.opening [] }
-        ensures { IfSome result (λ r. (r.0 ≡ []) × (r.1 ≡ [])) }
+        ensures { IfSome result (λ r. (r.0 ≡ []) × (r.1 ≡ 1) × (r.2 ≡ [])) }
     {
-        let BoardName { turn, seen } = self;
-        let (pen, is_first) = new_pen(&turn, &seen);
-        if !is_first {
-            return None;
-        }
+        let BoardName { mut rights, seen } = self;
+        let page = Page::begin(&mut rights, &seen)?;
         let prefix = Prefix {
             len: 0,
-            seen: Witness::of(&seen),
+            seen: page.witness(),
             of: PhantomData,
         };
         let history = History {
-            turn,
+            page,
             len: 0,
-            seen,
-            pen,
             of: PhantomData,
         };
-        Some((history, prefix))
+        let rights = Rights {
+            pens: rights,
+            seen,
+            of: PhantomData,
+        };
+        Some((history, rights, prefix))
     }
 }
 
@@ -76,7 +102,7 @@ impl<J: BoardBrand> History<J> {
     {
         Prefix {
             len: self.len,
-            seen: Witness::of(&self.seen),
+            seen: self.page.witness(),
             of: PhantomData,
         }
     }
@@ -87,33 +113,19 @@ impl<J: BoardBrand> History<J> {
         ensures begins { IsPrefix prefix.now self.old }
         ensures legal { IsLegalFrom J.opening self.old }
     {
-        let mut seen = self.seen.again();
-        prefix.seen.teach(&mut seen);
-        let mut offer: Offer<Entry, u64, Law, NoTrade> = seen.plain::<
-            NoTrade,
-            ShowWhole,
-            ShowWhole,
-        >(&ShowWhole);
-        let _found = self
-            .turn
-            .compare_exchange::<ShowWhole, NoTrade>(0, 1, &mut seen, &mut offer, &mut self.pen);
+        self.page.check(&prefix.seen);
     }
 
-    /// Adds an operation.
-    pub(crate) fn add(&mut self, op: &Planned<'_>)
-        requires { MayFollow J.opening self.old (op_of op.now) }
-        ensures { self.new ≡ self.old ++ op_of op.now ∷ [] }
+    /// Adds an operation, which its client writes on its page before.
+    pub(crate) fn add(&mut self, op: &Planned<'_>, page: &mut Page)
+        requires follows { MayFollow J.opening self.old (op_of op.now) }
+        requires page { IsPageOf J.book (op_of op.now).client (length page.old.ops) page.old }
+        requires few { count_by (op_of op.now).client self.old ≤ length page.old.ops }
+        ensures added { self.new ≡ self.old ++ op_of op.now ∷ [] }
+        ensures page { IsPageOf J.book (op_of op.now).client (suc (length page.old.ops)) page.new }
     {
-        let (next, _) = new_pen(&self.turn, &self.seen);
-        let adding = Adding { op, next };
-        let mut offer: Offer<Entry, u64, Law, NoTrade> = self
-            .seen
-            .plain::<NoTrade, Adding<'_>, AppendOp>(&adding);
-        let _found = self
-            .turn
-            .compare_exchange::<AppendOp, NoTrade>(0, 1, &mut self.seen, &mut offer, &mut self.pen);
-        let Adding { op: _, next } = adding;
-        self.pen = next;
+        page.write(op, &self.page);
+        self.page.write(op, page);
         self.len += 1;
     }
 }
@@ -189,6 +201,16 @@ impl<J: BoardBrand> Prefix<J> {
             seen: self.seen.again(),
             of: PhantomData,
         }
+    }
+
+    /// Shows that it holds no more calls of a client than stand on the client's page.
+    pub(crate) fn count(&self, page: &mut Page)
+        requires book { page.old.book ≡ J.book }
+        requires client { 0 < page.old.number }
+        ensures same { page.new ≡ page.old }
+        ensures few { count_by page.old.number self.now ≤ length page.old.ops }
+    {
+        page.check(&self.seen);
     }
 
     /// Whether it begins the other one. Of two beginnings of one history one does.

@@ -15,6 +15,7 @@ mod entry;
 mod fault;
 mod history;
 pub mod laws;
+mod page;
 mod published;
 mod publisher;
 mod run;

@@ -12,19 +12,20 @@
 //! alone that went in before the last call was published. So each copy does each call, one before it is published
 //! and the other at the next call.
 
-ghost use Rattle.std.specs.Prelude.{◌≡◌, ◌++◌, ◌∷◌, ◌<◌, ◌⊎◌, [], drop, fold, nat_lt, true, Some, IfOk, IfErr};
-ghost use Rattle.std.specs.Option.{unwrap_or};
+ghost use Rattle.std.specs.Prelude.{◌≡◌, suc, ◌++◌, ◌∷◌, ◌<◌, ◌≤◌, ◌⊎◌, [], length, drop, fold, nat_lt, true, Some, IfOk, IfErr};
 ghost use mathlib.Core.List.{IsPrefix};
 ghost use Rattle.left_right.specs.Sides.{view};
 ghost use Rattle.pref_core.specs.declared.fault.CoreFault.TheVariants.{OutOfMemory};
 ghost use Rattle.pref_core.specs.Planned.{boxed_op};
 ghost use Rattle.pref_core.specs.State.{added, refusal};
 ghost use Rattle.pref_share.specs.SeenHistory.{IsAppended};
-ghost use Rattle.pref_share.specs.Openings.{IsLegalFrom, first_contents, contents_at, state_at, calls_at};
+ghost use Rattle.pref_share.specs.Book.{IsPageOf, count_by};
+ghost use Rattle.pref_share.specs.Openings.{IsLegalFrom, first_contents, contents_at, state_at};
 ghost use Rattle.pref_share.specs.Views.{stamped, HoldsHistory, Knows};
 
 use crate::book::BoardBrand;
 use crate::history::{History, Prefix};
+use crate::page::Page;
 use crate::published::{
     GiveView, OpenStep, PublishStep, Published, Stamp, StoreReader, StoreWriter, TakeView,
 };
@@ -203,13 +204,6 @@ impl<J: BoardBrand> Publisher<J> {
         self.history.check(prefix);
     }
 
-    /// How many calls this client has made.
-    pub(crate) fn last(&self, client: u8) -> u64
-        ensures { result ≡ unwrap_or (calls_at J.opening self.now client) 0 }
-    {
-        self.store().last(client)
-    }
-
     /// How many commits there were.
     pub(crate) fn stamp(&self) -> u64
         ensures { result ≡ (state_at J.opening self.now).commits }
@@ -227,19 +221,23 @@ impl<J: BoardBrand> Publisher<J> {
         Ok(reader)
     }
 
-    /// A call joins the history, and is published, planned by the index on the published store. It gives the outcome. `Err` is why it gets
-    /// no number, or that there is no memory for the places of new rows in the index, which only a call that adds a row meets; nothing
-    /// has changed then.
+    /// A call joins the history by the page of its client, and is published, planned by the index on the published store. It gives the
+    /// outcome. `Err` is why it gets no number, or that there is no memory for the places of new rows in the index, which only a call
+    /// that adds a row meets; nothing has changed then.
     pub(crate) fn join<R: Wait>(
         &mut self,
         rt: &R,
         alloc: Global,
         client: u8,
+        page: &mut Page,
         call: BoxedCall,
     ) -> Result<Outcome, CoreFault>
+        requires page { IsPageOf J.book client (length page.old.ops) page.old }
+        requires few { count_by client self.old ≤ length page.old.ops }
         ensures joined { IfOk result (λ outcome. IsAppended J.opening self.old client call outcome self.new) }
         ensures refused { IfErr result (λ fault. (refusal (state_at J.opening self.old) client call ≡ Some fault) ⊎ ((fault ≡ OutOfMemory) × (nat_lt 0 (added call) ≡ true))) }
-        ensures same { IfErr result (λ fault. self.new ≡ self.old) }
+        ensures same { IfErr result (λ fault. (self.new ≡ self.old) × (page.new ≡ page.old)) }
+        ensures page { IfOk result (λ outcome. IsPageOf J.book client (suc (length page.old.ops)) page.new) }
     {
         let lent = call.lend();
         let store = published_store(&*self.writer);
@@ -248,7 +246,7 @@ impl<J: BoardBrand> Publisher<J> {
             Err(fault) => return Err(fault),
         };
         store.reindex(alloc, &mut self.index, &op)?;
-        self.history.add(&op);
+        self.history.add(&op, page);
         let Planned {
             client,
             number,

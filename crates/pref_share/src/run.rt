@@ -8,8 +8,8 @@ ghost use Rattle.pref_share.specs.Openings.{IsLegalFrom};
 ghost use Rattle.pref_share.specs.Standing.{newcomers};
 ghost use Rattle.pref_share.specs.Runs.{IsJointRun};
 ghost use Rattle.pref_share.specs.Interleavings.{IsSequential};
-ghost use Rattle.pref_share.specs.Reports.{AreReports, RanTasks, RefusesRun};
-ghost use Rattle.pref_share.specs.TaskResults.{AreWorked, DidTask, IsFirstOf, Settles, report_of};
+ghost use Rattle.pref_share.specs.Reports.{AreReports, RanTasks, RefusesRun, StandsWithin};
+ghost use Rattle.pref_share.specs.TaskResults.{AreWorked, DidTask, IsFirstOf, report_of};
 
 use crate::board::Board;
 use crate::book::BoardBrand;
@@ -49,7 +49,7 @@ pub struct Report<J: BoardBrand> {
     pub client: Client<J>,
     /// The reply to each act that it did, in order: the first of its acts.
     pub replies: Vec<Reply>,
-    /// Why it did not do the next, or that it is in use after all of them.
+    /// Why it did not do the next.
     pub stopped: Option<ShareFault>,
 }
 
@@ -73,8 +73,7 @@ struct Worked<J: BoardBrand, T> {
 ///
 /// Acts that the table refuses have its refusal as their reply, and stop no client. A client stops before an act to which the gate answers
 /// false (`Held`), and at one that meets `OutOfMemory`, which only an act that asks for memory does, or `Closed`, which only a scan, a get
-/// or a room does. `ClientInUse` is reported of a client, also after all its acts, whose next call is in what it has seen, though it
-/// has not made it; no run is known to meet it, and a client that stopped for another reason keeps that. No client stops another.
+/// or a room does. No client stops another.
 ///
 /// An `Err` means that there was no memory for the jobs, the replies or the reports. The clients are dropped then, and what had
 /// joined the history stays.
@@ -296,7 +295,7 @@ fn all_results<J: BoardBrand, T: Task + Drop>(
     Ok(list)
 }
 
-/// The end of each client's task, which is settled by the whole history.
+/// The end of each client's task, with the history as it is then: it holds just the calls that the clients made.
 fn work_tasks<
     J: BoardBrand + Send + Sync,
     R: Threads + Wait + Sync,
@@ -317,42 +316,33 @@ fn work_tasks<
 {
     let jobs = pair_up(alloc, clients, tasks)?;
     let mut worked = all_results(alloc, work_all(rt, alloc, board, jobs, gate)?)?;
-    let _whole = reconcile_all(rt, board, &mut worked);
+    let _whole = check_all(rt, board, &mut worked);
     Ok(worked)
 }
 
-/// Settles what came of each task, by the whole history.
-fn reconcile_each<J: BoardBrand, T: Drop>(publisher: &mut Publisher<J>, all: &mut [Worked<J, T>])
-    ensures same { publisher.new ≡ publisher.old }
-    ensures settled { (i : ℕ) (d : _) → i < length all.old → Settles J.opening publisher.old (slice_index_or all.old i d) (slice_index_or all.new i d) }
+/// Shows of each client that the whole history goes on with what it has seen, and holds just the calls that it made.
+fn check_each<J: BoardBrand, T: Drop>(publisher: &mut Publisher<J>, all: &mut [Worked<J, T>])
+    ensures same { (publisher.new ≡ publisher.old) × (all.new ≡ all.old) }
+    ensures within { (i : ℕ) (d : _) → i < length all.old → StandsWithin J.opening publisher.old (slice_index_or all.old i d).client }
 {
     for worked in all.iter_mut() {
-        reconcile(publisher, worked);
+        worked.client.check(publisher);
     }
 }
 
-/// A client is in use where the whole history holds a call of it that it has not made. That is reported where it has not stopped.
-fn reconcile<J: BoardBrand, T: Drop>(publisher: &mut Publisher<J>, worked: &mut Worked<J, T>)
-    ensures same { publisher.new ≡ publisher.old }
-    ensures settled { Settles J.opening publisher.old worked.old worked.new }
-{
-    if let Err(fault) = worked.client.reconcile(publisher) {
-        worked.stopped = worked.stopped.or(Some(fault));
-    }
-}
-
-/// Settles what came of each task, and gives the whole history.
-fn reconcile_all<J: BoardBrand, R: Wait, T: Drop>(
+/// The whole history, which is shown to hold just the calls that the clients made.
+fn check_all<J: BoardBrand, R: Wait, T: Drop>(
     rt: &R,
     board: &Board<J>,
     all: &mut [Worked<J, T>],
 ) -> Prefix<J>
     ensures legal { IsLegalFrom J.opening result }
-    ensures settled { (i : ℕ) (d : _) → i < length all.old → Settles J.opening result (slice_index_or all.old i d) (slice_index_or all.new i d) }
+    ensures same { all.new ≡ all.old }
+    ensures within { (i : ℕ) (d : _) → i < length all.old → StandsWithin J.opening result (slice_index_or all.old i d).client }
 {
     let mut guard = board.publisher.lock(rt);
     let publisher = &mut *guard;
-    reconcile_each(publisher, all);
+    check_each(publisher, all);
     publisher.whole()
 }
 

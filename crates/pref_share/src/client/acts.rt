@@ -15,8 +15,8 @@ impl<J: BoardBrand> Client<J> {
     /// Does an act by the call that it is, and gives the reply to it: that of the sequential table, whose refusals are replies. Waits for
     /// the board, unless the act is a scan, a get or a room.
     ///
-    /// Refused `OutOfMemory`, which only an act that asks for memory is, `Closed`, which only a scan, a get or a room is, and `ClientInUse`.
-    /// The client's counter and its query are as they were then.
+    /// Refused `OutOfMemory`, which only an act that asks for memory is, and `Closed`, which only a scan, a get or a room is. The client's
+    /// counter and its query are as they were then.
     ///
     /// ```text
     /// match client.act(rt, alloc, &board, Act::Get(3))? {

@@ -1,19 +1,20 @@
 //! The numbered calls of a client: each joins the history under the lock of the board, and is published once.
 
-ghost use Rattle.std.specs.Prelude.{◌≡◌, ℕ, suc, nat_lt, List, length, true, None, IfOk, IfErr, OnOk, OnErr, MatchResult};
+ghost use Rattle.std.specs.Prelude.{◌≡◌, ℕ, suc, List, length, true, None, IfOk, IfErr, MatchResult};
 ghost use Rattle.pref_core.specs.declared.call.Outcome.TheVariants.{Added, Done};
-ghost use Rattle.pref_core.specs.State.{added, is_change, success_outcome};
+ghost use Rattle.pref_core.specs.State.{is_change, success_outcome};
 ghost use Rattle.pref_core.specs.Stability.{is_end};
-ghost use Rattle.pref_share.specs.declared.fault.ShareFault.TheVariants.{ClientInUse};
 ghost use Rattle.pref_core.specs.Step.{committed_of};
-ghost use Rattle.pref_share.specs.Clients.{own_refusal, Changes, Commits, Joins, Begins, Finishes, IsAnswer, RefusesChange, RefusesCall, RefusesBegin, RefusesFinish, IsInUse};
-ghost use Rattle.pref_share.specs.SeenHistory.{MayJoin, IsAhead, outcome_or_refusal, first_added_id, GivesNone};
+ghost use Rattle.pref_share.specs.Clients.{own_refusal, Changes, Commits, Joins, Begins, Finishes, IsAnswer, RefusesChange, RefusesCall, RefusesBegin, RefusesFinish};
+ghost use Rattle.pref_share.specs.Book.{IsPageOf};
+ghost use Rattle.pref_share.specs.SeenHistory.{JoinsBehind, RefusesToJoin, outcome_or_refusal, first_added_id, GivesNone};
 
 use crate::board::Board;
 use crate::book::BoardBrand;
 use crate::client::{Asking, Client};
 use crate::fault::{BeginFault, ShareFault};
 use crate::history::Prefix;
+use crate::page::Page;
 use pref_core::{
     BoxedCall, BoxedCommit, Call, Change, Commit, Committed, CoreFault, LentCall, Outcome, Query,
     QueryState,
@@ -21,28 +22,21 @@ use pref_core::{
 use pref_sky::Ranked;
 use pref_table::Row;
 use pref_term::Ask;
-use std::alloc::{AllocError, Global};
+use std::alloc::Global;
 use std::sync::Wait;
 
-/// The outcome of a call that is let in to join, with all of the history as it is then.
+/// A call that joined: all of the history as it is then, which ends with the call, its outcome, and how many commits there are.
 #[derive(Drop)]
-pub(super) enum Joining<H> {
-    /// The history ends with the call, which leaves this many commits.
-    Joined {
-        seen: H,
-        outcome: Outcome,
-        stamp: u64,
-    },
-    /// The history holds a call of this client that it has not made.
-    Ahead {
-        seen: H,
-    },
+pub(super) struct Joined<H> {
+    seen: H,
+    outcome: Outcome,
+    stamp: u64,
 }
 
 impl<J: BoardBrand> Client<J> {
     /// Inserts a row, and returns its id. Waits for the board.
     ///
-    /// Refused `Spent`, `Full` (which is numbered), or `OutOfMemory`; and `ClientInUse`.
+    /// Refused `Spent`, `Full` (which is numbered), or `OutOfMemory`.
     ///
     /// ```text
     /// let id = client.insert(rt, alloc, &board, Row::of(&schema, &[55, 1])?)?;
@@ -63,7 +57,7 @@ impl<J: BoardBrand> Client<J> {
 
     /// Puts another row in place of the one of this id, in one commit. Waits for the board.
     ///
-    /// Refused `Spent`, or `NoSuchRow` or `Full` (which are numbered); and `ClientInUse`.
+    /// Refused `Spent`, or `NoSuchRow` or `Full` (which are numbered).
     ///
     /// ```text
     /// client.update(rt, alloc, &board, id, Row::of(&schema, &[45, 1])?)?;
@@ -85,7 +79,7 @@ impl<J: BoardBrand> Client<J> {
 
     /// Deletes the row of this id. Waits for the board.
     ///
-    /// Refused `Spent`, or `NoSuchRow` (which is numbered); and `ClientInUse`.
+    /// Refused `Spent`, or `NoSuchRow` (which is numbered).
     ///
     /// ```text
     /// client.delete(rt, alloc, &board, id)?;
@@ -106,8 +100,7 @@ impl<J: BoardBrand> Client<J> {
 
     /// Makes all changes of a commit at once: one call of the history, which is published once. Waits for the board.
     ///
-    /// Refused `Spent`, `NoSuchRow` or `Full` (which are numbered, and no row has changed), or `OutOfMemory` where a row is added; and
-    /// `ClientInUse`.
+    /// Refused `Spent`, `NoSuchRow` or `Full` (which are numbered, and no row has changed), or `OutOfMemory` where a row is added.
     ///
     /// ```text
     /// let commit = Commit::of(&[Change::Add(hotel), Change::Remove(3)])?;
@@ -131,7 +124,7 @@ impl<J: BoardBrand> Client<J> {
     /// Begins a query of the table as it is now, and returns how many blocks it has to scan. Waits for the board, and copies
     /// nothing.
     ///
-    /// Refused `Spent` or `QueryOpen`; and `ClientInUse`. A refusal hands the ask back.
+    /// Refused `Spent` or `QueryOpen`. A refusal hands the ask back.
     ///
     /// ```text
     /// match client.begin(rt, alloc, &board, ask) {
@@ -155,32 +148,31 @@ impl<J: BoardBrand> Client<J> {
                 ask,
             });
         }
-        match self.join(rt, alloc, board, BoxedCall::begin()) {
-            Ok(Joining::Joined { seen, stamp, .. }) => {
-                let query = Query::begin(ask, stamp, &self.setup);
-                let begun = seen.again();
-                self.asking = Some(Asking {
-                    query,
-                    at_begin: begun,
-                });
-                self.counter += 1;
-                self.seen = seen;
-                Ok(self.setup.blocks())
-            }
-            Ok(Joining::Ahead { seen }) => Err(BeginFault {
-                fault: self.in_use(seen),
-                ask,
-            }),
-            Err(fault) => Err(BeginFault {
-                fault: ShareFault::from(fault),
-                ask,
-            }),
-        }
+        let Ok(Joined { seen, stamp, .. }) = join(
+            rt,
+            alloc,
+            board,
+            self.number,
+            &self.seen,
+            &mut self.page,
+            BoxedCall::begin(),
+        ) else {
+            unreachable!()
+        };
+        let query = Query::begin(ask, stamp, &self.setup);
+        let begun = seen.again();
+        self.asking = Some(Asking {
+            query,
+            at_begin: begun,
+        });
+        self.counter += 1;
+        self.seen = seen;
+        Ok(self.setup.blocks())
     }
 
     /// Ends the open query with its answer, by the table at its begin. Waits for the board; the answer is put together before.
     ///
-    /// Refused `Spent`, `NoQuery` or `NotDone`, or `OutOfMemory`; and `ClientInUse`. The query stays open then.
+    /// Refused `Spent`, `NoQuery` or `NotDone`, or `OutOfMemory`. The query stays open then.
     ///
     /// ```text
     /// for best in &client.finish(rt, alloc, &board)? {
@@ -200,13 +192,13 @@ impl<J: BoardBrand> Client<J> {
             return Err(ShareFault::Core(fault));
         }
         let ranked = self.answer(alloc)?;
-        self.end(rt, alloc, board, BoxedCall::finish())?;
+        self.end(rt, alloc, board, BoxedCall::finish());
         Ok(ranked)
     }
 
     /// Ends the open query without an answer. Waits for the board.
     ///
-    /// Refused `Spent` or `NoQuery`; and `ClientInUse`. The query stays open then.
+    /// Refused `Spent` or `NoQuery`. The query stays open then.
     ///
     /// ```text
     /// client.abandon(rt, alloc, &board)?;
@@ -223,7 +215,8 @@ impl<J: BoardBrand> Client<J> {
         if let Some(fault) = self.refusal(&LentCall::abandon()) {
             return Err(ShareFault::Core(fault));
         }
-        self.end(rt, alloc, board, BoxedCall::abandon())
+        self.end(rt, alloc, board, BoxedCall::abandon());
+        Ok(())
     }
 
     /// Why a call gets no number, by the client's own counter and query.
@@ -249,38 +242,40 @@ impl<J: BoardBrand> Client<J> {
         if let Some(fault) = self.refusal(&call.lend()) {
             return Err(ShareFault::Core(fault));
         }
-        match self.join(rt, alloc, board, call)? {
-            Joining::Joined { seen, outcome, .. } => {
-                self.counter += 1;
-                self.seen = seen;
-                outcome_or_refusal(outcome)
-            }
-            Joining::Ahead { seen } => Err(self.in_use(seen)),
-        }
+        let Joined { seen, outcome, .. } = join(
+            rt,
+            alloc,
+            board,
+            self.number,
+            &self.seen,
+            &mut self.page,
+            call,
+        )?;
+        self.counter += 1;
+        self.seen = seen;
+        outcome_or_refusal(outcome)
     }
 
     /// The open query ends.
-    fn end<R: Wait>(
-        &mut self,
-        rt: &R,
-        alloc: Global,
-        board: &Board<J>,
-        call: BoxedCall,
-    ) -> Result<(), ShareFault>
+    fn end<R: Wait>(&mut self, rt: &R, alloc: Global, board: &Board<J>, call: BoxedCall)
         requires accepted { own_refusal self.old call ≡ None }
         requires ends { is_end call ≡ true }
-        ensures ended { OnOk result (Joins J.opening self.old call Done self.new × (self.new.query ≡ None)) }
-        ensures refused { IfErr result (λ fault. (fault ≡ ClientInUse (suc self.old.counter)) × IsInUse J.opening self.old (suc self.old.counter) self.new) }
+        ensures { Joins J.opening self.old call Done self.new × (self.new.query ≡ None) }
     {
-        match self.join(rt, alloc, board, call)? {
-            Joining::Joined { seen, .. } => {
-                self.asking = None;
-                self.counter += 1;
-                self.seen = seen;
-                Ok(())
-            }
-            Joining::Ahead { seen } => Err(self.in_use(seen)),
-        }
+        let Ok(Joined { seen, .. }) = join(
+            rt,
+            alloc,
+            board,
+            self.number,
+            &self.seen,
+            &mut self.page,
+            call,
+        ) else {
+            unreachable!()
+        };
+        self.asking = None;
+        self.counter += 1;
+        self.seen = seen;
     }
 
     /// The answer of the open query.
@@ -293,49 +288,35 @@ impl<J: BoardBrand> Client<J> {
             None => Err(CoreFault::NoQuery),
         }
     }
+}
 
-    /// A call joins the history, unless the history is ahead of the client. Out of memory comes for a call that adds a row alone.
-    fn join<R: Wait>(
-        &self,
-        rt: &R,
-        alloc: Global,
-        board: &Board<J>,
-        call: BoxedCall,
-    ) -> Result<Joining<Prefix<J>>, AllocError>
-        requires { own_refusal self.now call ≡ None }
-        ensures joins { IfOk result (λ joining. MayJoin J.opening self.now call joining) }
-        ensures memory { OnErr result (nat_lt 0 (added call) ≡ true) }
-    {
-        let mut guard = board.publisher.lock(rt);
-        let publisher = &mut *guard;
-        publisher.check(&self.seen);
-        if publisher.last(self.number) > self.counter {
-            return Ok(Joining::Ahead {
-                seen: publisher.whole(),
-            });
-        }
-        match publisher.join(rt, alloc, self.number, call) {
-            Ok(outcome) => Ok(Joining::Joined {
-                seen: publisher.whole(),
-                outcome,
-                stamp: publisher.stamp(),
-            }),
-            Err(_) => Err(AllocError),
-        }
-    }
-
-    /// The refusal of a client whose next call is in the history, which it has seen now.
-    pub(super) fn in_use(&mut self, whole: Prefix<J>) -> ShareFault
-        requires { IsAhead J.opening self.old whole }
-        ensures fault { result ≡ ClientInUse (suc self.old.counter) }
-        ensures sees { IsInUse J.opening self.old (suc self.old.counter) self.new }
-        ensures all { self.new.seen ≡ whole }
-    {
-        self.seen = whole;
-        ShareFault::ClientInUse {
-            number: self.counter + 1,
-        }
-    }
+/// A call joins the history under the lock, by the page of its client, which has seen this much of the history. `Err` is why it
+/// gets no number there, or that there is no memory for the places of its rows; nothing has changed then.
+fn join<J: BoardBrand, R: Wait>(
+    rt: &R,
+    alloc: Global,
+    board: &Board<J>,
+    client: u8,
+    seen: &Prefix<J>,
+    page: &mut Page,
+    call: BoxedCall,
+) -> Result<Joined<Prefix<J>>, CoreFault>
+    requires page { IsPageOf J.book client (length page.old.ops) page.old }
+    ensures joined { IfOk result (λ joined. JoinsBehind J.opening client (length page.old.ops) seen.now call joined) }
+    ensures page { IfOk result (λ joined. IsPageOf J.book client (suc (length page.old.ops)) page.new) }
+    ensures refused { IfErr result (λ fault. RefusesToJoin J.opening client (length page.old.ops) seen.now call fault) }
+    ensures same { IfErr result (λ fault. page.new ≡ page.old) }
+{
+    let mut guard = board.publisher.lock(rt);
+    let publisher = &mut *guard;
+    publisher.check(seen);
+    publisher.whole().count(page);
+    let outcome = publisher.join(rt, alloc, client, page, call)?;
+    Ok(Joined {
+        seen: publisher.whole(),
+        outcome,
+        stamp: publisher.stamp(),
+    })
 }
 
 /// How many changes a commit makes.

@@ -5,14 +5,14 @@
 
 ghost use Rattle.std.specs.Prelude.{◌≡◌, ◌<◌, ◌-◌, length, Some, IfOk, IfErr, IfSome, MatchResult};
 ghost use Rattle.std.specs.Fn.{FnOnceReturnsAt};
-ghost use Rattle.std.specs.Option.{unwrap_or, option_map};
+ghost use Rattle.std.specs.Option.{option_map};
 ghost use mathlib.Core.List.{IsPrefix};
 ghost use Rattle.left_right.specs.Sides.{view};
 ghost use Rattle.pref_core.specs.Scans.{Reads};
 ghost use Rattle.pref_core.specs.Slots.{StandsFor};
-ghost use Rattle.pref_core.specs.State.{State, calls_of, needed};
+ghost use Rattle.pref_core.specs.State.{State, needed};
 ghost use Rattle.pref_core.specs.Table.{line_of};
-ghost use Rattle.pref_share.specs.Openings.{IsLegalFrom, first_contents, contents_at, calls_at};
+ghost use Rattle.pref_share.specs.Openings.{IsLegalFrom, first_contents, contents_at};
 ghost use Rattle.pref_share.specs.Clients.{Sees};
 ghost use Rattle.pref_share.specs.ClientReads.{Scanned, HasMore, RefusesScan, RefusesGet, room_at, row_after};
 ghost use Rattle.pref_share.specs.Views.{Knows, HoldsHistory};
@@ -28,13 +28,6 @@ use pref_core::{CoreFault, Store};
 use pref_sky::Entry;
 use pref_table::Row;
 use std::alloc::Global;
-
-/// A block that was copied out, and how many calls of the client there were.
-#[derive(Drop)]
-struct Block {
-    calls: u64,
-    shown: Result<Vec<Entry>, CoreFault>,
-}
 
 /// The history of the published table, where it begins with what was seen.
 fn history_of<J: BoardBrand>(published: &Published, seen: &Prefix<J>) -> Option<Prefix<J>>
@@ -162,7 +155,7 @@ impl<J: BoardBrand> Client<J> {
 
     /// Scans the next block for the open query, and returns how many are left. Takes no lock and never waits.
     ///
-    /// Refused `NoQuery` or `AllScanned`, then `ClientInUse`, `OutOfMemory` or `Closed`; the query is as it was then.
+    /// Refused `NoQuery` or `AllScanned`, then `OutOfMemory` or `Closed`; the query is as it was then.
     ///
     /// ```text
     /// for _ in 0..blocks {
@@ -180,27 +173,19 @@ impl<J: BoardBrand> Client<J> {
             return Err(ShareFault::Core(CoreFault::AllScanned));
         }
         let query = &asking.query;
-        let number = self.number;
         let found = read(
             &mut self.reader,
             &self.seen,
-            |store: &Store| -> Block
-                ensures { ((state : State) → StandsFor store.now state → result.calls ≡ unwrap_or (calls_of state number) 0) × Reads query.entry.now store.now.slots result.shown }
-            {
-                Block {
-                    calls: store.last(number),
-                    shown: query.read(alloc, store),
-                }
-            },
+            |store: &Store| -> Result<Vec<Entry>, CoreFault>
+                ensures { Reads query.entry.now store.now.slots result }
+            { query.read(alloc, store) },
         );
         let Some((now, block)) = found else {
             return Err(ShareFault::Closed);
         };
-        if block.calls > self.counter {
-            return Err(self.in_use(now));
-        }
+        now.count(&mut self.page);
         self.seen = now;
-        let Ok(shown) = block.shown else {
+        let Ok(shown) = block else {
             return Err(ShareFault::Core(CoreFault::OutOfMemory));
         };
         match asking.query.add(alloc, &shown) {

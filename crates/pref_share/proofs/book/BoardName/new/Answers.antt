@@ -1,6 +1,6 @@
-use Rattle.pref_share.proofs.Common.{rules}
-use Rattle.pref_share.proofs.BookSteps.{starts}
+use Rattle.std.proofs.Common.{rules}
+use Rattle.pref_share.proofs.PageSteps.{starts}
 use Rattle.pref_share.proofs.book.BoardName.new.Goals as goal
 
-pub open-seen-requires : goal.open-seen-requires
-open-seen-requires c = (starts, search rules, search rules)
+pub open_row-seen-requires : goal.open_row-seen-requires
+open_row-seen-requires c = (starts, search rules, search rules)

@@ -4,7 +4,7 @@ use Rattle.pref_share.proofs.StandingLaws.{sees, stands_seen}
 use Rattle.pref_share.proofs.client.Client.hear.Goals as goal
 
 pub invariant_of-self : goal.invariant_of-self
-invariant_of-self g c = (c.self.invariant.0, c.self.invariant.1, stands_seen g.J.BoardBrand.opening _ _ _ _ _ c.self.invariant.2 c.if-begins.ensures.cases c.if-begins.ensures.legal.1)
+invariant_of-self g c = (c.self.invariant.0, c.self.invariant.1, stands_seen g.J.BoardBrand.opening _ _ _ _ _ c.self.invariant.2 c.if-begins.ensures.cases c.if-begins.ensures.legal.1, c.self.invariant.3)
 
 pub returns-then-begins-clause-sees : goal.returns-then-begins-clause-sees
 returns-then-begins-clause-sees g c = rw (← c.self.view_is) (sees g.J.BoardBrand.opening _ _ c.if-begins.ensures.cases c.if-begins.ensures.legal.1 refl refl refl)

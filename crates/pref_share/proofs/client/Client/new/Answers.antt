@@ -9,4 +9,5 @@ invariant_of-result g c =
       c.requires.setup,
       stands_new o c.args.number c.again-seen.result (subst (λ (l : List Op). IsLegalFrom o l) (sym c.again-seen.ensures.same) c.again-seen.ensures.legal)
           (c.again-seen.ensures.same ∙ c.requires.seen) (c.requires.number.0, subst (λ (n : ℕ). c.args.number ≤ n) (ap (λ l. l.clients) c.requires.setup) c.requires.number.1),
+      c.requires.page,
     )

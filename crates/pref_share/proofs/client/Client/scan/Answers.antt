@@ -1,10 +1,9 @@
-use Rattle.pref_share.proofs.Common.{rules, arith, ◌≡◌, suc, ◌++◌, List, map, Option, Result, Some, refl, sym, subst, ap, ◌∙◌, Vec, IsPrefix, Op, CoreFault, next_block, Contents, Opening, IsLegalFrom}
-use Rattle.pref_share.proofs.Common.{calls_at, contents_at, state_at, Asking, Standing, IsInUse, HasMore, Stands}
+use Rattle.pref_share.proofs.Common.{rules, arith, ◌≡◌, ◌++◌, List, map, Option, Result, Some, refl, sym, subst, ap, ◌∙◌, Vec, IsPrefix, Op, CoreFault, next_block, Contents, Opening, IsLegalFrom}
+use Rattle.pref_share.proofs.Common.{calls_at, contents_at, Asking, Standing, IsPageOf, IsTurn, Stands, count_by, length, ◌≤◌}
 use Rattle.pref_sky.specs.declared.entry.Entry.{Entry}
 use Rattle.pref_sky.specs.Levels.{HaveDifferentIds, entry_of}
 use Rattle.pref_core.specs.Scans.{Scan, Reads, IsAdded}
-use Rattle.pref_share.proofs.HistoryLaws.{left_stands}
-use Rattle.pref_share.proofs.StandingLaws.{ahead, even, next_new, stands_seen, stands_scanned, sees}
+use Rattle.pref_share.proofs.StandingLaws.{even, next_new, stands_seen, stands_scanned, sees}
 use Rattle.pref_share.proofs.ViewsLaws.{still_knows}
 use Rattle.pref_share.proofs.client.Client.scan.Given.{Over}
 use Rattle.pref_share.proofs.client.Client.scan.Goals.{After-deref}
@@ -27,25 +26,20 @@ is_read g c =
     let asking : Asking = record { scan = c.asking.inside.query; at_begin = c.asking.inside.at_begin } in
     let found = c.in-Some-found.ensures.found in
     let query : s.asking ≡ Some asking = c.in-Some.is ∙ ap Some (sym c.asking.view_is) in
-    let calls = found.2.1.0 (state_at o now) (left_stands o now _ found.1 found.2.2) in
-    let reads = subst (λ (x : Contents). Reads asking.scan x.slots c.in-Some-found.block.shown) found.2.2 found.2.1.1 in
+    let reads = subst (λ (x : Contents). Reads asking.scan x.slots c.in-Some-found.block) found.2.2 found.2.1 in
+    let turn : IsTurn o s.number (length s.page.ops) s.seen now = record { further = found.0; legal = found.1; few = subst (λ n. count_by n now ≤ length s.page.ops) c.self.invariant.3.number_is c.count.ensures.few } in
     record {
       query = query;
       stands = subst (λ (q : Option Asking). Stands o s.number s.counter s.seen q) query c.self.invariant.2;
       further = found.0;
       legal = found.1;
-      alone = even o s.number s.counter c.in-Some-found.block.calls s.seen now s.asking c.self.invariant.2 found.0 found.1 calls c.if-block-self.false;
-      is = c.deref.ensures.value ∙ ap (λ (v : Vec Entry). v.items) c.in-Ok.shown-is ∙ (subst (λ (r : Result (Vec Entry) CoreFault). Reads asking.scan (contents_at o now).slots r) c.in-Ok.is reads).0;
+      alone = even o s.number s.counter (length s.page.ops) s.seen now s.asking c.self.invariant.2 c.self.invariant.3.counted turn;
+      is = c.deref.ensures.value ∙ (subst (λ (r : Result (Vec Entry) CoreFault). Reads asking.scan (contents_at o now).slots r) c.in-Ok.is reads).0;
     }
 
-pub in_use-requires : goal.in_use-requires
-in_use-requires g c =
-    let o = g.J.BoardBrand.opening in
-    let s = c.self.inside in
-    let now = c.in-Some-found.now in
-    let found = c.in-Some-found.ensures.found in
-    let calls = found.2.1.0 (state_at o now) (left_stands o now _ found.1 found.2.2) in
-    record { further = found.0; legal = found.1; holds = ahead o s.number s.counter c.in-Some-found.block.calls s.seen now s.asking c.self.invariant.2 found.0 found.1 calls c.if-block-self.true }
+-- the client's page stays
+page_stays : (g : Over) (c : After-deref g) → IsPageOf g.J.BoardBrand.book c.self.inside.number c.self.inside.counter c.count.new.page
+page_stays g c = rw c.count.ensures.same c.self.invariant.3
 
 pub add-requires-clause-new : goal.add-requires-clause-new
 add-requires-clause-new g c =
@@ -56,7 +50,7 @@ pub invariant_of-self-in-Ok-add : goal.invariant_of-self-in-Ok-add
 invariant_of-self-in-Ok-add g c =
     let r = is_read g (goal.at.invariant_of-self-in-Ok-add g c).After-deref in
     let added = subst (λ (l : List Entry). IsAdded c.asking.inside.query l c.add.new.self) r.is c.in-Ok-add.ensures.1 in
-    (still_knows c.read-found.ensures.view c.self.invariant.0, c.self.invariant.1, stands_scanned g.J.BoardBrand.opening _ _ _ _ _ c.add.new.self r.stands r.further r.legal r.alone added)
+    (still_knows c.read-found.ensures.view c.self.invariant.0, c.self.invariant.1, stands_scanned g.J.BoardBrand.opening _ _ _ _ _ c.add.new.self r.stands r.further r.legal r.alone added, page_stays g (goal.at.invariant_of-self-in-Ok-add g c).After-deref)
 
 pub returns-in-Ok-add-clause-scanned : goal.returns-in-Ok-add-clause-scanned
 returns-in-Ok-add-clause-scanned g c =
@@ -74,6 +68,7 @@ invariant_of-self-2 g c =
       still_knows c.read-found.ensures.view c.self.invariant.0,
       c.self.invariant.1,
       subst (λ (x : Scan). Stands o s.number s.counter c.in-Some-found.now (Some (record { scan = x; at_begin = c.asking.inside.at_begin }))) (sym kept) (stands_seen o _ _ _ _ _ r.stands r.further r.legal),
+      page_stays g (goal.at.invariant_of-self-2 g c).After-deref,
     )
 
 pub returns-clause-refused : goal.returns-clause-refused
@@ -84,15 +79,6 @@ returns-clause-refused g c =
     rw (← same)
     ((c.left.result, record { asking = _; is_open = r.query; left_is = c.left.ensures; some = search rules }), sees g.J.BoardBrand.opening _ _ r.further r.legal refl refl ((λ i. Some (record { scan = kept i; at_begin = c.asking.inside.at_begin })) ∙ sym r.query))
 
-pub returns-then-block-self-clause-refused : goal.returns-then-block-self-clause-refused
-returns-then-block-self-clause-refused g c =
-    let o = g.J.BoardBrand.opening in
-    let s = c.self.inside in
-    let query : s.asking ≡ Some (record { scan = c.asking.inside.query; at_begin = c.asking.inside.at_begin }) = c.in-Some.is ∙ ap Some (sym c.asking.view_is) in
-    let more : HasMore (record { number = s.number; counter = s.counter; seen = s.seen; query = s.asking }) = (c.left.result, record { asking = _; is_open = query; left_is = c.left.ensures; some = search rules }) in
-    let in_use = subst (λ (q : Option Asking). IsInUse o (record { number = s.number; counter = s.counter; seen = s.seen; query = q }) (suc s.counter) c.in_use.new.self) (sym c.in-Some.is) c.in_use.ensures.sees in
-    rw c.in_use.ensures.fault (rw (← c.self.view_is) (more, in_use))
-
 pub invariant_of-self : goal.invariant_of-self
 invariant_of-self g c = c.self.invariant
 
@@ -102,7 +88,7 @@ returns-in_default-clause-refused g c = rw (← c.self.view_is) (c.in_default.is
 pub invariant_of-self-then-left-eq0 : goal.invariant_of-self-then-left-eq0
 invariant_of-self-then-left-eq0 g c =
     let s = c.self.inside in
-    (c.self.invariant.0, c.self.invariant.1, subst (λ (q : Option Asking). Stands g.J.BoardBrand.opening s.number s.counter s.seen q) c.in-Some.is c.self.invariant.2)
+    (c.self.invariant.0, c.self.invariant.1, subst (λ (q : Option Asking). Stands g.J.BoardBrand.opening s.number s.counter s.seen q) c.in-Some.is c.self.invariant.2, c.self.invariant.3)
 
 pub returns-then-left-eq0-clause-refused : goal.returns-then-left-eq0-clause-refused
 returns-then-left-eq0-clause-refused g c =
@@ -122,6 +108,7 @@ invariant_of-self-in_default-found g c =
       still_knows c.read-found.ensures.view c.self.invariant.0,
       c.self.invariant.1,
       subst (λ (q : Option Asking). Stands g.J.BoardBrand.opening s.number s.counter s.seen q) c.in-Some.is c.self.invariant.2,
+      c.self.invariant.3,
     )
 
 pub returns-in_default-found-clause-refused : goal.returns-in_default-found-clause-refused
@@ -129,26 +116,3 @@ returns-in_default-found-clause-refused g c =
     let s = c.self.inside in
     let query : s.asking ≡ Some (record { scan = c.asking.inside.query; at_begin = c.asking.inside.at_begin }) = c.in-Some.is ∙ ap Some (sym c.asking.view_is) in
     rw (← c.self.view_is) ((c.left.result, record { asking = _; is_open = query; left_is = c.left.ensures; some = omega arith }), λ i. record { number = s.number; counter = s.counter; seen = s.seen; query = sym c.in-Some.is i })
-
-pub invariant_of-self-then-block-self : goal.invariant_of-self-then-block-self
-invariant_of-self-then-block-self g c =
-    let s = c.self.inside in (
-      still_knows c.read-found.ensures.view c.self.invariant.0,
-      c.self.invariant.1,
-      subst (λ (q : Option Asking). Stands g.J.BoardBrand.opening s.number s.counter s.seen q) c.in-Some.is c.self.invariant.2,
-    )
-
-pub invariant_of-self-in_default-shown : goal.invariant_of-self-in_default-shown
-invariant_of-self-in_default-shown g c =
-    let o = g.J.BoardBrand.opening in
-    let found = c.in-Some-found.ensures.found in (
-      still_knows c.read-found.ensures.view c.self.invariant.0,
-      c.self.invariant.1,
-      stands_seen o _ _ _ _ _ (subst (λ (q : Option Asking). Stands o c.self.inside.number c.self.inside.counter c.self.inside.seen q) c.in-Some.is c.self.invariant.2) found.0 found.1,
-    )
-
-pub returns-in_default-shown-clause-refused : goal.returns-in_default-shown-clause-refused
-returns-in_default-shown-clause-refused g c =
-    let found = c.in-Some-found.ensures.found in
-    let query : c.self.inside.asking ≡ Some (record { scan = c.asking.inside.query; at_begin = c.asking.inside.at_begin }) = c.in-Some.is ∙ ap Some (sym c.asking.view_is) in
-    rw (← c.self.view_is) ((c.left.result, record { asking = _; is_open = query; left_is = c.left.ensures; some = omega arith }), sees g.J.BoardBrand.opening _ _ found.0 found.1 refl refl (sym c.in-Some.is))

@@ -46,8 +46,23 @@ invariant_of-self g c =
       c.self.invariant.5,
     )
 
-pub add-requires : goal.add-requires
-add-requires g c = (plan g (goal.at.add-requires g c).In-Ok (store_left g (goal.at.add-requires g c).After-published_store-store)).2
+pub add-requires-clause-follows : goal.add-requires-clause-follows
+add-requires-clause-follows g c = (plan g (goal.at.add-requires-clause-follows g c).In-Ok (store_left g (goal.at.add-requires-clause-follows g c).After-published_store-store)).2
+
+pub add-requires-clause-page : goal.add-requires-clause-page
+add-requires-clause-page g c =
+    let by = (plan g (goal.at.add-requires-clause-page g c).In-Ok (store_left g (goal.at.add-requires-clause-page g c).After-published_store-store)).0 in
+    rw by c.requires.page
+
+pub add-requires-clause-few : goal.add-requires-clause-few
+add-requires-clause-few g c =
+    let by = (plan g (goal.at.add-requires-clause-few g c).In-Ok (store_left g (goal.at.add-requires-clause-few g c).After-published_store-store)).0 in
+    rw (by, c.self.view_is) c.requires.few
+
+pub returns-clause-page : goal.returns-clause-page
+returns-clause-page g c =
+    let by = (plan g (goal.at.returns-clause-page g c).In-Ok (store_left g (goal.at.returns-clause-page g c).After-published_store-store)).0 in
+    rw (← by) c.add.ensures.page
 
 pub replace_with-requires : goal.replace_with-requires
 replace_with-requires g c =
@@ -59,7 +74,7 @@ replace_with-requires g c =
     let boxed : op_of op ≡ boxed_op stamp.op = λ i. record { client = op.client; number = op.number; call = plan.1 i; slots = op.slots; outcome = op.outcome } in
     let log : stamp.seen.log ≡ c.add.new.self = c.witness.ensures.log ∙ c.whole-seen.ensures.same in
     let stands : HoldsHistory (first_contents o) g.J.BoardBrand.book (stamped x stamp) =
-    published_next o g.J.BoardBrand.book x stamp (op_of op) c.self.inside.history boxed c.self.invariant.0 c.self.invariant.2 c.self.invariant.3 plan.2 (log ∙ c.add.ensures) (c.len.ensures.length ∙ ap length (sym c.witness.ensures.log)) c.witness.ensures.book in
+    published_next o g.J.BoardBrand.book x stamp (op_of op) c.self.inside.history boxed c.self.invariant.0 c.self.invariant.2 c.self.invariant.3 plan.2 (log ∙ c.add.ensures.added) (c.len.ensures.length ∙ ap length (sym c.witness.ensures.log)) c.witness.ensures.book in
     rw (c.deref_mut-2.ensures.value, c.append.ensures.desk, c.append.ensures.pending, c.deref_mut.ensures.value, c.self.invariant.5) (c.self.invariant.4, stands)
 
 pub invariant_of-self-2 : goal.invariant_of-self-2
@@ -73,12 +88,12 @@ invariant_of-self-2 g c =
     let boxed : op_of op ≡ boxed_op stamp.op = λ i. record { client = op.client; number = op.number; call = plan.1 i; slots = op.slots; outcome = op.outcome } in
     let log : stamp.seen.log ≡ c.add.new.self = c.witness.ensures.log ∙ c.whole-seen.ensures.same in
     let stands : HoldsHistory (first_contents o) g.J.BoardBrand.book (stamped x stamp) =
-    published_next o g.J.BoardBrand.book x stamp (op_of op) c.self.inside.history boxed c.self.invariant.0 c.self.invariant.2 c.self.invariant.3 plan.2 (log ∙ c.add.ensures) (c.len.ensures.length ∙ ap length (sym c.witness.ensures.log)) c.witness.ensures.book in
+    published_next o g.J.BoardBrand.book x stamp (op_of op) c.self.inside.history boxed c.self.invariant.0 c.self.invariant.2 c.self.invariant.3 plan.2 (log ∙ c.add.ensures.added) (c.len.ensures.length ∙ ap length (sym c.witness.ensures.log)) c.witness.ensures.book in
     let folded : fold stamped c.deref_mut-2.result.now.desk.shown.value (drop c.deref_mut-2.result.now.behind c.deref_mut-2.result.now.log.items) ≡ stamped x stamp =
     rw (c.deref_mut-2.ensures.value, c.append.ensures.desk, c.append.ensures.pending, c.deref_mut.ensures.value, c.self.invariant.5) refl in
     let shown : c.replace_with.new.dest.desk.shown.value ≡ stamped x stamp = c.replace_with.ensures.1 ∙ folded in
     let store : applied c.published_store-store.result.now (op_of op) ≡ contents_at o c.add.new.self =
-    ap (λ (s : Contents). applied s (op_of op)) left ∙ sym (ran-append (first_contents o) c.self.inside.history (op_of op ∷ [])) ∙ ap (contents_at o) (sym c.add.ensures) in (
+    ap (λ (s : Contents). applied s (op_of op)) left ∙ sym (ran-append (first_contents o) c.self.inside.history (op_of op ∷ [])) ∙ ap (contents_at o) (sym c.add.ensures.added) in (
       c.whole-seen.ensures.legal,
       subst (λ (s : Contents). IsIndexOf s c.reindex.new.index) store c.in_ok-reindex.ensures.after,
       ap (λ (p : Published). p.seen.log) shown ∙ log,
@@ -92,7 +107,7 @@ returns-clause-joined g c =
     let o = g.J.BoardBrand.opening in
     let plan = plan g (goal.at.returns-clause-joined g c).In-Ok (store_left g (goal.at.returns-clause-joined g c).After-published_store-store) in
     subst (λ (l : List Op). IsAppended o l c.args.client c.args.call c.in-Ok.op.outcome c.add.new.self) c.self.view_is
-    (record { op = op_of c.in-Ok.op; by = plan.0; what = plan.1; outcome = refl; may = plan.2; ends = c.add.ensures })
+    (record { op = op_of c.in-Ok.op; by = plan.0; what = plan.1; outcome = refl; may = plan.2; ends = c.add.ensures.added })
 
 pub look_up-requires : goal.look_up-requires
 look_up-requires g c =

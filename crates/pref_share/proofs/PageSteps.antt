@@ -1,0 +1,320 @@
+-- Who has the pen of a page writes behind all that stands on it, whatever the book is.
+use Rattle.pref_share.proofs.Common.{◌≡◌, ◌≢◌, ℕ, suc, zero, ◌+◌, ◌<◌, ◌≤◌, ◌==◌, Bool, true, false, ◌⊎◌, List, [], ◌∷◌, ◌++◌, length, set, replicate, refl, ap, sym, ◌∙◌, subst, arith, inl, inr, Option, None, Some, ⊎_elim}
+use Rattle.pref_share.proofs.Common.{cases_eq, eqb-true, ne_eqb, eq-eqb, append-nil, append_assoc, length-append, length-set, filter-append, same_Some, filter, IsPrefix, Cell, cell, keeps, gives, adds, Nib, no_nib, may_write, Moves, Op}
+use Rattle.std.proofs.Common.{if◌then◌else◌}
+use Rattle.std.proofs.lemmas.List.{get_or-set_same, get_or-set_other, get_or_append_left}
+use prog.Atomic.{either}
+use Rattle.logbook.specs.Pages.{Goes, step}
+use Rattle.pref_share.proofs.PrefixLaws.{prefix_trans}
+use Rattle.pref_share.specs.declared.entry.Entry.{Entry}
+use Rattle.pref_share.specs.Book.{pages, noted, ops_on, count_by, key_by, key_from, key_after, Home, AreBacked, IsBlank, IsKept, Begins, IsWhole, Adds}
+
+abbrev pub shown : List Entry → List Entry
+shown log = []
+
+abbrev pub moved : List Entry → List Entry → ℕ → Type 0
+moved xs ys n = Unit {0}
+
+-- a word that comes home leaves the others there
+set_home : (cs : List Cell) (k j m : ℕ) → Home cs j → Home (set cs k (m, true)) j
+set_home (c ∷ cs) (suc k) (suc j) m h = let r = set_home cs k j m (omega (arith, h.0), h.1) in (omega (arith, r.0), r.1)
+set_home cs k j m h = grind (arith)
+
+set_there : (cs : List Cell) (k m : ℕ) → k < length cs → Home (set cs k (m, true)) k
+set_there cs k m lt = (omega (arith, lt, length-set cs k (m, true)), ap (λ (c : Cell). c.1) (get_or-set_same cs k (m, true) (0, false) lt))
+
+snoc_home : (cs : List Cell) (c : Cell) (j : ℕ) → Home cs j → Home (cs ++ c ∷ []) j
+snoc_home cs c j h = (omega (arith, h.0, length-append cs (c ∷ [])), ap (λ (d : Cell). d.1) (get_or_append_left cs (c ∷ []) (0, false) j h.0) ∙ h.1)
+
+-- the word after a step on it
+abbrev pub used : ℕ → ℕ
+used n = either (n == 0) 1 n
+
+used_is : (n : ℕ) (b : Bool) → (n == 0) ≡ b → either b 1 n ≢ 0
+used_is n b is none = grind (arith)
+
+not_unused : (n : ℕ) → used n ≢ 0
+not_unused n = used_is n (n == 0) refl
+
+-- the cells after a step on the word of a page
+abbrev pub begun : List Cell → ℕ → List Cell
+begun cs page = set cs page (used (cell cs page).0, true)
+
+-- what stands on a page of a longer log
+pub ops_on-append : (page : ℕ) (xs ys : List Entry) → ops_on page (xs ++ ys) ≡ ops_on page xs ++ ops_on page ys
+ops_on-append page [] ys = refl
+ops_on-append page (x ∷ xs) ys = ap (λ l. noted page x ++ l) (ops_on-append page xs ys) ∙ sym (append_assoc (noted page x) (ops_on page xs) (ops_on page ys))
+
+key_from-append : (page : ℕ) (key : Option ℕ) (xs ys : List Entry) → key_from page key (xs ++ ys) ≡ key_from page (key_from page key xs) ys
+key_from-append page key [] ys = refl
+key_from-append page key (x ∷ xs) ys = key_from-append page (key_by page key x) xs ys
+
+ops_on-last : (page : ℕ) (log : List Entry) (e : Entry) → ops_on page (log ++ e ∷ []) ≡ ops_on page log ++ noted page e
+ops_on-last page log e = ops_on-append page log (e ∷ []) ∙ ap (λ l. ops_on page log ++ l) (append-nil (noted page e))
+
+key_after-last : (page : ℕ) (log : List Entry) (e : Entry) → key_after page (log ++ e ∷ []) ≡ key_by page (key_after page log) e
+key_after-last page log e = key_from-append page None log (e ∷ [])
+
+pub ops_prefix : (page : ℕ) (xs ys : List Entry) → IsPrefix xs ys → IsPrefix (ops_on page xs) (ops_on page ys)
+ops_prefix page xs ys p = (ops_on page p.0, sym (ops_on-append page xs p.0) ∙ ap (ops_on page) p.1)
+
+pub length_prefix : {A : Type 0} (xs ys : List A) → IsPrefix xs ys → length xs ≤ length ys
+length_prefix xs ys p = omega (arith, length-append xs p.0, ap length p.1)
+
+pub count_prefix : (client : ℕ) (xs ys : List Op) → IsPrefix xs ys → count_by client xs ≤ count_by client ys
+count_prefix client xs ys p =
+    omega (arith, ap (count_by client) p.1, ap length (filter-append (λ (op : Op). op.client == client) xs p.0), length-append (filter (λ (op : Op). op.client == client) xs) (filter (λ (op : Op). op.client == client) p.0))
+
+-- an entry of another page changes nothing on this one
+noted_other : (page : ℕ) (e : Entry) → (e.page == page) ≡ false → noted page e ≡ []
+noted_other page e other = rw other refl
+
+key_other : (page : ℕ) (key : Option ℕ) (e : Entry) → (e.page == page) ≡ false → key_by page key e ≡ key
+key_other page key e other = rw other refl
+
+key_own : (page : ℕ) (key : Option ℕ) (e : Entry) → e.page ≡ page → key_by page key e ≡ Some e.key
+key_own page key e own = rw (eq-eqb e.page page own) refl
+
+-- What is so of all that stands on a page behind the entry that names a pen which is not home: there is no other entry of the page.
+abbrev pub IsAll : ℕ → ℕ → List Entry → List Entry → Type 0
+IsAll page key log before = (ops_on page log ≡ ops_on page before) × (key_after page log ≡ Some key)
+
+quiet_next : (page key : ℕ) (log before : List Entry) (e : Entry) → key_after page before ≡ Some key → (key_after e.page before ≡ Some key → ⊥) → (key_after page (before ++ e ∷ []) ≡ Some key → IsAll page key log (before ++ e ∷ [])) → (b : Bool) → (e.page == page) ≡ b → IsAll page key log before
+quiet_next page key log before e at spent further true own = absurd (spent (ap (λ p. key_after p before) (eqb-true e.page page own) ∙ at))
+quiet_next page key log before e at spent further false other =
+    let r = further (key_after-last page before e ∙ key_other page (key_after page before) e other ∙ at) in
+    (r.0 ∙ ops_on-last page before e ∙ ap (λ l. ops_on page before ++ l) (noted_other page e other) ∙ append-nil (ops_on page before), r.1)
+
+quiet : (cs : List Cell) (log : List Entry) → IsKept cs log → (page key : ℕ) (before rest : List Entry) → before ++ rest ≡ log → key_after page before ≡ Some key → (cell cs key).1 ≡ false → IsAll page key log before
+quiet cs log kept page key before [] is at away = let same : log ≡ before = sym is ∙ append-nil before in (ap (ops_on page) same, ap (key_after page) same ∙ at)
+quiet cs log kept page key before (e ∷ rest) is at away =
+    quiet_next page key log before e at (λ spent. cc ((kept.spent before rest e key is spent).1, away))
+    (λ there. quiet cs log kept page key (before ++ e ∷ []) rest (append_assoc before (e ∷ []) rest ∙ is) there away) (e.page == page) refl
+
+-- an entry stands among the old ones, or is the one that was added
+split_last : (before later log : List Entry) (e x : Entry) → before ++ e ∷ later ≡ log ++ x ∷ [] → ((before ≡ log) × (e ≡ x)) ⊎ ((l : List Entry) × (before ++ e ∷ l ≡ log))
+split_last [] later [] e x is = inl (refl, cc (is))
+split_last [] later (y ∷ log) e x is = inr (log, cc (is))
+split_last (b ∷ before) later [] e x is = absurd (omega (arith, ap length is, length-append before (e ∷ later)))
+split_last (b ∷ before) later (y ∷ log) e x is = grind (arith, split_last before later log e x (cc (is)))
+
+-- a page on which nothing stands, after an entry of another
+blank_more : (page : ℕ) (log : List Entry) (x : Entry) → page ≢ x.page → IsBlank page log → IsBlank page (log ++ x ∷ [])
+blank_more page log x other blank =
+    let off : (x.page == page) ≡ false = ne_eqb x.page page (λ e. other (sym e)) in
+    (key_after-last page log x ∙ key_other page (key_after page log) x off ∙ blank.0, ops_on-last page log x ∙ ap (λ l. ops_on page log ++ l) (noted_other page x off) ∙ append-nil (ops_on page log) ∙ blank.1)
+
+-- the same entries, where what was home is home, ..
+kept_again : (cs ds : List Cell) (log : List Entry) → IsKept cs log → ((k : ℕ) → Home cs k → Home ds k) → ((page : ℕ) → page < pages → (cell ds page).0 ≡ 0 → (cell cs page).0 ≡ 0) → IsKept ds (log ++ [])
+kept_again cs ds log kept stay back =
+    subst (IsKept ds) (sym (append-nil log))
+    (record {
+      words = λ page few. stay page (kept.words page few);
+      unused = λ page few none. kept.unused page few (back page few none);
+      spent = λ before later e key is at. stay key (kept.spent before later e key is at);
+      backed = kept.backed;
+    })
+
+-- .. and one more
+kept_more : (cs ds : List Cell) (log : List Entry) (x : Entry) → IsKept cs log → ((k : ℕ) → Home cs k → Home ds k) → ((page : ℕ) → page < pages → (cell ds page).0 ≡ 0 → (page ≢ x.page) × ((cell cs page).0 ≡ 0))
+    → ((key : ℕ) → key_after x.page log ≡ Some key → Home ds key) → AreBacked (log ++ x ∷ []) → IsKept ds (log ++ x ∷ [])
+kept_more cs ds log x kept stay back here backed = record {
+  words = λ page few. stay page (kept.words page few);
+  unused = λ page few none. let was = back page few none in blank_more page log x was.0 (kept.unused page few was.1);
+  spent = λ before later e key is at.
+      ⊎_elim (λ (last : (before ≡ log) × (e ≡ x)). here key (sym (ap (λ (y : Entry). key_after y.page log) last.1) ∙ (sym (ap (key_after e.page) last.0) ∙ at)))
+      (λ (old : (l : List Entry) × (before ++ e ∷ l ≡ log)). stay key (kept.spent before old.0 e key old.1 at)) (split_last before later log e x is);
+  backed = backed;
+}
+
+-- a word that is 0 after a step on the word of a page is another's, and was 0
+still_unused : (cs : List Cell) (page other : ℕ) → page < length cs → (cell (begun cs page) other).0 ≡ 0 → (other ≢ page) × ((cell cs other).0 ≡ 0)
+still_unused cs page other lt none =
+    ⊎_elim (λ (same : other ≡ page).
+    absurd (not_unused (cell cs page).0 (sym (ap (λ (c : Cell). c.0) (get_or-set_same cs page (used (cell cs page).0, true) (0, false) lt)) ∙ (ap (λ k. (cell (begun cs page) k).0) (sym same) ∙ none))))
+    (λ (apart : other ≡ page → ⊥). (apart, ap (λ (c : Cell). c.0) (sym (get_or-set_other cs page other (used (cell cs page).0, true) (0, false) apart)) ∙ none)) (cases_eq other page)
+
+snoc_cell : (cs : List Cell) (c : Cell) (k : ℕ) → k < length cs → cell (cs ++ c ∷ []) k ≡ cell cs k
+snoc_cell cs c k lt = get_or_append_left cs (c ∷ []) (0, false) k lt
+
+-- the first entry of a page
+abbrev pub opening_entry : ℕ → ℕ → Entry
+opening_entry page key = record { page = page; key = key; op = None }
+
+noted_nothing : (none : List Op) (b : Bool) → (if b then none else none) ≡ none
+noted_nothing none true = refl
+noted_nothing none false = refl
+
+noted_none : (page first key : ℕ) → noted page (opening_entry first key) ≡ []
+noted_none page first key = noted_nothing [] (first == page)
+
+opened_same : (page : ℕ) (log : List Entry) (first key : ℕ) → ops_on page (log ++ opening_entry first key ∷ []) ≡ ops_on page log
+opened_same page log first key = ops_on-last page log (opening_entry first key) ∙ ap (λ l. ops_on page log ++ l) (noted_none page first key) ∙ append-nil (ops_on page log)
+
+is_zero : (n : ℕ) → (n == 0) ≡ true → n ≡ 0
+is_zero n is = grind (arith)
+
+not_zero : (n : ℕ) → (n == 0) ≡ false → n ≡ 0 → ⊥
+not_zero n is none = grind (arith)
+
+none_there : (key : Option ℕ) (k : ℕ) → key ≡ None → key ≡ Some k → ⊥
+none_there key k none some = cc (none, some)
+
+-- whatever the book is, there is a new pen, and no one else's is changed
+pub begins_moves : (v : List Entry) (ask : Entry) (page : ℕ) → page < pages → Moves IsKept shown moved page (v, (no_nib, None)) (λ n. either (n == 0) 1 n) (Begins (step page 0 1 ask) (v, (no_nib, None)))
+begins_moves v ask page few cs log kept pre away = (home.0, home.1, go ((cell cs page).0 == 0) refl)
+  where
+    home : Home cs page
+    home = kept.words page few
+
+    ds : List Cell
+    ds = begun cs page ++ (0, false) ∷ []
+
+    stay : (k : ℕ) → Home cs k → Home ds k
+    stay k h = snoc_home (begun cs page) (0, false) k (set_home cs page k (used (cell cs page).0) h)
+
+    back : (other : ℕ) → other < pages → (cell ds other).0 ≡ 0 → (other ≢ page) × ((cell cs other).0 ≡ 0)
+    back other within none =
+        let there = (set_home cs page other (used (cell cs page).0) (kept.words other within)).0 in
+        still_unused cs page other home.0 (sym (ap (λ (c : Cell). c.0) (snoc_cell (begun cs page) (0, false) other there)) ∙ none)
+
+    go : (b : Bool) → ((cell cs page).0 == 0) ≡ b → Goes IsKept shown moved page (v, (no_nib, None)) (λ n. either (n == 0) 1 n) (Begins (step page 0 1 ask) (v, (no_nib, None))) cs log
+    go true is =
+        let blank = kept.unused page few (is_zero (cell cs page).0 is) in
+        let e : Entry = opening_entry page (length cs) in (
+          adds,
+          e ∷ [],
+          None,
+          tt,
+          kept_more cs ds log e kept stay back (λ key at. absurd (none_there (key_after page log) key blank.0 at))
+              (λ client some. rw (opened_same 0 log page (length cs), opened_same client log page (length cs)) (kept.backed client some)),
+          inl (refl, refl),
+          (refl, λ none. (key_after-last page log e ∙ key_own page (key_after page log) e refl, opened_same page log page (length cs) ∙ blank.1)),
+        )
+    go false is = (adds, [], None, tt, kept_again cs ds log kept stay (λ other within none. (back other within none).1), inl (refl, refl), (refl, λ none. absurd (not_zero (cell cs page).0 is none)))
+
+-- whatever the book is, what the pen comes after is all that stands on the page
+pub whole_moves : (v : List Entry) (p : Nib) (ask : Entry) (page : ℕ) → page < pages → p.right ≡ may_write → Moves IsKept shown moved page (v, (p, None)) (λ n. either (n == 0) 1 n) (IsWhole (step page 0 1 ask) (v, (p, None)))
+whole_moves v p ask page few may cs log kept pre away =
+    let home = kept.words page few in (
+      home.0,
+      home.1,
+      (
+        keeps,
+        [],
+        None,
+        tt,
+        kept_again cs (begun cs page) log kept (λ k h. set_home cs page k (used (cell cs page).0) h) (λ other within none. (still_unused cs page other home.0 none).1),
+        inl (refl, refl),
+        rw (append-nil log) (
+          refl,
+          kept.backed,
+          (λ before begins at. let q = prefix_trans before v log begins pre in (quiet cs log kept page p.key before q.0 q.1 at (away may).1).0),
+        ),
+      ),
+    )
+
+-- with this entry too the history holds no more calls of a client than stand on the client's page, as far as that has been seen
+abbrev pub Backs : ℕ → List Entry → List Entry → Entry → Type 0
+Backs page before seen ask = page ≡ 0 → (client : ℕ) → 0 < client → count_by client (ops_on 0 before ++ noted 0 ask) ≤ length (ops_on client seen)
+
+backed_more : (cs : List Cell) (log before seen : List Entry) (page key : ℕ) (ask : Entry) → IsKept cs log → ask.page ≡ page → IsPrefix before log → IsPrefix seen log → key_after page before ≡ Some key → (cell cs key).1 ≡ false → Backs page before seen ask → AreBacked (log ++ ask ∷ [])
+backed_more cs log before seen page key ask kept is pre seen_pre at away backs client some = go (page == 0) refl
+  where
+    grown : length (ops_on client log) ≤ length (ops_on client (log ++ ask ∷ []))
+    grown = length_prefix (ops_on client log) (ops_on client (log ++ ask ∷ [])) (ops_prefix client log (log ++ ask ∷ []) (ask ∷ [], refl))
+
+    go : (b : Bool) → (page == 0) ≡ b → count_by client (ops_on 0 (log ++ ask ∷ [])) ≤ length (ops_on client (log ++ ask ∷ []))
+    go true history =
+        let none : page ≡ 0 = is_zero page history in
+        let whole : ops_on 0 log ≡ ops_on 0 before = (quiet cs log kept 0 key before pre.0 pre.1 (ap (λ p. key_after p before) (sym none) ∙ at) away).0 in
+        let counted = backs none client some in
+        let all : count_by client (ops_on 0 (log ++ ask ∷ [])) ≡ count_by client (ops_on 0 before ++ noted 0 ask) = ap (count_by client) (ops_on-last 0 log ask ∙ ap (λ l. l ++ noted 0 ask) whole) in
+        let more = length_prefix (ops_on client seen) (ops_on client log) (ops_prefix client seen log seen_pre) in
+        omega (arith, counted, all, more, grown)
+    go false other =
+        let off : (ask.page == 0) ≡ false = ap (λ p. p == 0) is ∙ other in
+        let all : count_by client (ops_on 0 (log ++ ask ∷ [])) ≡ count_by client (ops_on 0 log) = ap (count_by client) (ops_on-last 0 log ask ∙ ap (λ l. ops_on 0 log ++ l) (noted_other 0 ask off) ∙ append-nil (ops_on 0 log)) in
+        omega (arith, kept.backed client some, all, grown)
+
+-- whatever the book is, the entry is added to what the pen comes after
+pub adds_moves : (v before : List Entry) (p : Nib) (ask : Entry) (page : ℕ) → page < pages → ask.page ≡ page → p.right ≡ may_write → IsPrefix before v → key_after page before ≡ Some p.key → Backs page before v ask
+    → Moves IsKept shown moved page (v, (p, None)) (λ n. either (n == 0) 1 n) (Adds (step page 0 1 ask) (v, (p, None)))
+adds_moves v before p ask page few is may begins at backs cs log kept pre away =
+    let home = kept.words page few in
+    let ds : List Cell = set (begun cs page) p.key (p.value, true) in
+    let stay : (j : ℕ) → Home cs j → Home ds j = λ j h. set_home (begun cs page) p.key j p.value (set_home cs page j (used (cell cs page).0) h) in
+    let here : Home ds p.key = set_there (begun cs page) p.key p.value (omega (arith, (away may).0, length-set cs page (used (cell cs page).0, true))) in
+    let before_pre = prefix_trans before v log begins pre in
+    let all = quiet cs log kept page p.key before before_pre.0 before_pre.1 at (away may).1 in
+    let apart : (other : ℕ) → other < pages → other ≡ p.key → ⊥ = λ other within same. cc ((kept.words other within).1, ap (λ k. (cell cs k).1) same, (away may).1) in
+    let back : (other : ℕ) → other < pages → (cell ds other).0 ≡ 0 → (other ≢ ask.page) × ((cell cs other).0 ≡ 0) = λ other within none.
+    let was = still_unused cs page other home.0 (sym (ap (λ (c : Cell). c.0) (get_or-set_other (begun cs page) p.key other (p.value, true) (0, false) (apart other within))) ∙ none) in
+    ((λ same. was.0 (same ∙ is)), was.1) in (
+      home.0,
+      home.1,
+      (
+        gives,
+        ask ∷ [],
+        None,
+        may,
+        kept_more cs ds log ask kept stay back (λ key there. subst (Home ds) (same_Some p.key key (sym all.1 ∙ (ap (λ q. key_after q log) (sym is) ∙ there))) here)
+            (backed_more cs log before v page p.key ask kept is before_pre pre at (away may).1 backs),
+        inl (refl, refl),
+        (λ other other_begins there.
+            let q = prefix_trans other v log other_begins pre in
+            (ops_on-last page log ask ∙ ap (λ l. l ++ noted page ask) (quiet cs log kept page p.key other q.0 q.1 there (away may).1).0, key_after-last page log ask ∙ key_own page (key_after page log) ask is)),
+      ),
+    )
+
+all_home : (n k : ℕ) → k < n → Home (replicate n (0, true)) k
+all_home zero k lt = absurd (omega arith)
+all_home (suc n) zero lt = (omega arith, refl)
+all_home (suc n) (suc k) lt = let r = all_home n k (omega arith) in (omega (arith, r.0), r.1)
+
+-- the book as it is opened
+pub starts : IsKept (replicate 9 (0, true)) []
+starts = record {
+  words = λ page few. all_home 9 page few;
+  unused = λ page few none. (refl, refl);
+  spent = λ before later e key is at. absurd (omega (arith, ap length is, length-append before (e ∷ later)));
+  backed = λ client some. omega arith;
+}
+
+-- what an entry of the page notes there
+own_entry : (page : ℕ) (ask : Entry) (op : Op) → ask.page ≡ page → ask.op ≡ Some op → noted page ask ≡ op ∷ []
+own_entry page ask op is noted_op = rw (eq-eqb ask.page page is, noted_op) refl
+
+count_last : (client : ℕ) (ops : List Op) (op : Op) → count_by client (ops ++ op ∷ []) ≡ count_by client ops + count_by client (op ∷ [])
+count_last client ops op = ap length (filter-append (λ (x : Op). x.client == client) ops (op ∷ [])) ∙ length-append (filter (λ (x : Op). x.client == client) ops) (filter (λ (x : Op). x.client == client) (op ∷ []))
+
+count_other : (client : ℕ) (op : Op) → (op.client == client) ≡ false → count_by client (op ∷ []) ≡ 0
+count_other client op other = rw other refl
+
+count_own : (client : ℕ) (op : Op) → (op.client == client) ≡ true → count_by client (op ∷ []) ≡ 1
+count_own client op own = rw own refl
+
+-- An operation may join the history where its client's page has one more than the history. What was learned is at least what stood on both pages.
+pub backs : (page own : ℕ) (before other learned v : List Entry) (ask : Entry) (op : Op) → AreBacked learned → IsPrefix before learned → IsPrefix other learned → IsPrefix learned v → ask.page ≡ page → ask.op ≡ Some op
+    → (page ≡ 0 → (own ≡ op.client) × (0 < op.client) × (count_by op.client (ops_on page before) < length (ops_on own other))) → Backs page before v ask
+backs page own before other learned v ask op backed before_pre other_pre pre is noted_op turn none client some = go (op.client == client) refl
+  where
+    all : count_by client (ops_on 0 before ++ noted 0 ask) ≡ count_by client (ops_on 0 before) + count_by client (op ∷ [])
+    all = ap (λ l. count_by client (ops_on 0 before ++ l)) (own_entry 0 ask op (is ∙ none) noted_op) ∙ count_last client (ops_on 0 before) op
+
+    more : length (ops_on client learned) ≤ length (ops_on client v)
+    more = length_prefix (ops_on client learned) (ops_on client v) (ops_prefix client learned v pre)
+
+    go : (b : Bool) → (op.client == client) ≡ b → count_by client (ops_on 0 before ++ noted 0 ask) ≤ length (ops_on client v)
+    go true mine =
+        let t = turn none in
+        let same : op.client ≡ client = eqb-true op.client client mine in
+        let few : count_by client (ops_on 0 before) < length (ops_on client other) =
+        subst (λ k. count_by k (ops_on 0 before) < length (ops_on k other)) same (subst (λ k. count_by op.client (ops_on 0 before) < length (ops_on k other)) t.0 (subst (λ k. count_by op.client (ops_on k before) < length (ops_on own other)) none t.2)) in
+        omega (arith, all, count_own client op mine, few, length_prefix (ops_on client other) (ops_on client learned) (ops_prefix client other learned other_pre), more)
+    go false others =
+        omega (arith, all, count_other client op others, backed client some, count_prefix client (ops_on 0 before) (ops_on 0 learned) (ops_prefix 0 before learned before_pre), more)
+
+-- what was written
+pub wrote : (page : ℕ) (before w : List Entry) (ask : Entry) (op : Op) → ask.page ≡ page → ask.op ≡ Some op → ops_on page w ≡ ops_on page before ++ noted page ask → ops_on page w ≡ ops_on page before ++ op ∷ []
+wrote page before w ask op is noted_op added = added ∙ ap (λ l. ops_on page before ++ l) (own_entry page ask op is noted_op)
