@@ -58,10 +58,12 @@ fn an_output_is_written_whole(rt: HostRuntime) -> Result<(), Fail> {
     let [(_, returned), _] = SCRIPTS;
     let mut writer = Watched::new(roomy(rt.alloc(), 7));
     let result = write_output(&mut writer, returned);
+    let of_none = writer.write(b"").ok();
     let failed = writer.failed();
     let taken = writer.into_inner().taken;
-    let found = (result, failed, taken.as_slice());
-    assert_same(&rt, returned.len(), &found, &(Ok(()), false, returned));
+    let found = (result, of_none, failed, taken.as_slice());
+    let wanted = (Ok(()), Some(0), false, returned);
+    assert_same(&rt, returned.len(), &found, &wanted);
     Ok(())
 }
 
