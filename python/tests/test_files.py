@@ -15,6 +15,7 @@ from decimal import Decimal
 from pathlib import Path
 
 import prefq
+from prefq.reading import read_csv
 import random_frames
 from support import TestCase
 from test_ask import run
@@ -304,3 +305,14 @@ class ComesBack(TestCase):
     def test_json_has_the_values_of_columns_that_no_question_names(self):
         done = run("ask", "-", "best low(x)", "--json", text="x,y,z\n1,2.50,NA\n")
         self.assertEqual(json.loads(done.stdout, parse_float=Decimal), [{"level": 1, "id": 1, "x": 1, "y": Decimal("2.50"), "z": "NA"}])
+
+    def test_a_file_that_is_written_to_meanwhile(self):
+        """Its rows and its names are of one state, or it is refused."""
+        with tempfile.TemporaryDirectory() as folder:
+            path = Path(folder, "offers.csv")
+            path.write_text("x,y\n1,2\n3,4\n")
+            cells = read_csv(path)
+            self.assertEqual(cells.rows_at([1]), {1: ["3", "4"]})
+            path.write_text("y,x\n1,2\n3,4\n5,6\n")
+            with self.refuses(prefq.Refused, "offers.csv was written to while it was read", kind="table"):
+                cells.rows_at([1])

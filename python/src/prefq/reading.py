@@ -5,7 +5,10 @@ import gzip
 import io
 import os
 import re
-from collections import Counter
+import stat
+from bisect import bisect_left
+from collections import Counter, deque
+from contextlib import contextmanager
 from dataclasses import dataclass
 from itertools import islice
 from typing import IO, Any, Callable, Dict, Iterable, Iterator, List, NamedTuple, NoReturn, Optional, Sequence, Tuple, Union
@@ -56,11 +59,23 @@ class Dialect:
 
 
 class Content(NamedTuple):
-    """What a file holds: its bytes, and how they are read as text."""
+    """What a file holds: its bytes, or the path where they are and the file's state, which stays while it is read; and how they are read as text."""
 
     data: bytes
     encoding: str
     errors: str = "strict"
+    path: Union[str, "os.PathLike[str]", None] = None
+    state: Tuple[int, ...] = ()
+
+    def open(self) -> IO[bytes]:
+        """The bytes from their begin."""
+        if self.path is None:
+            return io.BytesIO(self.data)
+        file = open(self.path, "rb")
+        if state_of(file) != self.state:
+            file.close()
+            raise Refused(f"{os.fspath(self.path)} was written to while it was read", "table")
+        return file
 
 
 class Chunk(NamedTuple):
@@ -68,6 +83,13 @@ class Chunk(NamedTuple):
 
     first: int
     rows: List[List[str]]
+
+
+class Span(NamedTuple):
+    """Where the rows of a chunk stand: their numbers, and the lines of the file, which are counted behind those that are skipped."""
+
+    rows: range
+    lines: range
 
 
 class Cells:
@@ -80,42 +102,57 @@ class Cells:
         self._delimiter = self._find_delimiter()
         if csv.field_size_limit() < LONGEST_CELL:
             csv.field_size_limit(LONGEST_CELL)
+        # Where the chunks stand, once all of them have been read.
+        self._spans: List[Span] = []
         self.names = self._read_names()
 
     def chunks(self) -> Iterator[Chunk]:
         """The rows, some at a time."""
         first = 0
-        width = len(self.names)
-        reader = self._reader()
-        with Refusing(self, reader):
+        spans: List[Span] = []
+        with self._reader() as reader:
             self._names_in(reader)
-            while rows := rows_of(reader):
-                if set(map(len, rows)) != {width}:
-                    rows = list(self._squared(rows, first))
+            begin = reader.line_num
+            while rows := self._rows(reader, first):
                 yield Chunk(first, rows)
-                first += len(rows)
+                spans.append(Span(range(first, first + len(rows)), range(begin, reader.line_num)))
+                first, begin = first + len(rows), reader.line_num
                 if self._progress:
                     self._progress("reading", first, 0)
+        self._spans = spans
 
     def rows_at(self, places: Iterable[int]) -> Dict[int, List[str]]:
-        """The rows with these numbers, counted from 0."""
+        """The rows with these numbers, counted from 0. Lines of other chunks are passed over, which is some ten times faster than reading their cells."""
         wanted = sorted(set(places))
+        if not self._spans:
+            deque(self.chunks(), maxlen=0)
         found: Dict[int, List[str]] = {}
-        at = 0
-        for chunk in self.chunks():
-            while at < len(wanted) and wanted[at] < chunk.first + len(chunk.rows):
-                found[wanted[at]] = chunk.rows[wanted[at] - chunk.first]
-                at += 1
-            if at == len(wanted):
-                break
+        passed = 0
+        with self._stream() as stream:
+            for span in self._spans:
+                here = wanted[bisect_left(wanted, span.rows.start):bisect_left(wanted, span.rows.stop)]
+                if here:
+                    deque(islice(stream, span.lines.start - passed), maxlen=0)
+                    rows = self._rows(self._cells_of(islice(stream, len(span.lines))), span.rows.start)
+                    found.update((place, rows[place - span.rows.start]) for place in here)
+                    passed = span.lines.stop
         return found
+
+    def _rows(self, reader: Any, first: int) -> List[List[str]]:
+        """The next rows, of which the first has this number; none at the end of the file."""
+        while rows := rows_of(reader):
+            if set(map(len, rows)) != {len(self.names)}:
+                rows = list(self._squared(rows, first))
+            if rows:
+                return rows
+        return []
 
     def line(self, row: int) -> int:
         """The line in which a row ends, for what is said of it."""
-        reader = self._reader()
-        self._names_in(reader)
-        places = (reader.line_num for cells in reader if not self._is_empty(cells))
-        return self._before + next(islice(places, row, None), 0)
+        with self._reader() as reader:
+            self._names_in(reader)
+            places = (reader.line_num for cells in reader if not self._is_empty(cells))
+            return self._before + next(islice(places, row, None), 0)
 
     def check_columns(self, names: Sequence[str]) -> None:
         """Refuses a name that stands twice in the file, if it is among these."""
@@ -126,26 +163,35 @@ class Cells:
                 raise Refused(f"{self.what}: two columns are called {name!r}, those at places {' and '.join(places)}", "table")
 
     def _stream(self) -> IO[str]:
-        stream = io.TextIOWrapper(io.BytesIO(self._content.data), self._content.encoding, self._content.errors, newline="")
+        stream = io.TextIOWrapper(self._content.open(), self._content.encoding, self._content.errors, newline="")
         for _ in range(self._before):
             next(stream, None)
         return stream
 
-    def _reader(self) -> Any:
-        return csv.reader(self._stream(), delimiter=self._delimiter, strict=True)
+    @contextmanager
+    def _reader(self) -> Iterator[Any]:
+        """Reads the cells of the lines. Where that fails, the file is refused."""
+        with self._stream() as stream:
+            reader = self._cells_of(stream)
+            try:
+                yield reader
+            except UnicodeError:
+                self.refuse_encoding()
+            except csv.Error as why:
+                raise Refused(f"{self.what}, line {self._before + reader.line_num}: {why}", "table") from None
+
+    def _cells_of(self, lines: Iterable[str]) -> Any:
+        return csv.reader(lines, delimiter=self._delimiter, strict=True)
 
     def _is_empty(self, row: Sequence[str]) -> bool:
         """Whether a line holds no row: there is nothing in it, or nothing but blanks where there are several columns."""
         return not row or len(row) == 1 < len(self.names) and row[0].isspace()
 
-    def refuse_line(self, reader: Any, why: object) -> NoReturn:
-        """Refuses the file for the line that was read last."""
-        raise Refused(f"{self.what}, line {self._before + reader.line_num}: {why}", "table") from None
-
     def refuse_encoding(self) -> NoReturn:
         encoding = self._content.encoding
         try:
-            self._content.data.decode(encoding)
+            with self._content.open() as file:
+                file.read().decode(encoding)
             place = 0
         except UnicodeDecodeError as why:
             place = why.start
@@ -170,7 +216,8 @@ class Cells:
 
     def _find_delimiter(self) -> str:
         """Takes the line `sep=;` that Excel reads, and the lines that are skipped; the delimiter that is given, or that the first rows show."""
-        sample = self._content.data[:SAMPLE_BYTES]
+        with self._content.open() as file:
+            sample = file.read(SAMPLE_BYTES)
         text = sample.decode(self._content.encoding, errors="ignore").lstrip("\ufeff")
         lines = io.StringIO(text, newline="").readlines()[self._before:]
         said = SEPARATOR_LINE.fullmatch(lines[0]) if lines else None
@@ -180,8 +227,7 @@ class Cells:
         return self._dialect.delimiter or (said["sign"] if said else delimiter_of(lines, is_cut=len(sample) == SAMPLE_BYTES))
 
     def _read_names(self) -> List[str]:
-        reader = self._reader()
-        with Refusing(self, reader):
+        with self._reader() as reader:
             cells = self._names_in(reader)
         if not cells:
             raise Refused(f"{self.what} is empty: its first line has the names of the columns", "table")
@@ -196,32 +242,17 @@ class Cells:
 
     def _is_surplus(self, place: int) -> bool:
         """Whether the first rows have no text at this place either, as where each line ends in a delimiter."""
-        reader = self._reader()
-        self._names_in(reader)
-        return all(len(row) <= place or is_blank(row[place]) for row in islice(reader, SAMPLE_ROWS))
-
-
-class Refusing:
-    """Refuses the file where reading it fails."""
-
-    def __init__(self, cells: Cells, reader: Any) -> None:
-        self._cells, self._reader = cells, reader
-
-    def __enter__(self) -> None:
-        pass
-
-    def __exit__(self, kind: Any, why: Any, _: Any) -> None:
-        if isinstance(why, UnicodeError):
-            self._cells.refuse_encoding()
-        if isinstance(why, csv.Error):
-            self._cells.refuse_line(self._reader, why)
+        with self._reader() as reader:
+            self._names_in(reader)
+            return all(len(row) <= place or is_blank(row[place]) for row in islice(reader, SAMPLE_ROWS))
 
 
 def read_csv(source: Source, dialect: Dialect = Dialect(), progress: Optional[Progress] = None, what: str = "the file") -> Cells:
     """The cells of a file, or of an open one, which is called so in what is said of it; it may be packed by gzip."""
     if isinstance(source, (str, os.PathLike)):
         with open(source, "rb") as file:
-            return Cells(content_of(file, str(source), dialect), str(source), dialect, progress)
+            content = content_of(file, str(source), dialect, source if stat.S_ISREG(os.fstat(file.fileno()).st_mode) else None)
+        return Cells(content, str(source), dialect, progress)
     if not hasattr(source, "read"):
         raise TypeError(f"a file is a path or an open file, not {source!r}")
     return Cells(content_of(source, what, dialect), what, dialect, progress)
@@ -238,14 +269,15 @@ def rows_of(reader: Any) -> List[List[str]]:
             gc.enable()
 
 
-def content_of(file: IO[Any], what: str, dialect: Dialect) -> Content:
-    """What an open file holds, which may be one of text. What is no text is refused before all of it is read."""
+def content_of(file: IO[Any], what: str, dialect: Dialect, path: Union[str, "os.PathLike[str]", None] = None) -> Content:
+    """What an open file holds, which may be one of text. What is no text is refused before all of it is read. A file that has a path is not kept in memory."""
     try:
         first = file.read(SAMPLE_BYTES)
         if isinstance(first, str):
             # A text of Python may have halves of characters, which UTF-8 does not write.
             return Content((first + file.read()).encode("utf-8", "surrogatepass"), "utf-8", "surrogatepass")
-        if first[:2] == b"\x1f\x8b":
+        is_packed = first[:2] == b"\x1f\x8b"
+        if is_packed:
             first = unpacked(first + file.read(), what)
         encoding = dialect.encoding or encoding_of(first)
         check_text(first, encoding, what)
@@ -253,9 +285,17 @@ def content_of(file: IO[Any], what: str, dialect: Dialect) -> Content:
             first += file.read(LONGEST_HEAD)
             if not END_OF_LINE.search(first) and len(first) > LONGEST_HEAD:
                 raise Refused(f"{what} is no table: its first line does not end within {len(first)} bytes", "table")
+        if path is not None and not is_packed:
+            return Content(b"", encoding, path=path, state=state_of(file))
         return Content(b"".join((first, file.read())), encoding)
     except MemoryError:
         raise Refused(f"{what} is larger than the memory that there is", "table") from None
+
+
+def state_of(file: IO[bytes]) -> Tuple[int, ...]:
+    """What of a file differs where it was written to."""
+    found = os.fstat(file.fileno())
+    return found.st_dev, found.st_ino, found.st_size, found.st_mtime_ns
 
 
 def check_text(first: bytes, encoding: str, what: str) -> None:
