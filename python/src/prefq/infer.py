@@ -12,7 +12,7 @@ from .kinds import Booleans, Clock, Dates, Decimals, Floats, Kind, Texts, Times,
 from .kinds.booleans import WORDS as WORDS_OF_TRUTH
 from .kinds.forms import NUMBER, PLAIN, Form
 from .kinds.moments import DAY, MOMENT, offset_of
-from .kinds.numbers import FLOAT, MOST_DECIMALS, are_in_range, decimals_of, scaled_numbers, whole_numbers
+from .kinds.numbers import FLOAT, MOST_DECIMALS, are_in_range, decimals_of, have_decimals, scaled_numbers, whole_numbers
 from .missing import WORDS, folded
 
 WHOLE = re.compile(r"[+-]?\d+")
@@ -30,9 +30,9 @@ MOST_PROPOSED = 3
 
 def kind_of_texts(texts: Sequence[str], form: Form = PLAIN) -> Kind:
     """The kind of a column whose values stand in a file, each once, without what is missing; its numbers have this form."""
-    found = [text.strip() for text in texts]
-    if not found:
+    if not texts or is_text(texts[0].strip(), form):
         return Texts()
+    found = [text.strip() for text in texts]
     if all(text.lower() in WORDS_OF_TRUTH for text in found):
         return Booleans()
     plain = plain_numbers(found, form)
@@ -41,6 +41,11 @@ def kind_of_texts(texts: Sequence[str], form: Form = PLAIN) -> Kind:
     if all(map(MOMENT.fullmatch, found)):
         return _kind_of_moments(found)
     return Texts()
+
+
+def is_text(text: str, form: Form) -> bool:
+    """Whether a text is a value of no other kind."""
+    return text.lower() not in WORDS_OF_TRUTH and not FLOAT.fullmatch(text) and form.plain(text) is None and not MOMENT.fullmatch(text)
 
 
 def plain_column(texts: Sequence[str]) -> "Optional[Tuple[Kind, array[int]]]":
@@ -60,6 +65,9 @@ def plain_column(texts: Sequence[str]) -> "Optional[Tuple[Kind, array[int]]]":
 
 def most_decimals(texts: Sequence[str]) -> int:
     """How many decimals plain numbers without exponents have at most."""
+    first = len(texts[0].partition(".")[2]) if texts else 0
+    if have_decimals(texts, first):
+        return first
     return max((len(part) for _, _, part in (text.partition(".") for text in texts)), default=0)
 
 

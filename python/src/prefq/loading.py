@@ -104,11 +104,11 @@ class Distinct(NamedTuple):
     @staticmethod
     def of(texts: Iterable[str], missing: Missing) -> "Distinct":
         different = dict.fromkeys(texts)
-        blanks = [text for text in different if not text or text.isspace()]
-        words = [text for text in different if not is_blank(text) and missing.may_be(text)]
-        if blanks or words:
-            for text in [*blanks, *words]:
-                del different[text]
+        suspects = missing.suspects(different)
+        blanks = [text for text in suspects if is_blank(text)]
+        words = [text for text in suspects if not is_blank(text) and folded(text) in missing.words]
+        for text in [*blanks, *words]:
+            del different[text]
         return Distinct(blanks, words, list(different))
 
 

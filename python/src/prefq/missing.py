@@ -1,5 +1,5 @@
 """What is missing in a file: an empty cell always; and words such as NA, where the rest of the column is no text, or where it is said that they are."""
-from typing import FrozenSet, Iterable, Mapping, Optional
+from typing import FrozenSet, Iterable, List, Mapping, Optional
 
 from .columns import quoted
 from .kinds import Choices, Kind, Texts
@@ -21,9 +21,10 @@ class Missing:
         # Whether one of the words may be a number, such as 999.
         self.are_numbers = any(any(map(str.isdigit, word)) for word in self.words)
 
-    def may_be(self, text: str) -> bool:
-        """Whether a text is one of the words. (Most texts are longer, which takes no look at their letters.)"""
-        return (len(text) <= self._longest or text[0].isspace() or text[-1].isspace()) and folded(text) in self.words
+    def suspects(self, texts: Iterable[str]) -> List[str]:
+        """Those of the texts that may be blank or one of the words: most texts are longer, which takes no look at their letters."""
+        longest = self._longest
+        return [text for text in texts if len(text) <= longest or text[0].isspace() or text[-1].isspace()]
 
     def in_a_column_of(self, kind: Kind) -> FrozenSet[str]:
         """The words that are missing in a column of this kind, folded. What is a choice of the column, or its word for true or false, is a value."""

@@ -254,13 +254,18 @@ def scaled_numbers(texts: Sequence[str], decimals: int) -> Optional[List[int]]:
     joined = "\n".join(texts)
     if OTHER_SIGN.search(joined) or joined.count("\n") != max(len(texts) - 1, 0):
         return None
-    if decimals and joined.count(".") == len(texts) and all(text[-decimals - 1:-decimals] == "." for text in texts):
-        # All have the same number of decimals: without their points they are what is asked for.
+    if joined.count(".") == len(texts) and have_decimals(texts, decimals):
+        # Without their points they are what is asked for.
         return whole_numbers(joined.replace(".", "").split("\n"))
     try:
         return [_shifted(text, decimals) for text in texts]
     except ValueError:
         return None
+
+
+def have_decimals(texts: Sequence[str], decimals: int) -> bool:
+    """Whether each of the texts has so many signs behind a point, one at least."""
+    return decimals > 0 and all(text[-decimals - 1:-decimals] == "." for text in texts)
 
 
 def _shifted(plain: str, decimals: int) -> int:
