@@ -110,8 +110,9 @@ def _kind_of_moments(texts: List[str]) -> Kind:
             if None in zones and len(zones) > 1:
                 return Texts()
             kind = Times(zones.pop() if len(zones) == 1 else datetime.timezone.utc)
-        for text in texts:
-            kind.read(text)
+        if kind.read_all(texts) is None:
+            for text in texts:
+                kind.read(text)
         return kind
     except ValueError:
         return Texts()
