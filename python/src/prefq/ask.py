@@ -5,11 +5,11 @@ import re
 import sys
 import time
 import warnings
-from typing import Any, Dict, Iterable, List, Optional, Sequence, Tuple
+from typing import Dict, Iterable, List, Optional, Sequence, Tuple
 
 from .answer import Answer
 from .columns import Column
-from .errors import Ended, Error, Refused
+from .errors import Ended, Error
 from .frame import UnknownValue
 from .infer import kind_of_texts, oddity
 from .kinds import Texts

@@ -15,8 +15,9 @@ from .loading import Encoded, File, check_known, chosen, column_of_values, decod
 from .missing import Missing
 from .once import Zipped
 from .opened import Opened
+from .options import check_options
 from .questions import Mode, Question, read_question
-from .reading import Dialect, Progress, Source, check_options, read_csv
+from .reading import Dialect, Progress, Source, read_csv
 from .records import Record, mapping_of, values_of
 from .table import Table
 from .translate import Plan, plan

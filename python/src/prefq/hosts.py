@@ -2,7 +2,6 @@
 import ipaddress
 import re
 from typing import Mapping, Optional, Sequence, Union
-from urllib.parse import urlsplit
 
 HOST = re.compile(r"(?P<name>\[[0-9a-f:.]+\]|[^\[\]:/@?#\\\s]+)(?::(?P<port>[0-9]{0,5}))?", re.IGNORECASE)
 PORTS = {"http": "80", "https": "443"}

@@ -5,11 +5,11 @@ from operator import itemgetter
 from typing import Any, Dict, Iterable, Iterator, List, Mapping, NamedTuple, Optional, Sequence, Tuple
 
 from .checks import LEAST, MOST, MOST_COLUMNS
-from .columns import Column, is_missing, listed
+from .columns import Column, listed
 from .errors import Refused
 from .hints import unknown_column
 from .infer import kind_of_texts, kind_of_values, plain_column
-from .kinds import Decimals, Kind, Texts, Whole, kind_named
+from .kinds import Kind, Texts, Whole, kind_named
 from .kinds.forms import PLAIN, Form
 from .kinds.numbers import Number
 from .missing import Missing, folded, note_of

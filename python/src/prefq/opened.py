@@ -1,7 +1,7 @@
 """A table as it is open below a frame, and how it is opened anew with wider columns under the same ids."""
 from bisect import bisect_left
 from dataclasses import dataclass
-from typing import Any, Dict, List, Mapping, Optional, Sequence, Tuple
+from typing import Any, Dict, List, Mapping, Sequence, Tuple
 
 from .checks import LEAST, MOST_IDS, whole
 from .columns import Column

@@ -23,7 +23,7 @@ import re
 import subprocess
 from dataclasses import dataclass, field, replace
 from functools import reduce as fold
-from typing import Any, Callable, Dict, Iterable, Iterator, List, Optional, Sequence, Tuple, Union
+from typing import Any, Callable, Dict, Iterable, Iterator, List, Optional, Sequence, Tuple
 from uuid import uuid4
 
 from .checks import MOST_ROWS, header, seconds, text_of_question

@@ -3,7 +3,6 @@ import datetime
 import html
 import math
 import os
-from decimal import Decimal
 from typing import Any, Dict, Iterable, List, NamedTuple, Optional, Sequence, Tuple, Union
 
 from .answer import Answer

@@ -2,7 +2,7 @@
 import os
 import shutil
 from pathlib import Path
-from typing import Optional, Union
+from typing import Union
 
 from .errors import ProgramNotFound
 

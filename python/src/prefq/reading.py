@@ -14,7 +14,6 @@ from itertools import islice
 from typing import IO, Any, Callable, Dict, Iterable, Iterator, List, NamedTuple, NoReturn, Optional, Sequence, Tuple, Union
 
 from .errors import Refused
-from .hints import nearest
 
 DELIMITERS = ",;\t|"
 # Rows that are read at a time.
@@ -29,10 +28,6 @@ END_OF_LINE = re.compile(rb"[\n\r]")
 LONGEST_CELL = 2**31 - 1
 MARKS = ((b"\xef\xbb\xbf", "utf-8-sig"), (b"\xff\xfe\x00\x00", "utf-32"), (b"\x00\x00\xfe\xff", "utf-32"), (b"\xff\xfe", "utf-16"), (b"\xfe\xff", "utf-16"))
 SEPARATOR_LINE = re.compile(r'"?sep=(?P<sign>.)"?\r?\n?', re.IGNORECASE)
-# What pandas, DuckDB and csv call what is called otherwise here.
-OTHER_NAMES = {"sep": "delimiter", "delim": "delimiter", "na_values": "missing", "nullstr": "missing", "keep_default_na": "missing", "usecols": "columns", "dtype": "kinds",
-               "dtypes": "kinds", "types": "kinds", "converters": "kinds", "parse_dates": "kinds", "dateformat": "kinds", "timestampformat": "kinds", "date_format": "kinds",
-               "skiprows": "skip", "header": "skip", "decimal_separator": "decimal", "thousand": "thousands", "on_bad_lines": "null_padding", "filepath_or_buffer": "source"}
 # What is done, how much of it, and of how much, which is 0 where nobody knows.
 Progress = Callable[[str, int, int], None]
 Source = Union[str, "os.PathLike[str]", IO[Any]]
@@ -345,15 +340,6 @@ def is_empty_line(row: Sequence[str]) -> bool:
 def is_blank(cell: str) -> bool:
     """Whether a cell is empty."""
     return not cell or cell.isspace()
-
-
-def check_options(options: Dict[str, Any], known: Iterable[str], what: str) -> None:
-    """Refuses a word that is no option, with the one that is meant."""
-    names = list(known)
-    for name in options:
-        if name not in names:
-            near = OTHER_NAMES.get(name) if OTHER_NAMES.get(name) in names else nearest(name, names)
-            raise TypeError(f"{what} has no option {name!r}" + (f": it is called {near!r} here" if name in OTHER_NAMES and near else f"; did you mean {near!r}?" if near else f": there are {', '.join(names)}"))
 
 
 def check_names(names: Iterable[Any]) -> Tuple[str, ...]:

@@ -5,7 +5,7 @@ from .checks import MOST_COLUMNS, MOST_ROWS
 from .once import ask_once
 from .questions import Question
 from .table import Table
-from .translate import Plan, plan, terms_columns
+from .translate import plan, terms_columns
 
 LEVELS = 1000
 PAIR = "pair"
