@@ -11,7 +11,9 @@ RECORDS = [
 ]
 
 
-class Edits(Paged):
+class Editing(Paged):
+    """What the tests do on the page."""
+
     records = RECORDS
 
     def edit(self, id):
@@ -63,6 +65,8 @@ class Edits(Paged):
         rows = self.server.desk.picture("best low(Distance)").rows
         return [str(value) for row in rows if row.id == id for value in self.server.desk.record(row.numbers).values()]
 
+
+class Edits(Editing):
     def test_only_what_is_changed_is_sent(self):
         self.edit(1)
         self.price(1, "20")
@@ -196,6 +200,22 @@ class Edits(Paged):
         self.browser.click("#done button")
         self.browser.until("document.getElementById('done').textContent === 'Added again.'")
         self.assertEqual(self.values(3), ["Alpine", "20.00", "540", "None"])
+
+
+class OwnForms(Editing):
+    """Columns whose kinds write dates and truth values in a form of their own."""
+
+    records = [{"Hotel": "Quay", "Price (EUR)": "49.90", "Distance": 1200, "Opened": "01.05.2001", "Pool": "Y"}]
+    kinds = {"Price (EUR)": "decimal(2)", "Opened": 'date("%d.%m.%Y")', "Pool": "bool(Y, N)"}
+
+    def test_are_shown_and_stay(self):
+        self.edit(1)
+        self.assertEqual((self.shown("Opened"), self.shown("Pool")), ("01.05.2001", "Y"))
+        self.fill("Opened", "02.05.2001")
+        self.fill("Pool", "N")
+        self.browser.click("#save")
+        self.until_closed()
+        self.assertEqual(self.values(1)[3:], ["2001-05-02", "False"])
 
 
 if __name__ == "__main__":

@@ -28,6 +28,7 @@ class Paged(TestCase):
     """Tests of a page in a browser."""
 
     records = RECORDS
+    kinds = None
 
     @classmethod
     def setUpClass(cls):
@@ -40,7 +41,7 @@ class Paged(TestCase):
     def setUp(self):
         self.browser.faults.clear()
         self.browser.size(1200, 860)
-        context = served(self.records, title="Hotels", questions=[QUESTION, "best high(Distance)"])
+        context = served(self.records, kinds=self.kinds, title="Hotels", questions=[QUESTION, "best high(Distance)"])
         self.server = context.__enter__()
         self.addCleanup(context.__exit__, None, None, None)
         self.open()

@@ -42,9 +42,9 @@ def kinds_of(records):
 
 
 @contextlib.contextmanager
-def served(records=RECORDS, **options):
+def served(records=RECORDS, kinds=None, **options):
     """A server on a free port, in a thread."""
-    desk = Desk(prefq.Frame.from_records(records, kinds=kinds_of(records)))
+    desk = Desk(prefq.Frame.from_records(records, kinds=kinds or kinds_of(records)))
     with desk, Server(desk, **options) as server:
         thread = threading.Thread(target=server.serve_forever, args=[0.05])
         thread.start()

@@ -7,7 +7,7 @@ from typing import Any, Dict, List, Optional, Sequence, Tuple
 
 from .columns import Column, spelled
 from .desk import Desk, Held, Numbers
-from .kinds import Choices, Clock, Texts
+from .kinds import Booleans, Choices, Clock, Dates, Texts
 
 MOST_BEST = 500         # rows of an answer that are sent; a page is no place for more
 MOST_OTHERS = 2000      # other rows that are drawn
@@ -18,8 +18,8 @@ DAY = datetime.date(1970, 1, 1).toordinal()
 
 def about(desk: Desk, title: str, questions: Sequence[str], editable: bool) -> Dict[str, Any]:
     """What a page has to know before the first picture."""
-    columns = [{"name": column.name, "spelled": spelled(column.name), "kind": column.kind.name, "example": column.kind.example, "axis": is_axis(column)}
-               for column in desk.columns]
+    columns = [{"name": column.name, "spelled": spelled(column.name), "kind": column.kind.name, "example": column.kind.example, "axis": is_axis(column),
+                "iso": str(column.kind) == Dates.name, "truth": truth_of(column)} for column in desk.columns]
     return {"title": title, "columns": columns, "questions": list(questions), "editable": editable}
 
 
@@ -70,6 +70,11 @@ class Made:
         self.lock = threading.Lock()
         self.version = 0
         self.text = ""
+
+
+def truth_of(column: Column) -> List[str]:
+    """The texts for true and false of a column of truth values; none of another."""
+    return [column.kind.text(value) for value in (True, False)] if isinstance(column.kind, Booleans) else []
 
 
 def is_axis(column: Column) -> bool:

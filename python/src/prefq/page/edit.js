@@ -75,14 +75,16 @@ function quote(text) {
 
 function control(column) {
   if (column.kind === "bool") {
-    return element("select", {name: column.name}, ...[["", "unknown"], ["true", "yes"], ["false", "no"]].map(([value, textContent]) => element("option", {value, textContent})));
+    // Its own words for true and false, since the cells have these.
+    const [yes, no] = column.truth;
+    return element("select", {name: column.name}, ...[["", "unknown"], [yes, "yes"], [no, "no"]].map(([value, textContent]) => element("option", {value, textContent})));
   }
   if (column.kind === "text") {
     const area = element("textarea", {name: column.name, rows: 1});
     area.addEventListener("keydown", saveOfOneLine);
     return area;
   }
-  const input = element("input", {name: column.name, type: column.kind === "date" ? "date" : "text", autocomplete: "off"});
+  const input = element("input", {name: column.name, type: column.iso ? "date" : "text", autocomplete: "off"});
   if (isNumber(column)) input.inputMode = "decimal";
   return input;
 }
