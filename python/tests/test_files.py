@@ -316,3 +316,9 @@ class ComesBack(TestCase):
             path.write_text("y,x\n1,2\n3,4\n5,6\n")
             with self.refuses(prefq.Refused, "offers.csv was written to while it was read", kind="table"):
                 cells.rows_at([1])
+
+    def test_json_has_dates_as_iso_8601_has_them(self):
+        with from_text("day,x\n01.05.2026,1\n", kinds={"day": 'date("%d.%m.%Y")'}) as frame:
+            answer = frame.best("best low(x)")
+        self.assertEqual(json.loads(answer.to_json())[0]["day"], "2026-05-01")
+        self.assertIn("01.05.2026", answer.to_csv())

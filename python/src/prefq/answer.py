@@ -1,5 +1,6 @@
 """The answer to a question: a list of records, and how it is shown, written and drawn."""
 import csv
+import datetime
 import html
 import json
 import math
@@ -206,4 +207,6 @@ def _json(value: Any, column: Optional[Column]) -> str:
         return format(value, "f")
     if isinstance(value, float) and math.isfinite(value):
         return repr(float(value))
+    if isinstance(value, (datetime.date, datetime.time)):
+        return json.dumps(str(value))       # as ISO 8601 has it, whatever form the column's texts have
     return json.dumps(column.text(value) if column else str(value), ensure_ascii=False)

@@ -246,7 +246,7 @@ def _moment_kinds(texts: Sequence[str]) -> List[str]:
 
 def _bool_kinds(texts: Sequence[str]) -> List[str]:
     words = sorted({folded(text) for text in texts})
-    pairs = {("n", "y"): ("y", "n"), ("f", "t"): ("t", "f"), ("nein", "ja"): ("ja", "nein"), ("ja", "nein"): ("ja", "nein"), ("non", "oui"): ("oui", "non")}
+    pairs = {("n", "y"): ("y", "n"), ("f", "t"): ("t", "f"), ("ja", "nein"): ("ja", "nein"), ("non", "oui"): ("oui", "non")}
     return [f"bool({', '.join(pairs[tuple(words)])})"] if tuple(words) in pairs else []  # type: ignore[index]
 
 
