@@ -284,3 +284,28 @@ class OfADesk(TestCase):
                     call()
             self.assertEqual((self.rows(desk), desk.version), (before, version))
             self.assertEqual([str(column.kind) for column in desk.columns][0], "whole")
+
+    def test_a_closed_desk_grows_nothing(self):
+        with Desk(prices(60, 50)) as desk:
+            desk.close()
+            with self.assertRaises(prefq.Ended) as caught:
+                desk.insert({"price": "48.5"})
+            self.assertEqual((caught.exception.kind, str(desk.columns[0].kind)), ("closed", "whole"))
+
+
+class Closing(TestCase):
+    def test_a_frame_that_is_closed_while_it_grows(self):
+        frame = prices(60, 50)
+        anew = frame._opened.anew
+
+        def closed_meanwhile(*words):
+            found = anew(*words)
+            frame.close()
+            return found
+
+        with unittest.mock.patch.object(frame._opened, "anew", closed_meanwhile):
+            with self.assertRaises(prefq.Ended) as caught:
+                frame.insert({"price": "48.5"})
+        self.assertEqual(caught.exception.kind, "closed")
+        with self.assertRaises(prefq.Ended):
+            frame.rows()

@@ -212,6 +212,8 @@ class Desk:
 
     def _fit(self, values: Mapping[str, Any]) -> None:
         """Makes the columns wider that are too narrow for these values, and code books smaller that are mostly texts of no row: the table is opened anew then."""
+        if self._closed:
+            raise Ended("the desk was closed", "closed")
         for name in values:
             if name not in self._named:
                 raise ValueError(unknown_column(name, list(self._named)))

@@ -67,6 +67,7 @@ class Frame:
         # Held while the rows change, by the thread that changes them; and the last id that was given.
         self._changing = threading.RLock()
         self._is_opening = False
+        self._is_closed = False
         self._last = len(rows)
         self._options = {name: options[name] for name in ("program", "timeout") if name in options}
 
@@ -153,6 +154,7 @@ class Frame:
         return self
 
     def __exit__(self, *failed: Any) -> None:
+        self._is_closed = True
         self.table.__exit__(*failed)
 
     def __len__(self) -> int:
@@ -167,6 +169,7 @@ class Frame:
 
     def close(self) -> None:
         """Ends the frame; the same again does nothing."""
+        self._is_closed = True
         self.table.close()
 
     @property
@@ -336,6 +339,8 @@ class Frame:
         self._is_opening = True
         try:
             self._opened = self._opened.anew(kinds, self._last)
+            if self._is_closed:         # meanwhile, which ended the table before
+                self.table.close()
         finally:
             self._is_opening = False
 
