@@ -309,3 +309,17 @@ class Closing(TestCase):
         self.assertEqual(caught.exception.kind, "closed")
         with self.assertRaises(prefq.Ended):
             frame.rows()
+
+    def test_the_table_before_ends_with_the_call_that_replaced_it(self):
+        """And not as garbage, where an interruption would be lost; but not while somebody uses it."""
+        with prices(60, 50) as frame:
+            before = frame._opened
+            frame.insert({"price": "48.5"})
+            with self.assertRaises(prefq.Ended):
+                before.table.room()
+            with frame._in_use() as used:
+                frame.insert({"price": "48.25"})
+                self.assertEqual(used.table.room(), 1024 - 3)
+            with self.assertRaises(prefq.Ended):
+                used.table.room()
+            self.assertEqual([row.price for row in frame.rows()], [60, 50, Decimal("48.5"), Decimal("48.25")])

@@ -159,7 +159,8 @@ class Frame:
 
     def __len__(self) -> int:
         """The number of rows."""
-        return len(self.table)
+        with self._in_use() as opened:
+            return len(opened.table)
 
     def __iter__(self) -> Iterator[Record]:
         return iter(self.rows())
@@ -244,17 +245,18 @@ class Frame:
 
     def get(self, id: int) -> Record:
         """The row with this id."""
-        opened = self._opened
-        return self._records(opened, [(None, id, self._of_row(id, opened.table.get, opened))])[0]
+        with self._in_use() as opened:
+            return self._records(opened, [(None, id, self._of_row(id, opened.table.get, opened))])[0]
 
     def rows(self) -> List[Record]:
         """All rows, in order of id."""
-        opened = self._opened
-        return self._records(opened, [(None, opened.ids.outside(id), numbers) for id, numbers in opened.table.rows()])
+        with self._in_use() as opened:
+            return self._records(opened, [(None, opened.ids.outside(id), numbers) for id, numbers in opened.table.rows()])
 
     def room(self) -> int:
         """How many more versions of rows there is room for."""
-        return self.table.room()
+        with self._in_use() as opened:
+            return opened.table.room()
 
     def best(self, question: str, *, progress: Optional[Progress] = None) -> Answer:
         """The answer to a question in the names and values of the columns.
@@ -266,14 +268,14 @@ class Frame:
 
     def answer(self, question: str, mode: Optional[Mode], progress: Optional[Progress] = None) -> Answer:
         """The same of a question that has this mode, if it has none itself."""
-        opened = self._opened
-        read = self._read(opened, question, mode)
-        while True:
-            asked = plan(question, read, opened.below)
-            rows = self._run(opened, asked, progress)
-            # A row that came in the meantime may have a new text, or the first gap of a column.
-            if plan(question, read, opened.below).text == asked.text:
-                break
+        with self._in_use() as opened:
+            read = self._read(opened, question, mode)
+            while True:
+                asked = plan(question, read, opened.below)
+                rows = self._run(opened, asked, progress)
+                # A row that came in the meantime may have a new text, or the first gap of a column.
+                if plan(question, read, opened.below).text == asked.text:
+                    break
         warn_of(asked)
         found = [(row.level, opened.ids.outside(row.id), row.values) for row in without_twins(rows, asked)]
         return Answer(question, opened.columns, self._records(opened, found), others=self.rows, index=self._index)
@@ -286,9 +288,9 @@ class Frame:
         ...     frame.why(2, "best low(x) * low(y)").ids
         [1]
         """
-        opened = self._opened
-        read = self._read(opened, question)
-        rows = {opened.ids.outside(number): numbers for number, numbers in opened.table.rows()}
+        with self._in_use() as opened:
+            read = self._read(opened, question)
+            rows = {opened.ids.outside(number): numbers for number, numbers in opened.table.rows()}
         if id not in rows:
             raise opened.missing_row(id)
         rivals = Rivals(question, read, opened.below, rows, id, self._options)
@@ -328,6 +330,17 @@ class Frame:
             self._open_anew(wider)
 
     @contextmanager
+    def _in_use(self) -> Iterator[Opened]:
+        """The table as it is now, which stays open in the block although another one takes its place."""
+        user = object()
+        while not (opened := self._opened).enter(user):
+            pass
+        try:
+            yield opened
+        finally:
+            opened.leave(user)
+
+    @contextmanager
     def _change(self) -> Iterator[None]:
         """One change after the other. A signal handler of this thread makes none while the table is opened anew, which would not have it."""
         with self._changing:
@@ -338,9 +351,11 @@ class Frame:
     def _open_anew(self, kinds: Mapping[str, Kind]) -> None:
         self._is_opening = True
         try:
-            self._opened = self._opened.anew(kinds, self._last)
+            before = self._opened
+            self._opened = before.anew(kinds, self._last)
             if self._is_closed:         # meanwhile, which ended the table before
                 self.table.close()
+            before.give_way()
         finally:
             self._is_opening = False
 

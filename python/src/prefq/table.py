@@ -101,6 +101,11 @@ class Table:
         """The number of the program's process."""
         return self._exchange.pid
 
+    @property
+    def has_queries(self) -> bool:
+        """Whether a query is open."""
+        return bool(self._exchange.queries)
+
     def check(self) -> None:
         """Raises `Ended` if the table has ended; a program that died between two calls is found out."""
         self._exchange.check()
