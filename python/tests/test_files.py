@@ -220,6 +220,15 @@ class Files(TestCase):
                 self.assertEqual(frame.names, names)
                 self.assertEqual(len(frame), text.count("\n") - 1 - text.count("sep=") - text.count("two"))
 
+    def test_a_line_that_is_refused_behind_plain_ones(self):
+        """It is named by its number in the file, however many rows are read at a time."""
+        plain = "\n\nx,y\n" + "1,2\n" * 6 + '"a\nb",2\r\n\n' + "3,4\n" * 6
+        for line, options, says in [('"5"6,1\n', {}, "line 19: ',' expected after '\"'"), ("5,6,7\n", {}, "line 19: it has 3 cells"), ('"5', {}, "line 19: unexpected end of data"),
+                                    ("5,x\n", {"kinds": {"y": "whole"}}, "line 19, column 'y' (whole): 'x' is no number")]:
+            for chunk in (1, 5, 9, 24, 40, 65_536):
+                with self.subTest(line=line, chunk=chunk), unittest.mock.patch("prefq.reading.CHUNK", chunk), self.refuses((prefq.Refused, ValueError), says):
+                    from_text(plain + line, **options)
+
     def test_lines_that_are_not_as_the_others(self):
         self.assertEqual(self.reads(b"Offers of May\n\nx,y\n1,2\n", skip=2), [{"x": 1, "y": 2}])
         self.assertEqual(self.reads(b"x,y\n1,2\n   \n\n3,4,\n,\n"), [{"x": 1, "y": 2}, {"x": 3, "y": 4}, {"x": None, "y": None}])
@@ -296,7 +305,7 @@ class ComesBack(TestCase):
         text = io.StringIO()
         csv.writer(text).writerows([cells, *zip(*cells.values())])
         found = []
-        for chunk in (1, 2, 3, 65_536):
+        for chunk in (1, 20, 40, 65_536):
             with unittest.mock.patch("prefq.reading.CHUNK", chunk), from_text(text.getvalue()) as frame:
                 found.append((list(map(str, frame.columns)), frame.rows(), frame.notes))
         self.assertEqual(found[1:], found[:-1])

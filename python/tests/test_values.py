@@ -262,7 +262,7 @@ class Inferred(TestCase):
             draw = random_.choice(draws)
             cells = [random_.choice(HOSTILE[:160]) if random_.random() < 0.08 else random_.choice(["", "NA", "-", "none"]) if random_.random() < 0.1 else draw(random_) for _ in range(random_.randrange(1, 6))]
             cells = [cell for cell in cells if "\0" not in cell]
-            with unittest.mock.patch("prefq.reading.CHUNK", random_.choice([2, 65_536])):
+            with unittest.mock.patch("prefq.reading.CHUNK", random_.choice([1, 40, 65_536])):
                 file = prefq.loading.File(prefq.reading.read_csv(csv_of(cells)))
                 column, numbers = file.column("x")
             read = PLAIN_KINDS[column.kind.name]

@@ -8,6 +8,7 @@ from fractions import Fraction
 from typing import Any, List, Optional, Sequence
 
 from ..checks import LEAST, MOST
+from .at_once import MOST_DECIMALS, PlainTexts
 from .forms import NUMBER, PLAIN, Form
 from .kind import Kind, NotRead
 
@@ -15,12 +16,9 @@ from .kind import Kind, NotRead
 WIDE = Context(prec=40)
 INFINITY = re.compile(r"[+-]?inf(?:inity)?", re.IGNORECASE)
 FLOAT = re.compile(f"{NUMBER.pattern}|{INFINITY.pattern}", re.IGNORECASE)
-MOST_DECIMALS = 18
 # So many digits of a decimal number come back from a float. One that needs more of them is a result of floats, and not the number that somebody wrote.
 FLOAT_DIGITS = 15
 LONGEST_SHOWN = 60
-# What does not stand in plain numbers without an exponent, or stands there in no such number: a sign behind a point.
-OTHER_SIGN = re.compile(r"[^\d.+\-\n]|\.[+-]")
 
 
 class Number(Kind):
@@ -96,7 +94,7 @@ class Whole(Number):
         return self.form.written(format(value, "f") if isinstance(value, Decimal) else str(value))
 
     def read_all(self, texts: Sequence[str]) -> Optional[List[int]]:
-        plain = self.form.all_plain(texts)
+        plain = texts if self.form.is_plain else self.form.all_plain(texts)
         if plain is None:
             return None
         found = scaled_numbers(plain, self.decimals)
@@ -250,26 +248,6 @@ def whole_numbers(texts: Sequence[str]) -> Optional[List[int]]:
 
 
 def scaled_numbers(texts: Sequence[str], decimals: int) -> Optional[List[int]]:
-    """The numbers that plain texts spell without an exponent, in units of the last of so many decimals; None where one of them spells none, or has more."""
-    joined = "\n".join(texts)
-    if OTHER_SIGN.search(joined) or joined.count("\n") != max(len(texts) - 1, 0):
-        return None
-    if joined.count(".") == len(texts) and have_decimals(texts, decimals):
-        # Without their points they are what is asked for.
-        return whole_numbers(joined.replace(".", "").split("\n"))
-    try:
-        return [_shifted(text, decimals) for text in texts]
-    except ValueError:
-        return None
-
-
-def have_decimals(texts: Sequence[str], decimals: int) -> bool:
-    """Whether each of the texts has so many signs behind a point, one at least."""
-    return decimals > 0 and all(text[-decimals - 1:-decimals] == "." for text in texts)
-
-
-def _shifted(plain: str, decimals: int) -> int:
-    whole, _, part = plain.partition(".")
-    if len(part) > decimals or not (whole.strip("+-") or part):
-        raise NotRead(f"{plain} has more than {decimals} decimals, or no digit")
-    return int(whole + part.ljust(decimals, "0"))
+    """The numbers that plain texts spell without an exponent, in units of the last of so many decimals; None where one of them has to be looked at by itself."""
+    plain = PlainTexts.of(texts) if texts else None
+    return None if plain is None else plain.scaled(decimals)
