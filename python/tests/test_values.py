@@ -427,6 +427,17 @@ class DataFrames(TestCase):
                 with self.assertRaises(ValueError):
                     frame.insert({"x": "other"})
 
+    def test_an_ordered_categorical_without_categories(self):
+        dataframe = pandas.DataFrame({"x": pandas.Categorical([None, None], [], ordered=True), "y": [1, 2]})
+        with prefq.Frame.from_dataframe(dataframe) as frame:
+            spelling = str(frame.columns[0].kind)
+            self.assertEqual((spelling, [row.x for row in frame.rows()], frame.best("best low(x) & low(y)").ids), ("choice()", [None, None], [1]))
+        for again in (prefq.Frame.from_dataframe(dataframe, kinds={"x": spelling}), prefq.Frame.empty(["x", "y"], {"x": spelling, "y": "whole"})):
+            with again:
+                self.assertEqual(str(again.columns[0].kind), spelling)
+                with self.refuses(ValueError, "column 'x' (choice()): 'S' is no choice, and there is none"):
+                    again.insert({"x": "S"})
+
     def test_an_unordered_categorical_has_the_order_of_its_values(self):
         with prefq.Frame.from_dataframe(pandas.DataFrame({"x": pandas.Categorical([3, 1, None, 2], [3, 1, 2])})) as frame:
             self.assertEqual(frame.best("top_level 9 low(x)").ids, [2, 4, 1, 3])

@@ -13,7 +13,7 @@ from .kinds.at_once import MOST_DECIMALS, PlainTexts
 from .kinds.booleans import WORDS as WORDS_OF_TRUTH
 from .kinds.forms import NUMBER, PLAIN, Form
 from .kinds.moments import DAY, MOMENT, offset_of
-from .kinds.numbers import FLOAT, are_in_range, decimals_of, whole_numbers
+from .kinds.numbers import FLOAT, Number, are_in_range, decimals_of, whole_numbers
 from .missing import WORDS, folded
 
 WHOLE = re.compile(r"[+-]?\d+")
@@ -171,16 +171,16 @@ def _type_of(value: Any) -> Any:
 # ---- what is said of a column of texts that looks like another ----
 
 
-def oddity(texts: Sequence[str]) -> Optional[str]:
-    """Why a column of these texts is none of numbers, dates or bools, where it looks like one; and which kind would read it."""
+def oddity(texts: Sequence[str], form: Form = PLAIN) -> Optional[str]:
+    """Why a column of these texts is none of numbers, dates or bools, where it looks like one; and which kind would read it in a file whose numbers have this form."""
     some = [text.strip() for text in texts[:LOOKED_AT] if text.strip() and folded(text) not in WORDS]
     if not some:
         return None
-    proposed = proposal(some)
+    proposed = proposal(some, form)
     if proposed is not None:
         return proposed
-    for form, what in ((FLOAT, "number"), (MOMENT, "date")):
-        odd = [text for text in some if not form.fullmatch(text)]
+    for pattern, what in ((FLOAT, "number"), (MOMENT, "date")):
+        odd = [text for text in some if not pattern.fullmatch(text)]
         if odd and 2 * len(odd) <= len(some):
             return f"{_short(odd[0])} is no {what}"
     return _inner_oddity(some)
@@ -206,9 +206,11 @@ def _first_too_great(texts: Sequence[str]) -> str:
     return next(alone, "") or first_inexact(texts) or texts[0]
 
 
-def proposal(texts: Sequence[str]) -> Optional[str]:
+def proposal(texts: Sequence[str], form: Form = PLAIN) -> Optional[str]:
     """The kinds that read all of these texts, with an example: the plain one first, where the texts are no file's, or that has another form."""
     plain = kind_of_texts(texts)
+    if isinstance(plain, Number) and not form.is_plain:
+        plain = plain.in_form(PLAIN)        # which is its own, and not the file's
     others = [*_moment_kinds(texts), *_bool_kinds(texts)] if isinstance(plain, Texts) else []
     spellings = [*([] if isinstance(plain, Texts) else [str(plain)]), *_number_kinds(texts, plain), *others]
     reading = [kind for kind in map(kind_named, spellings) if all(_is_read(kind, text) for text in texts)]

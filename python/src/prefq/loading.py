@@ -244,7 +244,7 @@ class ColumnReader:
 
     def encoded(self) -> Encoded:
         """The column, and its numbers."""
-        kind = joined_kind(self._parts)
+        kind = joined_kind(self._parts) if self._parts else self._given or Texts()
         assert kind is not None
         numbers = array("q")
         for part in self._parts:
@@ -257,7 +257,7 @@ class ColumnReader:
 
     def _column(self, kind: Kind, *, has_gaps: bool) -> Column:
         column = Column(self.name, kind)
-        column.grows, column.has_gaps = self._given is None, has_gaps
+        column.grows, column.has_gaps, column.form = self._given is None, has_gaps, self._form
         return column
 
     def words_taken(self) -> Dict[str, int]:
@@ -294,7 +294,7 @@ class ColumnReader:
 
     def _numbers(self, kind: Optional[Kind], texts: List[str], values: List[str], gaps: List[str]) -> Iterable[int]:
         """The numbers of texts, which are these values and gaps."""
-        reading = kind.in_form(self._form) if isinstance(kind, Number) and kind.form.is_plain else kind
+        reading = kind if self._form.is_plain or not isinstance(kind, Number) or kind.has_own_form else kind.in_form(self._form)
         if not gaps and reading and 2 * len(values) > len(texts):
             at_once = reading.read_all(texts)
             if at_once is not None:

@@ -22,10 +22,11 @@ LONGEST_SHOWN = 60
 
 
 class Number(Kind):
-    """Numbers, which texts have in a form."""
+    """Numbers, which texts have in a form: in its own, where one is given, and else in the plain one, or that of a file."""
 
-    def __init__(self, form: Form = PLAIN) -> None:
-        self.form = form
+    def __init__(self, form: Optional[Form] = None) -> None:
+        self.form = PLAIN if form is None else form
+        self.has_own_form = form is not None
 
     def __repr__(self) -> str:
         options = self.options()
@@ -33,7 +34,7 @@ class Number(Kind):
 
     def options(self) -> List[str]:
         """What stands in its parentheses."""
-        return self.form.options()
+        return self.form.options() or (['decimal="."'] if self.has_own_form else [])
 
     def in_form(self, form: Form) -> "Number":
         """The kind with the same numbers, whose texts have this form."""
@@ -104,12 +105,12 @@ class Whole(Number):
         if self._has(value):
             return None
         try:
-            decimals = decimals_of(value if isinstance(value, str) else str(value), self.form if isinstance(value, str) else PLAIN)
+            decimals = decimals_needed(value, self.form)
         except (ValueError, InvalidOperation):
             return None
         if isinstance(value, float) and len(Decimal(str(value)).as_tuple().digits) > FLOAT_DIGITS:
             return None
-        return Decimals(decimals, self.form) if self.decimals < decimals <= MOST_DECIMALS else None
+        return Decimals(decimals, self.form if self.has_own_form else None) if self.decimals < decimals <= MOST_DECIMALS else None
 
     def _has(self, value: Any) -> bool:
         try:
@@ -125,7 +126,7 @@ class Decimals(Whole):
     name = "decimal"
     example = "59.90"
 
-    def __init__(self, decimals: int, form: Form = PLAIN) -> None:
+    def __init__(self, decimals: int, form: Optional[Form] = None) -> None:
         super().__init__(form)
         if not 0 <= decimals <= MOST_DECIMALS:
             raise ValueError(f"a decimal column has 0 to {MOST_DECIMALS} decimals, not {decimals}")
@@ -220,6 +221,16 @@ def fraction_of(plain: str) -> Fraction:
         return Fraction(plain)
     except ValueError:
         raise NotRead("a number of thousands of digits does not fit") from None     # Python reads no such whole number.
+
+
+def decimals_needed(value: Any, form: Form) -> int:
+    """How many decimals a column needs for a value, which may be a text of this form. No number of them is enough for 1/3."""
+    if not isinstance(value, Fraction):
+        return decimals_of(value, form) if isinstance(value, str) else decimals_of(str(value))
+    found = next((decimals for decimals in range(MOST_DECIMALS + 1) if 10**decimals % value.denominator == 0), None)
+    if found is None:
+        raise NotRead(f"{shown(value)} has more than {MOST_DECIMALS} decimals")
+    return found
 
 
 def decimals_of(text: str, form: Form = PLAIN) -> int:

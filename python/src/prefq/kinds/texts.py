@@ -114,5 +114,5 @@ class Choices(Kind):
     def _place(self, number: Optional[int], value: Any) -> int:
         place = self._places.get(number) if number is not None else None
         if place is None:
-            raise NotRead(f"{value!r} is none of {', '.join(map(repr, self.texts))}")
+            raise NotRead(f"{value!r} is none of {', '.join(map(repr, self.texts))}" if self.texts else f"{value!r} is no choice, and there is none")
         return place
