@@ -9,7 +9,7 @@ use Rattle.pref_term.specs.declared.chains.Role.TheVariants.{First, Second, Tie}
 use Rattle.pref_term.proofs.KeyLaws.{directed, directed_priority, directed_product, directed_reverse, key_law}
 use Rattle.pref_term.proofs.WalkLaws.{walked_better, walked_same}
 
-priority_same : (r : Relation) → in_priority r Same ≡ r
+pub priority_same : (r : Relation) → in_priority r Same ≡ r
 priority_same r = grind arith
 
 priority-assoc : (r s t : Relation) → in_priority (in_priority r s) t ≡ in_priority r (in_priority s t)
@@ -22,7 +22,7 @@ chain_before r s t u = grind arith
 product_itself : (r : Relation) → in_product r r ≡ r
 product_itself r = grind arith
 
-chain-append : (xs ys : List Key) (a b : List ℤ) → by_chain (xs ++ ys) a b ≡ in_priority (by_chain xs a b) (by_chain ys a b)
+pub chain-append : (xs ys : List Key) (a b : List ℤ) → by_chain (xs ++ ys) a b ≡ in_priority (by_chain xs a b) (by_chain ys a b)
 chain-append [] ys a b = refl
 chain-append (x ∷ xs) ys a b = grind (arith, chain-append xs ys a b)
 

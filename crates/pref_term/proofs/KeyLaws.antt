@@ -60,7 +60,7 @@ directed_reverse s p a b = grind arith
 
 -- ---- the keys that lead a preference
 
-key_column : (t : Base) (s : Bool) → (key_for t s).col ≡ column t
+pub key_column : (t : Base) (s : Bool) → (key_for t s).col ≡ column t
 key_column t s = grind arith
 
 -- they read its columns

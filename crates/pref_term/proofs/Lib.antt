@@ -4,6 +4,7 @@ pub mod WalkLaws
 pub mod KeyLaws
 pub mod KeyEqual
 pub mod ChainLaws
+pub mod ExtensionLaws
 pub mod SignatureWords
 pub mod SignatureLaws
 pub mod WorkedTerms

@@ -15,6 +15,7 @@ pub mod RelationLaws
 pub mod Keys
 pub mod Chains
 pub mod ChainOrder
+pub mod Extension
 pub mod Signatures
 pub mod Leading
 pub mod Token

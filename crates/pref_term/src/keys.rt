@@ -2,6 +2,7 @@
 //! their converses.
 ghost use Rattle.std.specs.Prelude.{◌≡◌, ◌<◌, ◌++◌, false, true, All, Contains, IfOk, OnOk};
 ghost use Rattle.pref_term.specs.Better.{in_same_group};
+ghost use Rattle.pref_term.specs.Extension.{all_keys};
 ghost use Rattle.pref_term.specs.Keys.{by_keys, is_number, is_product, leading};
 ghost use Rattle.pref_term.specs.Preference.{preference_of};
 
@@ -46,6 +47,25 @@ pub(crate) fn push_leading(
     };
     keys.push(Key { col, score, turned })?;
     Ok(())
+}
+
+/// Puts all keys of a term behind these, or those of its converse.
+pub(crate) fn push_all(
+    alloc: Global,
+    keys: &mut Vec<Key>,
+    term: &Term,
+    turned: bool,
+) -> Result<(), AllocError>
+    ensures { OnOk result (keys.new.items ≡ keys.old.items ++ all_keys (preference_of term.now) turned) }
+{
+    match term {
+        Term::Pareto(p, q) | Term::Prior(p, q) => {
+            push_all(alloc, keys, p, turned)?;
+            push_all(alloc, keys, q, turned)
+        }
+        Term::Reverse(p) => push_all(alloc, keys, p, !turned),
+        _ => push_leading(alloc, keys, term, turned),
+    }
 }
 
 /// Whether this is one of the keys.
