@@ -1,5 +1,5 @@
 -- The chain of all keys of a preference extends its order: what is better by the preference is better by the chain, and the same are the same.
-use Rattle.pref_term.proofs.Common.{◌≡◌, arith, ◌<◌, ℕ, ℤ, Bool, true, false, not, List, [], ◌∷◌, ◌++◌, refl, sym, ap, subst, ◌∙◌, ◌&&◌, append_assoc, and_parts, cond_both, false≢true, ints, int_eq, list_any}
+use Rattle.pref_term.proofs.Common.{◌≡◌, arith, ◌<◌, ℕ, ℤ, Bool, true, false, not, if◌then◌else◌, List, [], ◌∷◌, ◌++◌, append-nil, refl, sym, ap, subst, ◌∙◌, ◌&&◌, append_assoc, and_parts, cond_both, false≢true, ints, int_eq, list_any}
 use Rattle.pref_term.proofs.Common.{All, All-append, All-cons, All-contains, All-head, All-nil, All-tail, better, cell, same, in_same_group, by_chain, chain_keys, AreInRow, is_chain, by_key, from_zero}
 use Rattle.pref_term.proofs.Common.{is_product, key_for, leading, opposed, is_better, is_same, low, Preference, scored, pareto, prior, reverse, Question, IsAsk, alike, ReadsBelow, order_of}
 use Rattle.pref_term.proofs.Common.{order_of_alike, order_of_twins_are_alike, by_scores, in_priority, in_product, Key, Relation}
@@ -31,10 +31,10 @@ priority_extended r s c d e h k l = grind (arith, h, k)
 -- ---- a preference, or its converse
 
 -- one key is a chain
-one_key : (k : Key) (a b : List ℤ) → by_chain (k ∷ []) a b ≡ by_key k a b
+pub one_key : (k : Key) (a b : List ℤ) → by_chain (k ∷ []) a b ≡ by_key k a b
 one_key k a b = priority_same (by_key k a b)
 
-all_same : (p : Preference) (s : Bool) (a b : List ℤ) → is_same (by_chain (all_keys p s) a b) ≡ is_same (directed s p a b)
+pub all_same : (p : Preference) (s : Bool) (a b : List ℤ) → is_same (by_chain (all_keys p s) a b) ≡ is_same (directed s p a b)
 all_same (scored t) s a b = ap is_same (one_key (key_for t s) a b ∙ key_law t s a b)
 all_same (pareto p q) s a b =
     ap is_same (chain-append (all_keys p s) (all_keys q s) a b)
@@ -248,3 +248,36 @@ without_repeats_behind before (key ∷ keys) a b =
 
 pub without_repeats_law : (keys : List Key) (a b : List ℤ) → by_chain (without_repeats [] keys) a b ≡ by_chain keys a b
 without_repeats_law keys a b = without_repeats_behind [] keys a b
+
+-- they are some of the keys
+pub without_repeats_in_row : (before keys : List Key) → AreInRow keys → AreInRow (without_repeats before keys)
+without_repeats_in_row before [] h = h
+without_repeats_in_row before (key ∷ keys) h =
+    cond_both (list_any (ranks_alike key) before) (without_repeats before keys) (key ∷ without_repeats (before ++ key ∷ []) keys) AreInRow
+    (λ _. without_repeats_in_row before keys (All-tail (λ key. key.col < 16) key keys h))
+    (λ _. All-cons (λ key. key.col < 16) key (without_repeats (before ++ key ∷ []) keys) (All-head (λ key. key.col < 16) key keys h)
+    (without_repeats_in_row (before ++ key ∷ []) keys (All-tail (λ key. key.col < 16) key keys h)))
+
+-- what one key more adds to what is left of those before it
+with_new : List Key → Key → List Key
+with_new kept key = if list_any (ranks_alike key) kept then [] else key ∷ []
+
+one_more_behind : (before keys : List Key) (key : Key) → without_repeats before (keys ++ key ∷ []) ≡ without_repeats before keys ++ with_new (before ++ without_repeats before keys) key
+unfolding with_new
+one_more_behind before [] key = rw append-nil refl
+one_more_behind before (first ∷ keys) key =
+    let left = without_repeats (before ++ first ∷ []) keys in
+    elim (list_any (ranks_alike first) before) as
+    (λ b. (if b then without_repeats before (keys ++ key ∷ []) else first ∷ without_repeats (before ++ first ∷ []) (keys ++ key ∷ []))
+    ≡ (if b then without_repeats before keys else first ∷ left) ++ with_new (before ++ (if b then without_repeats before keys else first ∷ left)) key) [
+      | true ↦ one_more_behind before keys key
+      | false ↦ ap (λ ks. first ∷ ks) (one_more_behind (before ++ first ∷ []) keys key ∙ ap (λ ks. left ++ with_new ks key) (append_assoc before (first ∷ []) left))
+    ]
+
+pub one_repeated : (keys kept : List Key) (key : Key) → kept ≡ without_repeats [] keys → list_any (ranks_alike key) kept ≡ true → kept ≡ without_repeats [] (keys ++ key ∷ [])
+unfolding with_new
+one_repeated keys kept key e h = e ∙ sym (one_more_behind [] keys key ∙ rw (← e, h, append-nil) refl)
+
+pub one_new : (keys kept : List Key) (key : Key) → kept ≡ without_repeats [] keys → list_any (ranks_alike key) kept ≡ false → kept ++ key ∷ [] ≡ without_repeats [] (keys ++ key ∷ [])
+unfolding with_new
+one_new keys kept key e h = sym (one_more_behind [] keys key ∙ rw (← e, h) refl)

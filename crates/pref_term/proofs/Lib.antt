@@ -5,6 +5,7 @@ pub mod KeyLaws
 pub mod KeyEqual
 pub mod ChainLaws
 pub mod ExtensionLaws
+pub mod LeadingLaws
 pub mod SignatureWords
 pub mod SignatureLaws
 pub mod WorkedTerms

@@ -16,6 +16,7 @@ pub mod Keys
 pub mod Chains
 pub mod ChainOrder
 pub mod Extension
+pub mod LeadingChains
 pub mod Signatures
 pub mod Leading
 pub mod Token

@@ -2,10 +2,13 @@
 ghost use Rattle.std.specs.Prelude.{◌≡◌, ◌<◌, true, All, IfOk};
 ghost use Rattle.pref_term.specs.Better.{in_same_group};
 
+use crate::chain::{Chain, leading_chains};
 use crate::chains::Chains;
 use crate::dominance::Dominance;
 use crate::key::Key;
-use crate::keys::{compare_by_keys, in_same_group, is_product, leading_keys};
+use crate::keys::{
+    compare_by_keys, compare_in_chain, in_same_group, is_product, keys_in_order, leading_keys,
+};
 use crate::relation::Relation;
 use crate::signature::{Scales, scales_for};
 use crate::term::Term;
@@ -34,6 +37,10 @@ pub struct Ask {
     keys: Vec<Key>,
     // Whether they are its whole order, without sets: a comparison goes over them then, and not over the term.
     flat: bool,
+    // The chains that lead the term.
+    lead: Vec<Chain>,
+    // The keys of the groups and of all base terms, in order and without repeats.
+    in_order: Vec<Key>,
     // The chains that the term is, where it is a product of two.
     chains: Option<Box<Chains>>,
     group: Vec<usize>,
@@ -43,9 +50,11 @@ pub struct Ask {
 }
 
 impl Model for Ask {
-    ghost use Rattle.std.specs.Prelude.{◌≡◌, false, IfSome};
+    ghost use Rattle.std.specs.Prelude.{◌≡◌, ◌++◌, [], false, IfSome};
     ghost use Rattle.pref_term.specs.Chains.{AreChainsOf};
+    ghost use Rattle.pref_term.specs.Extension.{all_keys, group_keys, without_repeats};
     ghost use Rattle.pref_term.specs.Keys.{is_product, leading};
+    ghost use Rattle.pref_term.specs.LeadingChains.{leading_chains};
     ghost use Rattle.pref_term.specs.Preference.{preference_of};
     ghost use Rattle.pref_term.specs.PreferenceCode.{coded_question};
     ghost use Rattle.pref_term.specs.Question.{Question, IsAsk};
@@ -58,7 +67,9 @@ impl Model for Ask {
 
     ghost invariant = { λ a. IsAsk (record { preference = preference_of a.term; group = a.group.items; mode = a.mode; distinct = a.distinct })
         × (a.keys.items ≡ leading (preference_of a.term) false) × (a.flat ≡ is_product (preference_of a.term))
-        × (IfSome a.chains (λ chains. AreChainsOf (preference_of a.term) chains.value)) };
+        × (IfSome a.chains (λ chains. AreChainsOf (preference_of a.term) chains.value))
+        × (a.lead.items ≡ leading_chains (preference_of a.term) false)
+        × (a.in_order.items ≡ without_repeats [] (group_keys a.group.items ++ all_keys (preference_of a.term) false)) };
 }
 
 // By hand, so that letting one go is a call: a derived `drop` is written out, and proved, at each way out of each function that owns one.
@@ -68,6 +79,8 @@ impl Drop for Ask {
             term: _,
             keys: _,
             flat: _,
+            lead: _,
+            in_order: _,
             chains: _,
             group: _,
             mode: _,
@@ -77,9 +90,16 @@ impl Drop for Ask {
 }
 
 impl Ask {
+    ghost use Rattle.std.specs.Prelude.{true};
+    ghost use Rattle.pref_term.specs.AskOrder.{order_of};
     ghost use Rattle.pref_term.specs.Better.{better, same};
+    ghost use Rattle.pref_term.specs.Chains.{by_chain};
+    ghost use Rattle.pref_term.specs.Extension.{ask_keys};
+    ghost use Rattle.pref_term.specs.LeadingChains.{Leads};
     ghost use Rattle.pref_term.specs.Order.{is_better, is_same, is_worse};
     ghost use Rattle.pref_term.specs.Preference.{preference_of};
+    ghost use Rattle.pref_term.specs.Signatures.{Suit};
+    ghost use Rattle.pref_term.specs.declared.relation.Relation.TheVariants.{Neither};
     ghost use Rattle.pref_term.specs.Question.{IsAsk, IsCount, FitsWidth, cut_of};
 
     /// An ask of these parts. Takes memory for the keys that lead the term and for its chains, once.
@@ -95,6 +115,8 @@ impl Ask {
     {
         let keys = leading_keys(alloc, &term)?;
         let flat = is_product(&term);
+        let lead = leading_chains(alloc, &term, false)?;
+        let in_order = keys_in_order(alloc, &group, &term)?;
         let chains = Chains::of(alloc, &term)?;
         let chains = match chains {
             Some(chains) => Some(Box::new(alloc, chains)?),
@@ -104,11 +126,22 @@ impl Ask {
             term,
             keys,
             flat,
+            lead,
+            in_order,
             chains,
             group,
             mode,
             distinct,
         })
+    }
+
+    /// A copy. Takes memory for all that it holds, and `Err` is out of memory.
+    pub fn copy(&self, alloc: Global) -> Result<Ask, AllocError>
+        ensures { IfOk result (λ copied. copied ≡ self.now) }
+    {
+        let term = self.term.copy(alloc)?;
+        let group = self.group.clone()?;
+        Ask::new(alloc, term, group, self.mode, self.distinct)
     }
 
     /// The term that says which of two rows is better. Its columns are below 16.
@@ -155,6 +188,42 @@ impl Ask {
             Mode::Best => 1,
             Mode::TopLevel(k) | Mode::AtLeast(k) => k,
         }
+    }
+
+    /// The chains that lead the term: where their product sees a difference between two rows of a group, it decides between them. None where
+    /// no product of chains leads it.
+    ///
+    /// `low(a) * low(b)` is a product of two chains. `low(a) & (low(b) * low(c))` is led by the chains `low(a) & low(b)` and
+    /// `low(a) & low(c)`, and `(low(a) * low(b)) & low(c)` by `low(a)` and `low(b)`.
+    pub fn leading_chains(&self) -> &[Chain]
+        ensures { Leads self.now result.now }
+    {
+        self.lead.as_slice()
+    }
+
+    /// How the first row compares with the second one in the order of all keys: by the first column of the group in which the two differ,
+    /// else by the first base term from left to right. A row that dominates another is better in it. The relation is never `Neither`, and
+    /// `Same` just where the rows are of one group and the same to the question. Takes no memory.
+    pub fn compare_in_order(&self, a: &Row, b: &Row) -> Relation
+        ensures value { result ≡ by_chain (ask_keys self.now) a.now b.now }
+        ensures decided { result ≡ Neither → ⊥ }
+    {
+        compare_in_chain(&self.in_order, a, b)
+    }
+
+    /// Whether rows that are signed by these scales can be distinguished by their signatures: a row that dominates another, or is its twin,
+    /// has no bit that the other lacks. So where each scale is one of the scores of a part that leads the term, or reads a column of the
+    /// group. Takes no memory.
+    pub fn suits(&self, scales: &Scales) -> bool
+        ensures { result ≡ true → Suit (order_of self.now) scales.now }
+    {
+        scales.suit(&self.keys, &self.group)
+    }
+
+    /// Scales for rows like these. Any are right where `suits` says so, and good ones distinguish most rows. Takes memory for the list, and
+    /// `Err` is out of memory.
+    pub fn scales(&self, alloc: Global, sample: &[Row]) -> Result<Scales, AllocError> {
+        scales_for(alloc, &self.keys, &self.group, sample)
     }
 
     /// Compares two rows by the term alone. Inlined where rows are compared, since each of its two ways is a call of its own, with the
@@ -239,13 +308,16 @@ impl Dominance for Ask {
         }
     }
 
-    /// Whether each scale is one of the scores of a part that leads the term, or reads a column of the group. Takes no memory.
+    fn question(&self) -> Option<&Ask> {
+        Some(self)
+    }
+
     fn suits(&self, scales: &Scales) -> bool {
-        scales.suit(&self.keys, &self.group)
+        self.suits(scales)
     }
 
     fn scales(&self, alloc: Global, sample: &[Row]) -> Result<Scales, AllocError> {
-        scales_for(alloc, &self.keys, &self.group, sample)
+        self.scales(alloc, sample)
     }
 
     fn groups(&self) -> &[usize] {

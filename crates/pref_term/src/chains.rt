@@ -1,11 +1,12 @@
 //! Orders that are products of two chains, perhaps with a tie, of which a plain chain is one.
 ghost use Rattle.std.specs.Prelude.{◌≡◌, ◌<◌, ◌++◌, [], false, true, All, IfOk, IfSome, OnOk};
-ghost use Rattle.pref_term.specs.Chains.{AreChainsOf, AreInRow, IsInRow, by_chain, chain_keys, first_chain, is_chain, is_paired, own_second, second_chain, tie_chain};
+ghost use Rattle.pref_term.specs.Chains.{AreChainsOf, AreInRow, IsInRow, by_chain, chain_keys, first_chain, is_paired, own_second, second_chain, tie_chain};
 ghost use Rattle.pref_term.specs.Preference.{preference_of};
 ghost use Rattle.pref_term.specs.declared.relation.Relation.TheVariants.{Neither};
 
+use crate::chain::is_chain;
 use crate::key::Key;
-use crate::keys::push_leading;
+use crate::keys::{compare_in_chain, push_leading};
 use crate::relation::Relation;
 use crate::term::Term;
 use pref_table::Row;
@@ -149,33 +150,6 @@ fn is_same_list(keys: &[Key], other: &[Key]) -> bool
     ensures differ { result ≡ false → keys.now ≡ other.now → ⊥ }
 {
     keys == other
-}
-
-/// By the first of these keys in which the rows differ.
-fn compare_in_chain(keys: &[Key], a: &Row, b: &Row) -> Relation
-    requires { AreInRow keys.now }
-    ensures value { result ≡ by_chain keys.now a.now b.now }
-    ensures decided { result ≡ Neither → ⊥ }
-{
-    for key in keys {
-        match key.compare(a, b) {
-            Relation::Same => {}
-            decided => return decided,
-        }
-    }
-    Relation::Same
-}
-
-/// Whether the term has no product in it.
-fn is_chain(term: &Term) -> bool
-    ensures { result ≡ is_chain (preference_of term.now) }
-{
-    match term {
-        Term::Pareto(..) => false,
-        Term::Prior(p, q) => is_chain(p) && is_chain(q),
-        Term::Reverse(p) => is_chain(p),
-        _ => true,
-    }
 }
 
 /// Whether the term is a chain, or a product of two chains, perhaps with chains before and behind it.

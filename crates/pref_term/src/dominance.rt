@@ -1,9 +1,11 @@
 //! Strict orders of rows.
 ghost use Rattle.std.specs.Prelude.{◌≡◌, true, IfSome};
+ghost use Rattle.pref_term.specs.AskOrder.{order_of};
 ghost use Rattle.pref_term.specs.Chains.{IsProductOf};
 ghost use Rattle.pref_term.specs.Order.{IsRowOrder, RowOrder, StandAlike, StaysWithin, is_better, is_same, is_worse};
 ghost use Rattle.pref_term.specs.Signatures.{Suit};
 
+use crate::ask::Ask;
 use crate::chains::Chains;
 use crate::relation::Relation;
 use crate::signature::Scales;
@@ -53,6 +55,14 @@ pub trait Dominance {
         } else {
             Relation::Neither
         }
+    }
+
+    /// The question whose order this is, where it is one: its entries are then kept in the order of its keys, and one pass over them finds
+    /// their levels. This body names none, which is right for every order; the levels of such an order are found by block-nested-loops.
+    fn question(&self) -> Option<&Ask>
+        ensures { IfSome result (λ ask. order self.now ≡ order_of ask.now) }
+    {
+        None
     }
 
     /// Whether rows that are signed by these scales can be distinguished by their signatures: a row that dominates

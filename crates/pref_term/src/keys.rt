@@ -1,10 +1,13 @@
 //! The keys that lead a term, and the order of a term whose leading keys are all that it has: a product of base terms without sets and of
 //! their converses.
-ghost use Rattle.std.specs.Prelude.{◌≡◌, ◌<◌, ◌++◌, false, true, All, Contains, IfOk, OnOk};
+ghost use Rattle.std.specs.Prelude.{◌≡◌, ◌<◌, ◌++◌, [], false, true, All, Contains, IfOk, OnOk};
+ghost use Rattle.std.specs.List.{list_any};
 ghost use Rattle.pref_term.specs.Better.{in_same_group};
-ghost use Rattle.pref_term.specs.Extension.{all_keys};
+ghost use Rattle.pref_term.specs.Chains.{AreInRow, by_chain};
+ghost use Rattle.pref_term.specs.Extension.{all_keys, group_keys, ranks_alike, without_repeats};
 ghost use Rattle.pref_term.specs.Keys.{by_keys, is_number, is_product, leading};
 ghost use Rattle.pref_term.specs.Preference.{preference_of};
+ghost use Rattle.pref_term.specs.declared.relation.Relation.TheVariants.{Neither};
 
 use crate::key::{Key, Score};
 use crate::relation::Relation;
@@ -68,6 +71,65 @@ pub(crate) fn push_all(
     }
 }
 
+/// Puts copies of these keys behind others.
+pub(crate) fn push_copies(
+    alloc: Global,
+    keys: &mut Vec<Key>,
+    others: &[Key],
+) -> Result<(), AllocError>
+    ensures { OnOk result (keys.new.items ≡ keys.old.items ++ others.now) }
+{
+    for other in others {
+        keys.push(other.copy(alloc)?)?;
+    }
+    Ok(())
+}
+
+/// A key for each of these columns, where smaller values come first.
+fn group_keys(alloc: Global, columns: &[usize]) -> Result<Vec<Key>, AllocError>
+    ensures { IfOk result (λ keys. keys.items ≡ group_keys columns.now) }
+{
+    let mut keys = Vec::new(alloc);
+    for col in columns {
+        keys.push(Key::of_column(*col))?;
+    }
+    Ok(keys)
+}
+
+/// Whether one of the keys ranks rows as this one does, in either direction.
+fn is_ranked(keys: &[Key], key: &Key) -> bool
+    ensures { result ≡ list_any (ranks_alike key.now) keys.now }
+{
+    keys.iter().any(|before| key.ranks_as(before))
+}
+
+/// The keys without those that rank as one before them does: these decide nothing in a chain.
+fn without_repeats(alloc: Global, keys: Vec<Key>) -> Result<Vec<Key>, AllocError>
+    ensures { IfOk result (λ kept. kept.items ≡ without_repeats [] keys.items) }
+{
+    let mut kept = Vec::new(alloc);
+    for key in keys {
+        if !is_ranked(&kept, &key) {
+            kept.push(key)?;
+        }
+    }
+    Ok(kept)
+}
+
+/// The keys of a question with this term in the groups of these columns, without repeats: what dominates a row is better in the first of
+/// them in which the two differ. Takes memory for the lists and for the sets.
+pub(crate) fn keys_in_order(
+    alloc: Global,
+    group: &[usize],
+    term: &Term,
+) -> Result<Vec<Key>, AllocError>
+    ensures { IfOk result (λ keys. keys.items ≡ without_repeats [] (group_keys group.now ++ all_keys (preference_of term.now) false)) }
+{
+    let mut keys = group_keys(alloc, group)?;
+    push_all(alloc, &mut keys, term, false)?;
+    without_repeats(alloc, keys)
+}
+
 /// Whether this is one of the keys.
 pub(crate) fn contains(keys: &[Key], key: &Key) -> bool
     ensures { result ≡ true → Contains keys.now key.now }
@@ -122,4 +184,19 @@ pub(crate) fn compare_by_keys(keys: &[Key], a: &Row, b: &Row) -> Relation
         }
     }
     Relation::by_sides(better, worse)
+}
+
+/// By the first of these keys in which the rows differ. Takes no memory.
+pub(crate) fn compare_in_chain(keys: &[Key], a: &Row, b: &Row) -> Relation
+    requires { AreInRow keys.now }
+    ensures value { result ≡ by_chain keys.now a.now b.now }
+    ensures decided { result ≡ Neither → ⊥ }
+{
+    for key in keys {
+        match key.compare(a, b) {
+            Relation::Same => {}
+            decided => return decided,
+        }
+    }
+    Relation::Same
 }

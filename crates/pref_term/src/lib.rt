@@ -5,6 +5,7 @@
 #![tactic(auto)]
 
 mod ask;
+mod chain;
 mod chains;
 mod cursor;
 mod dominance;
@@ -23,6 +24,7 @@ mod token;
 mod walk;
 
 pub use ask::{Ask, Mode};
+pub use chain::Chain;
 pub use chains::Chains;
 pub use dominance::Dominance;
 pub use fault::TermFault;

@@ -1,7 +1,7 @@
 use Rattle.pref_term.proofs.Common.{◌≡◌, ap, ◌∙◌, subst, false, All, leading, preference_of, Question}
 use Rattle.pref_term.specs.Leading.{Suits}
 use Rattle.pref_term.proofs.SignatureLaws.{suiting_cuts}
-use Rattle.pref_term.proofs.ask.AskDominance.suits.Goals as goal
+use Rattle.pref_term.proofs.ask.Ask.suits.Goals as goal
 
 pub returns : goal.returns
 returns c reported =

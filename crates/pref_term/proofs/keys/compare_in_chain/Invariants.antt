@@ -1,5 +1,5 @@
 use Rattle.pref_term.proofs.Common.{◌≡◌, drop, by_chain}
-use Rattle.pref_term.proofs.chains.compare_in_chain.Given as goal
+use Rattle.pref_term.proofs.keys.compare_in_chain.Given as goal
 
 -- the keys so far see no difference
 abbrev pub invariant-loop-key : goal.invariant-loop-key

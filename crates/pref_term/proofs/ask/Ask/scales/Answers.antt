@@ -1,6 +1,6 @@
 use Rattle.pref_term.proofs.Common.{◌<◌, false, ◌∙◌, All-same, preference_of}
 use Rattle.pref_term.proofs.KeyLaws.{leading_in_row}
-use Rattle.pref_term.proofs.ask.AskDominance.scales.Goals as goal
+use Rattle.pref_term.proofs.ask.Ask.scales.Goals as goal
 
 pub scales_for-requires-clause-keys : goal.scales_for-requires-clause-keys
 scales_for-requires-clause-keys c =
