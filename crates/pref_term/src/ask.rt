@@ -2,8 +2,7 @@
 ghost use Rattle.std.specs.Prelude.{◌≡◌, ◌<◌, true, All, IfOk};
 ghost use Rattle.pref_term.specs.Better.{in_same_group};
 
-use crate::chain::{Chain, leading_chains};
-use crate::chains::Chains;
+use crate::chain::{Chain, Lead};
 use crate::dominance::Dominance;
 use crate::key::Key;
 use crate::keys::{
@@ -38,11 +37,9 @@ pub struct Ask {
     // Whether they are its whole order, without sets: a comparison goes over them then, and not over the term.
     flat: bool,
     // The chains that lead the term.
-    lead: Vec<Chain>,
+    chains: Vec<Chain>,
     // The keys of the groups and of all base terms, in order and without repeats.
     in_order: Vec<Key>,
-    // The chains that the term is, where it is a product of two.
-    chains: Option<Box<Chains>>,
     group: Vec<usize>,
     mode: Mode,
     // Whether of equal rows one is kept.
@@ -50,11 +47,10 @@ pub struct Ask {
 }
 
 impl Model for Ask {
-    ghost use Rattle.std.specs.Prelude.{◌≡◌, ◌++◌, [], false, IfSome};
-    ghost use Rattle.pref_term.specs.Chains.{AreChainsOf};
-    ghost use Rattle.pref_term.specs.Extension.{all_keys, group_keys, without_repeats};
+    ghost use Rattle.std.specs.Prelude.{◌≡◌, false};
+    ghost use Rattle.pref_term.specs.Extension.{IsShortened, ask_keys};
     ghost use Rattle.pref_term.specs.Keys.{is_product, leading};
-    ghost use Rattle.pref_term.specs.LeadingChains.{leading_chains};
+    ghost use Rattle.pref_term.specs.LeadingChains.{Leads};
     ghost use Rattle.pref_term.specs.Preference.{preference_of};
     ghost use Rattle.pref_term.specs.PreferenceCode.{coded_question};
     ghost use Rattle.pref_term.specs.Question.{Question, IsAsk};
@@ -67,9 +63,8 @@ impl Model for Ask {
 
     ghost invariant = { λ a. IsAsk (record { preference = preference_of a.term; group = a.group.items; mode = a.mode; distinct = a.distinct })
         × (a.keys.items ≡ leading (preference_of a.term) false) × (a.flat ≡ is_product (preference_of a.term))
-        × (IfSome a.chains (λ chains. AreChainsOf (preference_of a.term) chains.value))
-        × (a.lead.items ≡ leading_chains (preference_of a.term) false)
-        × (a.in_order.items ≡ without_repeats [] (group_keys a.group.items ++ all_keys (preference_of a.term) false)) };
+        × Leads (record { preference = preference_of a.term; group = a.group.items; mode = a.mode; distinct = a.distinct }) a.chains.items
+        × IsShortened (ask_keys (record { preference = preference_of a.term; group = a.group.items; mode = a.mode; distinct = a.distinct })) a.in_order.items };
 }
 
 // By hand, so that letting one go is a call: a derived `drop` is written out, and proved, at each way out of each function that owns one.
@@ -79,9 +74,8 @@ impl Drop for Ask {
             term: _,
             keys: _,
             flat: _,
-            lead: _,
-            in_order: _,
             chains: _,
+            in_order: _,
             group: _,
             mode: _,
             distinct: _,
@@ -102,7 +96,7 @@ impl Ask {
     ghost use Rattle.pref_term.specs.declared.relation.Relation.TheVariants.{Neither};
     ghost use Rattle.pref_term.specs.Question.{IsAsk, IsCount, FitsWidth, cut_of};
 
-    /// An ask of these parts. Takes memory for the keys that lead the term and for its chains, once.
+    /// An ask of these parts. Takes memory for its keys and for the chains that lead it, once.
     pub(crate) fn new(
         alloc: Global,
         term: Term,
@@ -115,20 +109,14 @@ impl Ask {
     {
         let keys = leading_keys(alloc, &term)?;
         let flat = is_product(&term);
-        let lead = leading_chains(alloc, &term, false)?;
+        let chains = Lead::of(alloc, &term, false)?.chains;
         let in_order = keys_in_order(alloc, &group, &term)?;
-        let chains = Chains::of(alloc, &term)?;
-        let chains = match chains {
-            Some(chains) => Some(Box::new(alloc, chains)?),
-            None => None,
-        };
         Ok(Ask {
             term,
             keys,
             flat,
-            lead,
-            in_order,
             chains,
+            in_order,
             group,
             mode,
             distinct,
@@ -198,7 +186,7 @@ impl Ask {
     pub fn leading_chains(&self) -> &[Chain]
         ensures { Leads self.now result.now }
     {
-        self.lead.as_slice()
+        self.chains.as_slice()
     }
 
     /// How the first row compares with the second one in the order of all keys: by the first column of the group in which the two differ,
@@ -212,18 +200,17 @@ impl Ask {
     }
 
     /// Whether rows that are signed by these scales can be distinguished by their signatures: a row that dominates another, or is its twin,
-    /// has no bit that the other lacks. So where each scale is one of the scores of a part that leads the term, or reads a column of the
-    /// group. Takes no memory.
+    /// has no bit that the other lacks. So where each scale is by the score of a part that leads the term. Takes no memory.
     pub fn suits(&self, scales: &Scales) -> bool
         ensures { result ≡ true → Suit (order_of self.now) scales.now }
     {
-        scales.suit(&self.keys, &self.group)
+        scales.suit(&self.keys)
     }
 
     /// Scales for rows like these. Any are right where `suits` says so, and good ones distinguish most rows. Takes memory for the list, and
     /// `Err` is out of memory.
     pub fn scales(&self, alloc: Global, sample: &[Row]) -> Result<Scales, AllocError> {
-        scales_for(alloc, &self.keys, &self.group, sample)
+        scales_for(alloc, &self.keys, sample)
     }
 
     /// Compares two rows by the term alone. Inlined where rows are compared, since each of its two ways is a call of its own, with the
@@ -310,24 +297,5 @@ impl Dominance for Ask {
 
     fn question(&self) -> Option<&Ask> {
         Some(self)
-    }
-
-    fn suits(&self, scales: &Scales) -> bool {
-        self.suits(scales)
-    }
-
-    fn scales(&self, alloc: Global, sample: &[Row]) -> Result<Scales, AllocError> {
-        self.scales(alloc, sample)
-    }
-
-    fn groups(&self) -> &[usize] {
-        self.group()
-    }
-
-    fn chains(&self) -> Option<(&[usize], &Chains, bool)> {
-        match &self.chains {
-            Some(chains) => Some((self.group(), &**chains, self.distinct)),
-            None => None,
-        }
     }
 }

@@ -1,10 +1,10 @@
 //! Keys: a number without sign for each row, by which a base term or its converse ranks rows. Less is better.
-ghost use Rattle.std.specs.Prelude.{◌≡◌, ◌<◌, ◌+ℤ◌, ◌-ℤ◌, ◌^◌, IfOk, false, pos, true};
+ghost use Rattle.std.specs.Prelude.{◌≡◌, ◌<◌, ◌+ℤ◌, ◌-ℤ◌, ◌^◌, IfOk, List, ℤ, false, pos, true};
 ghost use Rattle.std.specs.List.{list_any};
 ghost use Rattle.std.specs.Ordering.{int_eq};
 ghost use Rattle.pref_term.specs.Better.{outside, sets_before};
-ghost use Rattle.pref_term.specs.Extension.{ranks_alike};
 ghost use Rattle.pref_term.specs.Keys.{by_key, from_zero, is_number, key_for, keyed};
+ghost use Rattle.pref_term.specs.Order.{is_same};
 ghost use Rattle.pref_term.specs.Preference.{low};
 ghost use Rattle.pref_term.specs.Walk.{by_sides};
 
@@ -165,12 +165,15 @@ impl Key {
         }
     }
 
-    /// Whether the first row is better and whether the second is, by their keys.
+    /// Whether the first row is better and whether the second is, by their keys. Equal cells have the same key, which is not computed then.
     #[inline(always)]
     fn sides_by_key(&self, a: &Row, b: &Row) -> (bool, bool)
         requires { self.now.col < 16 }
         ensures { by_sides result.0 result.1 ≡ by_key self.now a.now b.now }
     {
+        if a.cell(self.col) == b.cell(self.col) {
+            return (false, false);
+        }
         let first = self.of(a);
         let second = self.of(b);
         (first < second, second < first)
@@ -200,7 +203,7 @@ impl Key {
 
     /// Whether both score the same column alike, in either direction.
     pub(crate) fn ranks_as(&self, other: &Key) -> bool
-        ensures { result ≡ ranks_alike self.now other.now }
+        ensures { result ≡ true → (a b : List ℤ) → is_same (by_key self.now a b) ≡ is_same (by_key other.now a b) }
     {
         self.col == other.col && self.score == other.score
     }

@@ -1,11 +1,11 @@
 //! The keys that lead a term, and the order of a term whose leading keys are all that it has: a product of base terms without sets and of
 //! their converses.
-ghost use Rattle.std.specs.Prelude.{◌≡◌, ◌<◌, ◌++◌, [], false, true, All, Contains, IfOk, OnOk};
-ghost use Rattle.std.specs.List.{list_any};
+ghost use Rattle.std.specs.Prelude.{◌≡◌, ◌<◌, ◌++◌, false, true, All, Contains, List, ℤ, IfOk, OnOk};
 ghost use Rattle.pref_term.specs.Better.{in_same_group};
 ghost use Rattle.pref_term.specs.Chains.{AreInRow, by_chain};
-ghost use Rattle.pref_term.specs.Extension.{all_keys, group_keys, ranks_alike, without_repeats};
-ghost use Rattle.pref_term.specs.Keys.{by_keys, is_number, is_product, leading};
+ghost use Rattle.pref_term.specs.Extension.{IsShortened, all_keys, group_keys};
+ghost use Rattle.pref_term.specs.Keys.{by_key, by_keys, is_number, is_product, leading};
+ghost use Rattle.pref_term.specs.Order.{is_same};
 ghost use Rattle.pref_term.specs.Preference.{preference_of};
 ghost use Rattle.pref_term.specs.declared.relation.Relation.TheVariants.{Neither};
 
@@ -96,16 +96,22 @@ fn group_keys(alloc: Global, columns: &[usize]) -> Result<Vec<Key>, AllocError>
     Ok(keys)
 }
 
-/// Whether one of the keys ranks rows as this one does, in either direction.
+/// Whether one of the keys scores the same column alike, in either direction: so this one sees no difference between rows that are the same
+/// in all of them.
 fn is_ranked(keys: &[Key], key: &Key) -> bool
-    ensures { result ≡ list_any (ranks_alike key.now) keys.now }
+    ensures { result ≡ true → (a b : List ℤ) → is_same (by_chain keys.now a b) ≡ true → is_same (by_key key.now a b) ≡ true }
 {
-    keys.iter().any(|before| key.ranks_as(before))
+    for before in keys {
+        if before.ranks_as(key) {
+            return true;
+        }
+    }
+    false
 }
 
-/// The keys without those that rank as one before them does: these decide nothing in a chain.
+/// The keys without those that see no difference where the ones before them see none.
 fn without_repeats(alloc: Global, keys: Vec<Key>) -> Result<Vec<Key>, AllocError>
-    ensures { IfOk result (λ kept. kept.items ≡ without_repeats [] keys.items) }
+    ensures { IfOk result (λ kept. IsShortened keys.items kept.items) }
 {
     let mut kept = Vec::new(alloc);
     for key in keys {
@@ -123,7 +129,7 @@ pub(crate) fn keys_in_order(
     group: &[usize],
     term: &Term,
 ) -> Result<Vec<Key>, AllocError>
-    ensures { IfOk result (λ keys. keys.items ≡ without_repeats [] (group_keys group.now ++ all_keys (preference_of term.now) false)) }
+    ensures { IfOk result (λ keys. IsShortened (group_keys group.now ++ all_keys (preference_of term.now) false) keys.items) }
 {
     let mut keys = group_keys(alloc, group)?;
     push_all(alloc, &mut keys, term, false)?;

@@ -1,5 +1,5 @@
 //! Laws of question texts, and of equality.
-ghost use Rattle.std.specs.Prelude.{◌≡◌, ◌≤◌, ◌&&◌, ◌++◌, Contains, ℕ, ℤ, pos, Bool, List, [], ◌∷◌, length, true, false, MatchResult, Ok, Err, codes};
+ghost use Rattle.std.specs.Prelude.{◌≡◌, ◌≤◌, ◌&&◌, ℕ, ℤ, List, [], ◌∷◌, length, true, false, MatchResult, Ok, Err, codes};
 ghost use Rattle.std.specs.Bool.{Decides};
 ghost use Rattle.std.specs.List.{AllByRecursion};
 ghost use Rattle.pref_table.specs.Names.{schema_of};
@@ -10,16 +10,12 @@ ghost use Rattle.pref_term.specs.Grammar.{AskText, IsText, ask_leaves};
 ghost use Rattle.pref_term.specs.Spells.{Names, Spells, Faults, IsGood, question, tokens_in, tokens_on};
 ghost use Rattle.pref_term.specs.Token.{tokens_of};
 ghost use Rattle.pref_term.specs.Asked.{asked};
-ghost use Rattle.pref_term.specs.Better.{better, same};
 ghost use Rattle.pref_term.specs.AskOrder.{order_of};
-ghost use Rattle.pref_term.specs.Chains.{AreInRow, by_chain, chain_keys, is_chain};
-ghost use Rattle.pref_term.specs.Columns.{ReadsBelow};
-ghost use Rattle.pref_term.specs.Extension.{all_keys, ask_keys, better_turned, without_repeats};
-ghost use Rattle.pref_term.specs.Keys.{is_product, key_for, leading};
-ghost use Rattle.pref_term.specs.declared.chains.Role.TheVariants.{First as first};
-ghost use Rattle.pref_term.specs.declared.key.Key.{Key};
+ghost use Rattle.pref_term.specs.Chains.{AreInRow, by_chain};
+ghost use Rattle.pref_term.specs.Extension.{all_keys, ask_keys};
+ghost use Rattle.pref_term.specs.Keys.{key_for};
 ghost use Rattle.pref_term.specs.Order.{StandAlike, is_better, is_same, is_worse};
-ghost use Rattle.pref_term.specs.Preference.{Preference, scored, low, high, around, pareto, prior, reverse};
+ghost use Rattle.pref_term.specs.Preference.{Preference, scored, low, high, pareto, prior, reverse};
 ghost use Rattle.pref_term.specs.declared.fault.TermFault.{TermFault};
 ghost use Rattle.pref_term.specs.declared.ask.Mode.TheVariants.{Best as best};
 ghost use Rattle.pref_term.specs.declared.fault.TermFault.TheVariants.{Unexpected as unexpected, UnknownColumn as unknown_column, NoMinOrMax as no_min_or_max};
@@ -53,26 +49,14 @@ pub fn equal_where_the_same_is_seen()
     ensures asks { (p q : Question) → Decides (question_eq p q) (p ≡ q) }
 {}
 
-/// The chain of all keys of a preference extends its order: what is better by the preference is better by the chain, and the
-/// same are the same. So no row is better than one that the chain puts before it.
-pub fn all_keys_extend_a_preference()
-    ensures extended { (p : Preference) (a b : List ℤ) → better p a b ≡ true → is_better (by_chain (all_keys p false) a b) ≡ true }
-    ensures worse { (p : Preference) (a b : List ℤ) → better p b a ≡ true → is_worse (by_chain (all_keys p false) a b) ≡ true }
-    ensures either_way { (p : Preference) (turned : Bool) (a b : List ℤ) → better_turned turned p a b ≡ true → is_better (by_chain (all_keys p turned) a b) ≡ true }
-    ensures same { (p : Preference) (turned : Bool) (a b : List ℤ) → is_same (by_chain (all_keys p turned) a b) ≡ same p a b }
-    ensures in_row { (p : Preference) (turned : Bool) → ReadsBelow 16 p → AreInRow (all_keys p turned) }
-{}
-
-/// All keys of a preference, by an example; and what is left of keys that stand twice.
+/// All keys of a preference, by an example.
 pub fn worked_keys()
-    ensures turned { all_keys (reverse (pareto (scored (low 0)) (reverse (prior (scored (high 1)) (scored (low 2)))))) false
+    ensures { all_keys (reverse (pareto (scored (low 0)) (reverse (prior (scored (high 1)) (scored (low 2)))))) false
         ≡ key_for (low 0) true ∷ key_for (high 1) false ∷ key_for (low 2) false ∷ [] }
-    ensures left { without_repeats [] (key_for (low 0) false ∷ key_for (high 0) false ∷ key_for (low 1) false ∷ key_for (around 0 (pos 5)) false ∷ key_for (low 1) false ∷ [])
-        ≡ key_for (low 0) false ∷ key_for (low 1) false ∷ key_for (around 0 (pos 5)) false ∷ [] }
 {}
 
-/// So does the chain of the keys of an ask extend its order within groups; and rows that are the same by it are just those of
-/// one group that are the same.
+/// The chain of the keys of an ask extends its order: what dominates is better by the chain, so no row dominates one that the
+/// chain puts before it. Rows that are the same by it are just those of one group that are the same.
 pub fn ask_keys_extend_an_ask()
     ensures extended { (q : Question) (a b : List ℤ) → (order_of q).over a b ≡ true → is_better (by_chain (ask_keys q) a b) ≡ true }
     ensures worse { (q : Question) (a b : List ℤ) → (order_of q).over b a ≡ true → is_worse (by_chain (ask_keys q) a b) ≡ true }
@@ -80,20 +64,6 @@ pub fn ask_keys_extend_an_ask()
     ensures stand_alike { (q : Question) (a b : List ℤ) → is_same (by_chain (ask_keys q) a b) ≡ true → StandAlike (order_of q).over a b }
     ensures twins { (q : Question) → IsAsk q → (a b : List ℤ) → (order_of q).twin a b ≡ (q.distinct && is_same (by_chain (ask_keys q) a b)) }
     ensures in_row { (q : Question) → IsAsk q → AreInRow (ask_keys q) }
-{}
-
-/// The keys of a preference without a priority are those that lead it, and of one without a product those of its chain.
-pub(crate) fn all_keys_of_one_kind()
-    ensures product { (p : Preference) (turned : Bool) → is_product p ≡ true → all_keys p turned ≡ leading p turned }
-    ensures chain { (p : Preference) (turned : Bool) → is_chain p ≡ true → all_keys p turned ≡ chain_keys p first turned }
-{}
-
-/// A key of which the column and the score stand before in a chain, in either direction, can be left out.
-pub fn repeated_keys_decide_nothing()
-    ensures repeated { (xs ys : List Key) (key : Key) (a b : List ℤ) → Contains xs key → by_chain (xs ++ key ∷ ys) a b ≡ by_chain (xs ++ ys) a b }
-    ensures either_way { (xs ys : List Key) (key before : Key) (a b : List ℤ) → Contains xs before → key.col ≡ before.col → key.score ≡ before.score
-        → by_chain (xs ++ key ∷ ys) a b ≡ by_chain (xs ++ ys) a b }
-    ensures all { (keys : List Key) (a b : List ℤ) → by_chain (without_repeats [] keys) a b ≡ by_chain keys a b }
 {}
 
 /// A text whose tokens are exactly those of a tree of the grammar without `distinct` spells the ask of that tree, in which
