@@ -8,7 +8,8 @@ use crate::core::Version;
 use crate::sky::Ranked;
 use crate::term::{Ask, Mode};
 
-/// How many rows come at least before there is a sweep.
+/// There is a sweep when so many times as many rows came as are held, and so many more.
+const GROWTH: usize = 2;
 const MANY: usize = 64;
 
 /// A partial result of one question.
@@ -27,7 +28,7 @@ impl Partial {
         Partial { question, rows: Vec::new(), recent: Vec::new(), filter }
     }
 
-    /// Adds the rows of a block. There is a sweep when as many came as are held.
+    /// Adds the rows of a block.
     pub fn add<'a>(&mut self, _window: usize, block: impl Iterator<Item = &'a Version>) {
         for version in block {
             let level = match self.filter.meet(&self.question, &self.rows, &version.row) {
@@ -36,7 +37,7 @@ impl Partial {
                 Met::Open => NEW,
             };
             self.recent.push(Held { id: version.id, row: version.row, level });
-            if self.recent.len() >= self.rows.len() + MANY {
+            if self.recent.len() >= GROWTH * self.rows.len() + MANY {
                 self.prune();
             }
         }
