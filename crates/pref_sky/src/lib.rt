@@ -2,9 +2,8 @@
 //! block by block, and the answers of asks.
 //!
 //! An entry is best where no entry dominates it, or is `over` it, as the code says (Börzsönyi, Kossmann, Stocker 2001). Level 1
-//! is the best of all entries, level n + 1 the best of what is left without the levels 1 to n (the rPref manual). The levels of a question
-//! are found by one sweep over entries in the order of its keys; those of another order, and [`best_rows`], by block-nested-loops, with a
-//! window of bounded size. Everything is generic over [`Dominance`](pref_term::Dominance), so any strict
+//! is the best of all entries, level n + 1 the best of what is left without the levels 1 to n (the rPref manual). The algorithm is
+//! block-nested-loops, with a window of bounded size. Everything is generic over [`Dominance`](pref_term::Dominance), so any strict
 //! partial order of rows serves.
 //!
 //! ```text
@@ -17,22 +16,23 @@
 #![tactic(auto)]
 
 mod answers;
+mod arrival;
 mod best;
+mod chain_order;
 mod entry;
 mod grouped;
 mod item;
-mod lately;
 pub mod laws;
-mod lead;
-mod level;
+mod layers;
+mod making;
 mod merging;
-mod own_order;
 mod partial;
+mod partitions;
 mod passes;
-mod passes_levels;
+mod pool;
 mod signatures;
 mod sorted;
-mod sweep;
+pub mod stairs;
 mod window;
 
 pub use answers::answer;
