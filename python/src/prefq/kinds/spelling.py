@@ -65,8 +65,8 @@ def _unquoted(word: "re.Match[str]") -> Word:
     return Word(word["plain"].strip(), False)
 
 
-def _form(inside: Optional[str]) -> Optional[Form]:
-    """The form of numbers that stands behind the number of decimals, None where there is none."""
+def _form(inside: Optional[str]) -> Form:
+    """The form of numbers that stands behind the number of decimals, if there is one."""
     found: Dict[str, Any] = {}
     place = 0
     while inside is not None:
@@ -74,14 +74,11 @@ def _form(inside: Optional[str]) -> Optional[Form]:
         word = WORD.match(inside, option.end() if option else place)
         if not word or not option and _unquoted(word) != Word("parentheses", False):
             raise ValueError(f"a number has thousands=\",\", decimal=\",\", unit=\"€\" and parentheses, and not {inside[place:].strip()!r}")
-        name = option["name"] if option else "parentheses"
-        if name in found:
-            raise ValueError(f"{name} stands there twice")
-        found[name] = _unquoted(word).text if option else True
+        found[option["name"] if option else "parentheses"] = _unquoted(word).text if option else True
         place = word.end()
         if not word["end"]:
             break
-    return None if inside is None else Form(**found)
+    return Form(**found)
 
 
 def _decimals(inside: Optional[str]) -> Kind:
@@ -129,10 +126,10 @@ def zone_named(name: str) -> datetime.tzinfo:
 
 
 def _choices(inside: Optional[str]) -> Kind:
-    """An ordered categorical without categories has no choices, and every value is missing."""
-    if inside is None:
+    words = words_of(inside)
+    if not words:
         raise ValueError("it has its choices in parentheses")
-    return Choices([word.text for word in words_of(inside)] if inside.strip() else [])
+    return Choices([word.text for word in words])
 
 
 def _plain(make: Callable[[], Kind]) -> Callable[[Optional[str]], Kind]:
