@@ -41,6 +41,24 @@ class Answers(TestCase):
         with prefq.Frame.from_csv(self.path) as again:
             self.assertEqual([row.text for row in again.rows()], texts)
 
+    def test_an_open_file_of_another_encoding(self):
+        """What it does not have is refused by its place before anything is written."""
+        self.path.write_bytes(b"as before\n")
+        for encoding, texts, says in [("ascii", ["good", "Köln"], "row 2, column 'text' is 'Köln', which ascii does not have"), ("cp1252", ["Köln", "Łódź"], "row 2, column 'text' is 'Łódź', which cp1252"),
+                                      ("utf-8", ["a\udcff"], "row 1, column 'text' is 'a\\udcff', which utf-8 does not have")]:
+            with self.subTest(encoding=encoding), open(self.path, "a", encoding=encoding) as file:
+                with self.refuses(ValueError, says):
+                    self.answer(texts).to_csv(file)
+                with self.refuses(ValueError, r"the name of column 1 is 'Größe\udcff'"):
+                    self.answer(["good"], name="Größe\udcff").to_csv(file)
+        self.assertEqual(self.path.read_bytes(), b"as before\n")
+        with open(self.path, "w", encoding="cp1252", newline="") as file:
+            self.answer(["Köln"]).to_csv(file)
+        self.assertEqual(self.path.read_bytes(), "level,id,text,x\n1,1,Köln,1\n".encode("cp1252"))
+        with open(self.path, "w", encoding="ascii", errors="backslashreplace", newline="") as file:
+            self.answer(["Köln"]).to_csv(file)
+        self.assertEqual(self.path.read_bytes(), b"level,id,text,x\n1,1,K\\xf6ln,1\n")
+
     def test_lone_surrogates(self):
         """UTF-8 does not have them: JSON escapes them, pictures and HTML replace them, and a CSV file is refused before it is touched."""
         texts = ["good", "a\ud800b", "\udcff"]

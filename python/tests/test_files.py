@@ -111,6 +111,25 @@ class WrittenOtherwise(TestCase):
             with from_text("".join(f"{cell},x\n" for cell in ["a", *cells])) as frame:
                 self.assertEqual(values(frame, "a"), [cell or None for cell in cells])
 
+    def test_plain_points_in_a_file_of_decimal_commas(self):
+        """A kind that names its sign has that sign, whatever the file has; and what is said of such a column names that kind."""
+        text = "x;y;n\n1,5;2.50;1\n2,25;3.75;2\n"
+        with from_text(text, decimal=",") as frame, self.refuses(prefq.Refused, "the kind decimal(2, decimal=\".\") reads 2.50"):
+            frame.best("best low(y)")
+        for spelling, found in [('decimal(2, decimal=".")', [Decimal("2.50"), Decimal("3.75")]), ('decimal(3, decimal=".")', [Decimal("2.500"), Decimal("3.750")]), ('float(decimal=".")', [2.5, 3.75])]:
+            with from_text(text, decimal=",", kinds={"y": spelling, "n": 'whole(decimal=".")'}) as frame:
+                self.assertEqual((values(frame, "x"), values(frame, "y"), values(frame, "n"), str(frame.columns[1].kind)), ([Decimal("1.50"), Decimal("2.25")], found, [1, 2], spelling))
+        with self.refuses(ValueError, "line 2, column 'y' (decimal(2, decimal=\",\")): '2.50' is no number"):
+            from_text(text, decimal=",", kinds={"y": "decimal(2)"})
+        done = run("ask", "-", "best low(y)", "--csv", "--decimal", ",", "--kind", 'y=decimal(2, decimal=".")', text=text)
+        self.assertEqual((done.stdout, done.stderr), ("level,id,x,y,n\n1,1,\"1,5\",2.50,1\n", ""))
+        self.assertIn("y: text ('2.50' is a text: the kind decimal(2, decimal=\".\") reads 2.50", run("ask", "-", "--decimal", ",", text=text).stdout)
+
+    def test_an_option_of_a_kind_that_stands_twice(self):
+        for spelling, name in [('decimal(2, unit="€", unit="$")', "unit"), ('whole(thousands=",", thousands=".")', "thousands"), ("float(parentheses, decimal=\",\", parentheses)", "parentheses")]:
+            with self.subTest(spelling=spelling), self.refuses(prefq.Refused, f"no kind {spelling!r}: {name} stands there twice"):
+                from_text("x\n5\n", kinds={"x": spelling})
+
     def test_the_culprit_is_named(self):
         with from_text("x;y\n1;57,40\n2;1.065,61\n3;5,00\n", decimal=",") as frame:
             with self.refuses(prefq.Refused, "decimal(2, thousands=\".\", decimal=\",\") reads"):
@@ -220,6 +239,21 @@ class Files(TestCase):
                 self.assertEqual(frame.names, names)
                 self.assertEqual(len(frame), text.count("\n") - 1 - text.count("sep=") - text.count("two"))
 
+    def test_a_line_that_is_refused_behind_plain_ones(self):
+        """It is named by its number in the file, however many rows are read at a time."""
+        plain = "\n\nx,y\n" + "1,2\n" * 6 + '"a\nb",2\r\n\n' + "3,4\n" * 6
+        for line, options, says in [('"5"6,1\n', {}, "line 19: ',' expected after '\"'"), ("5,6,7\n", {}, "line 19: it has 3 cells"), ('"5', {}, "line 19: unexpected end of data"),
+                                    ("5,x\n", {"kinds": {"y": "whole"}}, "line 19, column 'y' (whole): 'x' is no number")]:
+            for chunk in (1, 5, 9, 24, 40, 65_536):
+                with self.subTest(line=line, chunk=chunk), unittest.mock.patch("prefq.reading.CHUNK", chunk), self.refuses((prefq.Refused, ValueError), says):
+                    from_text(plain + line, **options)
+
+    def test_a_file_without_rows_keeps_the_kinds_that_are_given(self):
+        for text in ("x,y\n", "x,y", "x,y\n\n \n"):
+            with from_text(text, kinds={"x": "decimal(2)"}) as frame:
+                self.assertEqual([str(column.kind) for column in frame.columns], ["decimal(2)", "text"])
+                self.assertEqual(frame.get(frame.insert({"x": "5.5", "y": "a"})).x, Decimal("5.50"))
+
     def test_lines_that_are_not_as_the_others(self):
         self.assertEqual(self.reads(b"Offers of May\n\nx,y\n1,2\n", skip=2), [{"x": 1, "y": 2}])
         self.assertEqual(self.reads(b"x,y\n1,2\n   \n\n3,4,\n,\n"), [{"x": 1, "y": 2}, {"x": 3, "y": 4}, {"x": None, "y": None}])
@@ -296,7 +330,7 @@ class ComesBack(TestCase):
         text = io.StringIO()
         csv.writer(text).writerows([cells, *zip(*cells.values())])
         found = []
-        for chunk in (1, 2, 3, 65_536):
+        for chunk in (1, 20, 40, 65_536):
             with unittest.mock.patch("prefq.reading.CHUNK", chunk), from_text(text.getvalue()) as frame:
                 found.append((list(map(str, frame.columns)), frame.rows(), frame.notes))
         self.assertEqual(found[1:], found[:-1])

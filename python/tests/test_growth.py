@@ -4,6 +4,7 @@ import threading
 import unittest.mock
 import warnings
 from decimal import Decimal
+from fractions import Fraction
 
 import prefq
 from prefq.desk import Desk
@@ -51,6 +52,17 @@ class Growth(TestCase):
                 frame.insert({"price": 59.9})
                 found = frame.best("top_level 9 low(price)").to_dataframe()
                 self.assertEqual((list(found.index), list(found["price"])), (["b", 3, "a"], [50, 59.9, 60]))
+
+    def test_of_fractions(self):
+        """One that is a decimal number is that number; one that is none is refused, and so is one with too many decimals."""
+        with prices(60, 50) as frame:
+            for value, kind, found in [(Fraction(1, 2), "decimal(1)", "0.5"), (Fraction(7, 8), "decimal(3)", "0.875"), (Fraction(6, 2), "decimal(3)", "3"), (Fraction(-1, 80), "decimal(4)", "-0.0125")]:
+                id = frame.insert({"price": value})
+                self.assertEqual((frame.get(id).price, kinds(frame)[0]), (Decimal(found), kind))
+            for value in (Fraction(1, 3), Fraction(1, 2**19), Fraction(1, 10**19)):
+                with self.refuses(ValueError, f"column 'price' (decimal(4)): {value} has more than 4 decimals"):
+                    frame.insert({"price": value})
+            self.assertEqual(frame.get(frame.insert({"price": Fraction(1, 5**4)})).price, Decimal("0.0016"))
 
     def test_ids_stay(self):
         with prices(*range(1, 11)) as frame:

@@ -93,7 +93,7 @@ class Chunks(File):
     """A file that is read some rows at a time."""
 
     def opened(self):
-        with unittest.mock.patch("prefq.reading.CHUNK", 7):
+        with unittest.mock.patch("prefq.reading.CHUNK", 150):
             return super().opened()
 
 

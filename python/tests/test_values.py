@@ -262,7 +262,7 @@ class Inferred(TestCase):
             draw = random_.choice(draws)
             cells = [random_.choice(HOSTILE[:160]) if random_.random() < 0.08 else random_.choice(["", "NA", "-", "none"]) if random_.random() < 0.1 else draw(random_) for _ in range(random_.randrange(1, 6))]
             cells = [cell for cell in cells if "\0" not in cell]
-            with unittest.mock.patch("prefq.reading.CHUNK", random_.choice([2, 65_536])):
+            with unittest.mock.patch("prefq.reading.CHUNK", random_.choice([1, 40, 65_536])):
                 file = prefq.loading.File(prefq.reading.read_csv(csv_of(cells)))
                 column, numbers = file.column("x")
             read = PLAIN_KINDS[column.kind.name]
@@ -426,6 +426,17 @@ class DataFrames(TestCase):
                 self.assertEqual(frame.best("best low(x)").ids, [count, count + 2])
                 with self.assertRaises(ValueError):
                     frame.insert({"x": "other"})
+
+    def test_an_ordered_categorical_without_categories(self):
+        dataframe = pandas.DataFrame({"x": pandas.Categorical([None, None], [], ordered=True), "y": [1, 2]})
+        with prefq.Frame.from_dataframe(dataframe) as frame:
+            spelling = str(frame.columns[0].kind)
+            self.assertEqual((spelling, [row.x for row in frame.rows()], frame.best("best low(x) & low(y)").ids), ("choice()", [None, None], [1]))
+        for again in (prefq.Frame.from_dataframe(dataframe, kinds={"x": spelling}), prefq.Frame.empty(["x", "y"], {"x": spelling, "y": "whole"})):
+            with again:
+                self.assertEqual(str(again.columns[0].kind), spelling)
+                with self.refuses(ValueError, "column 'x' (choice()): 'S' is no choice, and there is none"):
+                    again.insert({"x": "S"})
 
     def test_an_unordered_categorical_has_the_order_of_its_values(self):
         with prefq.Frame.from_dataframe(pandas.DataFrame({"x": pandas.Categorical([3, 1, None, 2], [3, 1, 2])})) as frame:

@@ -15,6 +15,7 @@ from .visible import SURROGATE, in_xml, visible, width
 
 Target = Union[str, "os.PathLike[str]", TextIO, None]
 ROWS_SHOWN = 20
+UTF_8 = "UTF-8"
 ROWS_IN_A_NOTEBOOK = 200
 WIDEST = 40
 LINE_END = "\r\n"
@@ -110,25 +111,36 @@ class Answer(List[Record]):
         return f'<table class="prefq">\n<caption>{html.escape(in_xml(self.question))}</caption>\n<thead>\n{head}</thead>\n<tbody>\n{body}</tbody>\n</table>'
 
     def to_csv(self, target: Target = None) -> Optional[str]:
-        """Comma-separated values, with the names in front: into a file, or as a text where none is given. A text with a lone surrogate, which UTF-8 does not
-        have, is a ValueError that names its row, and the file is as it was."""
+        """Comma-separated values, with the names in front: into a file, or as a text where none is given. A text that the file's encoding does not have, as UTF-8
+        no lone surrogate, is a ValueError that names its row, and the file is as it was."""
         lines = Lines()
         # With these line ends, each cell with a part of one stands in quotes.
         writer = csv.writer(lines, lineterminator=LINE_END)
         writer.writerow(self.heading)
         writer.writerows(map(self.cells, self))
         text = "".join(lines)
-        if target is not None and SURROGATE.search(text):
-            raise ValueError(self._not_writable())
+        if target is not None:
+            self._check_writable(text, getattr(target, "encoding", None) or UTF_8, getattr(target, "errors", None) or "strict")
         return _given(text, target)
 
-    def _not_writable(self) -> str:
-        """The first text that no file of UTF-8 can have."""
-        name = next(filter(SURROGATE.search, self.names), None)
+    def _check_writable(self, text: str, encoding: str, errors: str) -> None:
+        """Refuses what a file of this encoding cannot have, by its place."""
+        def is_lost(some: str) -> bool:
+            try:
+                some.encode(encoding, errors)
+            except UnicodeEncodeError:
+                return True
+            except LookupError:
+                pass        # a codec of the file's own
+            return SURROGATE.search(some) is not None
+
+        if not is_lost(text):
+            return
+        name = next(filter(is_lost, self.names), None)
         if name is not None:
-            return f"the name of column {self.names.index(name) + 1} is {name!r}, which UTF-8 does not have"
-        return next(f"row {record.id}, column {name!r} is {cell!r}, which UTF-8 does not have"
-                    for record in self for name, cell in zip(self.heading, self.cells(record)) if SURROGATE.search(cell))
+            raise ValueError(f"the name of column {self.names.index(name) + 1} is {name!r}, which {encoding} does not have")
+        lost = (f"row {record.id}, column {name!r} is {cell!r}" for record in self for name, cell in zip(self.heading, self.cells(record)) if is_lost(cell))
+        raise ValueError(f"{next(lost, 'the answer has a sign')}, which {encoding} does not have")
 
     def to_json(self, target: Target = None, *, indent: Optional[int] = None) -> Optional[str]:
         """A list of objects: into a file, or as a text where none is given. Decimals keep all their digits, dates are texts, and what is missing is null.

@@ -149,7 +149,7 @@ def columns_of(file: File) -> List[str]:
     lines = []
     for name in file.cells.names:
         column, _ = file.column(name)
-        why = oddity(column.kind.texts) if isinstance(column.kind, Texts) else None
+        why = oddity(column.kind.texts, column.form) if isinstance(column.kind, Texts) else None
         lines.append(visible(f"{name}: {column.kind}" + (f" ({in_options(why)})" if why else "")))
     return lines
 

@@ -6,6 +6,7 @@ from typing import Any, List
 
 from .checks import LEAST
 from .kinds import Kind, kind_named
+from .kinds.forms import PLAIN
 
 PLAIN_NAME = re.compile(r"[^\W\d][\w.]*")
 
@@ -29,8 +30,9 @@ class Column:
         # Whether the kind was taken from the values, and takes further ones by becoming wider.
         self.grows = False
         self.has_gaps = False
-        # The type of pandas that the column had, if it came from there.
+        # The type of pandas that the column had, if it came from there; and how the file that it came from has numbers.
         self.dtype: Any = None
+        self.form = PLAIN
 
     def __repr__(self) -> str:
         return f"Column({self.name!r}, {str(self.kind)!r})"
@@ -59,7 +61,7 @@ class Column:
     def of_kind(self, kind: Kind) -> "Column":
         """The same column with another kind."""
         column = Column(self.name, kind)
-        column.grows, column.has_gaps, column.dtype = self.grows, self.has_gaps, self.dtype
+        column.grows, column.has_gaps, column.dtype, column.form = self.grows, self.has_gaps, self.dtype, self.form
         return column
 
 

@@ -13,12 +13,12 @@ from .kinds import Kind
 from .kinds.forms import Form
 from .loading import Encoded, File, check_known, chosen, column_of_values, decoded, encoded
 from .missing import Missing
-from .once import Zipped
 from .opened import Opened
 from .options import check_options
 from .questions import Mode, Question, read_question
 from .reading import Dialect, Progress, Source, read_csv
 from .records import Record, mapping_of, values_of
+from .rows import WholeRows, Zipped
 from .table import Table
 from .translate import Plan, plan
 from .why import Rivals
@@ -55,10 +55,9 @@ class Frame:
 
     def __init__(self, columns: Iterable[Column], rows: Iterable[Sequence[Any]] = (), **options: Any) -> None:
         columns = tuple(columns)
-        lists = [encoded(column, values) for column, values in zip(columns, zip(*(values_of(row, columns) for row in rows)))]
-        self._open(columns, list(zip(*lists)), options)
+        self._open(columns, Zipped([encoded(column, values) for column, values in zip(columns, zip(*(values_of(row, columns) for row in rows)))]), options)
 
-    def _open(self, columns: Sequence[Column], rows: List[Any], options: Dict[str, Any], index: Any = None, notes: Iterable[str] = ()) -> None:
+    def _open(self, columns: Sequence[Column], rows: WholeRows, options: Dict[str, Any], index: Any = None, notes: Iterable[str] = ()) -> None:
         check_options(options, TABLE_OPTIONS, "Frame")
         self._opened = Opened(columns, rows, options)
         self._index = index
@@ -91,8 +90,7 @@ class Frame:
         check_options(options, [*CSV_OPTIONS, *TABLE_OPTIONS], "Frame.from_csv")
         file = File(read_csv(source, Dialect(encoding, delimiter, skip, null_padding)), kinds, Missing(missing), Form(decimal, thousands))
         names = file.cells.names if columns is None else chosen(file.cells.names, columns)
-        file.load(names, MOST_ROWS)
-        return cls._made([file.column(name) for name in names], options, notes=file.notes.values())
+        return cls._made(*file.opening(names, MOST_ROWS), options, notes=file.notes.values())
 
     @classmethod
     def from_records(cls, records: Iterable[Any], *, columns: Optional[Sequence[str]] = None, kinds: Optional[Mapping[str, str]] = None,
@@ -109,7 +107,7 @@ class Frame:
         there = list(dict.fromkeys(name for row in rows for name in row))
         names = chosen(there, columns)
         check_known(list(kinds or ()), there)
-        return cls._made([column_of_values(name, [row.get(name) for row in rows], kinds) for name in names], options)
+        return cls._of_numbers([column_of_values(name, [row.get(name) for row in rows], kinds) for name in names], options)
 
     @classmethod
     def from_dataframe(cls, dataframe: Any, *, columns: Optional[Sequence[str]] = None, kinds: Optional[Mapping[str, str]] = None,
@@ -123,7 +121,7 @@ class Frame:
             raise Refused(f"the DataFrame has {len(dataframe)} rows, and a table holds {MOST_ROWS}: prefq.psel and prefq.parts ask more", "table")
         names = chosen(list(dataframe.columns), columns)
         check_known(list(kinds or ()), list(dataframe.columns))
-        return cls._made([encoded_series(dataframe[name], name, kinds) for name in names], options, index_of(dataframe.index))
+        return cls._of_numbers([encoded_series(dataframe[name], name, kinds) for name in names], options, index_of(dataframe.index))
 
     @classmethod
     def empty(cls, columns: Iterable[str], kinds: Mapping[str, str], **options: Any) -> "Frame":
@@ -144,10 +142,15 @@ class Frame:
         return cls([Column(name, kinds[name]) for name in names], **options)
 
     @classmethod
-    def _made(cls, columns: Sequence[Encoded], options: Dict[str, Any], index: Any = None, notes: Iterable[str] = ()) -> "Frame":
+    def _of_numbers(cls, columns: Sequence[Encoded], options: Dict[str, Any], index: Any = None) -> "Frame":
         """The frame of columns with their numbers."""
+        return cls._made([column for column, _ in columns], Zipped([numbers for _, numbers in columns]), options, index)
+
+    @classmethod
+    def _made(cls, columns: Sequence[Column], rows: WholeRows, options: Dict[str, Any], index: Any = None, notes: Iterable[str] = ()) -> "Frame":
+        """The frame of columns and rows of their numbers."""
         frame = cls.__new__(cls)
-        frame._open([column for column, _ in columns], Zipped([numbers for _, numbers in columns])[:], options, index, notes)
+        frame._open(columns, rows, options, index, notes)
         return frame
 
     def __enter__(self) -> "Frame":

@@ -5,24 +5,22 @@ from array import array
 from decimal import Decimal
 from typing import Any, Iterable, List, Optional, Sequence, Tuple
 
-from .checks import LEAST, MOST
+from .checks import MOST
 from .columns import is_missing
 from .errors import Refused
 from .kinds import Booleans, Clock, Dates, Decimals, Floats, Kind, Texts, Times, Whole, kind_named
+from .kinds.at_once import MOST_DECIMALS, PlainTexts
 from .kinds.booleans import WORDS as WORDS_OF_TRUTH
 from .kinds.forms import NUMBER, PLAIN, Form
 from .kinds.moments import DAY, MOMENT, offset_of
-from .kinds.numbers import FLOAT, MOST_DECIMALS, are_in_range, decimals_of, have_decimals, scaled_numbers, whole_numbers
+from .kinds.numbers import FLOAT, Number, are_in_range, decimals_of, whole_numbers
 from .missing import WORDS, folded
 
 WHOLE = re.compile(r"[+-]?\d+")
 # Such digits are a postal code or an article number: as a number they would lose their zeros.
 LEADING_ZERO = re.compile(r"[+-]?0\d+")
-# What a column may have that is not read at once: what Python reads beside digits, and the number that stands for a missing value.
-NOT_AT_ONCE = ("_", " ", str(LEAST))
-# Digits behind a zero in front are a code, not a number; where none of these stands there, there are none.
-ZEROS = ("\n0", "\n-0", "\n+0")
-ZERO_IN_FRONT = re.compile(r"\n[+-]?0\d+(?=\n)")
+# What numbers and dates begin with.
+FIRST_SIGNS = frozenset("0123456789+-.")
 # So many texts are looked at for what is said of a column.
 LOOKED_AT = 2000
 MOST_PROPOSED = 3
@@ -32,6 +30,9 @@ def kind_of_texts(texts: Sequence[str], form: Form = PLAIN) -> Kind:
     """The kind of a column whose values stand in a file, each once, without what is missing; its numbers have this form."""
     if not texts or is_text(texts[0].strip(), form):
         return Texts()
+    at_once = plain_column(texts) if form.is_plain else None
+    if at_once is not None:
+        return at_once[0]
     found = [text.strip() for text in texts]
     if all(text.lower() in WORDS_OF_TRUTH for text in found):
         return Booleans()
@@ -49,25 +50,24 @@ def is_text(text: str, form: Form) -> bool:
 
 
 def plain_column(texts: Sequence[str]) -> "Optional[Tuple[Kind, array[int]]]":
-    """The kind and the numbers of a column of plain whole numbers or decimals without gaps, found all at once; None where it is any other column."""
-    joined = "\n" + "\n".join(texts) + "\n"
-    if not texts or any(sign in joined for sign in NOT_AT_ONCE) or any(sign in joined for sign in ZEROS) and ZERO_IN_FRONT.search(joined):
+    """The kind and the numbers of a column of plain whole numbers, decimals or dates without gaps, found all at once; None where it may be any other column."""
+    if not texts or texts[0][:1] not in FIRST_SIGNS:
         return None
+    if DAY.fullmatch(texts[0]):
+        days = Dates().read_all(texts)
+        return None if days is None else (Dates(), array("q", days))
+    plain = PlainTexts.of(texts)
+    if plain is None or plain.have_codes or plain.decimals > MOST_DECIMALS:
+        return None
+    numbers = plain.scaled(plain.decimals)
     try:
-        if "." not in joined:
-            return Whole(), array("q", map(int, texts))
-        decimals = most_decimals(texts)
-        numbers = scaled_numbers(texts, decimals) if decimals <= MOST_DECIMALS else None
-        return None if numbers is None or LEAST in numbers else (Decimals(decimals), array("q", numbers))
-    except (ValueError, OverflowError):
+        return None if numbers is None else (Whole() if plain.are_whole else Decimals(plain.decimals), array("q", numbers))
+    except OverflowError:
         return None
 
 
 def most_decimals(texts: Sequence[str]) -> int:
     """How many decimals plain numbers without exponents have at most."""
-    first = len(texts[0].partition(".")[2]) if texts else 0
-    if have_decimals(texts, first):
-        return first
     return max((len(part) for _, _, part in (text.partition(".") for text in texts)), default=0)
 
 
@@ -171,16 +171,16 @@ def _type_of(value: Any) -> Any:
 # ---- what is said of a column of texts that looks like another ----
 
 
-def oddity(texts: Sequence[str]) -> Optional[str]:
-    """Why a column of these texts is none of numbers, dates or bools, where it looks like one; and which kind would read it."""
+def oddity(texts: Sequence[str], form: Form = PLAIN) -> Optional[str]:
+    """Why a column of these texts is none of numbers, dates or bools, where it looks like one; and which kind would read it in a file whose numbers have this form."""
     some = [text.strip() for text in texts[:LOOKED_AT] if text.strip() and folded(text) not in WORDS]
     if not some:
         return None
-    proposed = proposal(some)
+    proposed = proposal(some, form)
     if proposed is not None:
         return proposed
-    for form, what in ((FLOAT, "number"), (MOMENT, "date")):
-        odd = [text for text in some if not form.fullmatch(text)]
+    for pattern, what in ((FLOAT, "number"), (MOMENT, "date")):
+        odd = [text for text in some if not pattern.fullmatch(text)]
         if odd and 2 * len(odd) <= len(some):
             return f"{_short(odd[0])} is no {what}"
     return _inner_oddity(some)
@@ -206,9 +206,11 @@ def _first_too_great(texts: Sequence[str]) -> str:
     return next(alone, "") or first_inexact(texts) or texts[0]
 
 
-def proposal(texts: Sequence[str]) -> Optional[str]:
+def proposal(texts: Sequence[str], form: Form = PLAIN) -> Optional[str]:
     """The kinds that read all of these texts, with an example: the plain one first, where the texts are no file's, or that has another form."""
     plain = kind_of_texts(texts)
+    if isinstance(plain, Number) and not form.is_plain:
+        plain = plain.in_form(PLAIN)        # which is its own, and not the file's
     others = [*_moment_kinds(texts), *_bool_kinds(texts)] if isinstance(plain, Texts) else []
     spellings = [*([] if isinstance(plain, Texts) else [str(plain)]), *_number_kinds(texts, plain), *others]
     reading = [kind for kind in map(kind_named, spellings) if all(_is_read(kind, text) for text in texts)]

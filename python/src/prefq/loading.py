@@ -1,7 +1,7 @@
 """From the values of columns to the numbers of a table, and back."""
 from array import array
-from itertools import chain
-from operator import itemgetter
+from contextlib import suppress
+from itertools import chain, filterfalse
 from typing import Any, Dict, Iterable, Iterator, List, Mapping, NamedTuple, Optional, Sequence, Tuple
 
 from .checks import LEAST, MOST, MOST_COLUMNS
@@ -13,10 +13,14 @@ from .kinds import Kind, Texts, Whole, kind_named
 from .kinds.forms import PLAIN, Form
 from .kinds.numbers import Number
 from .missing import Missing, folded, note_of
-from .reading import Cells, check_names, is_blank
+from .reading import Cells, Chunk, check_names, is_blank
+from .rows import WholeRows, Zipped
+from .standing import Standing
 
 Kinds = Optional[Mapping[str, str]]
 Encoded = Tuple[Column, Sequence[int]]
+# Where a column has more different texts, none is kept.
+MOST_KNOWN = 65_536
 
 
 class File:
@@ -31,19 +35,24 @@ class File:
         self._columns: Dict[str, Encoded] = {}
         check_known(list(self._kinds), cells.names)
 
-    def load(self, names: Iterable[str], most: Optional[int] = None) -> None:
-        """Reads these columns, all in one pass through the file, which may have `most` rows."""
-        wanted = [name for name in dict.fromkeys(names) if name not in self._columns]
-        self.cells.check_columns(wanted)
-        readers = [ColumnReader(name, self._kinds.get(name), self._missing, self._form) for name in wanted]
-        self._read(readers, most)
-        self._read([reader for reader in readers if reader.is_mixed], most)
-        for reader in readers:
-            column, numbers = reader.encoded()
-            self._columns[column.name] = column, numbers
-            counts = reader.words_taken()
-            if counts:
-                self.notes[column.name] = note_of(column.name, counts)
+    def load(self, names: Iterable[str]) -> None:
+        """Reads these columns, all in one pass through the file."""
+        readers = self._readers(name for name in dict.fromkeys(names) if name not in self._columns)
+        if readers:
+            self._read(readers, self._chunks())
+
+    def opening(self, names: Sequence[str], most: int) -> Tuple[List[Column], WholeRows]:
+        """These columns and their rows, of which there may be `most`, as a table is opened with them."""
+        readers = self._readers(names)
+        chunks = self._chunks(most)
+        if list(names) == self.cells.names and all(reader.takes_plain_numbers for reader in readers):
+            standing, taken = Standing.take(chunks)
+            if len(standing):
+                return [reader.column_of_numbers(standing, place) for place, reader in enumerate(readers)], standing
+            chunks = chain(taken, chunks)
+        self._read(readers, chunks)
+        found = [self._columns[name] for name in names]
+        return [column for column, _ in found], Zipped([numbers for _, numbers in found])
 
     def is_loaded(self, name: str) -> bool:
         """Whether a column has been read."""
@@ -55,19 +64,38 @@ class File:
             self.load([name])
         return self._columns[name]
 
-    def _read(self, readers: Sequence["ColumnReader"], most: Optional[int]) -> None:
-        """A pass through the file, for each of these columns."""
-        if not readers:
-            return
-        place_of = {name: place for place, name in enumerate(self.cells.names)}
-        places = [place_of[reader.name] for reader in readers]
+    def _readers(self, names: Iterable[str]) -> List["ColumnReader"]:
+        wanted = list(names)
+        self.cells.check_columns(wanted)
+        return [ColumnReader(name, self._kinds.get(name), self._missing, self._form) for name in wanted]
+
+    def _chunks(self, most: Optional[int] = None) -> Iterator[Chunk]:
+        """The rows, which are counted and of which there may be so many."""
         self.rows = 0
         for chunk in self.cells.chunks():
-            self.rows += len(chunk.rows)
+            self.rows += chunk.rows
             if most is not None and self.rows > most:
                 raise Refused(f"{self.cells.what} has more than {most} rows, which no table holds: prefq.psel, `python -m prefq ask` and prefq.parts ask more", "table")
+            yield chunk
+
+    def _read(self, readers: Sequence["ColumnReader"], chunks: Iterable[Chunk]) -> None:
+        """Reads these columns of these chunks, and again those whose kind is seen from all rows at once."""
+        self._pass(readers, chunks)
+        mixed = [reader for reader in readers if reader.is_mixed]
+        if mixed:
+            self._pass(mixed, self._chunks())
+        for reader in readers:
+            self._columns[reader.name] = reader.encoded()
+            counts = reader.words_taken()
+            if counts:
+                self.notes[reader.name] = note_of(reader.name, counts)
+
+    def _pass(self, readers: Sequence["ColumnReader"], chunks: Iterable[Chunk]) -> None:
+        place_of = {name: place for place, name in enumerate(self.cells.names)}
+        places = [place_of[reader.name] for reader in readers]
+        for chunk in chunks:
             for reader, place in zip(readers, places):
-                self._add(reader, list(map(itemgetter(place), chunk.rows)), chunk.first)
+                self._add(reader, chunk.column(place), chunk.first)
         for reader in readers:
             reader.end()
 
@@ -87,11 +115,74 @@ class CellRefused(Exception):
 
 
 class Part(NamedTuple):
-    """Some rows of a column: their kind, None where there is nothing but what may be missing; their numbers; and words that were taken for missing, with counts."""
+    """Some rows of a column: their kind, None where there is nothing but what may be missing; their numbers; whether some are missing; and words that were taken
+    for missing, with counts."""
 
     kind: Optional[Kind]
     numbers: "array[int]"
+    has_gaps: bool
     words: Dict[str, int]
+
+    @staticmethod
+    def of_plain(texts: List[str]) -> "Optional[Part]":
+        """Plain whole numbers, decimals or dates, and empty cells; None where there may be others."""
+        gaps = [] if all(texts) else [place for place, text in enumerate(texts) if not text]
+        some = next(filter(None, texts), "")
+        found = plain_column([text or some for text in texts] if gaps else texts)
+        if found is None:
+            return None
+        kind, numbers = found
+        for place in gaps:
+            numbers[place] = LEAST
+        return Part(kind, numbers, bool(gaps), {})
+
+
+NOTHING = Part(None, array("q"), False, {})
+
+
+class Known:
+    """The numbers of the texts of a column with one kind, so that each is understood once in the whole file: where there are few, or where that takes long."""
+
+    def __init__(self) -> None:
+        # None where they are not kept any more.
+        self._numbers: Optional[Dict[str, int]] = {}
+        # The kind of these texts, whether some are missing, and words that were taken for missing.
+        self._like = NOTHING
+
+    def part(self, texts: List[str]) -> Optional[Part]:
+        """Some rows whose texts are all known, None where one is new."""
+        if not self._numbers:
+            return None
+        try:
+            numbers = array("q", list(map(self._numbers.__getitem__, texts)))
+        except KeyError:
+            return None
+        return self._like._replace(numbers=numbers, words={word: texts.count(word) for word in self._like.words})
+
+    def new(self, texts: Iterable[str]) -> List[str]:
+        """The texts that are not known, each once; none where nothing is known."""
+        return list(filterfalse(self._numbers.__contains__, dict.fromkeys(texts))) if self._numbers else []
+
+    def takes(self, part: Part) -> bool:
+        """Whether the texts of a part have the same kind."""
+        return repr(part.kind) == repr(self._like.kind) or part.kind is None and not isinstance(self._like.kind, Texts)
+
+    def learn(self, texts: List[str], part: Part) -> None:
+        """Keeps the texts of a part, and forgets those of another kind."""
+        if self._numbers is None or part.kind is None and not self._numbers:
+            return
+        if not self.takes(part):
+            self._numbers, self._like = {}, NOTHING
+        self._numbers.update(zip(texts, part.numbers))
+        self._like = Part(self._like.kind or part.kind, part.numbers, self._like.has_gaps or part.has_gaps, {**self._like.words, **part.words})
+        if len(self._numbers) > MOST_KNOWN:
+            self._numbers = None
+
+    def learn_few(self, texts: List[str], part: Part) -> None:
+        """The same where the first texts come again and again."""
+        if self._numbers == {} and 2 * len(set(texts)) > len(texts):
+            self._numbers = None
+        self.learn(texts, part)
 
 
 class Distinct(NamedTuple):
@@ -122,14 +213,26 @@ class ColumnReader:
         # The code book of a column of texts is that of all its parts.
         self._texts = Texts()
         self._parts: List[Part] = []
+        self._known = Known()
         self._all: List[str] = []
+
+    @property
+    def takes_plain_numbers(self) -> bool:
+        """Whether plain whole numbers are that in this column, and nothing but an empty cell is missing among them."""
+        is_plain = self._given is None or type(self._given) is Whole and self._given.form.is_plain
+        return is_plain and self._form.is_plain and not self._missing.are_numbers
 
     def add(self, texts: List[str]) -> None:
         """Adds the texts of some rows."""
         if self.is_mixed:
             self._all += texts
-        else:
-            self._parts.append(self._part(texts))
+            return
+        part = self._known.part(texts)
+        if part is None and self._given is None and self.takes_plain_numbers:
+            part = Part.of_plain(texts)
+            if part is not None:
+                self._known.learn_few(texts, part)
+        self._parts.append(part or self._part_with_new(texts))
 
     def end(self) -> None:
         """The file has no more rows."""
@@ -141,13 +244,21 @@ class ColumnReader:
 
     def encoded(self) -> Encoded:
         """The column, and its numbers."""
-        kind = joined_kind(self._parts)
+        kind = joined_kind(self._parts) if self._parts else self._given or Texts()
         assert kind is not None
+        numbers = array("q")
+        for part in self._parts:
+            numbers.extend(rescaled(part, kind))
+        return self._column(kind, has_gaps=any(part.has_gaps for part in self._parts)), numbers
+
+    def column_of_numbers(self, rows: Standing, place: int) -> Column:
+        """The column where it is this one of rows that stand."""
+        return self._column(self._given or (Whole() if rows.has_values(place) else Texts()), has_gaps=rows.has_gaps(place))
+
+    def _column(self, kind: Kind, *, has_gaps: bool) -> Column:
         column = Column(self.name, kind)
-        column.grows = self._given is None
-        numbers = array("q", chain.from_iterable(rescaled(part, kind) for part in self._parts)) if len(self._parts) != 1 else self._parts[0].numbers
-        column.has_gaps = LEAST in numbers
-        return column, numbers
+        column.grows, column.has_gaps, column.form = self._given is None, has_gaps, self._form
+        return column
 
     def words_taken(self) -> Dict[str, int]:
         """The words that were taken for missing, each with the number of its rows."""
@@ -157,12 +268,21 @@ class ColumnReader:
                 counts[word] = counts.get(word, 0) + count
         return counts
 
+    def _part_with_new(self, texts: List[str]) -> Part:
+        """Some rows, of whose texts only those that are new are understood now."""
+        new = self._known.new(texts)
+        if new:
+            with suppress(CellRefused):     # which is then said of its row
+                part = self._part(new)
+                if self._known.takes(part):
+                    self._known.learn(new, part)
+                    return self._known.part(texts) or self._part(texts)
+        part = self._part(texts)
+        (self._known.learn_few if isinstance(part.kind, Texts) else self._known.learn)(texts, part)
+        return part
+
     def _part(self, texts: List[str], *, is_whole_column: bool = False) -> Part:
         """Some rows, or all of a column at once, whose kind is then that of all of its texts."""
-        if self._given is None and self._form.is_plain and not self._missing.are_numbers and not is_whole_column:
-            plain = plain_column(texts)
-            if plain is not None:
-                return Part(*plain, {})
         found = Distinct.of(texts, self._missing)
         kind = self._given or (kind_of_texts(found.values, self._form) if found.values else Texts() if is_whole_column else None)
         if isinstance(kind, Texts):
@@ -170,11 +290,11 @@ class ColumnReader:
         words = [word for word in found.words if kind is None or folded(word) in self._missing.in_a_column_of(kind)]
         gaps = [*found.blanks, *words]
         values = [text for text in found.words if text not in words] + found.values
-        return Part(kind, array("q", self._numbers(kind, texts, values, gaps)), {word: texts.count(word) for word in words})
+        return Part(kind, array("q", self._numbers(kind, texts, values, gaps)), bool(gaps), {word: texts.count(word) for word in words})
 
     def _numbers(self, kind: Optional[Kind], texts: List[str], values: List[str], gaps: List[str]) -> Iterable[int]:
         """The numbers of texts, which are these values and gaps."""
-        reading = kind.in_form(self._form) if isinstance(kind, Number) and kind.form.is_plain else kind
+        reading = kind if self._form.is_plain or not isinstance(kind, Number) or kind.has_own_form else kind.in_form(self._form)
         if not gaps and reading and 2 * len(values) > len(texts):
             at_once = reading.read_all(texts)
             if at_once is not None:

@@ -24,7 +24,7 @@ class Missing:
     def suspects(self, texts: Iterable[str]) -> List[str]:
         """Those of the texts that may be blank or one of the words: most texts are longer, which takes no look at their letters."""
         longest = self._longest
-        return [text for text in texts if len(text) <= longest or text[0].isspace() or text[-1].isspace()]
+        return [text for text in texts if len(text.strip()) <= longest]
 
     def in_a_column_of(self, kind: Kind) -> FrozenSet[str]:
         """The words that are missing in a column of this kind, folded. What is a choice of the column, or its word for true or false, is a value."""

@@ -1,52 +1,22 @@
 """One question over rows that nobody asks again."""
 import os
 from concurrent.futures import ThreadPoolExecutor
-from typing import Any, Callable, Dict, Iterable, Iterator, List, Optional, Sequence, Tuple
+from typing import Any, Callable, Dict, Iterable, List, Optional, Sequence
 
 from . import parts
 from .checks import MOST_ROWS
 from .partition import Partition
 from .reading import Progress
-from .rows import Row
+from .rows import Row, Zipped
 from .table import Table
 
 
-class Zipped(Sequence[Tuple[int, ...]]):
-    """The rows of columns of numbers, which are put together when they are asked for."""
-
-    def __init__(self, columns: Sequence[Sequence[int]]) -> None:
-        self._columns = columns
-
-    def __len__(self) -> int:
-        return len(self._columns[0]) if self._columns else 0
-
-    def __getitem__(self, at: Any) -> Any:
-        if isinstance(at, slice):
-            return list(zip(*(column[at] for column in self._columns)))
-        return tuple(column[at] for column in self._columns)
-
-    def __iter__(self) -> Iterator[Tuple[int, ...]]:
-        return zip(*self._columns)
-
-
-class Lines:
-    """Some rows as lines of text, which are made when they are asked for."""
-
-    def __init__(self, rows: Sequence[Sequence[int]], begin: int) -> None:
-        self._rows, self._begin = rows, begin
-
-    def __iter__(self) -> Iterator[str]:
-        rows = self._rows[self._begin:self._begin + MOST_ROWS]
-        template = ",".join(["%d"] * len(rows[0])) if rows else ""
-        return (template % tuple(row) for row in rows)
-
-
-def ask_once(columns: Sequence[str], rows: Sequence[Sequence[int]], question: str, *, progress: Optional[Progress] = None, **options: Any) -> List[Row]:
+def ask_once(columns: Sequence[str], rows: Zipped, question: str, *, progress: Optional[Progress] = None, **options: Any) -> List[Row]:
     """The answer to a question over these rows of whole numbers, whose ids are 1, 2, 3 and so on. More of them than one table holds are asked in parts."""
     if len(rows) > MOST_ROWS:
         return _in_parts(columns, rows, question, progress, **{name: options[name] for name in ("program", "timeout") if name in options})
     settings: Dict[str, Any] = {"clients": 1, "capacity": max(1, len(rows)), "block": 1024 if progress else MOST_ROWS, **options}
-    with Table(columns, rows[:], **settings) as table:
+    with Table(columns, rows, **settings) as table:
         with table.query(question) as query:
             blocks = query.left
             while query.left:
@@ -56,8 +26,8 @@ def ask_once(columns: Sequence[str], rows: Sequence[Sequence[int]], question: st
             return query.answer()
 
 
-def _in_parts(columns: Sequence[str], rows: Sequence[Sequence[int]], question: str, progress: Optional[Progress], **options: Any) -> List[Row]:
-    partitions = [Partition(columns, Lines(rows, begin)) for begin in range(0, len(rows), MOST_ROWS)]
+def _in_parts(columns: Sequence[str], rows: Zipped, question: str, progress: Optional[Progress], **options: Any) -> List[Row]:
+    partitions = [Partition(columns, rows[begin:begin + MOST_ROWS]) for begin in range(0, len(rows), MOST_ROWS)]
     with ThreadPoolExecutor(os.cpu_count()) as pool:
 
         def mapped(function: Callable[[Any], Any], items: Iterable[Any]) -> List[Any]:

@@ -10,6 +10,7 @@ from .kinds import Decimals, Kind, Texts, Whole
 from .loading import check_width
 from .reading import check_names
 from .records import values_of
+from .rows import WholeRows, Zipped
 from .table import Table
 
 # A code book is worth a new one where it has grown to twice what it was, and by this and so much for each row, so that what this takes is spread over many texts.
@@ -41,7 +42,7 @@ class Ids:
 class Opened:
     """A table, the columns that its numbers stand for, and the ids of its rows. Whoever has a query of it keeps it, when a frame has another one already."""
 
-    def __init__(self, columns: Sequence[Column], rows: List[Any], options: Dict[str, Any], ids: Ids = Ids()) -> None:
+    def __init__(self, columns: Sequence[Column], rows: WholeRows, options: Dict[str, Any], ids: Ids = Ids()) -> None:
         check_names(column.name for column in columns)
         check_width(columns)
         self.columns = tuple(columns)
@@ -110,7 +111,7 @@ class Opened:
         rows and opening a table. No change may come meanwhile; open queries go on, and keep the table that they are of."""
         pairs = self.table.rows()
         columns, lists = moved_columns(self.columns, kinds, [list(numbers) for numbers in zip(*(numbers for _, numbers in pairs))])
-        return Opened(columns, list(zip(*lists)), {**self._options, "capacity": self.table.capacity}, Ids([self.ids.outside(id) for id, _ in pairs], last))
+        return Opened(columns, Zipped(lists), {**self._options, "capacity": self.table.capacity}, Ids([self.ids.outside(id) for id, _ in pairs], last))
 
     def missing_row(self, id: int) -> Refused:
         """What is said of a row that is not there."""

@@ -9,7 +9,7 @@ from typing import Any, Iterable, List, Sequence, Tuple, Union
 
 from .checks import names
 from .errors import Refused
-from .rows import line
+from .rows import WholeRows, line, whole_texts
 
 PLAIN = b"0123456789,+- \t"
 NUMBER = re.compile(r"[ \t]*[-+]?[0-9]+[ \t]*")
@@ -24,7 +24,7 @@ class Partition:
     """
 
     columns: Sequence[str]
-    rows: Iterable[Any]
+    rows: Union[Iterable[Any], WholeRows]
 
 
 # Any is a DataFrame of pandas.
@@ -70,6 +70,8 @@ def text_of(source: Source) -> Tuple[Tuple[str, ...], List[bytes]]:
     if not isinstance(source, Partition):
         return _read(source)
     columns = names(source.columns)
+    if isinstance(source.rows, WholeRows):
+        return columns, b"".join(piece.text for piece in whole_texts(source.rows.pieces())).splitlines()
     return columns, [_line(columns, number, row) for number, row in enumerate(source.rows, 1)]
 
 

@@ -64,7 +64,7 @@ class Partial:
 
     columns: Tuple[str, ...]
     count: int               # of all rows of these partitions
-    places: List[int]        # of the rows that are left among all these, from 0, ascending
+    places: Sequence[int]    # of the rows that are left among all these, from 0, ascending
     lines: List[bytes]       # the rows that are left
 
     def kept(self, at: Iterable[int]) -> "Partial":
@@ -101,7 +101,7 @@ class Job:
         """What is left of one partition: the first function, to be mapped over all of them."""
         try:
             columns, lines = text_of(partition)
-            return self._narrowed(Partial(columns, len(lines), list(range(len(lines))), lines))
+            return self._narrowed(Partial(columns, len(lines), range(len(lines)), lines))
         except (Refused, TypeError, ValueError, csv.Error) as why:
             raise _in_partition(why, partition) from None
 
@@ -240,7 +240,7 @@ def _joined(partials: Sequence[Partial]) -> Partial:
 def _joined_two(first: Partial, second: Partial) -> Partial:
     if first.columns != second.columns:
         raise Refused(f"partitions have different columns: {', '.join(first.columns)} and {', '.join(second.columns)}", "table")
-    return Partial(first.columns, first.count + second.count, first.places + [first.count + place for place in second.places], first.lines + second.lines)
+    return Partial(first.columns, first.count + second.count, [*first.places, *(first.count + place for place in second.places)], first.lines + second.lines)
 
 
 def _pieces(lines: Sequence[bytes]) -> List[range]:

@@ -10,14 +10,14 @@ from bisect import bisect_left
 from collections import Counter, deque
 from contextlib import contextmanager
 from dataclasses import dataclass
-from itertools import islice
+from itertools import chain, islice
 from typing import IO, Any, Callable, Dict, Iterable, Iterator, List, NamedTuple, NoReturn, Optional, Sequence, Tuple, Union
 
 from .errors import Refused
 
 DELIMITERS = ",;\t|"
-# Rows that are read at a time.
-CHUNK = 8_192
+# Letters that are read at a time, beside the rest of a line: as many as keep their cells near the processor.
+CHUNK = 65_536
 # What is looked at to find the delimiter, and whether a file is text at all.
 SAMPLE_BYTES = 65_536
 SAMPLE_ROWS = 50
@@ -27,6 +27,7 @@ END_OF_LINE = re.compile(rb"[\n\r]")
 # Python's own limit for a cell, 131,072 letters, is too low for texts.
 LONGEST_CELL = 2**31 - 1
 MARKS = ((b"\xef\xbb\xbf", "utf-8-sig"), (b"\xff\xfe\x00\x00", "utf-32"), (b"\x00\x00\xfe\xff", "utf-32"), (b"\xff\xfe", "utf-16"), (b"\xfe\xff", "utf-16"))
+ALL_BYTES = bytes(range(256))
 SEPARATOR_LINE = re.compile(r'"?sep=(?P<sign>.)"?\r?\n?', re.IGNORECASE)
 # What is done, how much of it, and of how much, which is 0 where nobody knows.
 Progress = Callable[[str, int, int], None]
@@ -73,11 +74,27 @@ class Content(NamedTuple):
         return file
 
 
-class Chunk(NamedTuple):
-    """Some rows of a file, and the number of the first one, counted from 0."""
+class Chunk:
+    """Some rows of a file: the number of the first one, counted from 0; how many they are, of how many cells; and their cells row by row, or their `text`, which has
+    a row in each line and is cut into cells at the delimiters alone."""
 
-    first: int
-    rows: List[List[str]]
+    def __init__(self, first: int, rows: int, width: int, cells: Optional[List[str]] = None, *, text: str = "", delimiter: str = "") -> None:
+        self.first, self.rows, self.width = first, rows, width
+        self.text, self.delimiter = text, delimiter
+        self._cells = cells
+
+    def column(self, place: int) -> List[str]:
+        """The cells of a column."""
+        return self._all_cells()[place::self.width]
+
+    def row(self, place: int) -> List[str]:
+        """The cells of a row, of which the first has the number 0."""
+        return self._all_cells()[place * self.width:(place + 1) * self.width]
+
+    def _all_cells(self) -> List[str]:
+        if self._cells is None:
+            self._cells = self.text[:-1].replace("\n", self.delimiter).split(self.delimiter)
+        return self._cells
 
 
 class Span(NamedTuple):
@@ -105,13 +122,16 @@ class Cells:
         """The rows, some at a time."""
         first = 0
         spans: List[Span] = []
-        with self._reader() as reader:
-            self._names_in(reader)
-            begin = reader.line_num
-            while rows := self._rows(reader, first):
-                yield Chunk(first, rows)
-                spans.append(Span(range(first, first + len(rows)), range(begin, reader.line_num)))
-                first, begin = first + len(rows), reader.line_num
+        with self._stream() as stream:
+            with self._reader(stream) as reader:
+                self._names_in(reader)
+            passed: int = reader.line_num
+            while text := stream.read(CHUNK) + stream.readline():
+                chunk, count = self._chunk(text, stream, first, passed)
+                if chunk.rows:
+                    yield chunk
+                    spans.append(Span(range(first, first + chunk.rows), range(passed, passed + count)))
+                first, passed = first + chunk.rows, passed + count
                 if self._progress:
                     self._progress("reading", first, 0)
         self._spans = spans
@@ -128,23 +148,27 @@ class Cells:
                 here = wanted[bisect_left(wanted, span.rows.start):bisect_left(wanted, span.rows.stop)]
                 if here:
                     deque(islice(stream, span.lines.start - passed), maxlen=0)
-                    rows = self._rows(self._cells_of(islice(stream, len(span.lines))), span.rows.start)
-                    found.update((place, rows[place - span.rows.start]) for place in here)
+                    chunk, _ = self._chunk("".join(islice(stream, len(span.lines))), (), span.rows.start, span.lines.start)
+                    found.update((place, chunk.row(place - chunk.first)) for place in here)
                     passed = span.lines.stop
         return found
 
-    def _rows(self, reader: Any, first: int) -> List[List[str]]:
-        """The next rows, of which the first has this number; none at the end of the file."""
-        while rows := rows_of(reader):
-            if set(map(len, rows)) != {len(self.names)}:
-                rows = list(self._squared(rows, first))
-            if rows:
-                return rows
-        return []
+    def _chunk(self, text: str, further: Iterable[str], first: int, passed: int) -> Tuple[Chunk, int]:
+        """The rows of these lines, before which others have `passed`, and further ones where a row does not end with them; and how many lines they take."""
+        width = len(self.names)
+        plain = plain_chunk(text, self._delimiter, first, width)
+        if plain is not None:
+            return plain, plain.rows
+        lines = list(io.StringIO(text, newline=""))
+        with self._reader(chain(lines, further), passed) as reader:
+            found = rows_of(reader, len(lines))
+        if set(map(len, found)) != {width}:
+            found = list(self._squared(found, first))
+        return Chunk(first, len(found), width, list(chain.from_iterable(found))), reader.line_num
 
     def line(self, row: int) -> int:
         """The line in which a row ends, for what is said of it."""
-        with self._reader() as reader:
+        with self._stream() as stream, self._reader(stream) as reader:
             self._names_in(reader)
             places = (reader.line_num for cells in reader if not self._is_empty(cells))
             return self._before + next(islice(places, row, None), 0)
@@ -157,26 +181,25 @@ class Cells:
                 places = [str(place) for place, other in enumerate(self.names, 1) if other == name]
                 raise Refused(f"{self.what}: two columns are called {name!r}, those at places {' and '.join(places)}", "table")
 
-    def _stream(self) -> IO[str]:
-        stream = io.TextIOWrapper(self._content.open(), self._content.encoding, self._content.errors, newline="")
-        for _ in range(self._before):
-            next(stream, None)
-        return stream
-
     @contextmanager
-    def _reader(self) -> Iterator[Any]:
-        """Reads the cells of the lines. Where that fails, the file is refused."""
-        with self._stream() as stream:
-            reader = self._cells_of(stream)
+    def _stream(self) -> Iterator[IO[str]]:
+        """The lines behind those that are skipped. Where they are no text of the encoding, the file is refused."""
+        with io.TextIOWrapper(self._content.open(), self._content.encoding, self._content.errors, newline="") as stream:
             try:
-                yield reader
+                for _ in range(self._before):
+                    next(stream, None)
+                yield stream
             except UnicodeError:
                 self.refuse_encoding()
-            except csv.Error as why:
-                raise Refused(f"{self.what}, line {self._before + reader.line_num}: {why}", "table") from None
 
-    def _cells_of(self, lines: Iterable[str]) -> Any:
-        return csv.reader(lines, delimiter=self._delimiter, strict=True)
+    @contextmanager
+    def _reader(self, lines: Iterable[str], passed: int = 0) -> Iterator[Any]:
+        """Reads the cells of lines, before which others have `passed`. Where that fails, the file is refused."""
+        reader = csv.reader(lines, delimiter=self._delimiter, strict=True)
+        try:
+            yield reader
+        except csv.Error as why:
+            raise Refused(f"{self.what}, line {self._before + passed + reader.line_num}: {why}", "table") from None
 
     def _is_empty(self, row: Sequence[str]) -> bool:
         """Whether a line holds no row: there is nothing in it, or nothing but blanks where there are several columns."""
@@ -222,7 +245,7 @@ class Cells:
         return self._dialect.delimiter or (said["sign"] if said else delimiter_of(lines, is_cut=len(sample) == SAMPLE_BYTES))
 
     def _read_names(self) -> List[str]:
-        with self._reader() as reader:
+        with self._stream() as stream, self._reader(stream) as reader:
             cells = self._names_in(reader)
         if not cells:
             raise Refused(f"{self.what} is empty: its first line has the names of the columns", "table")
@@ -237,7 +260,7 @@ class Cells:
 
     def _is_surplus(self, place: int) -> bool:
         """Whether the first rows have no text at this place either, as where each line ends in a delimiter."""
-        with self._reader() as reader:
+        with self._stream() as stream, self._reader(stream) as reader:
             self._names_in(reader)
             return all(len(row) <= place or is_blank(row[place]) for row in islice(reader, SAMPLE_ROWS))
 
@@ -253,12 +276,26 @@ def read_csv(source: Source, dialect: Dialect = Dialect(), progress: Optional[Pr
     return Cells(content_of(source, what, dialect), what, dialect, progress)
 
 
-def rows_of(reader: Any) -> List[List[str]]:
+def plain_chunk(text: str, delimiter: str, first: int, width: int) -> Optional[Chunk]:
+    """The rows of lines that are cut at the delimiters and at their ends, each into so many cells; None where that takes a look at each sign."""
+    if '"' in text or "\0" in text or width < 2 or not delimiter.isascii():
+        return None
+    if "\r" in text:
+        text = text.replace("\r\n", "\n")
+    if not text.endswith("\n"):
+        text += "\n"
+    cuts = text.encode("utf-8", "surrogatepass").translate(None, ALL_BYTES.replace(delimiter.encode(), b"").replace(b"\n", b""))
+    rows = len(cuts) // width
+    is_plain = "\r" not in text and cuts == (delimiter * (width - 1) + "\n").encode() * rows
+    return Chunk(first, rows, width, text=text, delimiter=delimiter) if is_plain else None
+
+
+def rows_of(reader: Any, most: int) -> List[List[str]]:
     """The next rows. They are no garbage: left to itself, Python's collector looks through all of them again and again."""
     collects = gc.isenabled()
     try:
         gc.disable()
-        return list(islice(reader, CHUNK))
+        return list(islice(reader, most))
     finally:
         if collects:
             gc.enable()

@@ -6,11 +6,11 @@ from .columns import Column
 from .errors import Refused
 from .frame import TABLE_OPTIONS, Frame, warn_of, without_twins
 from .loading import Encoded, check_known
-from .once import Zipped, ask_once
+from .once import ask_once
 from .options import check_options
 from .questions import Mode, read_question
 from .reading import Progress, check_names
-from .rows import Row
+from .rows import Row, Zipped
 from .translate import columns_in, plan
 
 

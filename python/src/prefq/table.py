@@ -10,7 +10,7 @@ from .exchange import Exchange
 from .program import find_program
 from .query import Query
 from .questions import explained
-from .rows import IN_COMMIT, Row, Written, as_commits, in_pieces, let_go, line, texts, texts_of_opening
+from .rows import IN_COMMIT, Row, WholeRows, Written, as_commits, in_pieces, let_go, line, texts, texts_of_opening
 
 Values = Iterable[int]
 OUT_OF_RANGE = ("table", 7)
@@ -35,7 +35,7 @@ class Table:
     [Row(level=1, id=1, values=[50, 8]), Row(level=1, id=2, values=[80, 2])]
     """
 
-    def __init__(self, columns: Iterable[str], rows: Iterable[Values] = (), *, capacity: Optional[int] = None, clients: int = 8, block: int = 1024,
+    def __init__(self, columns: Iterable[str], rows: Union[Iterable[Values], WholeRows] = (), *, capacity: Optional[int] = None, clients: int = 8, block: int = 1024,
                  window: int = 64, timeout: Optional[float] = None, program: Union[str, "os.PathLike[str]", None] = None) -> None:
         self.columns = checks.names(columns)
         opening = list(in_pieces(rows))
@@ -256,9 +256,9 @@ class Table:
         return 1 if client is None else checks.whole(client, "client", 1, self.clients)
 
 
-def _test_each(pieces: Iterable[Sequence[Any]], columns: Sequence[str]) -> None:
+def _test_each(pieces: Iterable[Any], columns: Sequence[str]) -> None:
     """Raises what is wrong with the first of the rows whose range has not been tested; others than lists and tuples have been written out one by one."""
-    for number, row in enumerate(chain.from_iterable(pieces), 1):
+    for number, row in enumerate(chain.from_iterable(piece for piece in pieces if not isinstance(piece, WholeRows)), 1):
         if isinstance(row, (list, tuple)):
             line(row, columns, f"row {number}, ")
 

@@ -222,7 +222,7 @@ class Translator:
 
 def why_texts(column: Column) -> str:
     """Why a column of texts is none of numbers or dates, where it looks like one."""
-    why = oddity(column.kind.texts) if isinstance(column.kind, Texts) else None
+    why = oddity(column.kind.texts, column.form) if isinstance(column.kind, Texts) else None
     return f" ({why})" if why else ""
 
 

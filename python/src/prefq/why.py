@@ -4,6 +4,7 @@ from typing import Any, Dict, Iterable, List, Mapping, Optional, Sequence, Set, 
 from .checks import MOST_COLUMNS, MOST_ROWS
 from .once import ask_once
 from .questions import Question
+from .rows import Zipped
 from .table import Table
 from .translate import plan, terms_columns
 
@@ -51,7 +52,7 @@ class Rivals:
         for begin in range(0, len(candidates), MOST_ROWS // 2):
             some = candidates[begin:begin + MOST_ROWS // 2]
             rows = [(*values, pair) for pair, other in enumerate(some) for values in (target, other)]
-            best = {row.id for row in ask_once([*self._columns, PAIR], rows, self._plan.text, **self._options)}
+            best = {row.id for row in ask_once([*self._columns, PAIR], Zipped(list(zip(*rows))), self._plan.text, **self._options)}
             over.update(other for pair, other in enumerate(some) if 2 * pair + 1 not in best)
         return over
 
@@ -71,7 +72,7 @@ class Rivals:
         if not ids:
             return {}
         question = f"top_level {LEVELS} " + self._plan.text[len("best "):-len(f" by {PAIR}")]
-        return {ids[row.id - 1]: row.level for row in ask_once(self._columns, [self._values[id] for id in ids], question, **self._options)}
+        return {ids[row.id - 1]: row.level for row in ask_once(self._columns, Zipped(list(zip(*(self._values[id] for id in ids)))), question, **self._options)}
 
 
 def places(names: Iterable[str]) -> List[int]:

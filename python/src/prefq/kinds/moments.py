@@ -4,10 +4,10 @@ import re
 from fractions import Fraction
 from typing import Any, List, Optional, Sequence
 
+from .at_once import are_days
 from .kind import Kind, NotRead, quoted
 
 DAY = re.compile(r"\d{4}-\d\d-\d\d", re.ASCII)
-DAYS = re.compile(rf"(?:{DAY.pattern}\n)*", re.ASCII)
 HOURS = r"(\d\d:\d\d)(?:(:\d\d)(?:[.,](\d{1,9}))?)?"
 # Zones of before 1900 have seconds.
 MOMENT = re.compile(rf"(\d{{4}}-\d\d-\d\d)(?:[T ]{HOURS}\s*(Z|[+-]\d\d:?\d\d(?::\d\d)?)?)?", re.ASCII)
@@ -80,7 +80,7 @@ class Dates(Kind):
         return (day(text) if found is None else found).toordinal()
 
     def read_all(self, texts: Sequence[str]) -> Optional[List[int]]:
-        if self._format or not DAYS.fullmatch("\n".join(texts) + "\n"):
+        if self._format or not are_days(texts):
             return None
         try:
             return [found.toordinal() for found in map(datetime.date.fromisoformat, texts)]

@@ -8,6 +8,7 @@ from fractions import Fraction
 from typing import Any, List, Optional, Sequence
 
 from ..checks import LEAST, MOST
+from .at_once import MOST_DECIMALS, PlainTexts
 from .forms import NUMBER, PLAIN, Form
 from .kind import Kind, NotRead
 
@@ -15,19 +16,17 @@ from .kind import Kind, NotRead
 WIDE = Context(prec=40)
 INFINITY = re.compile(r"[+-]?inf(?:inity)?", re.IGNORECASE)
 FLOAT = re.compile(f"{NUMBER.pattern}|{INFINITY.pattern}", re.IGNORECASE)
-MOST_DECIMALS = 18
 # So many digits of a decimal number come back from a float. One that needs more of them is a result of floats, and not the number that somebody wrote.
 FLOAT_DIGITS = 15
 LONGEST_SHOWN = 60
-# What does not stand in plain numbers without an exponent, or stands there in no such number: a sign behind a point.
-OTHER_SIGN = re.compile(r"[^\d.+\-\n]|\.[+-]")
 
 
 class Number(Kind):
-    """Numbers, which texts have in a form."""
+    """Numbers, which texts have in a form: in its own, where one is given, and else in the plain one, or that of a file."""
 
-    def __init__(self, form: Form = PLAIN) -> None:
-        self.form = form
+    def __init__(self, form: Optional[Form] = None) -> None:
+        self.form = PLAIN if form is None else form
+        self.has_own_form = form is not None
 
     def __repr__(self) -> str:
         options = self.options()
@@ -35,7 +34,7 @@ class Number(Kind):
 
     def options(self) -> List[str]:
         """What stands in its parentheses."""
-        return self.form.options()
+        return self.form.options() or (['decimal="."'] if self.has_own_form else [])
 
     def in_form(self, form: Form) -> "Number":
         """The kind with the same numbers, whose texts have this form."""
@@ -96,7 +95,7 @@ class Whole(Number):
         return self.form.written(format(value, "f") if isinstance(value, Decimal) else str(value))
 
     def read_all(self, texts: Sequence[str]) -> Optional[List[int]]:
-        plain = self.form.all_plain(texts)
+        plain = texts if self.form.is_plain else self.form.all_plain(texts)
         if plain is None:
             return None
         found = scaled_numbers(plain, self.decimals)
@@ -106,12 +105,12 @@ class Whole(Number):
         if self._has(value):
             return None
         try:
-            decimals = decimals_of(value if isinstance(value, str) else str(value), self.form if isinstance(value, str) else PLAIN)
+            decimals = decimals_needed(value, self.form)
         except (ValueError, InvalidOperation):
             return None
         if isinstance(value, float) and len(Decimal(str(value)).as_tuple().digits) > FLOAT_DIGITS:
             return None
-        return Decimals(decimals, self.form) if self.decimals < decimals <= MOST_DECIMALS else None
+        return Decimals(decimals, self.form if self.has_own_form else None) if self.decimals < decimals <= MOST_DECIMALS else None
 
     def _has(self, value: Any) -> bool:
         try:
@@ -127,7 +126,7 @@ class Decimals(Whole):
     name = "decimal"
     example = "59.90"
 
-    def __init__(self, decimals: int, form: Form = PLAIN) -> None:
+    def __init__(self, decimals: int, form: Optional[Form] = None) -> None:
         super().__init__(form)
         if not 0 <= decimals <= MOST_DECIMALS:
             raise ValueError(f"a decimal column has 0 to {MOST_DECIMALS} decimals, not {decimals}")
@@ -224,6 +223,16 @@ def fraction_of(plain: str) -> Fraction:
         raise NotRead("a number of thousands of digits does not fit") from None     # Python reads no such whole number.
 
 
+def decimals_needed(value: Any, form: Form) -> int:
+    """How many decimals a column needs for a value, which may be a text of this form. No number of them is enough for 1/3."""
+    if not isinstance(value, Fraction):
+        return decimals_of(value, form) if isinstance(value, str) else decimals_of(str(value))
+    found = next((decimals for decimals in range(MOST_DECIMALS + 1) if 10**decimals % value.denominator == 0), None)
+    if found is None:
+        raise NotRead(f"{shown(value)} has more than {MOST_DECIMALS} decimals")
+    return found
+
+
 def decimals_of(text: str, form: Form = PLAIN) -> int:
     """How many decimals a number has, as it is written: two in 1.50, none in 1.5e3."""
     plain = form.plain(text)
@@ -250,26 +259,6 @@ def whole_numbers(texts: Sequence[str]) -> Optional[List[int]]:
 
 
 def scaled_numbers(texts: Sequence[str], decimals: int) -> Optional[List[int]]:
-    """The numbers that plain texts spell without an exponent, in units of the last of so many decimals; None where one of them spells none, or has more."""
-    joined = "\n".join(texts)
-    if OTHER_SIGN.search(joined) or joined.count("\n") != max(len(texts) - 1, 0):
-        return None
-    if joined.count(".") == len(texts) and have_decimals(texts, decimals):
-        # Without their points they are what is asked for.
-        return whole_numbers(joined.replace(".", "").split("\n"))
-    try:
-        return [_shifted(text, decimals) for text in texts]
-    except ValueError:
-        return None
-
-
-def have_decimals(texts: Sequence[str], decimals: int) -> bool:
-    """Whether each of the texts has so many signs behind a point, one at least."""
-    return decimals > 0 and all(text[-decimals - 1:-decimals] == "." for text in texts)
-
-
-def _shifted(plain: str, decimals: int) -> int:
-    whole, _, part = plain.partition(".")
-    if len(part) > decimals or not (whole.strip("+-") or part):
-        raise NotRead(f"{plain} has more than {decimals} decimals, or no digit")
-    return int(whole + part.ljust(decimals, "0"))
+    """The numbers that plain texts spell without an exponent, in units of the last of so many decimals; None where one of them has to be looked at by itself."""
+    plain = PlainTexts.of(texts) if texts else None
+    return None if plain is None else plain.scaled(decimals)

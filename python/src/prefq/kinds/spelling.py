@@ -65,8 +65,8 @@ def _unquoted(word: "re.Match[str]") -> Word:
     return Word(word["plain"].strip(), False)
 
 
-def _form(inside: Optional[str]) -> Form:
-    """The form of numbers that stands behind the number of decimals, if there is one."""
+def _form(inside: Optional[str]) -> Optional[Form]:
+    """The form of numbers that stands behind the number of decimals, None where there is none."""
     found: Dict[str, Any] = {}
     place = 0
     while inside is not None:
@@ -74,11 +74,14 @@ def _form(inside: Optional[str]) -> Form:
         word = WORD.match(inside, option.end() if option else place)
         if not word or not option and _unquoted(word) != Word("parentheses", False):
             raise ValueError(f"a number has thousands=\",\", decimal=\",\", unit=\"€\" and parentheses, and not {inside[place:].strip()!r}")
-        found[option["name"] if option else "parentheses"] = _unquoted(word).text if option else True
+        name = option["name"] if option else "parentheses"
+        if name in found:
+            raise ValueError(f"{name} stands there twice")
+        found[name] = _unquoted(word).text if option else True
         place = word.end()
         if not word["end"]:
             break
-    return Form(**found)
+    return None if inside is None else Form(**found)
 
 
 def _decimals(inside: Optional[str]) -> Kind:
@@ -126,10 +129,10 @@ def zone_named(name: str) -> datetime.tzinfo:
 
 
 def _choices(inside: Optional[str]) -> Kind:
-    words = words_of(inside)
-    if not words:
+    """An ordered categorical without categories has no choices, and every value is missing."""
+    if inside is None:
         raise ValueError("it has its choices in parentheses")
-    return Choices([word.text for word in words])
+    return Choices([word.text for word in words_of(inside)] if inside.strip() else [])
 
 
 def _plain(make: Callable[[], Kind]) -> Callable[[Optional[str]], Kind]:

@@ -1,5 +1,6 @@
 """Columns of texts, and of values in an order that is given."""
 import threading
+from itertools import filterfalse
 from typing import Any, Dict, List, Optional, Sequence
 
 from .kind import Kind, NotRead, word
@@ -45,7 +46,7 @@ class Texts(Kind):
         codes = self._codes
         with ADDING:
             # Texts of numpy are of a type of their own.
-            new = [str(text) for text in dict.fromkeys(texts) if text not in codes]
+            new = list(map(str, filterfalse(codes.__contains__, dict.fromkeys(texts))))
             begin = len(self._texts) + 1
             self._texts += new
             codes.update(zip(new, range(begin, begin + len(new))))
@@ -113,5 +114,5 @@ class Choices(Kind):
     def _place(self, number: Optional[int], value: Any) -> int:
         place = self._places.get(number) if number is not None else None
         if place is None:
-            raise NotRead(f"{value!r} is none of {', '.join(map(repr, self.texts))}")
+            raise NotRead(f"{value!r} is none of {', '.join(map(repr, self.texts))}" if self.texts else f"{value!r} is no choice, and there is none")
         return place
