@@ -258,6 +258,27 @@ def few_values(n):
     return sorted([r.randrange(4) for _ in range(4)] + [r.randrange(5), i] for i in range(n))
 
 
+def curve(n):
+    """The smaller one column the larger the other, and a random third one: each row is best."""
+    r = random.Random("curve")
+    return [[i, n - i, r.randrange(SCALE), 0, i % 5, i] for i in range(n)]
+
+
+def front_of_four(n):
+    """Three random columns, and a fourth one that makes their sum the same: each row is best."""
+    r = random.Random("front of four")
+    rows = []
+    for i in range(n):
+        cells = [r.randrange(SCALE) for _ in range(3)]
+        rows.append([*cells, 3 * SCALE - sum(cells), r.randrange(5), i])
+    return sorted(rows)
+
+
+def front_and_one(n):
+    """The same, and behind them a row that dominates all."""
+    return front_of_four(n - 1) + [[-1, -1, -1, -1, 0, n]]
+
+
 ARRIVALS = ["sorted", "reversed", "shuffled"]
 
 
@@ -283,11 +304,23 @@ SHAPES = {
     "front-groups": (front, "best low(a) * low(b) by g"),
     "front-constant": (front, "best low(a) * low(b) * low(c) * low(d)"),
     "front-d3": (front_of_three, "best low(a) * low(b) * low(c)"),
+    "front-twice": (front, "best low(a) * low(b) * low(a)"),
+    "front-between": (front, "best low(a) * low(c) * low(b)"),
+    "front-then-product": (front, "best (low(a) * low(b)) & (low(c) * low(g))"),
+    "curve-d3": (curve, "best low(a) * low(b) * low(c)"),
+    "front-d4": (front_of_four, "best low(a) * low(b) * low(c) * low(d)"),
+    "front-d4-last": (front_and_one, "best low(a) * low(b) * low(c) * low(d)"),
+    "group-then-d3": (front_of_three, "top_level 5 low(g) & low(a) * low(b) * low(c)"),
+    "group-then-d4": (front_of_four, "best low(g) & low(a) * low(b) * low(c) * low(d)"),
     "score": (distinct, "top_level 1000 low(a)"),
     "score-groups": (distinct, "top_level 1000 low(a) by g"),
     "priority": (independent_rows, "at_least 1000 low(a) & low(b)"),
     "levels": (independent_rows, "top_level 1000 low(a) * low(b)"),
+    "levels-d3": (independent_rows, "top_level 1000 low(a) * low(b) * low(c)"),
+    "levels-d4": (independent_rows, "top_level 1000 low(a) * low(b) * low(c) * low(d)"),
     "groups": (independent_rows, "best low(a) * low(b) by g"),
+    "groups-d4": (independent_rows, "best low(a) * low(b) * low(c) * low(d) by g"),
+    "at-least-groups-d2": (small_groups, "at_least 1000 low(a) * low(b) by g"),
     "at-least-groups": (small_groups, "at_least 1000 low(a) by g"),
     "own-groups": (independent_rows, "best low(a) by id"),
     "independent-d4": (independent_rows, "best low(a) * low(b) * low(c) * low(d)"),

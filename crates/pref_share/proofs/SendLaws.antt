@@ -13,11 +13,21 @@ use Rattle.pref_term.proofs.term.Term.TheLaws.TheKnot as knot
 use Rattle.pref_term.proofs.term.NumberSets.TheSendSync as number_sets
 use Rattle.pref_term.proofs.term.Numbers.TheSendSync as numbers
 use Rattle.pref_term.proofs.ask.Mode.TheSendSync as modes
-use Rattle.pref_term.proofs.chains.Chains.TheSendSync as chains
+use Rattle.pref_term.proofs.chain.Chain.TheSendSync as chains
 use Rattle.pref_term.proofs.key.Key.TheSendSync as keys
 use Rattle.pref_term.specs.contracts.ask.Ask as ask
 use Rattle.pref_term.specs.contracts.term.Term as term
-use Rattle.pref_sky.proofs.partial.Partial.TheSendSync as partials
+use Rattle.pref_term.proofs.signature.scales.Scales.TheSendSync as scales
+use Rattle.pref_sky.proofs.entry.Entry.TheSendSync as entries
+use Rattle.pref_sky.proofs.entry.Ranked.TheSendSync as ranked
+use Rattle.pref_sky.proofs.item.Item.TheSendSync as items
+use Rattle.pref_sky.proofs.lately.Lately.TheSendSync as lately
+use Rattle.pref_sky.specs.contracts.own_order.OwnOrder as own_order
+use Rattle.pref_sky.specs.contracts.sorted.Pruned as pruned
+use Rattle.pref_sky.specs.contracts.sorted.SortedEntries as sorted_entries
+use Rattle.pref_sky.specs.contracts.partial.Held as held
+use Rattle.pref_sky.specs.contracts.partial.Partial as partial
+use Rattle.pref_sky.specs.contracts.partial.Partial.TheInside as partial_fields
 use Rattle.std.proofs.option.Option.TheSendSync as options
 use Rattle.left_right.proofs.reader.Reader.TheSendSync as readers
 use Rattle.pref_core.proofs.event.BoxedCommit.TheSendSync as boxed_commits
@@ -38,7 +48,7 @@ pub term_send : IsSend (term.the_field).row
 term_send = knot.send-Term (search sendable) (search sendable) numbers.the_send number_sets.the_send (λ h s. boxes.the_send h global.the_row _ s heap.the_send frees)
 
 pub ask_send : IsSend ask.the_row
-ask_send = search (sendable, declared_send, as_row_send, term_send, options.the_send, boxes.the_send, chains.the_send, keys.the_send, modes.the_send, vectors.the_send, heap.the_send, frees) depth 18
+ask_send = search (sendable, declared_send, as_row_send, term_send, chains.the_send, keys.the_send, modes.the_send, vectors.the_send, heap.the_send, frees) depth 18
 
 pub act_send : IsSend act.the_row
 act_send = search (sendable, variants_send, as_row_send, ask_send, rows.the_send, boxed_commits.the_send) depth 14
@@ -46,8 +56,26 @@ act_send = search (sendable, variants_send, as_row_send, ask_send, rows.the_send
 pub listed_send : IsSend listed.the_row
 listed_send = search (sendable, declared_send, as_row_send, vectors.the_send, iterators.the_send, act_send, replies.the_send, heap.the_send, frees) depth 14
 
+own_order_send : IsSend own_order.the_row
+own_order_send = search (sendable, declared_send, as_row_send, ask_send) depth 14
+
+pruned_send : IsSend pruned.the_row
+pruned_send = search (sendable, declared_send, as_row_send, own_order_send, vectors.the_send, entries.the_send, items.the_send, scales.the_send, lately.the_send, heap.the_send, frees) depth 18
+
+sorted_entries_send : IsSend sorted_entries.the_row
+sorted_entries_send = search (sendable, declared_send, as_row_send, pruned_send, vectors.the_send, entries.the_send, heap.the_send, frees) depth 14
+
+held_send : IsSend held.the_row
+held_send = search (sendable, variants_send, as_row_send, sorted_entries_send, vectors.the_send, ranked.the_send, heap.the_send, frees) depth 14
+
+partial_inside : IsSend partial_fields.the_row
+partial_inside = search (sendable, declared_send, held_send) depth 14
+
+pub partial_send : IsSend partial.the_row
+partial_send = view_send _ _ _ _ _ partial_inside
+
 pub query_send : IsSend query.the_row
-query_send = search (sendable, declared_send, as_row_send, ask_send, partials.the_send) depth 14
+query_send = search (sendable, declared_send, as_row_send, ask_send, partial_send) depth 14
 
 asking_inside : (J : RattleType) (N : _) → IsSend (asking_fields.the_row J N)
 asking_inside J N = search (sendable, declared_send, as_row_send, query_send, prefixes.the_send) depth 14

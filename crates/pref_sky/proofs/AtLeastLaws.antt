@@ -5,9 +5,8 @@ use Rattle.pref_sky.proofs.Common.{Row, Entry, Ranked, best, rest, in_order_of_i
 use Rattle.pref_sky.proofs.Common.{IsPartitionPoint, IsPartitionedBy, get_or_append_left, get_or-append_right, get_or-map, length-append, count_by, filter_agree, in_same_group, IsPartitionedBy-ltb}
 use Rattle.pref_sky.proofs.ListLaws.{sum_by-ones, filter_agree_among, from_map, in_map, none_pass, one_passes, among_place, all_pass, fails_behind, filter_parted, passes_before}
 use Rattle.pref_sky.proofs.ListLaws.{count_append, count_cons}
-use Rattle.pref_sky.proofs.Merges.{comes_after, comes_after_upto, unbeaten_over, best_of_rest_is, is_at}
+use Rattle.pref_sky.proofs.Merges.{comes_after, comes_after_upto, unbeaten_over, best_of_rest_is, is_at, on_level, to_level}
 use Rattle.pref_sky.proofs.IdOrder.{among_in_order, from_in_order}
-use Rattle.pref_sky.proofs.LineLaws.{on_level, to_level}
 use Rattle.pref_sky.proofs.Ranks.{one_level, from_upto, levels_upto_is}
 use Rattle.pref_sky.proofs.SortedLevels.{count_levels}
 

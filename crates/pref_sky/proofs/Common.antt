@@ -24,33 +24,24 @@ pub use Rattle.std.specs.List.Sorted.{IsNonDecreasingBy, IsPartitionPoint, IsPar
 pub use Rattle.std.specs.Ordering.{int_eq, is_lt, nat_cmp, ordering_then}
 pub use Rattle.std.specs.Prelude.{All, IfSome, OnOk, bit_and, int_lt, min, slice_set}
 pub use Rattle.pref_sky.specs.Answers.{answer_of, at_least, count_before, count_upto, selected}
-pub use Rattle.pref_sky.specs.Additions.{AreComing, AreDealt, AreInOrderOfStart, HaveArrived, IsArrival, KeepsUpper, StartsAt, arrived, coming_to, deals_before, AreInOrderOfPartition, AreLevelsMade}
-pub use Rattle.pref_sky.specs.Additions.{ArePartitionsMade, ArePut, Fits, IsPartitionMade, LeaveAlone, new_levels}
 pub use Rattle.pref_sky.specs.Best.{IsAntichain, best, is_beaten, rest, without_best}
-pub use Rattle.pref_sky.specs.ChainOrders.{AreInOrder, AreSorted, comes_before, is_below, own_levels, own_order, AreLeveled, AreLowest, HoldsUpper, StandsBehind, count_above, with_levels, with_last}
-pub use Rattle.pref_sky.specs.ChainOrders.{with_level}
-pub use Rattle.pref_sky.specs.Items.{AreAllItems, AreInPool, AreItems, HasGrown, IsItem, entries_at, entry_at, is_word, item_order, items_at, levels_at, partitions_at, place_order, signature_by}
 pub use Rattle.pref_sky.specs.Levels.{HaveDifferentIds, at_level, entry_of, entry_order, held_after, in_order_of_id, levels, put_by_id}
 pub use Rattle.pref_sky.specs.Members.{Among}
-pub use Rattle.pref_sky.specs.Partials.{IsBehind, IsMade, KeepsAllBut, held_at, ranked_from, replaced, ArePartitionedBy, all_at, depth, is_in, mixed_onto, partition_of, partitions_by, ranked_partitions}
-pub use Rattle.pref_sky.specs.Partials.{ranked_upto}
 pub use Rattle.pref_sky.specs.Passes.{IsClear, IsMet, IsDecided, Parted, Passes, Passing, Sifted}
-pub use Rattle.pref_sky.specs.StairLaws.{AreChain, HasOneCandidate, IsStairs, IsSwept, LevelsHoldAlike, LineHasLevels, OrderGroups, ServesGroups}
-pub use Rattle.pref_sky.specs.Stairs.{AreClassesOf, AreStairs, IsChain, IsInOrder, IsLine, are_level, better_in, by_row, comes_first, earlier_in, earlier_twin, first_within, in_turn, second_within}
-pub use Rattle.pref_sky.specs.Stairs.{tie_or_twin}
-pub use Rattle.pref_sky.specs.declared.arrival.Arrival.{Arrival}
-pub use Rattle.pref_sky.specs.declared.chain_order.ChainOrder.{ChainOrder}
 pub use Rattle.pref_sky.specs.declared.entry.Entry.{Entry}
 pub use Rattle.pref_sky.specs.declared.entry.Ranked.{Ranked}
 pub use Rattle.pref_sky.specs.declared.item.Item.{Item}
-pub use Rattle.pref_sky.specs.declared.making.Made.{Made}
-pub use Rattle.pref_sky.specs.declared.pool.Pool.{Pool}
 pub use Rattle.pref_table.specs.declared.row.Row.{Row}
 pub use Rattle.pref_term.specs.AskOrder.{order_of, order_of_is_row_order, order_of_stays_in_groups, twins_stay_in_groups}
 pub use Rattle.pref_term.specs.Better.{cell, in_same_group}
-pub use Rattle.pref_term.specs.Chains.{IsProductOf, by_chain, by_chains, chain_order, first_chain, second_chain, tie_chain}
-pub use Rattle.pref_term.specs.Order.{IsRowOrder, IsStrictOrder, RowOrder, StandAlike, StaysWithin, is_better, is_same, is_worse}
+pub use Rattle.pref_term.specs.Chains.{by_chain}
+pub use Rattle.pref_term.specs.Order.{IsRowOrder, IsStrictOrder, RowOrder, StandAlike, is_better, is_same, is_worse}
 pub use Rattle.pref_term.specs.Question.{Question, cut_of}
-pub use Rattle.pref_term.specs.Signatures.{Suit, is_within, hash_with, signature}
+pub use Rattle.pref_term.specs.Signatures.{Suit, is_within, signature}
 pub use Rattle.pref_term.specs.declared.ask.Mode.TheVariants.{AtLeast, Best, TopLevel}
 pub use denote.Param.Members.{Mut}
+pub use Rattle.pref_sky.specs.Chains.{IsChain, IsInOrder, are_level, better_in, by_row, comes_first, earlier_in, in_turn}
+pub use Rattle.pref_sky.specs.OwnOrders.{AreInOrder, AreLeveled, AreLowest, AreSorted, HoldsUpper, comes_after, comes_before, count_above, is_below, own_levels, own_order, with_level, with_levels}
+pub use Rattle.pref_sky.specs.Items.{AreItems, IsItem, entries_at, entry_at, is_word, item_order, signature_by}
+pub use Rattle.pref_sky.specs.Partials.{KeepsAllBut, ranked_upto}
+pub use Rattle.pref_sky.specs.declared.own_order.OwnOrder.{OwnOrder}

@@ -2,9 +2,9 @@
 use Rattle.pref_sky.proofs.Common.{◌≡◌, ℕ, suc, ◌+◌, ◌<◌, ◌≤◌, Bool, true, false, not, ◌&&◌, cond, List, length, get_or, sym, ap, arith, ltb, nat_lt, nat_tests, count_by, count_before, IsPermutation}
 use Rattle.pref_sky.proofs.Common.{[], ◌∙◌, get_or-map, sum_by-IsPermutation, Ranked, in_same_group, IsChain, IsInOrder, are_level}
 use Rattle.pref_sky.proofs.AtLeastLaws.{place_passes}
-use Rattle.pref_sky.proofs.ChainStairs.{earlier_chain, places_chain, same_group}
+use Rattle.pref_sky.proofs.ChainLaws.{earlier_chain, places_chain, same_group}
 use Rattle.pref_sky.proofs.ListLaws.{count_split, in_order_at, parted_by_entry}
-use Rattle.pref_sky.proofs.StairLaws.{chain_in_turn, in_weaker_order, level_above}
+use Rattle.pref_sky.proofs.ChainLaws.{chain_in_turn, in_weaker_order, level_above}
 use Rattle.pref_sky.specs.Grouped.{IsCounted, stands_before, entry_at, has_earlier_group}
 use Rattle.pref_sky.specs.declared.grouped.InFront.{InFront}
 use Rattle.pref_sky.specs.declared.grouped.Placed.{Placed}

@@ -3,7 +3,7 @@ use Rattle.pref_sky.proofs.Common.{◌≡◌, ℕ, ◌<◌, ◌≤◌, ◌+◌, 
 use Rattle.pref_sky.proofs.Common.{sum_by-IsPermutation, sum_by-cons, sum_by-append, sum_by-swap_remove, Item, IsAntichain, IsClear}
 use Rattle.pref_sky.proofs.Common.{Sifted, Among, cond, ◌⊎◌, refl, length-append, sum_by, both_ways, false_from_ne_true, IsStrictOrder, is_beaten, Parted, Passing, nil_from_length}
 use Rattle.std.specs.List.{AllWithin}
-use Rattle.pref_sky.proofs.ListLaws.{in_either, any_from, any_gives, any_none, in_left, among_if, among_or, is_item, long_by, none_by, some_of, sum_by-ones, count_append}
+use Rattle.pref_sky.proofs.ListLaws.{in_either, any_from, any_gives, from_filter, in_filter, among_if, among_or, is_item, long_by, none_by, some_of, sum_by-ones}
 use Rattle.pref_sky.proofs.Merges.{unbeaten_over}
 
 -- the first so many of a list are clear
@@ -40,15 +40,15 @@ sifted_moved {held = held} moved permuted s = grind (arith, sum_by-IsPermutation
 or_last : {E : Type 0} (xs : List E) (e x : E) → Among x (xs ++ e ∷ []) → Among x xs ⊎ (x ≡ e)
 or_last xs e x m = elim (in_either xs (e ∷ []) x m) [ inl old ↦ inl old | inr new ↦ elim new [ inl same ↦ inr same | inr none ↦ absurd none ] ]
 
-module _ {over : Item → Item → Bool} {held : List Item} {window : ℕ} {input best : List Item} {before : ℕ} {left early late overflow rest : List Item} {e : Item} (p : Passing over held window input best (e ∷ left) before early late overflow rest) where
-  pub early_apart : IsAntichain over held → IsAntichain over early
-  early_apart apart x y mx my = (p.decided apart).apart x y (inr (inl mx)) (inr (inl my))
+module _ {over : Item → Item → Bool} {window : ℕ} {input best : List Item} {before : ℕ} {left early late overflow rest : List Item} {e : Item} (p : Passing over window input best (e ∷ left) before early late overflow rest) where
+  pub early_apart : IsAntichain over early
+  early_apart x y mx my = p.apart x y (inr (inl mx)) (inr (inl my))
 
-  pub late_apart : IsAntichain over held → IsAntichain over late
-  late_apart apart x y mx my = (p.decided apart).apart x y (inr (inr mx)) (inr (inr my))
+  pub late_apart : IsAntichain over late
+  late_apart x y mx my = p.apart x y (inr (inr mx)) (inr (inr my))
 
   -- what the next item dominates went out of the window
-  pub pass_sifted : {early_now late_now more most : List Item} → Sifted over e early early_now rest more → Sifted over e late late_now more most → Passing over held window input best (e ∷ left) before early_now late_now overflow most
+  pub pass_sifted : {early_now late_now more most : List Item} → Sifted over e early early_now rest more → Sifted over e late late_now more most → Passing over window input best (e ∷ left) before early_now late_now overflow most
   pass_sifted {early_now = early_now} {late_now = late_now} {more = more} {most = most} s t =
       let first : (f : Item → ℕ) → sum_by f more ≡ sum_by f rest + sum_by f s.gone = λ f. ap (sum_by f) s.behind ∙ sum_by-append f rest s.gone in
       let second : (f : Item → ℕ) → sum_by f most ≡ sum_by f more + sum_by f t.gone = λ f. ap (sum_by f) t.behind ∙ sum_by-append f more t.gone in
@@ -58,60 +58,60 @@ module _ {over : Item → Item → Bool} {held : List Item} {window : ℕ} {inpu
       grind (arith, among_if e input, is_item e, some_of e (e ∷ left) (inl refl), among_if, some_of, any_from)
 
   -- the next item is dominated by one of the window
-  pub pass_dropped : (IsAntichain over held → (is_beaten over early e ≡ true) ⊎ (is_beaten over late e ≡ true)) → Passing over held window input best left before early late overflow (rest ++ e ∷ [])
+  pub pass_dropped : ((is_beaten over early e ≡ true) ⊎ (is_beaten over late e ≡ true)) → Passing over window input best left before early late overflow (rest ++ e ∷ [])
   pass_dropped beaten = grind (arith, length-append rest (e ∷ []), sum_by-cons, sum_by-append, any_gives, among_if, some_of, any_from)
 
   -- it overflows: the window is full
-  pub pass_overflows : (IsAntichain over held → IsClear over early e) → (length late ≡ 0 → window ≤ length early) → Passing over held window input best left before early late (overflow ++ e ∷ []) rest
+  pub pass_overflows : (IsClear over early e) → (length late ≡ 0 → window ≤ length early) → Passing over window input best left before early late (overflow ++ e ∷ []) rest
   pass_overflows is_clear full = grind (arith, sum_by-cons, sum_by-append, length-append overflow (e ∷ []), or_last overflow e)
 
   -- it joins the window: the early ones where nothing overflowed so far, and else the late ones
-  pub pass_joined : {early_now late_now : List Item} → IsStrictOrder over → (IsAntichain over held → IsClear over early e × IsClear over late e) → length early + length late < window
-      → ((early_now ≡ early ++ e ∷ []) × (late_now ≡ late) × (length overflow ≡ 0)) ⊎ ((early_now ≡ early) × (late_now ≡ late ++ e ∷ []) × (0 < length overflow)) → Passing over held window input best left before early_now late_now overflow rest
+  pub pass_joined : {early_now late_now : List Item} → IsStrictOrder over → (IsClear over early e × IsClear over late e) → length early + length late < window
+      → ((early_now ≡ early ++ e ∷ []) × (late_now ≡ late) × (length overflow ≡ 0)) ⊎ ((early_now ≡ early) × (late_now ≡ late ++ e ∷ []) × (0 < length overflow)) → Passing over window input best left before early_now late_now overflow rest
   pass_joined {early_now = early_now} {late_now = late_now} strict is_clear room joined = grind (arith, sum_by-append, length-append early (e ∷ []), length-append late (e ∷ []), or_last early e, or_last late e, sum_by-cons, nil_from_length overflow)
 
-module _ {over : Item → Item → Bool} {held : List Item} {window : ℕ} {input best : List Item} {before : ℕ} {left early late overflow rest : List Item} (p : Passing over held window input best left before early late overflow rest) where
+module _ {over : Item → Item → Bool} {window : ℕ} {input best : List Item} {before : ℕ} {left early late overflow rest : List Item} (p : Passing over window input best left before early late overflow rest) where
   pub pass_long : length best + length early + length late + length overflow + length left + length rest ≡ length input
   pass_long = grind (arith, sum_by-ones best, sum_by-ones early, sum_by-ones late, sum_by-ones overflow, sum_by-ones left, sum_by-ones rest, sum_by-ones input)
 
   -- what holds of lists holds of the same ones
   pub passing_same : {best_now left_now early_now late_now overflow_now rest_now : List Item} → best_now ≡ best → left_now ≡ left → early_now ≡ early → late_now ≡ late → overflow_now ≡ overflow → rest_now ≡ rest
-      → Passing over held window input best_now left_now before early_now late_now overflow_now rest_now
+      → Passing over window input best_now left_now before early_now late_now overflow_now rest_now
   passing_same b l e t o r = rw (b, l, e, t, o, r) p
 
-module _ {over : Item → Item → Bool} {held : List Item} {window : ℕ} {input best : List Item} {before : ℕ} {early late overflow rest : List Item} (p : Passing over held window input best [] before early late overflow rest) where
+module _ {over : Item → Item → Bool} {window : ℕ} {input best : List Item} {before : ℕ} {early late overflow rest : List Item} (p : Passing over window input best [] before early late overflow rest) where
   -- a pass ends: what is early is best
-  pub pass_ends : 0 < window → Passing over held window input (best ++ early) overflow (length rest) late [] [] rest
+  pub pass_ends : 0 < window → Passing over window input (best ++ early) overflow (length rest) late [] [] rest
   pass_ends some = grind (arith, sum_by-append, in_either best early)
 
   -- more is settled at the end of a pass than at its begin
   pub more_settled : length best + before < length input → length best + before < length best + length early + length rest
   more_settled some = grind (arith, pass_long p)
 
--- all passes begin with a window that holds some
-pub passes_begin : (over : Item → Item → Bool) (held : List Item) (window : ℕ) (items : List Item) → length held < window → Passing over held window (held ++ items) [] items (length held) held [] [] []
-passes_begin over held window items room = grind (arith, sum_by-append)
+-- all passes begin with an empty window
+pub passes_begin : (over : Item → Item → Bool) (window : ℕ) (items : List Item) → 0 < window → Passing over window items [] items 0 [] [] [] []
+passes_begin over window items room = grind (arith)
 
 -- all passes end: the best are found, and the others are the rest
-pub passes_end : {over : Item → Item → Bool} {held : List Item} {window : ℕ} {items best left : List Item} {before : ℕ} {early late overflow rest : List Item} → IsStrictOrder over → length left ≡ 0 → length early ≡ 0 → length late ≡ 0 → length overflow ≡ 0
-    → Passing over held window (held ++ items) best left before early late overflow rest → Parted over held items best rest
-passes_end {over = over} {held = held} {items = items} {best = best} {left = left} {early = early} {late = late} {overflow = overflow} {rest = rest} strict left_none early_none late_none overflow_none p =
-    let bag : (f : Item → ℕ) → sum_by f best + sum_by f rest ≡ sum_by f (held ++ items) = grind (arith, none_by) in
-    let all = held ++ items in
-    let covers : (x : Item) → Among x all → Among x best ⊎ Among x rest = grind (arith, among_or, some_of) in
+pub passes_end : {over : Item → Item → Bool} {window : ℕ} {items top left : List Item} {before : ℕ} {early late overflow rest : List Item} → IsStrictOrder over → length left ≡ 0 → length early ≡ 0 → length late ≡ 0 → length overflow ≡ 0
+    → Passing over window items top left before early late overflow rest → Parted over items top rest
+passes_end {over = over} {items = items} {top = top} {left = left} {early = early} {late = late} {overflow = overflow} {rest = rest} strict left_none early_none late_none overflow_none p =
+    let bag : (f : Item → ℕ) → sum_by f top + sum_by f rest ≡ sum_by f items = grind (arith, none_by) in
+    let covers : (x : Item) → Among x items → Among x top ⊎ Among x rest = grind (arith, among_or, some_of) in
+    let within : (x : Item) → Among x top ⊎ Among x rest → Among x items = λ x m. among_if x items (elim m [ inl a ↦ omega (arith, bag (is_item x), some_of x top a) | inr b ↦ omega (arith, bag (is_item x), some_of x rest b) ]) in
+    let unbeaten : (x : Item) → Among x top → is_beaten over items x ≡ false =
+    λ x m. false_from_ne_true (is_beaten over items x) (λ h.
+    let over_all = unbeaten_over over strict (λ _. true) items x h in
+    elim (covers over_all.0 over_all.1) [
+      | inl a ↦ both_ways (over over_all.0 x) (p.apart over_all.0 x (inl a) (inl m)) over_all.3
+      | inr b ↦ both_ways (is_beaten over items over_all.0) over_all.4 (p.beaten over_all.0 b)
+    ]) in
     record {
-      within = λ x m. among_if x all (elim m [ inl a ↦ omega (arith, bag (is_item x), some_of x best a) | inr b ↦ omega (arith, bag (is_item x), some_of x rest b) ]);
-      covers = covers;
+      best_are = grind (arith, in_filter, from_filter);
+      others_are =
+          record {
+            there = λ x m. in_filter (is_beaten over items) items x (within x (inr m)) (p.beaten x m);
+            back = grind (arith, from_filter);
+          };
       bag = λ q. bag (λ y. cond (q y) 1 0);
-      unbeaten = λ apart x m. false_from_ne_true (is_beaten over all x) (λ h.
-          let top = unbeaten_over over strict (λ _. true) all x h in
-          elim (covers top.0 top.1) [
-            | inl a ↦ both_ways (over top.0 x) ((p.decided apart).apart top.0 x (inl a) (inl m)) top.3
-            | inr b ↦ both_ways (is_beaten over all top.0) top.4 ((p.decided apart).beaten top.0 b)
-          ]);
-      beaten = λ apart. (p.decided apart).beaten;
     }
-
--- where no items come, those that were held are the best
-pub parted_held : (over : Item → Item → Bool) (held items : List Item) → length items ≡ 0 → Parted over held items held []
-parted_held over held items none = grind (arith, in_either held items, nil_from_length items none, in_left held items, count_append, any_none)

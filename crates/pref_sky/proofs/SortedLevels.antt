@@ -1,15 +1,14 @@
 -- Lists with the same members have the same best, and entries that others are over change nothing of these. Lists with the same levels up to a cut, where the ids differ of what is of these: what is below may be left out, and may be there twice.
-use Rattle.pref_sky.proofs.Common.{◌≡◌, ◌≤◌, ◌+◌, Bool, true, not, inl, inr, List, ◌++◌, sym, ◌∙◌, ap, arith, eqb, count_by, both_ways, not-true, IsStrictOrder, Entry, best, is_beaten}
-use Rattle.pref_sky.proofs.Common.{without_best, HaveDifferentIds, in_order_of_id, Among, false, cases_Bool, not_from_false, false_from_ne_true, ◌||◌, append-nil, filter, filter-append}
-use Rattle.pref_sky.proofs.Common.{ℕ, zero, suc, ltb, ◌&&◌, ◌⊎◌, [], ◌∷◌, map, refl, subst, append_assoc, ◌==◌, IsProductOf, RowOrder, ChainOrder, rest, is_below, own_levels, own_order, entry_of}
-use Rattle.pref_sky.proofs.Common.{entry_order, levels, HoldsUpper}
-use Rattle.std.proofs.lemmas.List.Folds.{list_any-append}
-use Rattle.pref_sky.proofs.ListLaws.{SameMembers, all_pass, any_from, any_gives, from_filter, in_either, in_filter, in_left, in_right, none_pass, same_answer, same_kept, count_append, count_and}
+use Rattle.pref_sky.proofs.Common.{◌≡◌, ◌≤◌, ◌+◌, Bool, true, not, inl, inr, List, ◌++◌, sym, ◌∙◌, ap, arith, eqb, count_by, IsStrictOrder, Entry, best, is_beaten}
+use Rattle.pref_sky.proofs.Common.{without_best, HaveDifferentIds, in_order_of_id, Among, false, filter}
+use Rattle.pref_sky.proofs.Common.{ℕ, zero, suc, ◌&&◌, ◌⊎◌, [], ◌∷◌, map, refl, subst, append_assoc, ◌==◌, OwnOrder, rest, is_below, own_levels, own_order, entry_of}
+use Rattle.pref_sky.proofs.Common.{levels, HoldsUpper}
+use Rattle.pref_sky.proofs.ListLaws.{SameMembers, any_from, any_gives, in_either, in_left, in_right, same_answer, same_kept, count_append, count_and}
 use Rattle.pref_sky.proofs.ListLaws.{count_filtered, count_split, count_within, count_cons}
 use Rattle.pref_sky.proofs.IdOrder.{count_in_order}
-use Rattle.pref_sky.proofs.Merges.{beaten_by_best, comes_after, comes_after_less, comes_after_among_more, best_of_rest_is, early_stays, same_chains, HoldsLevels, held_all, held_more, held_within}
+use Rattle.pref_sky.proofs.Merges.{comes_after, comes_after_less, comes_after_among_more, best_of_rest_is, early_stays, same_chains, HoldsLevels, held_all, held_more, held_within}
 use Rattle.pref_sky.proofs.Merges.{is_at, same_by_level}
-use Rattle.pref_sky.proofs.ChainStairs.{own_is_strict}
+use Rattle.pref_sky.proofs.OwnOrders.{own_is_strict}
 
 -- what is beaten by more
 pub beaten_by_more : (over : Entry → Entry → Bool) (some all : List Entry) (e : Entry) → ((x : Entry) → Among x some → Among x all) → is_beaten over some e ≡ true → is_beaten over all e ≡ true
@@ -27,74 +26,6 @@ without_of_same over xs ys same = grind (arith, same_kept (is_beaten over xs) (i
 
 pub different_by_count : (xs ys zs : List Entry) → HaveDifferentIds (xs ++ ys) → ((p : Entry → Bool) → count_by p zs ≤ count_by p xs + count_by p ys) → HaveDifferentIds zs
 different_by_count xs ys zs different fewer = record { once = λ id. omega (arith, different.once id, fewer (λ (e : Entry). eqb e.id id), count_append (λ (e : Entry). eqb e.id id) xs ys) }
-
--- entries that others are over change nothing of the best of the others, and are left with what these leave
-module _ (over : Entry → Entry → Bool) (strict : IsStrictOrder over) (others low : List Entry) (lower : (e : Entry) → Among e low → is_beaten over others e ≡ true) where
-  beaten_without : (e : Entry) → is_beaten over (others ++ low) e ≡ is_beaten over others e
-  beaten_without e =
-      same_answer (is_beaten over (others ++ low) e) (is_beaten over others e)
-      (λ h.
-      let w = any_gives (λ x. over x e) (others ++ low) h in
-      elim (in_either others low w.0 w.1) [
-        | inl other ↦ any_from (λ x. over x e) others w.0 other w.2
-        | inr below ↦ let v = any_gives (λ x. over x w.0) others (lower w.0 below) in any_from (λ x. over x e) others v.0 v.1 (strict.transitive v.0 w.0 e v.2 w.2)
-      ])
-      (beaten_by_more over others (others ++ low) e (in_left others low))
-
-  pub best_without : best over (others ++ low) ≡ best over others
-  best_without = grind (arith, filter-append, beaten_without, none_pass, append-nil (best over others))
-
-  pub left_without : without_best over (others ++ low) ≡ without_best over others ++ low
-  left_without = grind (arith, filter-append, beaten_without, all_pass)
-
--- entries come to a list, of which the best are at the top
-module _ (over : Entry → Entry → Bool) (strict : IsStrictOrder over) (left coming top : List Entry) (is : SameMembers top (best over left)) where
-  of_both : (x : Entry) → Among x (top ++ coming) → Among x (left ++ coming)
-  of_both x m = grind (arith, in_either top coming x m, in_left left coming x, from_filter, in_right left coming x)
-
-  in_top : (x : Entry) → Among x left → is_beaten over left x ≡ false → Among x top
-  in_top x m free = is.back x (in_filter (λ y. not (is_beaten over left y)) left x m (not_from_false (is_beaten over left x) free))
-
-  -- where something of the list is over an entry, one of its best is
-  beaten_with_top : (e : Entry) → is_beaten over (left ++ coming) e ≡ is_beaten over (top ++ coming) e
-  beaten_with_top e = grind (arith, list_any-append, same_beaten over top (best over left) is e, beaten_by_best over strict left e)
-
-  -- the best of both are the best of the top and of what comes
-  pub best_with_top : SameMembers (best over (top ++ coming)) (best over (left ++ coming))
-  best_with_top =
-      same_kept (λ e. not (is_beaten over (top ++ coming) e)) (λ e. not (is_beaten over (left ++ coming) e)) (top ++ coming) (left ++ coming) (λ x m free. (of_both x m, ap not (beaten_with_top x) ∙ free))
-      (λ x m free.
-      let early : is_beaten over left x ≡ false =
-      false_from_ne_true (is_beaten over left x) (λ h. both_ways (is_beaten over (left ++ coming) x) (not-true (is_beaten over (left ++ coming) x) free) (beaten_by_more over left (left ++ coming) x (in_left left coming) h)) in (
-        elim (in_either left coming x m) [ inl old ↦ in_left top coming x (in_top x old early) | inr new ↦ in_right top coming x new ],
-        ap not (sym (beaten_with_top x)) ∙ free,
-      ))
-
-  -- what is left of both without their best: what is left of the list, and what goes down
-  pub without_with_top : SameMembers (without_best over (left ++ coming)) (without_best over left ++ without_best over (top ++ coming))
-  without_with_top =
-      let down = without_best over (top ++ coming) in
-      let lower = without_best over left in
-      let goes_down : (x : Entry) → Among x (top ++ coming) → is_beaten over (left ++ coming) x ≡ true → Among x (lower ++ down) = grind (arith, in_right, in_filter, beaten_with_top) in
-      record {
-        there = λ x m.
-            let w = from_filter (is_beaten over (left ++ coming)) (left ++ coming) x m in
-            elim (in_either left coming x w.0) [
-              | inl old ↦ elim (cases_Bool (is_beaten over left x)) [
-                | inl low ↦ in_left lower down x (in_filter (is_beaten over left) left x old low)
-                | inr free ↦ goes_down x (in_left top coming x (in_top x old free)) w.1
-              ]
-              | inr new ↦ goes_down x (in_right top coming x new) w.1
-            ];
-        back = λ x m. elim (in_either lower down x m) [
-          | inl low ↦
-              let w = from_filter (is_beaten over left) left x low in
-              in_filter (is_beaten over (left ++ coming)) (left ++ coming) x (in_left left coming x w.0) (beaten_by_more over left (left ++ coming) x (in_left left coming) w.1)
-          | inr gone ↦
-              let w = from_filter (is_beaten over (top ++ coming)) (top ++ coming) x gone in
-              in_filter (is_beaten over (left ++ coming)) (left ++ coming) x (of_both x w.0) (beaten_with_top x ∙ w.1)
-        ];
-      }
 
 count_never : {E : Type 0} (p : E → Bool) (xs : List E) → count_by (λ x. p x && false) xs ≡ 0
 count_never p [] = refl
@@ -171,7 +102,7 @@ module _ (over : Entry → Entry → Bool) (strict : IsStrictOrder over) (cut : 
     kept_levels = some_levels over strict (held ++ kept) (held ++ entries) cut kept_holds no_more all_differ
 
 -- and of sorted and recent entries, with what is kept of new ones
-module _ (order : ChainOrder) (sorted recent entries : List Entry) (different : HaveDifferentIds (map entry_of (own_levels order (sorted ++ recent)) ++ entries)) (kept : List Entry) (upper : HoldsUpper order sorted entries kept) where
+module _ (order : OwnOrder) (sorted recent entries : List Entry) (different : HaveDifferentIds (map entry_of (own_levels order (sorted ++ recent)) ++ entries)) (kept : List Entry) (upper : HoldsUpper order sorted entries kept) where
   covers : (x : Entry) → Among x entries → Among x kept ⊎ (is_below order (sorted ++ recent) x ≡ true)
   covers x m = elim (upper.covers x m) [ inl stays ↦ inl stays | inr below ↦ inr (comes_after_among_more (own_order order) sorted (sorted ++ recent) (in_left sorted recent) order.cut x below) ]
 
@@ -186,8 +117,3 @@ module _ (order : ChainOrder) (sorted recent entries : List Entry) (different : 
       ∙ (kept_levels own strict order.cut (sorted ++ recent) entries different kept upper.within covers upper.counts
       ∙ (sym (merge own strict order.cut (sorted ++ recent) entries different)
       ∙ (ap (λ l. levels own (map entry_of l ++ entries) order.cut) is ∙ merge own strict order.cut before entries (subst (λ l. HaveDifferentIds (map entry_of l ++ entries)) is different))))
-
--- where an order is a product of chains, they tell its levels
-pub says_its_levels : (order : RowOrder) (own : ChainOrder) (cut : ℕ) → IsProductOf order own.columns.items own.chains own.distinct × (own.cut ≡ cut) → (all : List Entry) → levels (entry_order order) all cut ≡ own_levels own all
-says_its_levels order own cut says all =
-    ap (λ (over : Entry → Entry → Bool). levels over all cut) (λ i a b. says.0.over a.row b.row i || (says.0.twin a.row b.row i && ltb a.id b.id)) ∙ ap (levels (own_order own) all) (sym says.1)

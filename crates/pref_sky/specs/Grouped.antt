@@ -4,7 +4,7 @@ use Rattle.std.specs.Prelude.{◌≡◌, ◌<◌, Bool, not, nat_lt, ℕ, List, 
 use Rattle.std.specs.List.{count_by}
 use Rattle.std.specs.List.Sorted.{IsPermutation}
 use Rattle.pref_sky.specs.Members.{Among}
-use Rattle.pref_sky.specs.Stairs.{IsInOrder, earlier_in, in_turn}
+use Rattle.pref_sky.specs.Chains.{IsInOrder, earlier_in, in_turn}
 use Rattle.pref_sky.specs.declared.entry.Ranked.{Ranked}
 use Rattle.pref_sky.specs.declared.grouped.InFront.{InFront}
 use Rattle.pref_sky.specs.declared.grouped.Placed.{Placed}

@@ -3,10 +3,10 @@
 ghost use Rattle.std.specs.Prelude.{◌≡◌, ◌<◌, ◌≤◌, ◌-◌, not, length, All, IfOk};
 ghost use Rattle.std.specs.Ordering.{is_gt, is_lt};
 ghost use Rattle.pref_sky.specs.Grouped.{AreGrouped, IsCounted, stands_before, entries, entry_at};
-ghost use Rattle.pref_sky.specs.Stairs.{IsInOrder};
+ghost use Rattle.pref_sky.specs.Chains.{IsInOrder, earlier_in};
 
-use crate::chain_order::compare_groups;
 use crate::entry::Ranked;
+use pref_table::Row;
 use pref_term::in_same_group;
 use std::alloc::{AllocError, Global};
 use std::cmp::Ordering;
@@ -23,6 +23,22 @@ pub(crate) struct Placed<'a> {
 pub(crate) struct InFront {
     pub(crate) group: usize,
     pub(crate) level: usize,
+}
+
+/// Which of two rows stands first by the first of these columns in which they differ.
+#[inline(always)]
+pub(crate) fn compare_groups(columns: &[usize], a: &Row, b: &Row) -> Ordering
+    requires { All (λ col. col < 16) columns.now }
+    ensures less { is_lt result ≡ earlier_in columns.now a.now b.now }
+    ensures greater { is_gt result ≡ earlier_in columns.now b.now a.now }
+{
+    for col in columns {
+        match a.cell(*col).cmp(&b.cell(*col)) {
+            Ordering::Equal => {}
+            decided => return decided,
+        }
+    }
+    Ordering::Equal
 }
 
 /// Which of two entries stands first: by group, then by level.

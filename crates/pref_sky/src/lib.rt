@@ -2,8 +2,9 @@
 //! block by block, and the answers of asks.
 //!
 //! An entry is best where no entry dominates it, or is `over` it, as the code says (Börzsönyi, Kossmann, Stocker 2001). Level 1
-//! is the best of all entries, level n + 1 the best of what is left without the levels 1 to n (the rPref manual). The algorithm is
-//! block-nested-loops, with a window of bounded size. Everything is generic over [`Dominance`](pref_term::Dominance), so any strict
+//! is the best of all entries, level n + 1 the best of what is left without the levels 1 to n (the rPref manual). The levels of a question
+//! are found by one sweep over entries in the order of its keys; those of another order, and [`best_rows`], by block-nested-loops, with a
+//! window of bounded size. Everything is generic over [`Dominance`](pref_term::Dominance), so any strict
 //! partial order of rows serves.
 //!
 //! ```text
@@ -16,23 +17,22 @@
 #![tactic(auto)]
 
 mod answers;
-mod arrival;
 mod best;
-mod chain_order;
 mod entry;
 mod grouped;
 mod item;
+mod lately;
 pub mod laws;
-mod layers;
-mod making;
+mod lead;
+mod level;
 mod merging;
+mod own_order;
 mod partial;
-mod partitions;
 mod passes;
-mod pool;
+mod passes_levels;
 mod signatures;
 mod sorted;
-pub mod stairs;
+mod sweep;
 mod window;
 
 pub use answers::answer;

@@ -1,22 +1,44 @@
-//! Entries in the order of two chains: new ones are merged into those that are in order.
+//! Entries in the order of a question's keys: new ones are merged into those that are in order.
 
 ghost use Rattle.std.specs.Prelude.{◌≡◌, ◌≤◌, ◌++◌, true, false, length, take, drop, IfOk, OnOk};
-ghost use Rattle.pref_sky.specs.ChainOrders.{AreInOrder, AreSorted, comes_before};
+ghost use Rattle.pref_sky.specs.OwnOrders.{AreInOrder, AreSorted, comes_before};
 ghost use Rattle.pref_sky.specs.Members.{Among};
 ghost use Rattle.pref_sky.specs.declared.entry.Entry.{Entry};
 
-use crate::chain_order::ChainOrder;
 use crate::entry::Entry;
+use crate::own_order::OwnOrder;
 use std::alloc::{AllocError, Global};
 
-/// How many entries of a list in order come before this one: a search by halves.
-fn count_before(order: &ChainOrder, entries: &[Entry], entry: &Entry) -> usize
+/// How many entries of a list in order come before this one.
+///
+/// Cost: one comparison where all do, as where entries come in order, or are the same in all keys and their ids rise. Else the search
+/// gallops from the front, by steps that double, and then goes by halves: some two comparisons for each bit of the count, and two.
+fn count_before(order: &OwnOrder, entries: &[Entry], entry: &Entry) -> usize
     requires { AreInOrder order.now entries.now }
     ensures within { result ≤ length entries.now }
     ensures front { (e : Entry) → Among e (take result entries.now) → comes_before order.now e entry.now ≡ true }
     ensures back { (e : Entry) → Among e (drop result entries.now) → comes_before order.now e entry.now ≡ false }
 {
-    entries.partition_point(|held| order.compare(held, entry).is_lt())
+    let Some(last) = entries.len().checked_sub(1) else {
+        return 0;
+    };
+    if order.compare(&entries[last], entry).is_lt() {
+        return entries.len();
+    }
+    let mut low = 0;
+    let mut high = last;
+    let mut step: usize = 0;
+    'between: while low < high {
+        // A step that goes too far leaves no more entries than it passed over: from there on the halves are smaller.
+        let middle = low + step.min((high - low) / 2);
+        if order.compare(&entries[middle], entry).is_lt() {
+            low = middle + 1;
+            step = step.saturating_mul(2).saturating_add(1);
+        } else {
+            high = middle;
+        }
+    }
+    low
 }
 
 /// Puts entries behind others, each by itself: for so long an element that is faster than `extend_from_slice`.
@@ -32,7 +54,7 @@ fn push_all(all: &mut Vec<Entry>, entries: &[Entry]) -> Result<(), AllocError>
 /// Two lists that are in order as one. Stretches of the first one are copied as they are, so that few entries go in among many fast.
 fn merge(
     alloc: Global,
-    order: &ChainOrder,
+    order: &OwnOrder,
     sorted: &[Entry],
     coming: &[Entry],
 ) -> Result<Vec<Entry>, AllocError>
@@ -54,11 +76,11 @@ fn merge(
 
 /// The entries of a list in order, and those of one in any order, in order.
 ///
-/// Cost: a copy of all, and for each of the others what a sort of them takes and a search by halves among the first list. Memory: the
-/// copy, and one of the others.
+/// Cost: a copy of all, and for each of the others what a sort of them takes and a search among the first list. Memory: the copy, and
+/// one of the others.
 pub(crate) fn merge_all(
     alloc: Global,
-    order: &ChainOrder,
+    order: &OwnOrder,
     sorted: &[Entry],
     recent: &[Entry],
 ) -> Result<Vec<Entry>, AllocError>

@@ -3,12 +3,11 @@
 ghost use Rattle.std.specs.Prelude.{◌≡◌, ◌<◌, ◌++◌, ◌^◌, [], ℕ, Bool, List, length, map, IfOk, IfSome, OnErr, OnOk};
 ghost use Rattle.pref_sky.specs.PartialForms.{ranked_held};
 ghost use Rattle.pref_sky.specs.Levels.{HaveDifferentIds, entry_of, entry_order, levels};
-ghost use Rattle.pref_sky.specs.Partials.{ranked_from, ranked_partitions};
 ghost use Rattle.pref_sky.specs.declared.entry.Entry.{Entry};
 
-use crate::chain_order::ChainOrder;
 use crate::entry::{Entry, Ranked, entries_of};
-use crate::partitions::Partitions;
+use crate::own_order::OwnOrder;
+use crate::passes_levels::levels_by_passes;
 use crate::sorted::SortedEntries;
 use pref_term::Dominance;
 use std::alloc::{AllocError, Global};
@@ -18,28 +17,25 @@ use std::marker::Model;
 pub(crate) enum Held {
     /// Nothing was added.
     Nothing,
-    /// In the order of two chains, where the order of the first addition is their product.
+    /// In the order of a question's keys.
     Sorted(SortedEntries),
-    /// In partitions, which the order never compares with each other.
-    Partitioned(Partitions),
+    /// With their levels, where the order is no question's.
+    Leveled(Vec<Ranked>),
 }
 
 // By hand, so that letting one go is a call: a derived `drop` is written out, and proved, at each way out of each function that owns one.
 impl Drop for Held {
     fn drop(self) {
         match self {
-            Held::Nothing | Held::Sorted(_) | Held::Partitioned(_) => {}
+            Held::Nothing | Held::Sorted(_) | Held::Leveled(_) => {}
         }
     }
 }
 
 /// The entries of the levels 1 to a cut among all that were added, in order of level, then id.
 ///
-/// A contract sees the list of them. Each `add` is made with the order and the cut of the first. Each entry is in it once, 136 bytes and 16 for
-/// its signature and place, and there is room for an eighth more, or 64. Entries that are held no more stay until an `add` counts, beside what is held, as many again and 2,048 of them; it
-/// counts where there are an eighth more entries, and 16, than at the last count. Where the order is a product of two chains, as of a plain
-/// chain, entries have neither, and beside those of the levels it holds up to an eighth as many, and 64, and a block, that may be below the
-/// cut.
+/// A contract sees the list of them. Each `add` is made with the order and the cut of the first. An entry takes 136 bytes. Beside those of
+/// the levels, up to as many, and 64, and a block, are held that may be below the cut, where the order is a question's.
 pub struct Partial {
     held: Held,
 }
@@ -64,8 +60,7 @@ impl Model for Partial {
     ghost invariant = { λ a. HaveDifferentIds (map entry_of (ranked_held a.held)) };
 }
 
-/// The entries held after the first addition: in the order of two chains where the order is their product, and else in partitions where it
-/// compares rows within groups alone.
+/// The entries held after the first addition: in the order of its keys where the order is a question's, and else with their levels.
 fn hold_first<D: Dominance>(
     alloc: Global,
     dominance: &D,
@@ -78,12 +73,12 @@ fn hold_first<D: Dominance>(
     ensures ids { IfOk result (λ held. HaveDifferentIds (map entry_of (ranked_held held))) }
     ensures levels { IfOk result (λ held. ranked_held held ≡ levels (entry_order (D.order dominance.now)) entries.now cut) }
 {
-    if let Some(order) = ChainOrder::of(alloc, dominance, cut)? {
+    if let Some(order) = OwnOrder::of(alloc, dominance, cut)? {
         let sorted = SortedEntries::of(alloc, order, entries)?;
         return Ok(Held::Sorted(sorted));
     }
-    let partitions = Partitions::of(alloc, dominance, window, cut, entries)?;
-    Ok(Held::Partitioned(partitions))
+    let ranked = levels_by_passes(alloc, dominance, window, cut, entries)?;
+    Ok(Held::Leveled(ranked))
 }
 
 impl Held {
@@ -94,7 +89,7 @@ impl Held {
         match self {
             Held::Nothing => Ok(Vec::new(alloc)),
             Held::Sorted(sorted) => sorted.ranked(alloc),
-            Held::Partitioned(partitions) => partitions.ranked(alloc),
+            Held::Leveled(ranked) => Ok(Vec::from_slice(alloc, ranked)?),
         }
     }
 }
@@ -136,9 +131,9 @@ impl Partial {
 
     /// The entries that are held, with their levels, in order of level, then id.
     ///
-    /// Cost: one copy of them, and a sort of each level by id; where there are groups, for each level a look at 1,024 partitions. Where the order is a product
-    /// of two chains their levels are found now, by a search by halves among the levels for each entry. Memory: the
-    /// list alone, and of two chains a copy of what is held. `Err` is out of memory.
+    /// Cost: where the order is a question's, a sort of the entries that came since the last look by its keys, one sweep over all, and a sort of
+    /// what it finds by level and id; else a copy. Memory: the list, a copy of what is held, and a few places for each level. `Err` is out of
+    /// memory.
     pub fn ranked(&self, alloc: Global) -> Result<Vec<Ranked>, AllocError>
         ensures { IfOk result (λ ranked. ranked.items ≡ self.now) }
     {
@@ -148,23 +143,15 @@ impl Partial {
     /// Adds entries, of which none has an id that is held: where it held the levels 1 to `cut` of a list,
     /// it then holds those of this list followed by the new entries.
     ///
-    /// Held entries of one level are never compared with each other again. Cost: for each new entry a search by halves for a level that is
-    /// not seen to dominate it, of which each step compares it with up to 32 entries of one level; for each level that something comes to,
-    /// at most one comparison for each pair of an entry that comes and one that is held or came there, and a list of 16 bytes an entry.
-    /// Once 48 entries are held, signatures spare most comparisons: a new entry is signed then, and again with all others each time that a
-    /// good eighth more are held. Copied is each new entry that is not seen to be below the cut, once, and all that are held each time that as
-    /// many again and 2,048 are held no more.
-    /// Memory: these copies and lists.
+    /// Where the order is a [question's](pref_term::Dominance::question), new entries are put behind the others as they are, but for those that
+    /// one of the last level is seen to dominate. Once they are as many as were held at the last look, and 64, all are put in order of the
+    /// question's keys, their levels are found by one sweep, and those below the cut are dropped. Cost of a sweep: for each entry a search by
+    /// halves among the levels so far; a level is asked by one comparison where up to three chains lead the question, and else by a look at
+    /// the signatures of its entries. Memory: a copy of all entries, and one with their levels.
     ///
-    /// Where the order names [groups](pref_term::Dominance::groups), all this goes for the entries of one partition: the cells
-    /// of its group tell in which of 1,024 partitions an entry is, and it meets no others.
+    /// Where it is no question's, the levels are found anew by the passes of [`best_rows`](crate::best_rows), level by level.
     ///
-    /// Where the order is a product of two [chains](pref_term::Dominance::chains), new entries are put behind the others as they are, but for those
-    /// that one of the last level is seen to dominate, by a search by halves. Once they are an eighth of what is held, and 64, all are
-    /// merged, and those below the cut dropped.
-    ///
-    /// An order with other groups or chains than the first one begins anew with what is held, at the cost of a copy; so does another cut
-    /// where the order is a product of two chains.
+    /// An addition by another question or cut than the first one begins anew with what is held, at the cost of a copy.
     ///
     /// `Err` is out of memory; the partial result is then as it was.
     pub fn add<D: Dominance>(
@@ -196,10 +183,7 @@ impl Partial {
                 self.held = hold_anew(alloc, dominance, window, cut, &self.held, entries)?;
                 Ok(())
             }
-            Held::Partitioned(partitions) => {
-                if partitions.columns.as_slice() == dominance.groups() {
-                    return partitions.add(alloc, dominance, window, cut, entries);
-                }
+            Held::Leveled(_) => {
                 self.held = hold_anew(alloc, dominance, window, cut, &self.held, entries)?;
                 Ok(())
             }

@@ -15,8 +15,7 @@
 //! end         d and c are best
 //! ```
 //!
-//! The late ones stay in the window, where what overflowed meets them. What is held of a level is in the window
-//! from the beginning of the first pass, and so among the early ones.
+//! The late ones stay in the window, where what overflowed meets them.
 
 ghost use Rattle.std.specs.Prelude.{◌≡◌, ◌≤◌, ◌<◌, [], ◌∷◌, ℕ, Bool, List, get_or, length, IfOk, OnOk};
 ghost use Rattle.pref_sky.specs.Best.{IsAntichain};
@@ -80,7 +79,7 @@ fn sift<D: Dominance>(
 
 /// A pass at some point: the items of the window, of those the early ones apart, what overflowed, and what some item dominates.
 ///
-/// Early are the items that were held when the pass began, or joined before the first one of it overflowed.
+/// Early are the items that were in the window when the pass began, or joined before the first one of it overflowed.
 #[derive(Drop)]
 struct Pass {
     early: Vec<Item>,
@@ -92,9 +91,9 @@ struct Pass {
 /// Takes an item that is apart from all that is held into the window, or lets it overflow where that is full.
 fn take_in(window: usize, pass: &mut Pass, item: Item) -> Result<(), AllocError>
     requires { 0 < window }
-    ensures { OnOk result ((over : Item → Item → Bool) → IsStrictOrder over → (held input best left : List Item) (before : ℕ)
-        → (IsAntichain over held → IsClear over pass.old.early.items item × IsClear over pass.old.late.items item)
-        → Passes over held window input best (item ∷ left) before pass.old → Passes over held window input best left before pass.new) }
+    ensures { OnOk result ((over : Item → Item → Bool) → IsStrictOrder over → (input best left : List Item) (before : ℕ)
+        → IsClear over pass.old.early.items item × IsClear over pass.old.late.items item
+        → Passes over window input best (item ∷ left) before pass.old → Passes over window input best left before pass.new) }
 {
     if pass.late.len() >= window.saturating_sub(pass.early.len()) {
         pass.overflow.push(item)?;
@@ -117,13 +116,11 @@ fn offer<D: Dominance>(
 ) -> Result<(), AllocError>
     requires { 0 < window }
     ensures { let over = item_order (D.order dominance.now) pool.now in
-        OnOk result ((held input best left : List Item) (before : ℕ) → Passes over held window input best (item ∷ left) before pass.old → Passes over held window input best left before pass.new) }
+        OnOk result ((input best left : List Item) (before : ℕ) → Passes over window input best (item ∷ left) before pass.old → Passes over window input best left before pass.new) }
 {
-    if sift(dominance, pool, &mut pass.early, &item, &mut pass.rest)? {
-        pass.rest.push(item)?;
-        return Ok(());
-    }
-    if sift(dominance, pool, &mut pass.late, &item, &mut pass.rest)? {
+    if sift(dominance, pool, &mut pass.early, &item, &mut pass.rest)?
+        || sift(dominance, pool, &mut pass.late, &item, &mut pass.rest)?
+    {
         pass.rest.push(item)?;
         return Ok(());
     }
@@ -141,7 +138,7 @@ fn offer_all<D: Dominance>(
 ) -> Result<(), AllocError>
     requires { 0 < window }
     ensures { let over = item_order (D.order dominance.now) pool.now in
-        OnOk result ((held input best : List Item) (before : ℕ) → Passes over held window input best items.now before pass.old → Passes over held window input best [] before pass.new) }
+        OnOk result ((input best : List Item) (before : ℕ) → Passes over window input best items.now before pass.old → Passes over window input best [] before pass.new) }
 {
     for item in items {
         offer(dominance, pool, window, pass, *item)?;
@@ -171,50 +168,30 @@ fn end_pass(alloc: Global, pass: &mut Pass, best: &mut Vec<Item>) -> Result<Vec<
     Ok(std::mem::replace(&mut pass.overflow, Vec::new(alloc)))
 }
 
-/// The held items, with room for as many as come, or as are held where these are fewer: a list that grows by itself is half empty.
-fn with_room(alloc: Global, held: &[Item], coming: usize) -> Result<Vec<Item>, AllocError>
-    ensures { IfOk result (λ early. early.items ≡ held.now) }
-{
-    let room = held.len().saturating_add(coming.min(held.len()));
-    let mut early = Vec::with_capacity(alloc, room)?;
-    early.extend_from_slice(held)?;
-    Ok(early)
-}
-
-/// Parts items into the best, which none of them dominates, and the rest, by passes with a window that has room for so many beside the
-/// held ones. Of these none is to dominate another: they are the window as the first pass begins.
+/// Parts items into the best, which none of them dominates, and the rest, by passes with a window that has room for so many.
 pub(crate) fn best_and_rest<D: Dominance>(
     alloc: Global,
     dominance: &D,
     window: usize,
     pool: &[Entry],
-    held: &[Item],
     items: &[Item],
 ) -> Result<Found, AllocError>
     requires { 0 < window }
-    ensures parted { IfOk result (λ found. Parted (item_order (D.order dominance.now) pool.now) held.now items.now found.best.items found.rest.items) }
+    ensures parted { IfOk result (λ found. Parted (item_order (D.order dominance.now) pool.now) items.now found.best.items found.rest.items) }
     ensures passes { IfOk result (λ found. found.passes ≤ length items.now) }
     ensures some_pass { IfOk result (λ found. 0 < length items.now → 0 < found.passes) }
 {
     let mut best = Vec::new(alloc);
     let mut pass = Pass {
-        early: with_room(alloc, held, items.len())?,
+        early: Vec::new(alloc),
         late: Vec::new(alloc),
         overflow: Vec::new(alloc),
         rest: Vec::new(alloc),
     };
-    if items.is_empty() {
-        return Ok(Found {
-            best: pass.early,
-            rest: pass.rest,
-            passes: 0,
-        });
-    }
-    let room = window.saturating_add(held.len());
     let mut input = Vec::from_slice(alloc, items)?;
     let mut passes = 0;
     'each_pass: while !input.is_empty() {
-        offer_all(dominance, pool, room, &mut pass, &input)?;
+        offer_all(dominance, pool, window, &mut pass, &input)?;
         input = end_pass(alloc, &mut pass, &mut best)?;
         passes += 1;
     }

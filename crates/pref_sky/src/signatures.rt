@@ -2,12 +2,13 @@
 
 ghost use Rattle.std.specs.Prelude.{◌≡◌, IfOk};
 ghost use Rattle.pref_sky.specs.Items.{AreItems, entries_at, signature_by};
+ghost use Rattle.pref_term.specs.AskOrder.{order_of};
 ghost use Rattle.pref_term.specs.Signatures.{Suit};
 
 use crate::entry::Entry;
 use crate::item::Item;
 use pref_table::Row;
-use pref_term::{Dominance, Scales};
+use pref_term::{Ask, Dominance, Scales};
 use std::alloc::{AllocError, Global};
 
 /// The fewest entries for which scales are made: fewer are compared in less time.
@@ -17,13 +18,9 @@ const FEWEST: usize = 16;
 /// about as evenly.
 const SAMPLE: usize = 128;
 
-/// Scales that suit the order, for entries like these, of which evenly spread ones are looked at; none where they are few.
-pub(crate) fn scales_of<D: Dominance>(
-    alloc: Global,
-    dominance: &D,
-    entries: &[Entry],
-) -> Result<Scales, AllocError>
-    ensures { IfOk result (λ scales. Suit (D.order dominance.now) scales) }
+/// Scales that suit a question, for entries like these, of which evenly spread ones are looked at; none where they are few.
+pub(crate) fn scales_of(alloc: Global, ask: &Ask, entries: &[Entry]) -> Result<Scales, AllocError>
+    ensures { IfOk result (λ scales. Suit (order_of ask.now) scales) }
 {
     if entries.len() < FEWEST {
         return Ok(Scales::none());
@@ -32,11 +29,25 @@ pub(crate) fn scales_of<D: Dominance>(
     for entry in entries.iter().step_by(entries.len() / SAMPLE + 1) {
         sample.push(entry.row)?;
     }
-    let scales = dominance.scales(alloc, &sample)?;
-    if dominance.suits(&scales) {
+    let scales = ask.scales(alloc, &sample)?;
+    if ask.suits(&scales) {
         Ok(scales)
     } else {
         Ok(Scales::none())
+    }
+}
+
+/// Scales that suit the order: those of its question, where it is one.
+pub(crate) fn scales_by<D: Dominance>(
+    alloc: Global,
+    dominance: &D,
+    entries: &[Entry],
+) -> Result<Scales, AllocError>
+    ensures { IfOk result (λ scales. Suit (D.order dominance.now) scales) }
+{
+    match dominance.question() {
+        Some(ask) => scales_of(alloc, ask, entries),
+        None => Ok(Scales::none()),
     }
 }
 

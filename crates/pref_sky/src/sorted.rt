@@ -1,16 +1,22 @@
-//! Entries of an order that is a product of two chains: they are kept in the order of the chains, and their levels are found when they are
-//! asked for, and when many came, to drop those below the cut.
+//! Entries of a question: they are kept in the order of its keys, and their levels are found when they are asked for, and when many came,
+//! to drop those below the cut.
 
-ghost use Rattle.std.specs.Prelude.{◌≡◌, ◌≤◌, ◌<◌, ◌++◌, true, List, All, get_or, length, map, vec_len, IfOk, OnErr, OnOk};
-ghost use Rattle.pref_sky.specs.ChainOrders.{AreInOrder, AreInOrder-prop, AreLeveled, AreLowest, HoldsUpper, is_below, own_levels};
+ghost use Rattle.std.specs.Prelude.{◌≡◌, ◌<◌, ◌++◌, true, List, All, get_or, length, map, vec_len, IfOk, IfSome, OnErr, OnOk};
+ghost use Rattle.pref_sky.specs.OwnOrders.{AreInOrder, AreInOrder-prop, AreLeveled, AreLowest, HoldsUpper, is_below, own_levels};
 ghost use Rattle.pref_sky.specs.Levels.{HaveDifferentIds, entry_of};
 ghost use Rattle.pref_sky.specs.declared.entry.Entry.{Entry};
 ghost use Rattle.pref_sky.specs.declared.entry.Ranked.{Ranked};
+ghost use Rattle.pref_sky.specs.declared.item.Item.{Item};
 
-use crate::chain_order::ChainOrder;
 use crate::entry::{Entry, Ranked, entries_of};
-use crate::layers::with_levels;
+use crate::grouped::compare_groups;
+use crate::item::Item;
+use crate::lately::Lately;
+use crate::lead::Lead;
 use crate::merging::merge_all;
+use crate::own_order::OwnOrder;
+use crate::sweep::find_levels;
+use pref_term::{Scales, in_same_group, is_within};
 use std::alloc::{AllocError, Global};
 
 /// The fewest entries that come before the lists are merged.
@@ -19,40 +25,57 @@ const MANY: usize = 64;
 /// How many entries a piece of the first addition has, at most.
 const PIECE: usize = 64;
 
-/// The places of the entries of a level.
-fn places_of(alloc: Global, ranked: &[Ranked], level: u32) -> Result<Vec<usize>, AllocError>
-    ensures { IfOk result (λ places. All (λ place. (place < length ranked.now) × ((d : Ranked) → (get_or ranked.now place d).level ≡ level)) places.items) }
+/// The entries of a level, signed, by their places.
+fn items_of_level(
+    alloc: Global,
+    scales: &Scales,
+    ranked: &[Ranked],
+    level: u32,
+) -> Result<Vec<Item>, AllocError>
+    ensures { IfOk result (λ items. All (λ (item : Item). (item.place < length ranked.now) × ((d : Ranked) → (get_or ranked.now item.place d).level ≡ level)) items.items) }
 {
-    let mut places = Vec::new(alloc);
+    let mut items = Vec::new(alloc);
     for (place, entry) in ranked.iter().enumerate() {
         if entry.level == level {
-            places.push(place)?;
+            let signature = scales.signature(&entry.row);
+            items.push(Item { signature, place })?;
         }
     }
-    Ok(places)
+    Ok(items)
 }
 
-/// Entries in the order of the chains, as they were left when the last ones that are below the cut were dropped.
+/// The levels of some entries, and the scales by which the sweep signed them.
+#[derive(Drop)]
+struct Leveled {
+    found: Vec<Ranked>,
+    scales: Scales,
+}
+
+/// Entries in the order of the keys, as they were left when the last ones that are below the cut were dropped.
 #[derive(Drop)]
 pub(crate) struct Pruned {
-    pub(crate) order: ChainOrder,
+    pub(crate) order: OwnOrder,
     pub(crate) entries: Vec<Entry>,
-    /// Places of the entries of the last level: what one of them dominates is below the cut.
-    lowest: Vec<usize>,
+    /// The entries of the last level: what one of them dominates is below the cut.
+    lowest: Vec<Item>,
+    /// By which these are signed. Any scales are right.
+    scales: Scales,
+    /// How new entries were compared with them.
+    lately: Lately,
     ghost in_order: { AreInOrder order entries.items } by { AreInOrder-prop order entries.items },
     ghost low: { AreLowest order entries.items lowest.items },
 }
 
 impl Pruned {
-    /// Which of those of the last level stands for all where an entry is compared with them: the last one that the entry is not earlier
-    /// than. A search by halves. Any number is right.
+    /// Which of those of the last level stands for all where one or two chains lead: the last one that an entry is not earlier than. A search
+    /// by halves. Any number is right.
     fn candidate(&self, entry: &Entry) -> usize {
         let mut low = 0;
         let mut high = self.lowest.len();
         while low < high {
             let middle = low + (high - low) / 2;
-            let other = &self.entries[self.lowest[middle]];
-            if self.order.is_earlier(entry, other) {
+            let other = &self.entries[self.lowest[middle].place];
+            if self.order.compare(entry, other).is_lt() {
                 high = middle;
             } else {
                 low = middle + 1;
@@ -61,33 +84,95 @@ impl Pruned {
         low.saturating_sub(1)
     }
 
+    /// Where the group of an entry begins among those of the last level. A search by halves. Any number is right.
+    fn group_begin(&self, entry: &Entry) -> usize {
+        let mut low = 0;
+        let mut high = self.lowest.len();
+        while low < high {
+            let middle = low + (high - low) / 2;
+            let other = &self.entries[self.lowest[middle].place];
+            if compare_groups(self.order.ask.group(), &other.row, &entry.row).is_lt() {
+                low = middle + 1;
+            } else {
+                high = middle;
+            }
+        }
+        low
+    }
+
     /// Whether the one of the last level that stands somewhere among these dominates an entry.
     #[inline(always)]
     fn dominates(&self, which: usize, entry: &Entry) -> bool
-        ensures { result ≡ true → is_below self.now.order self.now.entries.items entry.now ≡ true }
+        ensures within { result ≡ true → which < vec_len self.now.lowest }
+        ensures below { result ≡ true → is_below self.now.order self.now.entries.items entry.now ≡ true }
     {
-        which < self.lowest.len() && self.order.is_over(&self.entries[self.lowest[which]], entry)
+        which < self.lowest.len()
+            && self
+                .order
+                .is_over(&self.entries[self.lowest[which].place], entry)
     }
 
-    /// Puts the entries that are not seen to be below the cut behind the recent ones. The one that dominated an entry last is asked first.
-    /// Where it is out of memory, some of them.
-    fn keep_others(
-        &self,
-        lately: &mut usize,
-        recent: &mut Vec<Entry>,
-        entries: &[Entry],
-    ) -> Result<(), AllocError>
-        ensures { (kept : List Entry) × (recent.new.items ≡ recent.old.items ++ kept)
-            × OnOk result (HoldsUpper self.now.order self.now.entries.items entries.now kept) }
+    /// The first of the last level, from one on, that dominates an entry of its group, as signatures leave it open.
+    fn first_over(&self, begin: usize, entry: &Entry) -> Option<usize>
+        ensures { IfSome result (λ which. (which < vec_len self.now.lowest) × (is_below self.now.order self.now.entries.items entry.now ≡ true)) }
+    {
+        let signature = self.scales.signature(&entry.row);
+        for which in begin..self.lowest.len() {
+            let item = self.lowest[which];
+            let other = &self.entries[item.place];
+            if is_within(item.signature, signature) {
+                if self.order.is_over(other, entry) {
+                    return Some(which);
+                }
+                if !in_same_group(self.order.ask.group(), &other.row, &entry.row) {
+                    return None;
+                }
+            }
+        }
+        None
+    }
+
+    /// One of the last level that dominates an entry; `None` where none is found.
+    fn find_over(&self, entry: &Entry) -> Option<usize>
+        ensures { IfSome result (λ which. (which < vec_len self.now.lowest) × (is_below self.now.order self.now.entries.items entry.now ≡ true)) }
+    {
+        if self.scales.is_none() {
+            let which = self.candidate(entry);
+            return if self.dominates(which, entry) {
+                Some(which)
+            } else {
+                None
+            };
+        }
+        self.first_over(self.group_begin(entry), entry)
+    }
+
+    /// Whether one of the last level is seen to dominate an entry. The one that dominated another last is asked first.
+    fn is_seen_below(&mut self, entry: &Entry) -> bool
+        ensures below { result ≡ true → is_below self.old.order self.old.entries.items entry.now ≡ true }
+        ensures same { (self.new.order ≡ self.old.order) × (self.new.entries ≡ self.old.entries) }
+    {
+        let slot = self.lately.slot(self.order.ask.group(), &entry.row);
+        if self.dominates(self.lately.at(slot), entry) {
+            return true;
+        }
+        if !self.lately.is_worthwhile() {
+            return false;
+        }
+        let found = self.find_over(entry);
+        self.lately.note(slot, found);
+        found.is_some()
+    }
+
+    /// Puts the entries that are not seen to be below the cut behind the recent ones. Where it is out of memory, some of them.
+    fn keep_others(&mut self, recent: &mut Vec<Entry>, entries: &[Entry]) -> Result<(), AllocError>
+        ensures same { (self.new.order ≡ self.old.order) × (self.new.entries ≡ self.old.entries) }
+        ensures kept { (kept : List Entry) × (recent.new.items ≡ recent.old.items ++ kept)
+            × OnOk result (HoldsUpper self.old.order self.old.entries.items entries.now kept) }
     {
         for entry in entries {
-            if !self.dominates(*lately, entry) {
-                let which = self.candidate(entry);
-                if self.dominates(which, entry) {
-                    *lately = which;
-                } else {
-                    recent.push(*entry)?;
-                }
+            if !self.is_seen_below(entry) {
+                recent.push(*entry)?;
             }
         }
         Ok(())
@@ -95,20 +180,23 @@ impl Pruned {
 
     /// The entries of the levels of these and the recent ones.
     ///
-    /// Cost: a copy of all entries, a sort of the recent ones, and a search by halves among the levels for each.
-    fn with_levels(&self, alloc: Global, recent: &[Entry]) -> Result<Vec<Ranked>, AllocError>
-        ensures { IfOk result (λ found. AreLeveled self.now.order (self.now.entries.items ++ recent.now) found.items) }
+    /// Cost: a copy of all entries, a sort of the recent ones, and a sweep over all.
+    fn with_levels(&self, alloc: Global, recent: &[Entry]) -> Result<Leveled, AllocError>
+        ensures { IfOk result (λ leveled. AreLeveled self.now.order (self.now.entries.items ++ recent.now) leveled.found.items) }
     {
         let entries = merge_all(alloc, &self.order, &self.entries, recent)?;
-        with_levels(alloc, &self.order, &entries)
+        let lead = Lead::of(alloc, &self.order, &entries)?;
+        let found = find_levels(alloc, &self.order, &lead, &entries)?;
+        let Lead { scales, .. } = lead;
+        Ok(Leveled { found, scales })
     }
 
-    /// Whether beside these so many entries came that it is worth while to look which are below the cut. Where there are no more than the
+    /// Whether as many entries came as these are, so that it is worth while to look which are below the cut. Where there are no more than the
     /// cut, none is.
     fn is_outgrown(&self, recent: usize) -> bool {
         let pruned = self.entries.len();
         pruned.saturating_add(recent) > self.order.cut as usize
-            && recent >= (pruned / 8).saturating_add(MANY)
+            && recent >= pruned.saturating_add(MANY)
     }
 
     /// Where many entries came, merges them into these, and drops what is below the cut. The levels of both stay, and where it is out of
@@ -121,22 +209,22 @@ impl Pruned {
         if !self.is_outgrown(recent.len()) {
             return Ok(());
         }
-        let found = self.with_levels(alloc, recent)?;
+        let Leveled { found, scales } = self.with_levels(alloc, recent)?;
         let entries = entries_of(alloc, &found)?;
-        self.lowest = places_of(alloc, &found, self.order.cut)?;
+        let lowest = items_of_level(alloc, &scales, &found, self.order.cut)?;
+        self.lowest = lowest;
+        self.scales = scales;
         self.entries = entries;
         recent.clear();
         Ok(())
     }
 }
 
-/// Entries of an order that is a product of two chains. Their levels up to the cut are found when they are asked for.
+/// Entries of a question. Their levels up to the cut are found when they are asked for.
 pub(crate) struct SortedEntries {
     pub(crate) pruned: Pruned,
     /// The entries that came since these were pruned.
     pub(crate) recent: Vec<Entry>,
-    /// Which of the last level dominated a new entry last. Any number is right.
-    lately: usize,
     ghost ids: { HaveDifferentIds (map entry_of (own_levels pruned.order (pruned.entries.items ++ recent.items))) },
 }
 
@@ -146,7 +234,6 @@ impl Drop for SortedEntries {
         let SortedEntries {
             pruned: _,
             recent: _,
-            lately: _,
         } = self;
     }
 }
@@ -156,7 +243,10 @@ impl SortedEntries {
     pub(crate) fn ranked(&self, alloc: Global) -> Result<Vec<Ranked>, AllocError>
         ensures { IfOk result (λ ranked. ranked.items ≡ own_levels self.now.pruned.order (self.now.pruned.entries.items ++ self.now.recent.items)) }
     {
-        let mut ranked = self.pruned.with_levels(alloc, &self.recent)?;
+        let Leveled {
+            found: mut ranked,
+            ..
+        } = self.pruned.with_levels(alloc, &self.recent)?;
         ranked.sort_unstable_by_key(|entry| (entry.level, entry.id));
         Ok(ranked)
     }
@@ -173,10 +263,7 @@ impl SortedEntries {
     {
         self.pruned.prune(alloc, &mut self.recent)?;
         let held = self.recent.len();
-        if let Err(error) = self
-            .pruned
-            .keep_others(&mut self.lately, &mut self.recent, entries)
-        {
+        if let Err(error) = self.pruned.keep_others(&mut self.recent, entries) {
             self.recent.truncate(held);
             return Err(error);
         }
@@ -186,21 +273,23 @@ impl SortedEntries {
     /// Holds the levels of these entries. They come in pieces, so that most of them meet entries that were pruned.
     pub(crate) fn of(
         alloc: Global,
-        order: ChainOrder,
+        order: OwnOrder,
         entries: &[Entry],
     ) -> Result<SortedEntries, AllocError>
         requires { HaveDifferentIds entries.now }
         ensures order { IfOk result (λ held. held.pruned.order ≡ order) }
         ensures levels { IfOk result (λ held. own_levels order (held.pruned.entries.items ++ held.recent.items) ≡ own_levels order entries.now) }
     {
+        let lately = Lately::of(alloc, order.ask.group())?;
         let mut held = SortedEntries {
             pruned: Pruned {
                 order,
                 entries: Vec::new(alloc),
                 lowest: Vec::new(alloc),
+                scales: Scales::none(),
+                lately,
             },
             recent: Vec::new(alloc),
-            lately: 0,
         };
         let mut rest = entries;
         'each_piece: while !rest.is_empty() {

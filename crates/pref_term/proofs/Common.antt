@@ -26,7 +26,7 @@ pub use Rattle.pref_term.specs.Ahead.{ahead, behind_token, taken}
 pub use Rattle.pref_term.specs.AskOrder.{order_of, order_of_alike, order_of_twins_alike, order_of_twins_are_alike}
 pub use Rattle.pref_term.specs.Asked.{meant, ordered}
 pub use Rattle.pref_term.specs.Better.{better, cell, in_same_group, missed, outside, same, score, sets_before}
-pub use Rattle.pref_term.specs.Chains.{AreChainsOf, AreInRow, IsProductOf, by_chain, by_chains, chain_keys, is_chain, is_paired, keys_behind}
+pub use Rattle.pref_term.specs.Chains.{AreInRow, by_chain, is_chain}
 pub use Rattle.pref_term.specs.Columns.{ReadsBelow, column, columns_in}
 pub use Rattle.pref_term.specs.Distinct.{is_distinct_ahead, is_in_any_case, is_word, plain, says_distinct, without_third}
 pub use Rattle.pref_term.specs.Grammar.{AskText, BaseText, CasedWord, DimText, Direction, HeadText, IsText, IsWritten, Keyword, Leaf, NumberText, PriorText, ProductText, SetText, UnaryText}
@@ -56,7 +56,7 @@ pub use Rattle.pref_term.specs.Reading.{skyline_named, start, start_of, stepped,
 pub use Rattle.pref_term.specs.SeenTokens.{IsFront, seen}
 pub use Rattle.pref_term.specs.Shown.{IsShownAs, held, held_nests, is_composed, is_prior, more_names, name_at, nests, shown, shown_base, shown_diffs, shown_dims, shown_group, shown_mode, shown_set}
 pub use Rattle.pref_term.specs.Shown.{shown_sets, shown_term, shown_values, worked_names}
-pub use Rattle.pref_term.specs.Signatures.{Suit, bits_by, hash_with, is_within, scale_column, signature, signed_onto, with_bit}
+pub use Rattle.pref_term.specs.Signatures.{Suit, bits_by, is_within, signature, signed_onto, with_bit}
 pub use Rattle.pref_term.specs.Spells.{Faults, FirstFault, HasOwnFault, IsGood, IsUnexpected, LacksOrder, Names, OwnFault, Spells, Starts, UnlessMemory, bad_count, base_meaning, below, column_at}
 pub use Rattle.pref_term.specs.Spells.{empty_range, group_by, groups_of, last_place, mode_of, number_range, number_value, order_by, orders_of, own_fault, prior_meaning, product_meaning, product_of}
 pub use Rattle.pref_term.specs.Spells.{question, reported, reported_at, set_value, signed_value, tokens_in, tokens_on, too_deep, unary_meaning, unknown_column}

@@ -9,7 +9,7 @@ use Rattle.pref_term.specs.declared.key.Score.TheVariants.{Value, Distance, Sets
 use Rattle.pref_term.specs.contracts.key.KeyPartialEq.TheImpl as key
 use Rattle.pref_term.specs.contracts.key.ScorePartialEq.TheImpl as score
 
-scores_same : (a b : Score) → (score.ghosts).eq a b ≡ true → a ≡ b
+pub scores_same : (a b : Score) → (score.ghosts).eq a b ≡ true → a ≡ b
 scores_same Value Value h = refl
 scores_same (Distance l r) (Distance m s) h =
     let k = and_parts _ _ h in λ i. Distance ((signed_Decides l m).0 k.0 i) ((signed_Decides r s).0 k.1 i)

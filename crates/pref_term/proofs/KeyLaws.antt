@@ -1,14 +1,10 @@
 -- The key law: keys compare rows as scores do; and the product of the keys that lead a preference without a priority is its order.
-use Rattle.pref_term.proofs.Common.{◌≡◌, ◌<◌, ℤ, pos, Bool, true, false, not, List, [], ◌∷◌, ◌++◌, refl, sym, ap, subst, ◌∙◌, arith, ◌^◌, ◌-ℤ◌, ◌+ℤ◌, neg_ℤ, unsigned_abs}
+use Rattle.pref_term.proofs.Common.{◌≡◌, ◌<◌, ℤ, pos, Bool, true, not, List, [], ◌∷◌, ◌++◌, refl, sym, ap, subst, ◌∙◌, arith, ◌^◌, ◌-ℤ◌, ◌+ℤ◌, neg_ℤ, unsigned_abs}
 use Rattle.pref_term.proofs.Common.{All, false≢true, ints, All-append, All-cons, All-nil, missed, int_lt, outside, score, sets_before, ReadsBelow, column, by_key, by_keys, is_number}
 use Rattle.pref_term.proofs.Common.{is_product, key_for, leading, opposed, and_parts, Base, Preference, scored, pareto, prior, reverse, by_scores}
-use Rattle.pref_term.proofs.Common.{by_sides, in_priority, in_product, walked, Key, Relation, Neither, Same}
+use Rattle.pref_term.proofs.Common.{by_sides, in_priority, in_product, Key, Relation, Neither, Same}
 use Rattle.std.specs.Prelude.{◌||◌}
-
--- how a preference, or its converse, compares two rows
-abbrev pub directed : Bool → Preference → List ℤ → List ℤ → Relation
-directed false p a b = walked p a b
-directed true p a b = walked p b a
+use Rattle.pref_term.specs.Walk.{directed}
 
 raised : (x y : ℤ) → by_scores (x +ℤ pos (2 ^ 63)) (y +ℤ pos (2 ^ 63)) ≡ by_scores x y
 raised x y = grind (arith, ints)
@@ -60,7 +56,7 @@ directed_reverse s p a b = grind arith
 
 -- ---- the keys that lead a preference
 
-key_column : (t : Base) (s : Bool) → (key_for t s).col ≡ column t
+pub key_column : (t : Base) (s : Bool) → (key_for t s).col ≡ column t
 key_column t s = grind arith
 
 -- they read its columns
@@ -79,10 +75,10 @@ leading_numbers (pareto p q) s h =
 leading_numbers (prior p q) s h = absurd (false≢true h)
 leading_numbers (reverse p) s h = leading_numbers p (not s) h
 
-product-assoc : (r s t : Relation) → in_product (in_product r s) t ≡ in_product r (in_product s t)
+pub product-assoc : (r s t : Relation) → in_product (in_product r s) t ≡ in_product r (in_product s t)
 product-assoc r s t = grind arith
 
-product_same : (r : Relation) → in_product r Same ≡ r
+pub product_same : (r : Relation) → in_product r Same ≡ r
 product_same r = grind arith
 
 keys-append : (xs ys : List Key) (a b : List ℤ) → by_keys (xs ++ ys) a b ≡ in_product (by_keys xs a b) (by_keys ys a b)

@@ -4,6 +4,8 @@ pub mod WalkLaws
 pub mod KeyLaws
 pub mod KeyEqual
 pub mod ChainLaws
+pub mod ExtensionLaws
+pub mod LeadingLaws
 pub mod SignatureWords
 pub mod SignatureLaws
 pub mod WorkedTerms

@@ -1,14 +1,15 @@
 -- Of two rows of which the first is over the second, or its twin, the first reaches no mark that the second does not reach.
 use Rattle.std.specs.Prelude.{◌||◌}
-use Rattle.pref_term.proofs.Common.{◌≡◌, ℕ, ℤ, pos, List, [], ◌∷◌, Bool, true, false, map, not, sym, ap, ◌∙◌, arith, All, int_lt}
-use Rattle.pref_term.proofs.Common.{ints, All-append, All-cons, All-contains, All-nil, order_of, better, in_same_group, cell, same}
-use Rattle.pref_term.proofs.Common.{keyed, leading, is_better, is_same, and_parts, Preference, scored, pareto, prior, reverse, Question, Suit, bits_by, is_within, scale_column}
+use Rattle.pref_term.proofs.Common.{◌≡◌, ℕ, ℤ, pos, List, Bool, true, false, map, not, sym, ap, ◌∙◌, arith, All, int_lt}
+use Rattle.pref_term.proofs.Common.{ints, All-append, All-cons, All-contains, All-nil, order_of}
+use Rattle.pref_term.proofs.Common.{keyed, leading, is_better, is_same, Preference, scored, pareto, prior, reverse, Question, Suit, bits_by, is_within}
 use Rattle.pref_term.proofs.Common.{signature, twins_alike, by_scores, in_priority, in_product, walked, Key, Relation}
 use Rattle.pref_term.specs.RelationLaws.{priority-better, priority-same, product-better, product-same, scores-better, scores-same}
-use Rattle.pref_term.specs.Leading.{Suits}
+use Rattle.pref_term.specs.Walk.{directed}
+use Rattle.pref_term.specs.Signatures.{IsBy}
 use Rattle.pref_term.specs.declared.signature.scale.Scale.{Scale}
-use Rattle.pref_term.proofs.KeyLaws.{directed, directed_priority, directed_product, directed_reverse, key_law}
-use Rattle.pref_term.proofs.SignatureWords.{Implied, implied_flat, implied_itself, implied_map, signed_within}
+use Rattle.pref_term.proofs.KeyLaws.{directed_priority, directed_product, directed_reverse, key_law}
+use Rattle.pref_term.proofs.SignatureWords.{Implied, implied_flat, implied_map, signed_within}
 use Rattle.pref_term.proofs.WalkLaws.{walked_better, walked_same}
 use Rattle.std.proofs.Common.{rules}
 
@@ -39,15 +40,6 @@ keep (pareto p q) s a b h =
 keep (prior p q) s a b h = keep p s a b (priority_fits (directed s p a b) (directed s q a b) (sym (ap fits (directed_priority s p q a b)) ∙ h))
 keep (reverse p) s a b h = keep p (not s) a b (ap fits (directed_reverse s p a b) ∙ h)
 
--- ---- a group
-
-group_cells : (group : List ℕ) (a b : List ℤ) → in_same_group group a b ≡ true → All (λ c. cell a c ≡ cell b c) group
-group_cells [] a b h = grind (arith)
-group_cells (col ∷ cols) a b h = grind (arith, group_cells cols a b)
-
-bits_as : (scale : Scale) (a b : List ℤ) → cell a (scale_column scale) ≡ cell b (scale_column scale) → bits_by scale a ≡ bits_by scale b
-bits_as scale a b e = grind arith
-
 -- ---- a scale
 
 -- where the second row has no smaller key, it reaches each mark that the first reaches
@@ -56,21 +48,17 @@ reached : (k : Key) (marks : List ℕ) (a b : List ℤ) → Keeps a b k
 unfolding Keeps
 reached k marks a b keeps = grind (arith, implied_map, ints)
 
-suiting : (keys : List Key) (group : List ℕ) (scale : Scale) (a b : List ℤ) → All (Keeps a b) keys → in_same_group group a b ≡ true
-    → Suits keys group scale → Implied (bits_by scale a) (bits_by scale b)
-suiting keys group scale a b keeps near suits = grind (arith, bits_as, All-contains, group_cells, implied_itself, reached, Keeps)
+suiting : (keys : List Key) (scale : Scale) (a b : List ℤ) → All (Keeps a b) keys → IsBy keys scale → Implied (bits_by scale a) (bits_by scale b)
+suiting keys scale a b keeps by = reached scale.key scale.marks.items a b (All-contains (Keeps a b) keys scale.key keeps by.key)
 
 -- ---- the law
 
--- scales that suit the keys that lead an ask's preference, and its group, suit its order
-pub suiting_cuts : (q : Question) (scales : List Scale) → All (Suits (leading q.preference false) q.group) scales → Suit (order_of q) scales
+-- scales by keys that lead an ask's preference suit its order
+pub suiting_cuts : (q : Question) (scales : List Scale) → All (IsBy (leading q.preference false)) scales → Suit (order_of q) scales
 suiting_cuts q scales suit = record {
-  over = λ a b h.
-      within a b (grind (arith, walked_better q.preference a b)) (and_parts (in_same_group q.group a b) (better q.preference a b) h).0;
-  twin = λ a b h.
-      let both = and_parts (in_same_group q.group a b) (same q.preference a b) (twins_alike q a b h) in
-      within a b (grind (arith, walked_same q.preference a b)) both.0;
+  over = λ a b h. within a b (grind (arith, walked_better q.preference a b));
+  twin = λ a b h. let alike = twins_alike q a b h in within a b (grind (arith, walked_same q.preference a b));
 }
   where
-    within : (a b : List ℤ) → fits (walked q.preference a b) ≡ true → in_same_group q.group a b ≡ true → is_within (signature scales a) (signature scales b) ≡ true
-    within a b h near = search (rules, signed_within, implied_flat, suiting, keep)
+    within : (a b : List ℤ) → fits (walked q.preference a b) ≡ true → is_within (signature scales a) (signature scales b) ≡ true
+    within a b h = search (rules, signed_within, implied_flat, suiting, keep)

@@ -42,11 +42,6 @@ Implied [] (c ∷ cs) = ⊥
 Implied (b ∷ bs) [] = ⊥
 Implied (b ∷ bs) (c ∷ cs) = (b ≡ true → c ≡ true) × Implied bs cs
 
-pub implied_itself : (bs : List Bool) → Implied bs bs
-unfolding Implied
-implied_itself [] = tt
-implied_itself (b ∷ bs) = (λ h. h, implied_itself bs)
-
 pub implied_map : {E : Type 0} (f g : E → Bool) → ((x : E) → f x ≡ true → g x ≡ true) → (xs : List E) → Implied (map f xs) (map g xs)
 unfolding Implied
 implied_map f g each [] = tt

@@ -3,7 +3,7 @@ use Rattle.pref_term.proofs.Common.{◌≡◌, ℤ, List, ◌∙◌, arith, bett
 use Rattle.pref_term.specs.OrderLaws.{same_is}
 use Rattle.pref_term.specs.RelationLaws.{priority-better, priority-same, priority-worse, product-better, product-same, scores-better, scores-same, scores-worse}
 
-same_back : (p : Preference) (a b : List ℤ) → same p b a ≡ same p a b
+pub same_back : (p : Preference) (a b : List ℤ) → same p b a ≡ same p a b
 same_back p a b = grind (arith, same_is p a b, same_is p b a)
 
 pub walked_same : (p : Preference) (a b : List ℤ) → is_same (walked p a b) ≡ same p a b

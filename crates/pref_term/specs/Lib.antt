@@ -14,9 +14,9 @@ pub mod Walk
 pub mod RelationLaws
 pub mod Keys
 pub mod Chains
-pub mod ChainOrder
+pub mod Extension
+pub mod LeadingChains
 pub mod Signatures
-pub mod Leading
 pub mod Token
 pub mod Grammar
 pub mod Distinct

@@ -1,6 +1,5 @@
 -- Strict orders of rows, as tests. (Börzsönyi, Kossmann, Stocker 2001)
-use Rattle.std.specs.Prelude.{◌≡◌, ◌<◌, Bool, true, false, ℕ, List, ℤ, All}
-use Rattle.pref_term.specs.Better.{in_same_group}
+use Rattle.std.specs.Prelude.{◌≡◌, Bool, true, false, List, ℤ}
 use Rattle.pref_term.specs.declared.relation.Relation.{Relation}
 use Rattle.pref_term.specs.declared.relation.Relation.TheVariants.{Better, Worse, Same, Neither}
 
@@ -25,12 +24,6 @@ pub record IsRowOrder (order : RowOrder) : Type 0 where
   pub symmetric : (a b : List ℤ) → order.twin a b ≡ true → order.twin b a ≡ true
   pub transitive : (a b c : List ℤ) → order.twin a b ≡ true → order.twin b c ≡ true → order.twin a c ≡ true
   pub alike : (a b : List ℤ) → order.twin a b ≡ true → StandAlike order.over a b
-
--- rows of which one dominates the other, and twins, are equal in each of these columns
-pub record StaysWithin (order : RowOrder) (columns : List ℕ) : Type 0 where
-  pub below : All (λ col. col < 16) columns
-  pub over : (a b : List ℤ) → order.over a b ≡ true → in_same_group columns a b ≡ true
-  pub twin : (a b : List ℤ) → order.twin a b ≡ true → in_same_group columns a b ≡ true
 
 -- what a comparison says of its first row
 abbrev pub is_better : Relation → Bool

@@ -1,27 +1,19 @@
 -- Signatures of rows: bits that say which marks of some scales a row reaches. (this project)
-use Rattle.std.specs.Prelude.{◌≡◌, ◌+◌, ◌^◌, ◌*◌, ◌%◌, ◌==◌, ℕ, ℤ, int_lt, pos, Bool, true, not, List, [], ◌∷◌, map, bit_and, bit_or}
-use Rattle.std.specs.Int.{bit_not, cast_unsigned, from_bool, w64}
+use Rattle.std.specs.Prelude.{◌≡◌, ◌^◌, ◌*◌, ◌%◌, ◌==◌, ℕ, ℤ, int_lt, pos, Bool, true, not, List, [], ◌∷◌, map, bit_and, bit_or, Contains}
+use Rattle.std.specs.Int.{bit_not, from_bool, w64}
 use Rattle.std.specs.List.{flat_map}
-use Rattle.pref_term.specs.Better.{cell}
 use Rattle.pref_term.specs.Keys.{keyed}
 use Rattle.pref_term.specs.Order.{RowOrder}
-use Rattle.pref_term.specs.declared.signature.TheConstants.{GOLDEN}
+use Rattle.pref_term.specs.declared.key.Key.{Key}
 use Rattle.pref_term.specs.declared.signature.scale.Scale.{Scale}
-use Rattle.pref_term.specs.declared.signature.scale.Scale.TheVariants.{Marks, Hashes}
 
--- a hash with one value more mixed into it: their sum, times an odd number near 2^64 over the golden ratio
-abbrev pub hash_with : ℕ → ℤ → ℕ
-hash_with hash value = (hash + cast_unsigned w64 value) % 2 ^ 64 * GOLDEN % 2 ^ 64
+-- its key is one of these
+pub record IsBy (keys : List Key) (scale : Scale) : Type 0 where
+  pub key : Contains keys scale.key
 
--- the column that a scale reads
-abbrev pub scale_column : Scale → ℕ
-scale_column (Marks key marks) = key.col
-scale_column (Hashes col masks) = col
-
--- a row's bits by a scale: for each mark, whether the row's key is no less; for each mask, whether its cell's hash has all of these bits, and whether it has none
+-- a row's bits by a scale: for each mark, whether the row's key is no less
 abbrev pub bits_by : Scale → List ℤ → List Bool
-bits_by (Marks key marks) row = map (λ mark. not (int_lt (keyed key row) (pos mark))) marks.items
-bits_by (Hashes col masks) row = flat_map (λ mask. (bit_and (hash_with 0 (cell row col)) mask == mask) ∷ (bit_and (hash_with 0 (cell row col)) mask == 0) ∷ []) masks.items
+bits_by scale row = map (λ mark. not (int_lt (keyed scale.key row) (pos mark))) scale.marks.items
 
 -- a word with one bit more at its low end; of more than 64 bits the first ones fall out
 abbrev pub with_bit : ℕ → Bool → ℕ

@@ -47,3 +47,8 @@ walked (scored t) a b = by_scores (score t a) (score t b)
 walked (pareto p q) a b = in_product (walked p a b) (walked q a b)
 walked (prior p q) a b = in_priority (walked p a b) (walked q a b)
 walked (reverse p) a b = walked p b a
+
+-- how a preference compares two rows, or its converse where it is turned
+abbrev pub directed : (turned : Bool) → Preference → List ℤ → List ℤ → Relation
+directed false p a b = walked p a b
+directed true p a b = walked p b a

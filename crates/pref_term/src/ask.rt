@@ -2,10 +2,12 @@
 ghost use Rattle.std.specs.Prelude.{◌≡◌, ◌<◌, true, All, IfOk};
 ghost use Rattle.pref_term.specs.Better.{in_same_group};
 
-use crate::chains::Chains;
+use crate::chain::{Chain, Lead};
 use crate::dominance::Dominance;
 use crate::key::Key;
-use crate::keys::{compare_by_keys, in_same_group, is_product, leading_keys};
+use crate::keys::{
+    compare_by_keys, compare_in_chain, in_same_group, is_product, keys_in_order, leading_keys,
+};
 use crate::relation::Relation;
 use crate::signature::{Scales, scales_for};
 use crate::term::Term;
@@ -34,8 +36,10 @@ pub struct Ask {
     keys: Vec<Key>,
     // Whether they are its whole order, without sets: a comparison goes over them then, and not over the term.
     flat: bool,
-    // The chains that the term is, where it is a product of two.
-    chains: Option<Box<Chains>>,
+    // The chains that lead the term.
+    chains: Vec<Chain>,
+    // The keys of the groups and of all base terms, in order and without repeats.
+    in_order: Vec<Key>,
     group: Vec<usize>,
     mode: Mode,
     // Whether of equal rows one is kept.
@@ -43,9 +47,10 @@ pub struct Ask {
 }
 
 impl Model for Ask {
-    ghost use Rattle.std.specs.Prelude.{◌≡◌, false, IfSome};
-    ghost use Rattle.pref_term.specs.Chains.{AreChainsOf};
+    ghost use Rattle.std.specs.Prelude.{◌≡◌, false};
+    ghost use Rattle.pref_term.specs.Extension.{IsShortened, ask_keys};
     ghost use Rattle.pref_term.specs.Keys.{is_product, leading};
+    ghost use Rattle.pref_term.specs.LeadingChains.{Leads};
     ghost use Rattle.pref_term.specs.Preference.{preference_of};
     ghost use Rattle.pref_term.specs.PreferenceCode.{coded_question};
     ghost use Rattle.pref_term.specs.Question.{Question, IsAsk};
@@ -58,7 +63,8 @@ impl Model for Ask {
 
     ghost invariant = { λ a. IsAsk (record { preference = preference_of a.term; group = a.group.items; mode = a.mode; distinct = a.distinct })
         × (a.keys.items ≡ leading (preference_of a.term) false) × (a.flat ≡ is_product (preference_of a.term))
-        × (IfSome a.chains (λ chains. AreChainsOf (preference_of a.term) chains.value)) };
+        × Leads (record { preference = preference_of a.term; group = a.group.items; mode = a.mode; distinct = a.distinct }) a.chains.items
+        × IsShortened (ask_keys (record { preference = preference_of a.term; group = a.group.items; mode = a.mode; distinct = a.distinct })) a.in_order.items };
 }
 
 // By hand, so that letting one go is a call: a derived `drop` is written out, and proved, at each way out of each function that owns one.
@@ -69,6 +75,7 @@ impl Drop for Ask {
             keys: _,
             flat: _,
             chains: _,
+            in_order: _,
             group: _,
             mode: _,
             distinct: _,
@@ -77,12 +84,19 @@ impl Drop for Ask {
 }
 
 impl Ask {
+    ghost use Rattle.std.specs.Prelude.{true};
+    ghost use Rattle.pref_term.specs.AskOrder.{order_of};
     ghost use Rattle.pref_term.specs.Better.{better, same};
+    ghost use Rattle.pref_term.specs.Chains.{by_chain};
+    ghost use Rattle.pref_term.specs.Extension.{ask_keys};
+    ghost use Rattle.pref_term.specs.LeadingChains.{Leads};
     ghost use Rattle.pref_term.specs.Order.{is_better, is_same, is_worse};
     ghost use Rattle.pref_term.specs.Preference.{preference_of};
+    ghost use Rattle.pref_term.specs.Signatures.{Suit};
+    ghost use Rattle.pref_term.specs.declared.relation.Relation.TheVariants.{Neither};
     ghost use Rattle.pref_term.specs.Question.{IsAsk, IsCount, FitsWidth, cut_of};
 
-    /// An ask of these parts. Takes memory for the keys that lead the term and for its chains, once.
+    /// An ask of these parts. Takes memory for its keys and for the chains that lead it, once.
     pub(crate) fn new(
         alloc: Global,
         term: Term,
@@ -95,20 +109,27 @@ impl Ask {
     {
         let keys = leading_keys(alloc, &term)?;
         let flat = is_product(&term);
-        let chains = Chains::of(alloc, &term)?;
-        let chains = match chains {
-            Some(chains) => Some(Box::new(alloc, chains)?),
-            None => None,
-        };
+        let chains = Lead::of(alloc, &term, false)?.chains;
+        let in_order = keys_in_order(alloc, &group, &term)?;
         Ok(Ask {
             term,
             keys,
             flat,
             chains,
+            in_order,
             group,
             mode,
             distinct,
         })
+    }
+
+    /// A copy. Takes memory for all that it holds, and `Err` is out of memory.
+    pub fn copy(&self, alloc: Global) -> Result<Ask, AllocError>
+        ensures { IfOk result (λ copied. copied ≡ self.now) }
+    {
+        let term = self.term.copy(alloc)?;
+        let group = self.group.clone()?;
+        Ask::new(alloc, term, group, self.mode, self.distinct)
     }
 
     /// The term that says which of two rows is better. Its columns are below 16.
@@ -155,6 +176,41 @@ impl Ask {
             Mode::Best => 1,
             Mode::TopLevel(k) | Mode::AtLeast(k) => k,
         }
+    }
+
+    /// The chains that lead the term: where their product sees a difference between two rows of a group, it decides between them. None where
+    /// no product of chains leads it.
+    ///
+    /// `low(a) * low(b)` is a product of two chains. `low(a) & (low(b) * low(c))` is led by the chains `low(a) & low(b)` and
+    /// `low(a) & low(c)`, and `(low(a) * low(b)) & low(c)` by `low(a)` and `low(b)`.
+    pub fn leading_chains(&self) -> &[Chain]
+        ensures { Leads self.now result.now }
+    {
+        self.chains.as_slice()
+    }
+
+    /// How the first row compares with the second one in the order of all keys: by the first column of the group in which the two differ,
+    /// else by the first base term from left to right. A row that dominates another is better in it. The relation is never `Neither`, and
+    /// `Same` just where the rows are of one group and the same to the question. Takes no memory.
+    pub fn compare_in_order(&self, a: &Row, b: &Row) -> Relation
+        ensures value { result ≡ by_chain (ask_keys self.now) a.now b.now }
+        ensures decided { result ≡ Neither → ⊥ }
+    {
+        compare_in_chain(&self.in_order, a, b)
+    }
+
+    /// Whether rows that are signed by these scales can be distinguished by their signatures: a row that dominates another, or is its twin,
+    /// has no bit that the other lacks. So where each scale is by the score of a part that leads the term. Takes no memory.
+    pub fn suits(&self, scales: &Scales) -> bool
+        ensures { result ≡ true → Suit (order_of self.now) scales.now }
+    {
+        scales.suit(&self.keys)
+    }
+
+    /// Scales for rows like these. Any are right where `suits` says so, and good ones distinguish most rows. Takes memory for the list, and
+    /// `Err` is out of memory.
+    pub fn scales(&self, alloc: Global, sample: &[Row]) -> Result<Scales, AllocError> {
+        scales_for(alloc, &self.keys, sample)
     }
 
     /// Compares two rows by the term alone. Inlined where rows are compared, since each of its two ways is a call of its own, with the
@@ -239,23 +295,7 @@ impl Dominance for Ask {
         }
     }
 
-    /// Whether each scale is one of the scores of a part that leads the term, or reads a column of the group. Takes no memory.
-    fn suits(&self, scales: &Scales) -> bool {
-        scales.suit(&self.keys, &self.group)
-    }
-
-    fn scales(&self, alloc: Global, sample: &[Row]) -> Result<Scales, AllocError> {
-        scales_for(alloc, &self.keys, &self.group, sample)
-    }
-
-    fn groups(&self) -> &[usize] {
-        self.group()
-    }
-
-    fn chains(&self) -> Option<(&[usize], &Chains, bool)> {
-        match &self.chains {
-            Some(chains) => Some((self.group(), &**chains, self.distinct)),
-            None => None,
-        }
+    fn question(&self) -> Option<&Ask> {
+        Some(self)
     }
 }

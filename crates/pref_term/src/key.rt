@@ -1,9 +1,11 @@
 //! Keys: a number without sign for each row, by which a base term or its converse ranks rows. Less is better.
-ghost use Rattle.std.specs.Prelude.{◌≡◌, ◌<◌, ◌+ℤ◌, ◌-ℤ◌, ◌^◌, IfOk, pos, true};
+ghost use Rattle.std.specs.Prelude.{◌≡◌, ◌<◌, ◌+ℤ◌, ◌-ℤ◌, ◌^◌, IfOk, List, ℤ, false, pos, true};
 ghost use Rattle.std.specs.List.{list_any};
 ghost use Rattle.std.specs.Ordering.{int_eq};
 ghost use Rattle.pref_term.specs.Better.{outside, sets_before};
-ghost use Rattle.pref_term.specs.Keys.{by_key, from_zero, is_number, keyed};
+ghost use Rattle.pref_term.specs.Keys.{by_key, from_zero, is_number, key_for, keyed};
+ghost use Rattle.pref_term.specs.Order.{is_same};
+ghost use Rattle.pref_term.specs.Preference.{low};
 ghost use Rattle.pref_term.specs.Walk.{by_sides};
 
 use crate::relation::Relation;
@@ -107,7 +109,7 @@ impl Score {
 impl Key {
     /// The values of a column, where smaller ones are better.
     pub(crate) fn of_column(col: usize) -> Key
-        ensures { result.col ≡ col }
+        ensures { result ≡ key_for (low col) false }
     {
         Key {
             col,
@@ -158,9 +160,23 @@ impl Key {
     {
         match self.score {
             Score::Value => self.sides_by_value(a, b),
-            Score::Distance { .. } => self.sides(a, b),
+            Score::Distance { .. } => self.sides_by_key(a, b),
             Score::Sets(_) => unreachable!(),
         }
+    }
+
+    /// Whether the first row is better and whether the second is, by their keys. Equal cells have the same key, which is not computed then.
+    #[inline(always)]
+    fn sides_by_key(&self, a: &Row, b: &Row) -> (bool, bool)
+        requires { self.now.col < 16 }
+        ensures { by_sides result.0 result.1 ≡ by_key self.now a.now b.now }
+    {
+        if a.cell(self.col) == b.cell(self.col) {
+            return (false, false);
+        }
+        let first = self.of(a);
+        let second = self.of(b);
+        (first < second, second < first)
     }
 
     /// Whether the first row is better and whether the second is.
@@ -169,9 +185,10 @@ impl Key {
         requires { self.now.col < 16 }
         ensures { by_sides result.0 result.1 ≡ by_key self.now a.now b.now }
     {
-        let first = self.of(a);
-        let second = self.of(b);
-        (first < second, second < first)
+        match self.score {
+            Score::Value => self.sides_by_value(a, b),
+            _ => self.sides_by_key(a, b),
+        }
     }
 
     /// How the first row compares with the second one.
@@ -182,6 +199,13 @@ impl Key {
     {
         let (better, worse) = self.sides(a, b);
         Relation::by_sides(better, worse)
+    }
+
+    /// Whether both score the same column alike, in either direction.
+    pub(crate) fn ranks_as(&self, other: &Key) -> bool
+        ensures { result ≡ true → (a b : List ℤ) → is_same (by_key self.now a b) ≡ is_same (by_key other.now a b) }
+    {
+        self.col == other.col && self.score == other.score
     }
 
     /// A copy of the key. Takes memory for its sets.

@@ -1,9 +1,13 @@
 //! The keys that lead a term, and the order of a term whose leading keys are all that it has: a product of base terms without sets and of
 //! their converses.
-ghost use Rattle.std.specs.Prelude.{◌≡◌, ◌<◌, ◌++◌, false, true, All, Contains, IfOk, OnOk};
+ghost use Rattle.std.specs.Prelude.{◌≡◌, ◌<◌, ◌++◌, false, true, All, Contains, List, ℤ, IfOk, OnOk};
 ghost use Rattle.pref_term.specs.Better.{in_same_group};
-ghost use Rattle.pref_term.specs.Keys.{by_keys, is_number, is_product, leading};
+ghost use Rattle.pref_term.specs.Chains.{AreInRow, by_chain};
+ghost use Rattle.pref_term.specs.Extension.{IsShortened, all_keys, group_keys};
+ghost use Rattle.pref_term.specs.Keys.{by_key, by_keys, is_number, is_product, leading};
+ghost use Rattle.pref_term.specs.Order.{is_same};
 ghost use Rattle.pref_term.specs.Preference.{preference_of};
+ghost use Rattle.pref_term.specs.declared.relation.Relation.TheVariants.{Neither};
 
 use crate::key::{Key, Score};
 use crate::relation::Relation;
@@ -46,6 +50,90 @@ pub(crate) fn push_leading(
     };
     keys.push(Key { col, score, turned })?;
     Ok(())
+}
+
+/// Puts all keys of a term behind these, or those of its converse.
+pub(crate) fn push_all(
+    alloc: Global,
+    keys: &mut Vec<Key>,
+    term: &Term,
+    turned: bool,
+) -> Result<(), AllocError>
+    ensures { OnOk result (keys.new.items ≡ keys.old.items ++ all_keys (preference_of term.now) turned) }
+{
+    match term {
+        Term::Pareto(p, q) | Term::Prior(p, q) => {
+            push_all(alloc, keys, p, turned)?;
+            push_all(alloc, keys, q, turned)
+        }
+        Term::Reverse(p) => push_all(alloc, keys, p, !turned),
+        _ => push_leading(alloc, keys, term, turned),
+    }
+}
+
+/// Puts copies of these keys behind others.
+pub(crate) fn push_copies(
+    alloc: Global,
+    keys: &mut Vec<Key>,
+    others: &[Key],
+) -> Result<(), AllocError>
+    ensures { OnOk result (keys.new.items ≡ keys.old.items ++ others.now) }
+{
+    for other in others {
+        keys.push(other.copy(alloc)?)?;
+    }
+    Ok(())
+}
+
+/// A key for each of these columns, where smaller values come first.
+fn group_keys(alloc: Global, columns: &[usize]) -> Result<Vec<Key>, AllocError>
+    ensures { IfOk result (λ keys. keys.items ≡ group_keys columns.now) }
+{
+    let mut keys = Vec::new(alloc);
+    for col in columns {
+        keys.push(Key::of_column(*col))?;
+    }
+    Ok(keys)
+}
+
+/// Whether one of the keys scores the same column alike, in either direction: so this one sees no difference between rows that are the same
+/// in all of them.
+fn is_ranked(keys: &[Key], key: &Key) -> bool
+    ensures { result ≡ true → (a b : List ℤ) → is_same (by_chain keys.now a b) ≡ true → is_same (by_key key.now a b) ≡ true }
+{
+    for before in keys {
+        if before.ranks_as(key) {
+            return true;
+        }
+    }
+    false
+}
+
+/// The keys without those that see no difference where the ones before them see none.
+fn without_repeats(alloc: Global, keys: Vec<Key>) -> Result<Vec<Key>, AllocError>
+    ensures { IfOk result (λ kept. IsShortened keys.items kept.items) }
+{
+    let mut kept = Vec::new(alloc);
+    for key in keys {
+        if !is_ranked(&kept, &key) {
+            kept.push(key)?;
+        }
+    }
+    Ok(kept)
+}
+
+/// The keys of a question with this term in the groups of these columns, without repeats: what dominates a row is better in the first of
+/// them in which the two differ. Takes memory for the lists and for the sets.
+pub(crate) fn keys_in_order(
+    alloc: Global,
+    group: &[usize],
+    term: &Term,
+) -> Result<Vec<Key>, AllocError>
+    ensures { IfOk result (λ keys. IsShortened (group_keys group.now ++ all_keys (preference_of term.now) false) keys.items) }
+{
+    let mut keys = group_keys(alloc, group)?;
+    push_all(alloc, &mut keys, term, false)?;
+    without_repeats(alloc, keys)
 }
 
 /// Whether this is one of the keys.
@@ -102,4 +190,19 @@ pub(crate) fn compare_by_keys(keys: &[Key], a: &Row, b: &Row) -> Relation
         }
     }
     Relation::by_sides(better, worse)
+}
+
+/// By the first of these keys in which the rows differ. Takes no memory.
+pub(crate) fn compare_in_chain(keys: &[Key], a: &Row, b: &Row) -> Relation
+    requires { AreInRow keys.now }
+    ensures value { result ≡ by_chain keys.now a.now b.now }
+    ensures decided { result ≡ Neither → ⊥ }
+{
+    for key in keys {
+        match key.compare(a, b) {
+            Relation::Same => {}
+            decided => return decided,
+        }
+    }
+    Relation::Same
 }

@@ -1,16 +1,21 @@
 //! Laws of question texts, and of equality.
-ghost use Rattle.std.specs.Prelude.{◌≡◌, ◌≤◌, ℕ, List, [], ◌∷◌, length, true, false, MatchResult, Ok, Err, codes};
+ghost use Rattle.std.specs.Prelude.{◌≡◌, ◌≤◌, ◌&&◌, ℕ, ℤ, List, [], ◌∷◌, length, true, false, MatchResult, Ok, Err, codes};
 ghost use Rattle.std.specs.Bool.{Decides};
 ghost use Rattle.std.specs.List.{AllByRecursion};
 ghost use Rattle.pref_table.specs.Names.{schema_of};
 ghost use Rattle.pref_term.specs.Equal.{preference_eq, question_eq};
-ghost use Rattle.pref_term.specs.Question.{Question, IsAsk, FitsWidth};
+ghost use Rattle.pref_term.specs.Question.{Question, IsAsk, FitsWidth, alike};
 ghost use Rattle.pref_term.specs.Shown.{shown, nests, IsShownAs, worked_names};
 ghost use Rattle.pref_term.specs.Grammar.{AskText, IsText, ask_leaves};
 ghost use Rattle.pref_term.specs.Spells.{Names, Spells, Faults, IsGood, question, tokens_in, tokens_on};
 ghost use Rattle.pref_term.specs.Token.{tokens_of};
 ghost use Rattle.pref_term.specs.Asked.{asked};
-ghost use Rattle.pref_term.specs.Preference.{Preference, scored, low};
+ghost use Rattle.pref_term.specs.AskOrder.{order_of};
+ghost use Rattle.pref_term.specs.Chains.{AreInRow, by_chain};
+ghost use Rattle.pref_term.specs.Extension.{all_keys, ask_keys};
+ghost use Rattle.pref_term.specs.Keys.{key_for};
+ghost use Rattle.pref_term.specs.Order.{StandAlike, is_better, is_same, is_worse};
+ghost use Rattle.pref_term.specs.Preference.{Preference, scored, low, high, pareto, prior, reverse};
 ghost use Rattle.pref_term.specs.declared.fault.TermFault.{TermFault};
 ghost use Rattle.pref_term.specs.declared.ask.Mode.TheVariants.{Best as best};
 ghost use Rattle.pref_term.specs.declared.fault.TermFault.TheVariants.{Unexpected as unexpected, UnknownColumn as unknown_column, NoMinOrMax as no_min_or_max};
@@ -42,6 +47,23 @@ pub fn shown_is_read_again()
 pub fn equal_where_the_same_is_seen()
     ensures terms { (p q : Preference) → Decides (preference_eq p q) (p ≡ q) }
     ensures asks { (p q : Question) → Decides (question_eq p q) (p ≡ q) }
+{}
+
+/// All keys of a preference, by an example.
+pub fn worked_keys()
+    ensures { all_keys (reverse (pareto (scored (low 0)) (reverse (prior (scored (high 1)) (scored (low 2)))))) false
+        ≡ key_for (low 0) true ∷ key_for (high 1) false ∷ key_for (low 2) false ∷ [] }
+{}
+
+/// The chain of the keys of an ask extends its order: what dominates is better by the chain, so no row dominates one that the
+/// chain puts before it. Rows that are the same by it are just those of one group that are the same.
+pub fn ask_keys_extend_an_ask()
+    ensures extended { (q : Question) (a b : List ℤ) → (order_of q).over a b ≡ true → is_better (by_chain (ask_keys q) a b) ≡ true }
+    ensures worse { (q : Question) (a b : List ℤ) → (order_of q).over b a ≡ true → is_worse (by_chain (ask_keys q) a b) ≡ true }
+    ensures same { (q : Question) (a b : List ℤ) → is_same (by_chain (ask_keys q) a b) ≡ alike q a b }
+    ensures stand_alike { (q : Question) (a b : List ℤ) → is_same (by_chain (ask_keys q) a b) ≡ true → StandAlike (order_of q).over a b }
+    ensures twins { (q : Question) → IsAsk q → (a b : List ℤ) → (order_of q).twin a b ≡ (q.distinct && is_same (by_chain (ask_keys q) a b)) }
+    ensures in_row { (q : Question) → IsAsk q → AreInRow (ask_keys q) }
 {}
 
 /// A text whose tokens are exactly those of a tree of the grammar without `distinct` spells the ask of that tree, in which

@@ -5,7 +5,7 @@
 #![tactic(auto)]
 
 mod ask;
-mod chains;
+mod chain;
 mod cursor;
 mod dominance;
 mod fault;
@@ -23,13 +23,13 @@ mod token;
 mod walk;
 
 pub use ask::{Ask, Mode};
-pub use chains::Chains;
+pub use chain::Chain;
 pub use dominance::Dominance;
 pub use fault::TermFault;
 pub use keys::in_same_group;
 pub use read::read_ask;
 pub use relation::Relation;
 pub use shown::show;
-pub use signature::{Scales, hash_with, is_within};
+pub use signature::{Scales, is_within};
 pub use term::{NumberSets, Numbers, Term};
 pub use walk::{better, compare, same};

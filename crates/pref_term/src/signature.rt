@@ -1,7 +1,6 @@
 //! Signatures of rows: a word for each row, by which most pairs are distinguished without a comparison.
 //!
-//! Each bit says whether the row reaches a mark of a scale, by the score of a base term, or is by the hash of a cell of its group. A row that
-//! dominates another reaches no mark that the other does not reach, whatever the marks are: so where a bit of the first is missing in
+//! Each bit says whether the row reaches a mark of a scale, by the score of a base term. A row that dominates another reaches no mark that the other does not reach, whatever the marks are: so where a bit of the first is missing in
 //! the second, the first does not dominate the second.
 //!
 //! ```text
@@ -15,7 +14,7 @@
 //!
 //! Each has a bit that the other lacks, so neither dominates the other, and their cells are not looked at.
 ghost use Rattle.std.specs.Prelude.{◌≡◌};
-ghost use Rattle.pref_term.specs.Signatures.{is_within, hash_with};
+ghost use Rattle.pref_term.specs.Signatures.{is_within};
 
 mod choose;
 mod scale;
@@ -24,21 +23,8 @@ mod scales;
 pub(crate) use choose::scales_for;
 pub use scales::Scales;
 
-/// 2^64 divided by the golden ratio, to the nearest odd number.
-const GOLDEN: u64 = 0x9E37_79B9_7F4A_7C15;
-
-/// A hash with one value more mixed into it. The hash of no values is 0. The upper bits distinguish what was mixed in best:
-/// those of consecutive values are far apart.
-#[inline(always)]
-pub fn hash_with(hash: u64, value: i64) -> u64
-    ensures { result ≡ hash_with hash value }
-{
-    hash.wrapping_add(value.cast_unsigned())
-        .wrapping_mul(GOLDEN)
-}
-
 /// Whether the second signature has each bit that the first one has. If not, the first row neither dominates the second
-/// nor is its twin, by any order that the scales of both suit ([`Dominance::suits`](crate::Dominance::suits)).
+/// nor is its twin, by any order that the scales of both suit ([`Ask::suits`](crate::Ask::suits)).
 #[inline(always)]
 pub fn is_within(a: u64, b: u64) -> bool
     ensures { result ≡ is_within a b }

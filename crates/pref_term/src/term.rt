@@ -147,6 +147,48 @@ pub enum Term {
     Reverse(Box<Term>),
 }
 
+impl Term {
+    ghost use Rattle.pref_term.specs.Preference.{preference_of};
+
+    /// A copy. Takes memory for its parts and for their sets.
+    pub(crate) fn copy(&self, alloc: Global) -> Result<Term, AllocError>
+        ensures { IfOk result (λ copied. preference_of copied ≡ preference_of self.now) }
+    {
+        match self {
+            Term::Low { col } => Ok(Term::Low { col: *col }),
+            Term::High { col } => Ok(Term::High { col: *col }),
+            Term::Around { col, centre } => Ok(Term::Around {
+                col: *col,
+                centre: *centre,
+            }),
+            Term::Between { col, left, right } => Ok(Term::Between {
+                col: *col,
+                left: *left,
+                right: *right,
+            }),
+            Term::Pos { col, set } => Ok(Term::Pos {
+                col: *col,
+                set: set.copy()?,
+            }),
+            Term::Layered { col, sets } => Ok(Term::Layered {
+                col: *col,
+                sets: sets.copy(alloc)?,
+            }),
+            Term::Pareto(p, q) => {
+                let p = Box::new(alloc, p.copy(alloc)?)?;
+                let q = Box::new(alloc, q.copy(alloc)?)?;
+                Ok(Term::Pareto(p, q))
+            }
+            Term::Prior(p, q) => {
+                let p = Box::new(alloc, p.copy(alloc)?)?;
+                let q = Box::new(alloc, q.copy(alloc)?)?;
+                Ok(Term::Prior(p, q))
+            }
+            Term::Reverse(p) => Ok(Term::Reverse(Box::new(alloc, p.copy(alloc)?)?)),
+        }
+    }
+}
+
 impl PartialEq for Term {
     ghost use Rattle.std.specs.Cmp.{partial_equiv_from_equiv};
     ghost use Rattle.std.specs.Ordering.{on};

@@ -1,82 +1,80 @@
-//! A level of one group.
+//! What a sweep keeps of one level.
 
-use super::order::{Order, Shape};
-use super::pool::{Place, Pool};
+use super::lead::Lead;
+use super::question::{Held, Question};
+use super::signatures::{may_dominate, Signature};
 use crate::table::Row;
+use crate::term::{BETTER, WORSE};
 
-/// A row on its way to its level: the signature or first score, and the place.
+/// A row, by its signature and its place.
 #[derive(Clone, Copy)]
 pub struct Item {
-    pub key: u64,
-    pub place: Place,
+    pub signature: Signature,
+    pub place: usize,
 }
 
-/// What a new row finds at a level.
-pub enum Found {
-    /// A held row dominates it, and on a line as many classes as levels are wanted.
-    Dominated,
-    /// This held row is the same.
-    Same(Place),
-    /// Neither, so it belongs to this level or to one above.
-    Neither,
-}
-
-impl Found {
-    #[inline(always)]
-    pub fn settles(&self) -> bool {
-        !matches!(self, Found::Neither)
-    }
-}
-
-/// One row of each class, the keys side by side and the places. On a line it is all levels of the group.
 #[derive(Default)]
 pub struct Level {
-    pub keys: Vec<u64>,
-    pub places: Vec<Place>,
-    /// On stairs: where the row that dominated a new one last stands, as far as nothing moved since.
-    pub lately: usize,
+    /// Places of the rows that are best so far in the second and third chain, in the order of the second.
+    steps: Vec<usize>,
+    /// Rows that are the same in all leading chains as the last one: those that were of this level at the last sweep ..
+    pub old: Vec<Item>,
+    /// .. and those that came to it since.
+    pub fresh: Vec<Item>,
+}
+
+/// Whether one of these dominates a row. The one that does comes sooner the next time.
+#[inline(always)]
+pub fn is_under(question: &Question, rows: &[Held], items: &mut [Item], row: &Row, signature: Signature) -> bool {
+    for i in 0..items.len() {
+        let Item { signature: other, place } = items[i];
+        if may_dominate(other, signature) && question.is_over(&rows[place].row, row) {
+            items.swap(i / 2, i);
+            return true;
+        }
+    }
+    false
 }
 
 impl Level {
-    #[inline(always)]
-    pub fn item(&self, i: usize) -> Item {
-        Item { key: self.keys[i], place: self.places[i] }
+    /// Forgets all rows, at a new group.
+    pub fn clear(&mut self) {
+        self.steps.clear();
+        self.leave_class();
     }
 
-    #[inline(always)]
-    pub fn push(&mut self, item: Item) {
-        self.keys.push(item.key);
-        self.places.push(item.place);
+    /// Forgets the rows that are the same in all leading chains.
+    pub fn leave_class(&mut self) {
+        self.old.clear();
+        self.fresh.clear();
     }
 
-    /// Whether one of a few rows, which cost little to ask, settles what becomes of a new row.
+    /// Whether a step dominates a row: the last one that is no worse in the second chain stands for all.
     #[inline(always)]
-    pub fn meet_few(&mut self, order: &Order, pool: &Pool, row: &Row) -> Found {
-        match order.shape {
-            Shape::Unordered => self.meet_first_rows(order, pool, row),
-            Shape::Stairs => self.meet_lately_over(order, pool, row),
-            Shape::Line => Found::Neither,
+    pub fn has_step_over(&self, question: &Question, lead: &Lead, rows: &[Held], row: &Row) -> bool {
+        let count = match self.steps.len() {
+            1 => 1,
+            _ => self.steps.partition_point(|&step| lead.relation(1, &rows[step].row, row) != WORSE),
+        };
+        count > 0 && question.is_over(&rows[self.steps[count - 1]].row, row)
+    }
+
+    /// Puts a row among the steps, and takes out those that are no better in the second and third chain.
+    pub fn put_step(&mut self, lead: &Lead, rows: &[Held], place: usize) {
+        if lead.chains.len() < 3 {
+            self.steps.clear();
+            self.steps.push(place);
+            return;
         }
-    }
-
-    /// What a new row finds here. It's never both: rows of a level do not dominate one another.
-    #[inline(always)]
-    pub fn meet(&mut self, order: &Order, pool: &Pool, key: u64, row: &Row) -> Found {
-        match order.shape {
-            Shape::Unordered => self.meet_by_signature(order, pool, key, row),
-            Shape::Stairs => self.meet_on_stairs(order, pool, key, row),
-            Shape::Line => self.meet_on_line(order, pool, key, row),
-        }
-    }
-
-    /// Takes in rows that no held one dominates. What goes down to the next level, or out, is added to `down`.
-    pub fn take_in(&mut self, order: &Order, window: usize, pool: &mut Pool, coming: Vec<Item>, down: &mut Vec<Item>) {
-        if order.shape == Shape::Unordered {
-            return self.take_in_by_window(order, window, pool, coming, down);
-        }
-        self.merge(order, pool, coming, down);
-        if order.shape == Shape::Line {
-            self.cut_off(order, down);
+        let row = &rows[place].row;
+        let from = self.steps.partition_point(|&step| lead.relation(1, &rows[step].row, row) == BETTER);
+        let no_better = |step: &&usize| lead.relation(2, &rows[**step].row, row) != BETTER;
+        let to = from + self.steps[from..].iter().take_while(no_better).count();
+        if from == to {
+            self.steps.insert(from, place);
+        } else {
+            self.steps[from] = place;
+            self.steps.drain(from + 1..to);
         }
     }
 }

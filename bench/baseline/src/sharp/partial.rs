@@ -1,211 +1,121 @@
-//! The partial result: the wanted levels of each group, of all blocks so far.
+//! The partial result: rows in order with their levels, and those that came since.
 
-use super::groups::Groups;
-use super::level::{Found, Item, Level};
-use super::order::{Order, Shape};
-use super::pool::{Place, Pool};
+use super::filter::{Filter, Met};
+use super::lead::Lead;
+use super::question::{Held, Question, CLEAR, NEW};
+use super::sweep::find_levels;
 use crate::core::Version;
 use crate::sky::Ranked;
-use crate::table::Row;
-use crate::term::Ask;
+use crate::term::{Ask, Mode};
 
-/// How many rows marks are taken from at most, and how many of the first block are added at once.
-const SAMPLE: usize = 128;
-/// How many rows of a block are added at once.
-const PIECE: usize = 1024;
-/// Marks are taken anew where so many more rows are held, and one more of eight.
-const MANY: usize = 1024;
-const GROWTH: usize = 8;
-
-/// A new row, the group it is of, and the first level that does not dominate it.
-struct Waiting {
-    group: u32,
-    level: u32,
-    item: Item,
-}
+/// There is a sweep when so many times as many rows came as are held, and so many more.
+const GROWTH: usize = 2;
+const MANY: usize = 64;
 
 /// A partial result of one question.
 pub struct Partial {
-    order: Order,
-    /// How many rows a group is to hold on average before marks are taken anew.
-    enough: usize,
-    pool: Pool,
-    numbers: Groups,
-    groups: Vec<Vec<Level>>,
-    waiting: Vec<Waiting>,
-}
-
-/// What becomes of a new row.
-enum Fate {
-    /// A row of the last wanted level dominates it.
-    Dropped,
-    /// It is the same as this held row.
-    Same(Place),
-    /// It waits for this level, with this signature or first score.
-    Waits { level: usize, key: u64 },
-}
-
-/// Compares a new row with the last level, and finds its level by halves among those before.
-#[inline(always)]
-fn fate(levels: &mut [Level], order: &Order, pool: &Pool, row: &Row) -> Fate {
-    let (mut low, mut high) = (0, levels.len());
-    let all_there = high == order.depth;
-    if all_there {
-        match levels[high - 1].meet_few(order, pool, row) {
-            Found::Dominated => return Fate::Dropped,
-            Found::Same(place) => return Fate::Same(place),
-            Found::Neither => {}
-        }
-    }
-    let key = order.key(row);
-    if all_there {
-        // most rows end at the last level
-        high -= 1;
-        match levels[high].meet(order, pool, key, row) {
-            Found::Dominated => return Fate::Dropped,
-            Found::Same(place) => return Fate::Same(place),
-            Found::Neither => {}
-        }
-    }
-    while low < high {
-        let middle = (low + high) / 2;
-        match levels[middle].meet(order, pool, key, row) {
-            Found::Dominated => low = middle + 1,
-            Found::Same(place) => return Fate::Same(place),
-            Found::Neither => high = middle,
-        }
-    }
-    Fate::Waits { level: low, key }
+    question: Question,
+    rows: Vec<Held>,
+    recent: Vec<Held>,
+    filter: Filter,
 }
 
 impl Partial {
     /// That of no row.
     pub fn new(ask: &Ask) -> Partial {
-        Partial {
-            order: Order::new(ask),
-            enough: 0,
-            pool: Pool::default(),
-            numbers: Groups::new(&ask.group),
-            groups: Vec::new(),
-            waiting: Vec::new(),
-        }
+        let question = Question::new(ask);
+        let filter = Filter::new(&question);
+        Partial { question, rows: Vec::new(), recent: Vec::new(), filter }
     }
 
-    /// Adds the rows of a block, in pieces.
-    pub fn add<'a>(&mut self, window: usize, mut block: impl Iterator<Item = &'a Version> + Clone) {
-        self.learn(block.clone());
-        // at first few, so that most of the first block too meets held rows
-        let mut most = if self.groups.is_empty() { SAMPLE } else { PIECE };
-        while self.add_piece(window, &mut block, most) == most {
-            most = PIECE;
-            self.learn(std::iter::empty());
-        }
-    }
-
-    /// Adds at most so many of the rows; gives how many there were.
-    fn add_piece<'a>(&mut self, window: usize, rows: &mut impl Iterator<Item = &'a Version>, most: usize) -> usize {
-        let mut added = 0;
-        for version in rows.take(most) {
-            self.look(version);
-            added += 1;
-        }
-        let mut waiting = std::mem::take(&mut self.waiting);
-        if self.order.depth > 1 || self.groups.len() > 1 {
-            waiting.sort_unstable_by_key(|w| (w.group, w.level));
-        }
-        for of_group in waiting.chunk_by(|v, w| v.group == w.group) {
-            self.settle(window, of_group);
-        }
-        waiting.clear();
-        self.waiting = waiting;
-        added
-    }
-
-    /// Takes marks from a sample of the held rows and the block where they are due, so that rows that come late differ too. Then
-    /// all signatures are made anew.
-    fn learn<'a>(&mut self, block: impl Iterator<Item = &'a Version> + Clone) {
-        let held = self.pool.held();
-        let average = held / self.groups.len().max(1);
-        if self.order.shape != Shape::Unordered || average < self.enough {
-            return;
-        }
-        let all = self.groups.iter().flatten().flat_map(|level| &level.places).map(|&p| self.pool.row(p));
-        let new = block.clone().count();
-        let sample: Vec<&Row> = all.step_by(held / SAMPLE + 1).chain(block.step_by(new / SAMPLE + 1).map(|v| &v.row)).take(SAMPLE).collect();
-        if sample.is_empty() {
-            return;
-        }
-        self.enough = if sample.len() < SAMPLE / 2 { 2 * sample.len() } else { average + average / GROWTH + MANY };
-        self.order.learn(sample);
-        for level in self.groups.iter_mut().flatten() {
-            for (key, &place) in level.keys.iter_mut().zip(&level.places) {
-                *key = self.order.key(self.pool.row(place));
+    /// Adds the rows of a block.
+    pub fn add<'a>(&mut self, _window: usize, block: impl Iterator<Item = &'a Version>) {
+        for version in block {
+            let level = match self.filter.meet(&self.question, &self.rows, &version.row) {
+                Met::Dominated => continue,
+                Met::Clear => CLEAR,
+                Met::Open => NEW,
+            };
+            self.recent.push(Held { id: version.id, row: version.row, level });
+            if self.recent.len() >= GROWTH * self.rows.len() + MANY {
+                self.prune();
             }
         }
     }
 
-    /// Drops a new row, or joins it to its class, or keeps it until its level takes it in.
-    fn look(&mut self, version: &Version) {
-        let group = self.numbers.number(&version.row);
-        if group == self.groups.len() {
-            self.groups.push(Vec::new());
+    /// Puts the recent rows among the others, from the last one on: both lists are in order, and so is the one that they become.
+    fn merge(&mut self) {
+        let Partial { question, rows, recent, .. } = self;
+        question.sort(recent);
+        let Some(last) = recent.last() else { return };
+        let mut end = rows.len();
+        rows.resize(end + recent.len(), *last);
+        let mut to = rows.len();
+        for held in recent.iter().rev() {
+            let from = count_before(question, &rows[..end], held);
+            to -= end - from;
+            rows.copy_within(from..end, to);
+            end = from;
+            to -= 1;
+            rows[to] = *held;
         }
-        match fate(&mut self.groups[group], &self.order, &self.pool, &version.row) {
-            Fate::Dropped => {}
-            Fate::Same(held) => {
-                let place = self.pool.keep(version);
-                self.pool.join(held, place);
-            }
-            Fate::Waits { level, key } => {
-                let item = Item { key, place: self.pool.keep(version) };
-                self.waiting.push(Waiting { group: group as u32, level: level as u32, item });
-            }
-        }
+        recent.clear();
     }
 
-    /// Takes in the waiting rows of one group, which are in order of level. What a level gives up comes down to the next.
-    fn settle(&mut self, window: usize, mut waiting: &[Waiting]) {
-        let depth = self.order.depth;
-        let levels = &mut self.groups[waiting[0].group as usize];
-        let mut down: Vec<Item> = Vec::new();
-        let mut level = 0;
-        while level < depth && !(down.is_empty() && waiting.is_empty()) {
-            if down.is_empty() {
-                level = waiting[0].level as usize;
-            }
-            let count = waiting.iter().take_while(|w| w.level as usize == level).count();
-            let mut coming = std::mem::take(&mut down);
-            coming.extend(waiting[..count].iter().map(|w| w.item));
-            waiting = &waiting[count..];
-            if level == levels.len() {
-                levels.reserve_exact(1);
-                levels.push(Level::default());
-            }
-            levels[level].take_in(&self.order, window, &mut self.pool, coming, &mut down);
-            level += 1;
-        }
-        for item in down {
-            self.pool.give_back(item.place);
-        }
+    /// Merges the recent rows with the others, and drops those that are of no wanted level.
+    fn prune(&mut self) {
+        self.merge();
+        let lead = Lead::of(&self.question, &self.rows);
+        find_levels(&self.question, &lead, &mut self.rows);
+        let depth = self.question.depth as u32;
+        self.rows.retain(|held| held.level < depth);
+        self.filter.renew(&self.question, lead, &self.rows);
     }
 
-    /// The wanted levels of all groups, by level and then by id.
-    pub fn answer(self) -> Vec<Ranked> {
-        let mut found: Vec<(u32, u64, Place)> = Vec::new();
-        // on a line each class is a level
-        let classes = if self.order.shape == Shape::Line { 1 } else { usize::MAX };
-        for levels in &self.groups {
-            let start = found.len();
-            let of_group = levels.iter().flat_map(|level| level.places.chunks(classes));
-            for (level, places) in (1..).zip(of_group) {
-                if self.order.is_enough(found.len() - start) {
-                    break;
-                }
-                let rows = places.iter().flat_map(|&p| self.pool.class(p));
-                found.extend(rows.map(|place| (level, self.pool.id(place), place)));
-            }
+    /// The rows of the answer, by level and then by id.
+    pub fn answer(mut self) -> Vec<Ranked> {
+        if !self.recent.is_empty() {
+            self.prune();
         }
-        found.sort_unstable();
-        found.iter().map(|&(level, _, place)| self.pool.ranked(level, place)).collect()
+        if let Mode::AtLeast(k) = self.question.ask.mode {
+            self.keep_at_least(k as usize);
+        }
+        self.rows.sort_unstable_by_key(|held| (held.level, held.id));
+        self.rows.iter().map(|held| Ranked { level: held.level + 1, id: held.id, row: held.row }).collect()
     }
+
+    /// Keeps of each group the first levels that hold so many rows together.
+    fn keep_at_least(&mut self, k: usize) {
+        let Partial { question, rows, .. } = self;
+        let mut kept = Vec::with_capacity(rows.len());
+        for group in rows.chunk_by(|a, b| question.in_same_group(&a.row, &b.row)) {
+            let mut counts = vec![0; question.depth];
+            group.iter().for_each(|held| counts[held.level as usize] += 1);
+            let mut before = 0;
+            let levels = counts.iter().take_while(|&&count| {
+                let wanted = before < k;
+                before += count;
+                wanted
+            });
+            let levels = levels.count() as u32;
+            kept.extend(group.iter().filter(|held| held.level < levels));
+        }
+        *rows = kept;
+    }
+}
+
+/// How many of these rows come before another: by doubling steps from the last one, and then by halves.
+#[inline(always)]
+fn count_before(question: &Question, rows: &[Held], held: &Held) -> usize {
+    let is_before = |other: &Held| question.compare(other, held).is_lt();
+    let (mut low, mut high, mut step) = (0, rows.len(), 1);
+    while step <= high {
+        if is_before(&rows[high - step]) {
+            low = high - step + 1;
+            break;
+        }
+        high -= step;
+        step *= 2;
+    }
+    low + rows[low..high].partition_point(is_before)
 }

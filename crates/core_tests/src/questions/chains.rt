@@ -1,52 +1,63 @@
-//! Questions that are products of two chains, perhaps with a tie, of which a plain chain is one.
+//! The chains that lead questions, and the order of all keys.
+ghost use Rattle.std.specs.Prelude.{All};
+ghost use Rattle.pref_term.specs.Chains.{AreInRow};
+
 use super::signatures::small_rows;
-use super::{XY, ask_over, row_over};
+use super::{X, XY, ask_over, row_over};
 use crate::same::assert_same;
 use pref_table::Row;
-use pref_term::{Ask, Dominance, Relation, in_same_group};
+use pref_term::{Ask, Chain, Dominance, Relation, in_same_group};
 use std::alloc::Global;
 use std::process::Abort;
 use std::test::Fail;
 
-/// Questions, and whether they are no product of two chains (`None`), one chain, or two.
-const QUESTIONS: [(&str, Option<bool>); 16] = [
-    ("best low(x)", Some(true)),
-    ("best -pos(x, 0) & low(y) & high(x)", Some(true)),
-    ("best low(x) & -(high(y) & low(x))", Some(true)),
-    ("best low(x) by y", Some(true)),
-    ("best low(x) * high(y)", Some(false)),
-    ("best -(low(x) * layered(y, {0}, {1}))", Some(false)),
+/// Questions, how many chains lead them, and whether their product is all that the question says.
+const QUESTIONS: [(&str, usize, bool); 21] = [
+    ("best low(x)", 1, true),
+    ("best -pos(x, 0) & low(y) & high(x)", 1, true),
+    ("best low(x) & -(high(y) & low(x))", 1, true),
+    ("best low(x) by y", 1, true),
+    ("best low(x) * high(y)", 2, true),
+    ("best -(low(x) * layered(y, {0}, {1}))", 2, true),
+    ("best (low(x) & low(y)) * (around(y, 0) & high(x))", 2, true),
+    ("best low(x) & (low(x) * high(y))", 2, true),
+    ("best -(low(x) & (high(y) & (low(y) * -low(x))))", 2, true),
+    ("best low(x) * (low(y) & (low(x) * low(y)))", 3, true),
+    ("skyline of distinct x min, y max", 2, true),
+    ("skyline of x min, y diff", 1, true),
+    ("skyline of x min, y max, x max", 3, true),
+    ("best low(x) * low(y) * low(x)", 2, true),
+    ("best (low(x) & low(y)) * (low(x) & low(y))", 1, true),
+    ("best (low(x) * low(y)) & high(x)", 2, false),
+    ("best low(x) & (low(x) * low(y)) & low(y)", 2, false),
+    ("best (low(x) * low(y)) & (low(y) * low(x))", 2, false),
+    ("best ((low(x) * low(y)) & low(x)) * low(y)", 0, false),
     (
-        "best (low(x) & low(y)) * (around(y, 0) & high(x))",
-        Some(false),
+        "best (low(x) & ((low(x) * low(y)) & low(x))) * low(y)",
+        0,
+        false,
     ),
-    ("best low(x) & (low(x) * high(y))", Some(false)),
     (
-        "best -(low(x) & (high(y) & (low(y) * -low(x))))",
-        Some(false),
+        "best low(x) & (((low(x) * low(y)) & low(x)) * low(y))",
+        1,
+        false,
     ),
-    ("skyline of distinct x min, y max", Some(false)),
-    ("skyline of x min, y diff", Some(true)),
-    ("best low(x) * low(y) * high(x)", None),
-    ("best (low(x) * low(y)) & high(x)", Some(false)),
-    ("best low(x) * (low(y) & (low(x) * low(y)))", None),
-    ("skyline of x min, y max, x max", None),
-    ("best low(x) & (low(x) * low(y)) & low(y)", Some(false)),
 ];
 
 const ABCD: [&[u8]; 4] = [b"a", b"b", b"c", b"d"];
 
-/// Questions with a chain behind a product, and some that are no product of two chains.
-const TIES: [(&str, Option<bool>); 9] = [
-    ("best (low(a) * low(b)) & low(c)", Some(false)),
-    ("best -((low(a) * low(b)) & low(c))", Some(false)),
-    ("best low(d) & ((low(a) * low(b)) & high(c))", Some(false)),
-    ("best low(a) * high(b) & pos(c, 1) & low(d)", Some(false)),
-    ("best -(low(a) & -(low(b) * low(c))) & high(d)", Some(false)),
-    ("best (low(a) * low(b)) & low(c) by d", Some(false)),
-    ("best low(a) * low(b) * low(c)", None),
-    ("best (low(a) * low(b)) & (low(c) * low(d))", None),
-    ("best ((low(a) * low(b)) & low(c)) * low(d)", None),
+/// Questions over four columns, with the same.
+const QUESTIONS_OF_FOUR: [(&str, usize, bool); 10] = [
+    ("best (low(a) * low(b)) & low(c)", 2, false),
+    ("best -((low(a) * low(b)) & low(c))", 2, false),
+    ("best low(d) & ((low(a) * low(b)) & high(c))", 2, false),
+    ("best low(a) * high(b) & pos(c, 1) & low(d)", 2, false),
+    ("best -(low(a) & -(low(b) * low(c))) & high(d)", 2, false),
+    ("best (low(a) * low(b)) & low(c) by d", 2, false),
+    ("best low(a) * low(b) * low(c)", 3, true),
+    ("best low(d) & (low(a) * (low(b) & high(c)))", 2, true),
+    ("best (low(a) * low(b)) & (low(c) * low(d))", 2, false),
+    ("best ((low(a) * low(b)) & low(c)) * low(d)", 0, false),
 ];
 
 /// How two rows compare by the product of two relations.
@@ -59,74 +70,81 @@ fn product(first: Relation, second: Relation) -> Relation {
     }
 }
 
-/// How two rows of one group compare by a question's chains and their tie, and whether they are twins; `None` where it has none.
-fn by_chains(ask: &Ask, a: &Row, b: &Row) -> Option<(Relation, bool)> {
-    match ask.chains() {
-        Some((_, chains, distinct)) => {
-            let first = chains.compare_in_first(a, b);
-            let found = match product(first, chains.compare_in_second(a, b)) {
-                Relation::Same => chains.compare_in_tie(a, b),
-                decided => decided,
-            };
-            Some((found, distinct && found.is_same()))
+/// How two rows compare by the product of some chains, and by these one after the other.
+fn by_chains(chains: &[Chain], a: &Row, b: &Row) -> (Relation, Relation)
+    requires { All AreInRow chains.now }
+{
+    let mut by_product = Relation::Same;
+    let mut in_turn = Relation::Same;
+    for chain in chains {
+        let found = chain.compare(a, b);
+        by_product = product(by_product, found);
+        if in_turn.is_same() {
+            in_turn = found;
         }
-        None => None,
+    }
+    (by_product, in_turn)
+}
+
+/// What the chains say decides between two rows of a group, and is all that the question says where they are the whole.
+fn check_product(
+    rt: &impl Abort,
+    (question, is_whole): (&str, bool),
+    ask: &Ask,
+    rows: (&Row, &Row),
+) {
+    let (a, b) = rows;
+    let (by_product, _) = by_chains(ask.leading_chains(), a, b);
+    if in_same_group(ask.group(), a, b) && (is_whole || !by_product.is_same()) {
+        assert_same(rt, (question, a, b), ask.compare(a, b), by_product);
     }
 }
 
-/// All pairs of these rows compare by the question's chains as by the question, in one group, and are twins where they are to the question.
-fn check_pairs(rt: &impl Abort, question: &str, ask: &Ask, rows: &[Row]) {
+/// By all keys a row is better than one that it dominates, and the same as one of its group that is the same to the question. In one
+/// group the chains that lead, one after the other, put no row before another that all keys put behind it.
+fn check_order(rt: &impl Abort, question: &str, ask: &Ask, a: &Row, b: &Row) {
+    let relation = ask.compare(a, b);
+    let in_order = ask.compare_in_order(a, b);
+    let (_, in_turn) = by_chains(ask.leading_chains(), a, b);
+    let near = in_same_group(ask.group(), a, b);
+    let found = (
+        !relation.is_better() || in_order.is_better(),
+        relation.is_same() == in_order.is_same(),
+        !near || in_turn.is_same() || in_turn == in_order,
+    );
+    assert_same(rt, (question, a, b), found, (true, true, true));
+}
+
+/// All pairs of these rows.
+fn check_pairs(rt: &impl Abort, question: (&str, bool), ask: &Ask, rows: &[Row]) {
     for first in rows {
         for second in rows {
-            let found = by_chains(ask, first, second);
-            let near = in_same_group(ask.group(), first, second);
-            if near && found.is_some() {
-                let wanted = (ask.compare(first, second), ask.twin(first, second));
-                assert_same(rt, (question, first, second), found, Some(wanted));
-            }
+            check_product(rt, question, ask, (first, second));
+            check_order(rt, question.0, ask, first, second);
         }
     }
 }
 
-/// Whether a question is one chain, where it is a product of two.
-fn is_one(ask: &Ask) -> Option<bool> {
-    match ask.chains() {
-        Some((_, chains, _)) => Some(chains.is_one()),
-        None => None,
-    }
-}
-
-/// A copy of a question's chains is the same, and one chain where they are one.
-fn check_copy(rt: &impl Abort, alloc: Global, question: &str, ask: &Ask) -> Result<(), Fail> {
-    if let Some((_, chains, _)) = ask.chains() {
-        let copied = chains.copy(alloc)?;
-        let found = (copied.is_same(chains), copied.is_one());
-        assert_same(rt, question, found, (true, chains.is_one()));
-    }
-    Ok(())
-}
-
-fn check_chains(
+fn check_questions(
     rt: &impl Abort,
     alloc: Global,
     names: &[&[u8]],
     rows: &[Row],
-    cases: &[(&str, Option<bool>)],
+    cases: &[(&str, usize, bool)],
 ) -> Result<(), Fail> {
-    for (question, wanted) in cases {
+    for (question, count, is_whole) in cases {
         let ask = ask_over(alloc, names, question.as_bytes())?;
-        assert_same(rt, *question, is_one(&ask), *wanted);
-        check_pairs(rt, question, &ask, rows);
-        check_copy(rt, alloc, question, &ask)?;
+        assert_same(rt, *question, ask.leading_chains().len(), *count);
+        check_pairs(rt, (*question, *is_whole), &ask, rows);
     }
     Ok(())
 }
 
 /// All pairs of rows over x and y with cells from -1 to 1.
 #[test]
-fn a_product_of_two_chains_compares_in_each(rt: HostRuntime) -> Result<(), Fail> {
+fn a_product_of_chains_leads_a_question(rt: HostRuntime) -> Result<(), Fail> {
     let rows = small_rows(rt.alloc())?;
-    check_chains(&rt, rt.alloc(), &XY, &rows, &QUESTIONS)
+    check_questions(&rt, rt.alloc(), &XY, &rows, &QUESTIONS)
 }
 
 /// All rows over four columns with cells 0 and 1.
@@ -140,60 +158,25 @@ fn rows_of_four(alloc: Global) -> Result<Vec<Row>, Fail> {
 }
 
 #[test]
-fn a_chain_behind_a_product_decides_where_both_are_the_same(rt: HostRuntime) -> Result<(), Fail> {
+fn a_product_of_chains_leads_a_question_of_four_columns(rt: HostRuntime) -> Result<(), Fail> {
     let rows = rows_of_four(rt.alloc())?;
-    check_chains(&rt, rt.alloc(), &ABCD, &rows, &TIES)
+    check_questions(&rt, rt.alloc(), &ABCD, &rows, &QUESTIONS_OF_FOUR)
 }
 
-/// Pairs of questions, and whether their chains are the same.
-const PAIRS: [(&str, &str, bool); 13] = [
-    ("best low(x)", "at_least 3 low(x) by y", true),
-    ("best high(x) & low(y)", "best -low(x) & -high(y)", true),
-    ("best around(x, 1)", "best between(x, 1, 1)", true),
-    ("skyline of x min, y max", "best low(x) * high(y)", true),
-    ("best low(x) * high(y)", "best high(y) * low(x)", false),
-    ("best low(x) * high(y)", "best low(x) * low(y)", false),
-    ("best low(x)", "best low(x) * low(x)", false),
-    ("best low(x)", "best low(x) & low(y)", false),
-    ("best low(x)", "best low(y)", false),
-    ("best low(x) & pos(y, 0)", "best low(x) & pos(y, 1)", false),
-    (
-        "best (low(x) * low(y)) & high(x)",
-        "best (low(x) * low(y)) & -low(x)",
-        true,
-    ),
-    (
-        "best (low(x) * low(y)) & high(x)",
-        "best (low(x) * low(y)) & low(x)",
-        false,
-    ),
-    (
-        "best low(x) * low(y)",
-        "best (low(x) * low(y)) & low(x)",
-        false,
-    ),
-];
-
-/// Whether two questions have the same chains; `None` where one of them has none.
-fn have_same(first: &Ask, second: &Ask) -> Option<bool> {
-    match (first.chains(), second.chains()) {
-        (Some((_, chains, _)), Some((_, others, _))) => Some(chains.is_same(others)),
-        _ => None,
+/// How many chains lead a product of so many different factors behind a chain.
+fn count_behind(alloc: Global, factors: u32) -> Result<usize, Fail> {
+    let mut text = format!(in alloc; "best high(x) & (low(x)")?;
+    for number in 1..factors {
+        text.push_str(&format!(in alloc; " * around(x, {number})")?)?;
     }
-}
-
-/// Whether the texts of two questions have the same chains; `None` where one of them has none.
-fn texts_have_same(alloc: Global, first: &str, second: &str) -> Result<Option<bool>, Fail> {
-    let one = ask_over(alloc, &XY, first.as_bytes())?;
-    let other = ask_over(alloc, &XY, second.as_bytes())?;
-    Ok(have_same(&one, &other))
+    text.push_str(")")?;
+    let ask = ask_over(alloc, &X, text.as_bytes())?;
+    Ok(ask.leading_chains().len())
 }
 
 #[test]
-fn chains_are_the_same_where_their_keys_are(rt: HostRuntime) -> Result<(), Fail> {
-    for (first, second, wanted) in &PAIRS {
-        let found = texts_have_same(rt.alloc(), first, second)?;
-        assert_same(&rt, (*first, *second), found, Some(*wanted));
-    }
+fn a_chain_stands_before_sixteen_others(rt: HostRuntime) -> Result<(), Fail> {
+    assert_same(&rt, "16", count_behind(rt.alloc(), 16)?, 16);
+    assert_same(&rt, "17", count_behind(rt.alloc(), 17)?, 1);
     Ok(())
 }

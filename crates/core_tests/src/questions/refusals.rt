@@ -6,7 +6,7 @@ ghost use Rattle.pref_term.specs.Question.{FitsWidth};
 use super::{XYG, row_over};
 use crate::same::assert_same;
 use pref_table::Schema;
-use pref_term::{Ask, Chains, Dominance, Mode, Relation, TermFault, read_ask, show};
+use pref_term::{Ask, Dominance, Mode, Relation, TermFault, read_ask, show};
 use std::alloc::Global;
 use std::process::Abort;
 use std::test::Fail;
@@ -79,36 +79,31 @@ fn a_refused_showing_is_reported_and_made_again(rt: HostRuntime) -> Result<(), F
     Ok(())
 }
 
-/// A copy of these chains, made again where memory was refused.
-fn copied_in_the_end(rt: &impl Abort, alloc: Global, chains: &Chains) -> Chains {
-    match chains.copy(alloc) {
+/// A copy of this question, made again where memory was refused.
+fn copied_in_the_end(rt: &impl Abort, alloc: Global, ask: &Ask) -> Ask {
+    match ask.copy(alloc) {
         Ok(copied) => copied,
-        Err(_) => chains.copy(alloc).expect(rt, "memory"),
+        Err(_) => ask.copy(alloc).expect(rt, "memory"),
     }
 }
 
-/// Whether the chains of a question are those that are copied; `None` where it has none.
-fn are_copied(rt: &impl Abort, alloc: Global, question: &str) -> Result<Option<bool>, Fail> {
+/// Whether a copy of a question is equal to it, and led by as many chains.
+fn is_copied(rt: &impl Abort, alloc: Global, question: &[u8]) -> Result<bool, Fail> {
     let schema = columns(alloc)?;
-    let ask = read_ask(alloc, &schema, question.as_bytes())?;
-    match ask.chains() {
-        Some((_, chains, _)) => {
-            let copied = copied_in_the_end(rt, alloc, chains);
-            Ok(Some(copied.is_same(chains)))
-        }
-        None => Ok(None),
-    }
+    let ask = read_ask(alloc, &schema, question)?;
+    let copied = copied_in_the_end(rt, alloc, &ask);
+    Ok(copied == ask && copied.leading_chains().len() == ask.leading_chains().len())
 }
 
 #[test]
-fn a_refused_copy_of_chains_is_reported_and_made_again(rt: HostRuntime) -> Result<(), Fail> {
+fn a_refused_copy_of_a_question_is_reported_and_made_again(rt: HostRuntime) -> Result<(), Fail> {
     for question in [
-        "best low(x) & (-around(y, -3) * high(g))",
-        "best pos(g, 1, 2) & (low(x) * layered(y, {1, 2}, {3}))",
-        "best (low(x) * pos(y, 1)) & (pos(g, 1) & high(x))",
+        QUESTION,
+        b"best low(x) & (-around(y, -3) * between(g, 1, 2))",
+        b"best pos(g, 1, 2) & (low(x) * layered(y, {1, 2}, {3}))",
+        b"skyline of distinct x min, g diff, y max",
     ] {
-        let found = are_copied(&rt, rt.alloc(), question)?;
-        assert_same(&rt, question, found, Some(true));
+        assert_same(&rt, question, is_copied(&rt, rt.alloc(), question)?, true);
     }
     Ok(())
 }

@@ -35,11 +35,8 @@ const LEADING_PARTS: [(&str, &str); 10] = [
         "best layered(x, {1}, {-1}) * high(y)",
         "best layered(x, {1}, {-1}) * high(y)",
     ),
-    ("at_least 3 -low(x) by y", "best high(x) by y"),
-    (
-        "skyline of distinct x min, y diff",
-        "skyline of x min, y diff",
-    ),
+    ("at_least 3 -low(x) by y", "best high(x)"),
+    ("skyline of distinct x min, y diff", "skyline of x min"),
 ];
 
 /// The scales that a question makes from these rows.
@@ -102,7 +99,7 @@ fn few_values_are_distinguished(rt: HostRuntime) -> Result<(), Fail> {
     check_leading_parts(&rt, rt.alloc(), &rows, &LEADING_PARTS)
 }
 
-const TAKERS: [(&str, &str, bool); 18] = [
+const TAKERS: [(&str, &str, bool); 17] = [
     ("best low(x) * low(y)", "best low(y)", true),
     ("best low(x) & low(y)", "best low(x)", true),
     ("best low(x) & low(y)", "best low(y)", false),
@@ -111,10 +108,9 @@ const TAKERS: [(&str, &str, bool); 18] = [
     ("best -(low(x) * -low(y))", "best low(y)", true),
     ("best between(x, 1, 1)", "best around(x, 1)", true),
     ("best around(x, 1)", "best around(x, 2)", false),
-    ("best low(x) by y", "best -low(y)", true),
-    ("best low(x) by x, y", "best low(y) by x", true),
-    ("best low(x) by y", "best low(x) by x", false),
-    ("best low(x)", "best low(x) by y", false),
+    ("best low(x) by y", "best -low(y)", false),
+    ("best low(x) by y", "best low(x) by x", true),
+    ("best low(x)", "best low(x) by y", true),
     ("best low(x)", "best pos(x, 1)", false),
     ("best pos(x, 1) * low(y)", "best pos(x, 1)", true),
     ("best -pos(x, 1)", "best pos(x, 1)", false),
@@ -142,22 +138,4 @@ fn check_takers(
 fn scales_of_other_questions(rt: HostRuntime) -> Result<(), Fail> {
     let rows = small_rows(rt.alloc())?;
     check_takers(&rt, rt.alloc(), &rows, &TAKERS)
-}
-
-/// The rows of 40 groups of two.
-fn rows_of_groups(alloc: Global) -> Result<Vec<Row>, Fail> {
-    let mut rows = Vec::new(alloc);
-    for place in 0..80 {
-        rows.push(row_over(alloc, &XY, &[place % 2, place / 2])?)?;
-    }
-    Ok(rows)
-}
-
-/// Rows of different groups are distinguished both ways, also by scales from rows of few groups; those of one group by the term.
-#[test]
-fn groups_are_distinguished(rt: HostRuntime) -> Result<(), Fail> {
-    let question = "best low(x) by y";
-    let sample = small_rows(rt.alloc())?;
-    let rows = rows_of_groups(rt.alloc())?;
-    check_signatures(&rt, rt.alloc(), (question, question), &sample, &rows)
 }

@@ -1,19 +1,18 @@
 //! Lists of scales, by which rows are signed.
 ghost use Rattle.std.specs.Prelude.{◌≡◌, ◌<◌, true, All, List, []};
-ghost use Rattle.pref_term.specs.Leading.{Suits};
-ghost use Rattle.pref_term.specs.Signatures.{scale_column, signature};
+ghost use Rattle.pref_term.specs.Signatures.{IsBy, signature};
 
 use crate::key::Key;
 use crate::signature::scale::Scale;
 use pref_table::Row;
 use std::marker::Model;
 
-/// The tests by which rows are signed. Each is a test of one column: whether the row's score by a base term reaches a
-/// mark, or what a bit of the hash of its cell is. The outcomes are the bits of the row's signature.
+/// The tests by which rows are signed: whether a row's score by a base term reaches a mark. The outcomes are the bits of the
+/// row's signature.
 ///
 /// Signatures by the same scales can be compared by [`is_within`](crate::is_within), which spares most comparisons of rows
-/// where [`Dominance::suits`](crate::Dominance::suits) says that the scales suit the order. Scales are made by
-/// [`Dominance::scales`](crate::Dominance::scales). Contracts see their list; which scales these are can be seen in
+/// where [`Ask::suits`](crate::Ask::suits) says that the scales suit the order. Scales are made by
+/// [`Ask::scales`](crate::Ask::scales). Contracts see their list; which scales these are can be seen in
 /// no answer.
 #[derive(Drop)]
 pub struct Scales {
@@ -23,14 +22,13 @@ pub struct Scales {
 impl Model for Scales {
     ghost use Rattle.std.specs.Prelude.{◌<◌, All, List, []};
     ghost use Rattle.std.specs.Option.{option_map_or};
-    ghost use Rattle.pref_term.specs.Signatures.{scale_column};
     ghost use Rattle.pref_term.specs.declared.signature.scale.Scale.{Scale};
 
     ghost Value = { List Scale };
 
     ghost view = { λ c. option_map_or (λ v. v.items) c.scales [] };
 
-    ghost invariant = { λ c. All (λ scale. scale_column scale < 16) (option_map_or (λ v. v.items) c.scales []) };
+    ghost invariant = { λ c. All (λ scale. scale.key.col < 16) (option_map_or (λ v. v.items) c.scales []) };
 }
 
 impl Scales {
@@ -50,7 +48,7 @@ impl Scales {
 
     /// These scales. Of more than 64 the last 64 have bits. Takes no memory.
     pub(super) fn of(scales: Vec<Scale>) -> Scales
-        requires { All (λ scale. scale_column scale < 16) scales.items }
+        requires { All (λ scale. scale.key.col < 16) scales.items }
         ensures { result ≡ scales.items }
     {
         Scales {
@@ -61,7 +59,7 @@ impl Scales {
     /// The scales.
     fn as_slice(&self) -> &[Scale]
         ensures scales { result.now ≡ self.now }
-        ensures within { All (λ scale. scale_column scale < 16) result.now }
+        ensures within { All (λ scale. scale.key.col < 16) result.now }
     {
         match &self.scales {
             None => &[],
@@ -70,7 +68,7 @@ impl Scales {
     }
 
     /// The signature of a row. Of more than 64 bits it has the last 64. Takes no memory; costs one comparison of numbers for
-    /// each mark or mask.
+    /// each mark.
     pub fn signature(&self, row: &Row) -> u64
         ensures { result ≡ signature self.now row.now }
     {
@@ -81,10 +79,15 @@ impl Scales {
         bits
     }
 
-    /// Whether all suit an order within these groups that these keys lead.
-    pub(crate) fn suit(&self, keys: &[Key], group: &[usize]) -> bool
-        ensures { result ≡ true → All (Suits keys.now group.now) self.now }
+    /// Whether each is by one of these keys.
+    pub(crate) fn suit(&self, keys: &[Key]) -> bool
+        ensures { result ≡ true → All (IsBy keys.now) self.now }
     {
-        self.as_slice().iter().all(|scale| scale.suits(keys, group))
+        for scale in self.as_slice() {
+            if !scale.is_by(keys) {
+                return false;
+            }
+        }
+        true
     }
 }

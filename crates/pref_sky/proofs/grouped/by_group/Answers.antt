@@ -1,5 +1,5 @@
 use Rattle.pref_sky.proofs.Common.{◌≡◌, ◌<◌, ◌∙◌, get_or, All-permutation, Among, Bool, IsChain, IsInOrder, IsPermutation, IsPermutation-map, List, [], ◌∷◌, ap, arith, length, length-map, map, not, rules, subst, take_all, ℕ}
-use Rattle.pref_sky.proofs.ChainStairs.{in_order_from_sort_by}
+use Rattle.pref_sky.proofs.ChainLaws.{in_order_from_sort_by}
 use Rattle.pref_sky.proofs.GroupedLaws.{order_chain}
 use Rattle.pref_sky.proofs.ListLaws.{among_place, from_map, same_if_permuted}
 use Rattle.pref_sky.specs.Grouped.{stands_before, entries}

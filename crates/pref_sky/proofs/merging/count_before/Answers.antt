@@ -1,19 +1,26 @@
-use Rattle.pref_sky.proofs.Common.{rules, ◌≡◌, true, false, IsPartitionPoint, IsPartitionPoint-from_clause, comes_before, Entry}
-use Rattle.pref_sky.proofs.ChainStairs.{before_is_chain}
-use Rattle.pref_sky.proofs.ListLaws.{fails_behind, passes_before, parted_by_entry}
+use Rattle.pref_sky.proofs.Common.{◌-◌, ◌≡◌, true, [], arith, comes_before, Entry, entry_at, get_or_default, length}
+use Rattle.pref_sky.proofs.OwnOrders.{before_is_chain}
+use Rattle.pref_sky.proofs.GallopLaws.{before_in_front, not_before_behind}
 use Rattle.pref_sky.proofs.merging.count_before.Goals as goal
 
--- those in front of the place come before the entry, and those behind it don't
-cut : (c : goal.After-partition_point) → IsPartitionPoint (λ e. comes_before c.args.order.now e c.args.entry.now ≡ true) (λ e. comes_before c.args.order.now e c.args.entry.now ≡ false) c.args.entries.now c.partition_point.result
-cut c =
+abbrev none : Entry
+none = record { id = 0; row = [] }
+
+pub returns-then-is_lt-clause-front : goal.returns-then-is_lt-clause-front
+returns-then-is_lt-clause-front c =
     let order = c.args.order.now in
     let entries = c.args.entries.now in
-    let entry = c.args.entry.now in
-    IsPartitionPoint-from_clause (λ (e : Entry). comes_before order e entry) entries c.partition_point.result c.partition_point.ensures.partitioned
-    (parted_by_entry (comes_before order) (before_is_chain order) entries entry c.requires) (λ a r f k. search rules)
+    let last : comes_before order (entry_at entries (length entries - 1)) c.args.entry.now ≡ true = grind (arith, get_or_default entries c.in-Some.last) in
+    before_in_front (comes_before order) (before_is_chain order) entries c.args.entry.now c.requires (length entries) none (omega arith) (λ some. last) (λ past. absurd (omega (arith, past)))
 
 pub returns-clause-front : goal.returns-clause-front
-returns-clause-front c = passes_before (λ (e : Entry). comes_before c.args.order.now e c.args.entry.now) c.args.entries.now c.partition_point.result (cut c)
+returns-clause-front c =
+    let order = c.args.order.now in
+    let found = c.between.invariant in
+    before_in_front (comes_before order) (before_is_chain order) c.args.entries.now c.args.entry.now c.requires c.between.low none (omega (arith, found.low, found.high)) found.passes (grind (arith, found.fails))
 
 pub returns-clause-back : goal.returns-clause-back
-returns-clause-back c = fails_behind (λ (e : Entry). comes_before c.args.order.now e c.args.entry.now) c.args.entries.now c.partition_point.result (cut c)
+returns-clause-back c =
+    let order = c.args.order.now in
+    let found = c.between.invariant in
+    not_before_behind (comes_before order) (before_is_chain order) c.args.entries.now c.args.entry.now c.requires c.between.low none (omega (arith, found.low, found.high)) found.passes (grind (arith, found.fails))

@@ -1,10 +1,17 @@
-use Rattle.pref_sky.proofs.Common.{arith}
-use Rattle.pref_sky.proofs.SortedLevels.{says_its_levels}
+use Rattle.pref_sky.proofs.Common.{[], append-nil, arith, map, subst, sym, HaveDifferentIds, entry_of, entry_order, levels}
+use Rattle.pref_sky.proofs.LevelLaws.{held_differ}
+use Rattle.pref_sky.proofs.OwnOrders.{own_levels_are}
 use Rattle.pref_sky.proofs.partial.hold_first.Goals as goal
 
--- the levels are by what the chains say, which is what the order says
+-- the levels are by the question, whose order it is
 pub returns-in-Some-clause-levels : goal.returns-in-Some-clause-levels
 returns-in-Some-clause-levels g c =
-    let row_order = g.D.Dominance.order c.args.dominance.now in
-    let order = c.in-Some.order in
-    grind (arith, says_its_levels row_order order c.args.cut)
+    grind (arith, own_levels_are (g.D.Dominance.order c.args.dominance.now) c.in-Some.order c.args.cut)
+
+-- levels have different ids where all entries have
+pub returns-clause-ids : goal.returns-clause-ids
+returns-clause-ids g c =
+    let over = entry_order (g.D.Dominance.order c.args.dominance.now) in
+    let entries = c.args.entries.now in
+    subst (λ (l : _). HaveDifferentIds (map entry_of l)) (sym (c.in_ok-ranked.ensures {u = tt}))
+    (subst HaveDifferentIds (append-nil (map entry_of (levels over entries c.args.cut))) (held_differ over entries [] c.args.cut (subst HaveDifferentIds (sym (append-nil entries)) c.requires.ids)))

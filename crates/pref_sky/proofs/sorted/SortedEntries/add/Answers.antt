@@ -1,11 +1,11 @@
-use Rattle.pref_sky.proofs.Common.{◌≡◌, ◌++◌, map, sym, ◌∙◌, ap, subst, arith, take-append_seam, ChainOrder, own_levels, HaveDifferentIds, entry_of}
+use Rattle.pref_sky.proofs.Common.{◌≡◌, ◌++◌, map, sym, ◌∙◌, ap, subst, arith, take-append_seam, OwnOrder, own_levels, HaveDifferentIds, entry_of}
 use Rattle.pref_sky.proofs.SortedLevels.{upper_differ, upper_levels}
 use Rattle.pref_sky.proofs.sorted.SortedEntries.add.Goals.{After-prune}
 use Rattle.pref_sky.proofs.sorted.SortedEntries.add.Goals as goal
 
 -- pruned or not, the levels are as they were
 levels_still : (c : After-prune) → own_levels c.prune.new.self.order (c.prune.new.self.entries.items ++ c.prune.new.recent.items) ≡ own_levels c.args.self.now.pruned.order (c.args.self.now.pruned.entries.items ++ c.args.self.now.recent.items)
-levels_still c = ap (λ (o : ChainOrder). own_levels o (c.prune.new.self.entries.items ++ c.prune.new.recent.items)) c.prune.ensures.order ∙ c.prune.ensures.levels
+levels_still c = ap (λ (o : OwnOrder). own_levels o (c.prune.new.self.entries.items ++ c.prune.new.recent.items)) c.prune.ensures.order ∙ c.prune.ensures.levels
 
 still_differ : (c : After-prune) → HaveDifferentIds (map entry_of (own_levels c.prune.new.self.order (c.prune.new.self.entries.items ++ c.prune.new.recent.items)))
 still_differ c = subst (λ l. HaveDifferentIds (map entry_of l)) (sym (levels_still c)) c.args.self.now.ids

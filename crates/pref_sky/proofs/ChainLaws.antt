@@ -1,0 +1,96 @@
+-- Chains: weak orders; keys and columns are such, and lists that are sorted by one.
+use Rattle.pref_sky.proofs.Common.{◌≡◌, ℤ, ℕ, Bool, true, false, not, ◌&&◌, ◌||◌, List, [], ◌∷◌, refl, sym, subst, arith, int_lt, nat_lt, int_eq, cell, in_same_group, suc, length, get_or, filter}
+use Rattle.pref_sky.proofs.Common.{by_chain, is_better, is_same, is_worse, IsChain, are_level, better_in, earlier_in, in_turn, Entry, Bor, Ordering, ◌<◌, ◌≤◌, IsInOrder, ap}
+use Rattle.pref_sky.proofs.Common.{Called, IsSortedByClosure, is_lt, always_returns_same, sorted_far, Mut}
+use Rattle.std.proofs.lemmas.Int.{ints}
+use Rattle.std.specs.Cmp.{IsStrictWeakOrder}
+use Rattle.pref_term.specs.Keys.{keyed}
+use Rattle.pref_term.specs.Walk.{by_scores, by_sides, in_priority}
+use Rattle.pref_term.specs.declared.key.Key.{Key}
+use Rattle.pref_term.specs.declared.relation.Relation.{Relation}
+use Rattle.pref_sky.proofs.ListLaws.{from_filter, place_of}
+
+-- one chain, and where that sees no difference another one
+pub chain_in_turn : {E : Type 0} (f g : E → E → Bool) → IsChain f → IsChain g → IsChain (in_turn f g)
+chain_in_turn f g first second = grind (arith)
+
+-- two that are level compare alike with a third
+pub level_above : {E : Type 0} (f : E → E → Bool) → IsChain f → (a b c : E) → are_level f a b ≡ true → f c a ≡ f c b
+level_above f chain a b c level = grind (arith, level, chain.between c a b, chain.between c b a)
+
+-- what passes a filter stays in order
+pub filter_in_order : {E : Type 0} (before : E → E → Bool) (p : E → Bool) (xs : List E) → IsInOrder before xs → IsInOrder before (filter p xs)
+filter_in_order before p [] h = h
+filter_in_order before p (e ∷ others) h = grind (arith, filter_in_order before p others h.1, from_filter p others)
+
+-- ---- chains
+
+no_chain : {E : Type 0} → IsChain {E = E} (λ a b. false)
+no_chain = record { strict = record { irreflexive = λ a. refl; transitive = λ a b c h k. h }; between = λ a b c h k. h }
+
+numbers_chain : {E : Type 0} (number : E → ℤ) → IsChain (λ a b. int_lt (number a) (number b))
+numbers_chain number = grind (arith)
+
+pub places_chain : {E : Type 0} (place : E → ℕ) → IsChain (λ a b. nat_lt (place a) (place b))
+places_chain place = grind (arith)
+
+-- a chain of rows is one of entries
+pub chain_of_entries : (better : List ℤ → List ℤ → Bool) → IsChain better → IsChain {E = Entry} (λ a b. better a.row b.row)
+chain_of_entries better chain = grind (arith)
+
+by_first : (x y : ℤ) (r : Relation) → is_better (in_priority (by_scores x y) r) ≡ (int_lt x y || ((not (int_lt x y) && not (int_lt y x)) && is_better r))
+by_first x y r = grind arith
+
+pub keys_chain : (keys : List Key) → IsChain (better_in keys)
+keys_chain [] = no_chain
+keys_chain (key ∷ keys) =
+    subst IsChain (sym (λ i a b. by_first (keyed key a) (keyed key b) (by_chain keys a b) i))
+    (chain_in_turn (λ a b. int_lt (keyed key a) (keyed key b)) (better_in keys) (numbers_chain (keyed key)) (keys_chain keys))
+
+pub earlier_chain : (columns : List ℕ) → IsChain (earlier_in columns)
+earlier_chain [] = no_chain
+earlier_chain (col ∷ columns) = chain_in_turn (λ a b. int_lt (cell a col) (cell b col)) (earlier_in columns) (numbers_chain (λ a. cell a col)) (earlier_chain columns)
+
+cells_equal : (x y : ℤ) → int_eq x y ≡ (not (int_lt x y) && not (int_lt y x))
+cells_equal x y = grind (arith, ints)
+
+pub same_group : (columns : List ℕ) (a b : List ℤ) → in_same_group columns a b ≡ are_level (earlier_in columns) a b
+same_group [] a b = refl
+same_group (col ∷ columns) a b = grind (arith, same_group columns a b, cells_equal (cell a col) (cell b col))
+
+-- a comparison by keys says who is better
+scores_sides : (x y : ℤ) (r s : Relation) → r ≡ by_sides (is_better r) (is_better s) → in_priority (by_scores x y) r ≡ by_sides (is_better (in_priority (by_scores x y) r)) (is_better (in_priority (by_scores y x) s))
+scores_sides x y r s h = grind (arith, ints)
+
+sides : (keys : List Key) (a b : List ℤ) → by_chain keys a b ≡ by_sides (better_in keys a b) (better_in keys b a)
+sides [] a b = refl
+sides (key ∷ keys) a b = scores_sides (keyed key a) (keyed key b) (by_chain keys a b) (by_chain keys b a) (sides keys a b)
+
+pub worse_in : (keys : List Key) (a b : List ℤ) → is_worse (by_chain keys a b) ≡ better_in keys b a
+worse_in keys a b = grind (arith, sides keys a b)
+
+pub same_in : (keys : List Key) (a b : List ℤ) → is_same (by_chain keys a b) ≡ are_level (better_in keys) a b
+same_in keys a b = grind (arith, sides keys a b)
+
+-- ---- lists that are sorted by one
+
+chain_is_weak : {E : Type 0} (before : E → E → Bool) → IsChain before → IsStrictWeakOrder before
+chain_is_weak before chain = grind (arith)
+
+in_order_if_far : {E : Type 0} (before : E → E → Bool) (xs : List E) → ((i j : ℕ) (d : E) → i ≤ j → j < length xs → before (get_or xs j d) (get_or xs i d) ≡ false) → IsInOrder (λ a b. not (before b a)) xs
+in_order_if_far before [] far = tt
+in_order_if_far before (x ∷ xs) far = (
+  λ y m. let w = place_of xs y x m in ap not (subst (λ z. before z x ≡ false) w.2 (far 0 (suc w.0) x (omega arith) (omega arith))),
+  in_order_if_far before xs (λ i j d p q. far (suc i) (suc j) d (omega arith) (omega arith)),
+)
+
+-- what a sort ensures, where each call compares two by a chain
+pub in_order_from_sort_by : {E : Type 0} (before : E → E → Bool) → IsChain before → {F : Type 0} {g : Mut F (Bor E × (Bor E × Unit {0})) Ordering} {f : F} (xs : List E) → IsSortedByClosure g f xs
+    → ((a : Bor E × (Bor E × Unit {0})) (r : Ordering) (f' : F) → Called g f a r f' → (is_lt r ≡ before a.0.now a.1.0.now) × (f' ≡ f)) → IsInOrder (λ a b. not (before b a)) xs
+in_order_from_sort_by before chain {g = g} {f = f} xs by called =
+    let weak = chain_is_weak before chain in
+    in_order_if_far before xs (sorted_far before weak xs (by before weak (always_returns_same g (λ a r. is_lt r ≡ before a.0.now a.1.0.now) f called)))
+
+pub in_weaker_order : {E : Type 0} (before weaker : E → E → Bool) → ((a b : E) → before a b ≡ true → weaker a b ≡ true) → (xs : List E) → IsInOrder before xs → IsInOrder weaker xs
+in_weaker_order before weaker then [] h = h
+in_weaker_order before weaker then (e ∷ others) h = ((λ x m. then e x (h.0 x m)), in_weaker_order before weaker then others h.1)

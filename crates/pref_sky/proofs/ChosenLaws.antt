@@ -1,0 +1,91 @@
+-- A chain that tells no two of some entries apart can be left out of those that lead them.
+use Rattle.pref_sky.proofs.Common.{◌≡◌, ◌<◌, ◌≤◌, ◌+◌, ◌-◌, ◌++◌, ◌∷◌, ◌∙◌, ℕ, zero, suc, ℤ, true, List, [], inl, inr, refl, sym, ap, subst, arith, add-one, append-nil, append_assoc}
+use Rattle.pref_sky.proofs.Common.{cases_lt, drop, drop-cons, drop_of_length-le, get_or, length}
+use Rattle.pref_sky.proofs.Common.{Among, Entry, by_chain, is_same}
+use Rattle.pref_sky.proofs.ChainLaws.{keys_chain, same_in}
+use Rattle.pref_sky.proofs.ListLaws.{place_of}
+use Rattle.pref_sky.specs.Chains.{tells_none_apart}
+use Rattle.pref_sky.specs.ChosenChains.{SayTheSame}
+use Rattle.pref_term.proofs.ChainLaws.{chain-append}
+use Rattle.pref_term.specs.LeadingChains.{by_product, joined}
+use Rattle.pref_term.specs.Walk.{in_priority, in_product}
+use Rattle.pref_term.specs.declared.key.Key.{Key}
+use Rattle.pref_term.specs.declared.relation.Relation.{Relation}
+
+same_itself : (keys : List Key) (a : List ℤ) → is_same (by_chain keys a a) ≡ true
+same_itself keys a = grind (arith, same_in keys a a, (keys_chain keys).strict.irreflexive a)
+
+same_back : (keys : List Key) (a b : List ℤ) → is_same (by_chain keys a b) ≡ true → is_same (by_chain keys b a) ≡ true
+same_back keys a b h = grind (arith, same_in keys a b, same_in keys b a)
+
+same_on : (keys : List Key) (a b c : List ℤ) → is_same (by_chain keys a b) ≡ true → is_same (by_chain keys b c) ≡ true → is_same (by_chain keys a c) ≡ true
+same_on keys a b c h k = grind (arith, same_in keys a b, same_in keys b c, same_in keys a c, (keys_chain keys).between a b c, (keys_chain keys).between c b a)
+
+-- entries of which each two neighbours are the same in a chain are all the same in it
+same_behind : (keys : List Key) (entries : List Entry) → tells_none_apart keys entries → (j n k : ℕ) (d : Entry) → j + n ≡ k → k < length entries
+    → is_same (by_chain keys (get_or entries j d).row (get_or entries k d).row) ≡ true
+same_behind keys entries none j zero k d at inside =
+    let here : j ≡ k = omega (arith, at) in
+    subst (λ m. is_same (by_chain keys (get_or entries j d).row (get_or entries m d).row) ≡ true) here (same_itself keys (get_or entries j d).row)
+same_behind keys entries none j (suc n) k d at inside =
+    let next : j + n + 1 ≡ k = omega (arith, at) in
+    subst (λ m. is_same (by_chain keys (get_or entries j d).row (get_or entries m d).row) ≡ true) next
+    (same_on keys (get_or entries j d).row (get_or entries (j + n) d).row (get_or entries (j + n + 1) d).row (same_behind keys entries none j n (j + n) d refl (omega (arith, next, inside))) (none (j + n) d (omega (arith, next, inside))))
+
+same_among : (keys : List Key) (entries : List Entry) → tells_none_apart keys entries → (a b : Entry) → Among a entries → Among b entries → is_same (by_chain keys a.row b.row) ≡ true
+same_among keys entries none a b m n =
+    let v = place_of entries a a m in
+    let w = place_of entries b a n in
+    subst (λ x. is_same (by_chain keys x.row b.row) ≡ true) v.2
+    (subst (λ y. is_same (by_chain keys (get_or entries v.0 a).row y.row) ≡ true) w.2
+    (elim (cases_lt w.0 v.0) [
+      | inl before ↦ same_back keys (get_or entries w.0 a).row (get_or entries v.0 a).row (same_behind keys entries none w.0 (v.0 - w.0) v.0 a (omega (arith, before)) v.1)
+      | inr behind ↦ same_behind keys entries none v.0 (w.0 - v.0) w.0 a (omega (arith, behind)) w.1
+    ]))
+
+-- a relation that says the same adds nothing to another
+product_of_same : (r s : Relation) → is_same r ≡ true → s ≡ in_product r s
+product_of_same r s h = grind (arith, h)
+
+priority_of_same : (r s : Relation) → is_same r ≡ true → s ≡ in_priority r s
+priority_of_same r s h = grind (arith, h)
+
+-- nor does a chain that says so of two rows add anything to others
+product_without : (front back : List (List Key)) (chain : List Key) (a b : List ℤ) → is_same (by_chain chain a b) ≡ true
+    → by_product (front ++ back) a b ≡ by_product (front ++ chain ∷ back) a b
+product_without [] back chain a b h = product_of_same (by_chain chain a b) (by_product back a b) h
+product_without (x ∷ front) back chain a b h = ap (in_product (by_chain x a b)) (product_without front back chain a b h)
+
+joined_without : (front back : List (List Key)) (chain : List Key) (a b : List ℤ) → is_same (by_chain chain a b) ≡ true
+    → by_chain (joined (front ++ back)) a b ≡ by_chain (joined (front ++ chain ∷ back)) a b
+joined_without [] back chain a b h = priority_of_same (by_chain chain a b) (by_chain (joined back) a b) h ∙ sym (chain-append chain (joined back) a b)
+joined_without (x ∷ front) back chain a b h =
+    chain-append x (joined (front ++ back)) a b
+    ∙ (ap (in_priority (by_chain x a b)) (joined_without front back chain a b h) ∙ sym (chain-append x (joined (front ++ chain ∷ back)) a b))
+
+-- a chain that tells no entries apart can be left out
+without_one : (entries : List Entry) (all front back : List (List Key)) (chain : List Key) → tells_none_apart chain entries → SayTheSame entries all (front ++ chain ∷ back)
+    → SayTheSame entries all (front ++ back)
+without_one entries all front back chain none same =
+    record {
+      in_product = λ a b m n. product_without front back chain a.row b.row (same_among chain entries none a b m n) ∙ same.in_product a b m n;
+      in_turn = λ a b m n. joined_without front back chain a.row b.row (same_among chain entries none a b m n) ∙ same.in_turn a b m n;
+    }
+
+-- the chains from a place on
+next_chain : (all : List (List Key)) (i : ℕ) (chain : List Key) → i < length all → chain ≡ get_or all i chain → drop i all ≡ chain ∷ drop (i + 1) all
+next_chain all i chain inside is = drop-cons all i chain inside ∙ (λ j. sym is j ∷ drop (sym (add-one i) j) all)
+
+-- of those from a place on one more is told, or left out, and none is left at the end
+pub one_told : (entries : List Entry) (all told : List (List Key)) (i : ℕ) (chain : List Key) → i < length all → chain ≡ get_or all i chain → SayTheSame entries all (told ++ drop i all)
+    → SayTheSame entries all ((told ++ chain ∷ []) ++ drop (i + 1) all)
+one_told entries all told i chain inside is same =
+    subst (SayTheSame entries all) (ap (λ l. told ++ l) (next_chain all i chain inside is) ∙ sym (append_assoc told (chain ∷ []) (drop (i + 1) all))) same
+
+pub one_left_out : (entries : List Entry) (all told : List (List Key)) (i : ℕ) (chain : List Key) → i < length all → chain ≡ get_or all i chain → tells_none_apart chain entries
+    → SayTheSame entries all (told ++ drop i all) → SayTheSame entries all (told ++ drop (i + 1) all)
+one_left_out entries all told i chain inside is none same =
+    without_one entries all told (drop (i + 1) all) chain none (subst (λ l. SayTheSame entries all (told ++ l)) (next_chain all i chain inside is) same)
+
+pub all_told : (entries : List Entry) (all told : List (List Key)) (i : ℕ) → length all ≤ i → SayTheSame entries all (told ++ drop i all) → SayTheSame entries all told
+all_told entries all told i past same = subst (SayTheSame entries all) (ap (λ l. told ++ l) (drop_of_length-le all past) ∙ append-nil told) same

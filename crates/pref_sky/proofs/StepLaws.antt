@@ -1,0 +1,410 @@
+-- What is kept of a level in a sweep: its steps and its run tell whether an entry of the level dominates the next entry, and how they stand for one entry more.
+use Rattle.pref_sky.proofs.Common.{◌≡◌, ℕ, suc, ◌<◌, ◌≤◌, ◌+◌, ◌-◌, Bool, true, false, not, ◌&&◌, ◌⊎◌, inl, inr, List, [], ◌∷◌, ◌++◌, refl, sym, ◌∙◌, ap, subst, arith, length, get_or, take, drop, ◌^◌}
+use Rattle.pref_sky.proofs.Common.{length-take, length-drop, get_or-take, get_or-drop, take-append-drop}
+use Rattle.pref_sky.proofs.Common.{All, both_ways, and_from, cases_Bool, or_cases, cases_eq, cases_lt, false_from_ne_true, Entry, entry_at, Item, IsItem, Among, StandAlike, IsChain, IsInOrder}
+use Rattle.pref_sky.proofs.ListLaws.{among_all, among_place, any_from, place_of, in_either, in_left, in_right, in_order_at, in_order_back, in_order_front, in_order_joined, in_order_with}
+use Rattle.pref_sky.proofs.Merges.{comes_after, unbeaten_over}
+use Rattle.pref_sky.specs.Sweep.{AreSwept, IsClass, IsMember, IsSameLevel, StandsFor, are_level_in, is_ahead, is_at}
+use Rattle.pref_sky.specs.Steps.{AreNoWorse, IsAsked, IsStepPut}
+use Rattle.pref_sky.specs.declared.level.Level.{Level}
+use Rattle.pref_term.specs.Signatures.{is_within}
+
+-- in a chain, no worse and again no worse
+pub no_worse_then : {E : Type 0} (f : E → E → Bool) → IsChain f → (a b c : E) → f b a ≡ false → f c b ≡ false → f c a ≡ false
+no_worse_then f chain a b c first then = grind (arith, chain.between c b a)
+
+-- what is ahead of an entry that a third one is no worse than: that one is ahead as well, or is behind it
+one_ahead : {E : Type 0} (f s t : E → E → Bool) → IsChain f → IsChain s → IsChain t → (m c e : E) → is_ahead f s t m e ≡ true
+    → f e c ≡ false → s e c ≡ false → t e c ≡ false → (is_ahead f s t c e ≡ true) ⊎ (is_ahead f s t m c ≡ true)
+one_ahead f s t first second third m c e ahead in_first in_second in_third =
+    grind (arith, first.between m c e, first.between c e m, second.between m c e, second.between c e m, third.between m c e, third.between c e m)
+
+-- what is no worse in the first chain and better in the two others is ahead
+better_is_ahead : {E : Type 0} (f s t : E → E → Bool) → IsChain s → IsChain t → (c e : E) → f e c ≡ false → s c e ≡ true → t c e ≡ true → is_ahead f s t c e ≡ true
+better_is_ahead f s t second third c e no_worse in_second in_third =
+    grind (arith, second.strict.transitive e c e, second.strict.irreflexive e, third.strict.transitive e c e, third.strict.irreflexive e)
+
+-- one step is the last that is no worse in the second chain, or none is: so it is asked at once
+pub one_asked : (over second : Entry → Entry → Bool) (all : List Entry) (steps : List ℕ) (e : Entry) (answer : Bool) → length steps ≡ 1 → answer ≡ over (entry_at all (get_or steps 0 0)) e
+    → IsAsked over second all steps e answer
+one_asked over second all steps e answer one is =
+    record {
+      found = λ h. (0, omega (arith, one), sym is ∙ h);
+      none = λ h. elim (cases_Bool (second e (entry_at all (get_or steps 0 0)))) [
+        | inl worse ↦ (0, record { within = omega arith; last = λ some. absurd (omega (arith, some)); next = λ more. worse }, λ some. absurd (omega (arith, some)))
+        | inr no_worse ↦ (1, record { within = omega (arith, one); last = λ some. no_worse; next = λ more. absurd (omega (arith, more, one)) }, λ some. sym is ∙ h)
+      ];
+    }
+
+-- ---- another level, and another class
+
+-- the order of the run is of no matter
+pub same_level : (over second third : Entry → Entry → Bool) (rule : Entry → ℕ) (all : List Entry) (class i n : ℕ) (old new : Level) → IsSameLevel old new
+    → StandsFor over second third rule all class i n old → StandsFor over second third rule all class i n new
+same_level over second third rule all class i n old new same stands =
+    record {
+      steps_within = λ p m. stands.steps_within p (subst (Among p) same.steps m);
+      steps_cover = λ j member. let w = stands.steps_cover j member in (w.0, subst (Among w.0) (sym same.steps) w.1, w.2, w.3);
+      by_second = subst (IsInOrder (λ p q. not (second (entry_at all q) (entry_at all p)))) (sym same.steps) stands.by_second;
+      by_third = subst (IsInOrder (λ p q. not (third (entry_at all p) (entry_at all q)))) (sym same.steps) stands.by_third;
+      run_within = λ x m. stands.run_within x (same.run x m);
+      run_covers = λ j behind member. let w = stands.run_covers j behind member in (same.class ∙ w.0, (w.1.0, same.back w.1.0 w.1.1, w.1.2));
+    }
+
+module _ (over second third : Entry → Entry → Bool) (rule : Entry → ℕ) (all : List Entry) (class i n : ℕ) (kept : Level) where
+  -- an empty one stands for none
+  pub stands_for_none : ((j : ℕ) → IsMember over all i n j → ⊥) → kept.steps.items ≡ [] → kept.run.items ≡ [] → StandsFor over second third rule all class i n kept
+  stands_for_none none no_steps no_run = grind (arith)
+
+  module _ (stands : StandsFor over second third rule all class i n kept) where
+    -- no entry so far is of a class that begins behind them
+    pub new_class : (later : ℕ) → i ≤ later → StandsFor over second third rule all later i n kept
+    new_class later behind = grind (arith)
+
+    -- what is kept are places
+    pub steps_inside : i ≤ length all → All (λ p. p < length all) kept.steps.items
+    steps_inside inside = among_all (λ p. p < length all) kept.steps.items (λ p m. omega (arith, inside, (stands.steps_within p m).0))
+
+    pub run_inside : All (λ (x : Item). x.place < length all) kept.run.items
+    run_inside = among_all (λ (x : Item). x.place < length all) kept.run.items (λ x m. (stands.run_within x m).1.within)
+
+    earlier : (j : ℕ) → IsMember over all i n j → IsMember over all (i + 1) n j
+    earlier j member = (omega (arith, member.0), member.1)
+
+    still : is_at over all n (entry_at all i) ≡ false → (j : ℕ) → IsMember over all (i + 1) n j → IsMember over all i n j
+    still other j member = elim (cases_eq j i) [ inl same ↦ grind (arith) | inr before ↦ (omega (arith, member.0, before), member.1) ]
+
+    -- an entry of another level changes nothing
+    pub stays : is_at over all n (entry_at all i) ≡ false → StandsFor over second third rule all class (i + 1) n kept
+    stays other =
+        record {
+          steps_within = λ p m. earlier p (stands.steps_within p m);
+          steps_cover = λ j member. stands.steps_cover j (still other j member);
+          by_second = stands.by_second;
+          by_third = stands.by_third;
+          run_within = λ x m. let w = stands.run_within x m in (earlier x.place w.0, w.1);
+          run_covers = λ j behind member. stands.run_covers j behind (still other j member);
+        }
+
+    -- nor does one that is alike to a member before it, and level with it in all chains
+    pub alike_stays : (first : Entry → Entry → Bool) → IsChain second → IsChain third → 0 < i → class ≤ i - 1 → is_at over all n (entry_at all (i - 1)) ≡ true
+        → StandAlike over (entry_at all (i - 1)) (entry_at all i) → are_level_in first second third (entry_at all (i - 1)) (entry_at all i) ≡ true → StandsFor over second third rule all class (i + 1) n kept
+    alike_stays first second_is_chain third_is_chain some from at alike level =
+        let last : IsMember over all i n (i - 1) = (omega (arith, some), at) in
+        let m = entry_at all (i - 1) in
+        let e = entry_at all i in
+        let no_better_in_second : second e m ≡ false = grind (arith, level) in
+        let no_better_in_third : third e m ≡ false = grind (arith, level) in
+        record {
+          steps_within = λ p there. earlier p (stands.steps_within p there);
+          steps_cover = λ j member. elim (cases_eq j i) [
+            | inl same ↦
+                let w = stands.steps_cover (i - 1) last in (
+                  w.0,
+                  w.1,
+                  ap (λ k. second (entry_at all k) (entry_at all w.0)) same ∙ no_worse_then second second_is_chain (entry_at all w.0) m e w.2 no_better_in_second,
+                  ap (λ k. third (entry_at all k) (entry_at all w.0)) same ∙ no_worse_then third third_is_chain (entry_at all w.0) m e w.3 no_better_in_third,
+                )
+            | inr before ↦ stands.steps_cover j (omega (arith, member.0, before), member.1)
+          ];
+          by_second = stands.by_second;
+          by_third = stands.by_third;
+          run_within = λ x there. let w = stands.run_within x there in (earlier x.place w.0, w.1);
+          run_covers = λ j behind member. elim (cases_eq j i) [
+            | inl same ↦
+                let w = stands.run_covers (i - 1) from last in
+                let x = w.1.0 in
+                let like : StandAlike over (entry_at all x.place) e = record { above = λ c. w.1.2.above c ∙ alike.above c; below = λ c. w.1.2.below c ∙ alike.below c } in
+                (w.0, (x, w.1.1, subst (λ k. StandAlike over (entry_at all x.place) (entry_at all k)) (sym same) like))
+            | inr before ↦ stands.run_covers j behind (omega (arith, member.0, before), member.1)
+          ];
+        }
+
+-- ---- does an entry of the level dominate the next one?
+
+module _ (over first second third : Entry → Entry → Bool) (all : List Entry) (swept : AreSwept over first second third all) where
+  -- what stands before an entry is no worse than it in the first chain
+  no_worse_in_first : (j p : ℕ) → j ≤ p → p < length all → first (entry_at all p) (entry_at all j) ≡ false
+  no_worse_in_first j p before inside = grind (arith, swept.in_lead j p before inside)
+
+  among : (j : ℕ) → j < length all → Among (entry_at all j) all
+  among j inside = among_place all j (record { id = 0; row = [] }) inside
+
+  ahead_is_over : (j p : ℕ) → j < length all → p < length all → is_ahead first second third (entry_at all j) (entry_at all p) ≡ true → over (entry_at all j) (entry_at all p) ≡ true
+  ahead_is_over j p j_inside p_inside ahead = swept.led.ahead (entry_at all j) (entry_at all p) (among j j_inside) (among p p_inside) ahead
+
+  module _ (i n : ℕ) where
+    -- what a member is over has one level more above it
+    pub over_by_member : (j p : ℕ) → IsMember over all i n j → i ≤ length all → over (entry_at all j) (entry_at all p) ≡ true → comes_after over all (suc n) (entry_at all p) ≡ true
+    over_by_member j p member inside above = grind (arith, any_from, among j)
+
+    -- so no entry of the level is over another
+    pub members_are_apart : (j p : ℕ) → IsMember over all i n j → i ≤ length all → is_at over all n (entry_at all p) ≡ true → over (entry_at all j) (entry_at all p) ≡ false
+    members_are_apart j p member inside at = grind (arith, over_by_member j p)
+
+    -- and where a chain of n + 1 stands over the next entry, a member is over it
+    pub member_over : i < length all → comes_after over all (suc n) (entry_at all i) ≡ true → (j : ℕ) × IsMember over all i n j × (over (entry_at all j) (entry_at all i) ≡ true)
+    member_over inside late =
+        let top = unbeaten_over over swept.strict (comes_after over all n) all (entry_at all i) late in
+        let w = place_of all top.0 (record { id = 0; row = [] }) top.1 in
+        grind (arith, swept.in_order i w.0)
+
+  module _ (rule : Entry → ℕ) (class i n : ℕ) (kept : Level) (stands : StandsFor over second third rule all class i n kept) (inside : i < length all) where
+    abbrev next_one : Entry
+    next_one = entry_at all i
+
+    abbrev steps : List ℕ
+    steps = kept.steps.items
+
+    abbrev step : ℕ → Entry
+    step k = entry_at all (get_or steps k 0)
+
+    is_step : (k : ℕ) → k < length steps → IsMember over all i n (get_or steps k 0)
+    is_step k there = stands.steps_within (get_or steps k 0) (among_place steps k 0 there)
+
+    step_inside : (k : ℕ) → k < length steps → get_or steps k 0 < length all
+    step_inside k there = omega (arith, (is_step k there).0, inside)
+
+    -- a step is no worse than the next entry in the first chain, and no worse than later steps in the second, nor than earlier ones in the third
+    in_first : (k : ℕ) → k < length steps → first next_one (step k) ≡ false
+    in_first k there = no_worse_in_first (get_or steps k 0) i (omega (arith, (is_step k there).0)) inside
+
+    in_second : (k l : ℕ) → k ≤ l → l < length steps → second (step l) (step k) ≡ false
+    in_second k l le there = grind (arith, in_order_at (λ p q. not (second (entry_at all q) (entry_at all p))) steps k l 0 stands.by_second, swept.led.second_is_chain.strict.irreflexive (step l))
+
+    in_third : (k l : ℕ) → k ≤ l → l < length steps → third (step k) (step l) ≡ false
+    in_third k l le there = grind (arith, in_order_at (λ p q. not (third (entry_at all p) (entry_at all q))) steps k l 0 stands.by_third, swept.led.third_is_chain.strict.irreflexive (step l))
+
+    -- a step that is no worse than a member in the second and third chain
+    covering : (j : ℕ) → IsMember over all i n j → (k : ℕ) × (k < length steps) × (second (entry_at all j) (step k) ≡ false) × (third (entry_at all j) (step k) ≡ false)
+    covering j member =
+        let w = stands.steps_cover j member in
+        let q = place_of steps w.0 0 w.1 in
+        (q.0, q.1, ap (λ p. second (entry_at all j) (entry_at all p)) q.2 ∙ w.2, ap (λ p. third (entry_at all j) (entry_at all p)) q.2 ∙ w.3)
+
+    -- where a member is ahead of the next entry, the last step that is no worse in the second chain is over it
+    step_over : (j count : ℕ) → AreNoWorse second all steps next_one count → IsMember over all i n j → is_ahead first second third (entry_at all j) next_one ≡ true
+        → (0 < count) × (over (step (count - 1)) next_one ≡ true)
+    step_over j count cut member ahead =
+        let m = entry_at all j in
+        let led = swept.led in
+        let no_worse_in_second = no_worse_then second led.second_is_chain in
+        let no_worse_in_third = no_worse_then third led.third_is_chain in
+        let w = covering j member in
+        let k = w.0 in
+        let step_in_second : second next_one (step k) ≡ false = no_worse_in_second (step k) m next_one w.2 (grind (arith, ahead)) in
+        let step_in_third : third next_one (step k) ≡ false = no_worse_in_third (step k) m next_one w.3 (grind (arith, ahead)) in
+        let near : k < count =
+        elim (cases_lt k count) [
+          | inl less ↦ less
+          | inr past ↦ absurd (both_ways (second next_one (step count)) (no_worse_in_second (step count) (step k) next_one (in_second count k past w.1) step_in_second) (cut.next (omega (arith, past, w.1))))
+        ] in
+        let some : 0 < count = omega (arith, near) in
+        let there : count - 1 < length steps = omega (arith, cut.within, some) in
+        let c = step (count - 1) in
+        let place = get_or steps (count - 1) 0 in
+        let last_in_third : third next_one c ≡ false = no_worse_in_third c (step k) next_one (in_third k (count - 1) (omega (arith, near)) there) step_in_third in (
+          some,
+          elim (one_ahead first second third led.first_is_chain led.second_is_chain led.third_is_chain m c next_one ahead (in_first (count - 1) there) (cut.last some) last_in_third) [
+            | inl over_it ↦ ahead_is_over place i (step_inside (count - 1) there) inside over_it
+            | inr behind ↦ absurd (both_ways (over m c) (members_are_apart i n j place member (omega (arith, inside)) (is_step (count - 1) there).1)
+                (ahead_is_over j place (omega (arith, member.0, inside)) (step_inside (count - 1) there) behind))
+          ],
+        )
+
+    -- what is found is over the next entry
+    pub found_step : (answer : Bool) → IsAsked over second all steps next_one answer → answer ≡ true → comes_after over all (suc n) next_one ≡ true
+    found_step answer asked found = let w = asked.found found in over_by_member i n (get_or steps w.0 0) i (is_step w.0 w.1) (omega (arith, inside)) w.2
+
+    pub found_one : (x : Item) → Among x kept.run.items → over (entry_at all x.place) next_one ≡ true → comes_after over all (suc n) next_one ≡ true
+    found_one x m above = over_by_member i n x.place i (stands.run_within x m).0 (omega (arith, inside)) above
+
+    -- and something is found where a member is over it
+    module _ (signed : (a b : Entry) → over a b ≡ true → is_within (rule a) (rule b) ≡ true) (of_class : IsClass first second third all class i) where
+      abbrev pub is_over : Item → Bool
+      is_over x = is_within x.signature (rule next_one) && over (entry_at all x.place) next_one
+
+      -- one that is level with it in all chains is alike to one of the run
+      one_over : (j : ℕ) → IsMember over all i n j → over (entry_at all j) next_one ≡ true → are_level_in first second third (entry_at all j) next_one ≡ true
+          → (kept.class ≡ class) × ((x : Item) × Among x kept.run.items × (is_over x ≡ true))
+      one_over j member above level =
+          let from : class ≤ j = elim (cases_lt j class) [ inl before ↦ absurd (both_ways (are_level_in first second third (entry_at all j) next_one) (of_class.apart j before) level) | inr behind ↦ behind ] in
+          let w = stands.run_covers j from member in
+          let x = w.1.0 in
+          let over_it : over (entry_at all x.place) next_one ≡ true = w.1.2.below next_one ∙ above in
+          let within : is_within x.signature (rule next_one) ≡ true = ap (λ (signature : ℕ). is_within signature (rule next_one)) (stands.run_within x w.1.1).1.signed ∙ signed (entry_at all x.place) next_one over_it in
+          (w.0, (x, w.1.1, and_from (is_within x.signature (rule next_one)) (over (entry_at all x.place) next_one) within over_it))
+
+      -- where neither the last step that is no worse nor one of the run is over it, none is
+      pub none_over : (answer : Bool) → IsAsked over second all steps next_one answer → answer ≡ false
+          → (kept.class ≡ class → (x : Item) → Among x kept.run.items → is_over x ≡ false) → comes_after over all (suc n) next_one ≡ false
+      none_over answer asked no_step no_one =
+          false_from_ne_true (comes_after over all (suc n) next_one) (λ late.
+          let w = member_over i n inside late in
+          let m = entry_at all w.0 in
+          let decided = swept.led.decided m next_one (among w.0 (omega (arith, w.1.0, inside))) (among i inside) w.2 in
+          elim (or_cases (is_ahead first second third m next_one) (are_level_in first second third m next_one) decided) [
+            | inl ahead ↦
+                let last = asked.none no_step in
+                let found = step_over w.0 last.0 last.1 w.1 ahead in
+                both_ways (over (step (last.0 - 1)) next_one) (last.2 found.0) found.1
+            | inr level ↦ let found = one_over w.0 w.1 w.2 level in both_ways (is_over found.1.0) (no_one found.0 found.1.0 found.1.1) found.1.2
+          ])
+
+    -- ---- how they stand once it is put there
+
+    module _ (at : is_at over all n next_one ≡ true) (put_steps : List ℕ) (put : IsStepPut second third all steps i put_steps) where
+      abbrev from : ℕ
+      from = put.from
+
+      abbrev to : ℕ
+      to = put.to
+
+      -- the steps with the new one
+      abbrev new_steps : List ℕ
+      new_steps = take from steps ++ i ∷ drop to steps
+
+      better_in_second : (k : ℕ) → k < from → second (step k) next_one ≡ true
+      better_in_second k near = grind (arith, swept.led.second_is_chain.between (step (from - 1)) (step k) next_one, in_second k (from - 1))
+
+      no_better_in_second : (k : ℕ) → from ≤ k → k < length steps → second (step k) next_one ≡ false
+      no_better_in_second k past there = grind (arith, no_worse_then second swept.led.second_is_chain next_one (step from) (step k), in_second from k)
+
+      no_worse_in_second : (k : ℕ) → k < from → second next_one (step k) ≡ false
+      no_worse_in_second k near = grind (arith, better_in_second k near, swept.led.second_is_chain.strict.transitive next_one (step k) next_one, swept.led.second_is_chain.strict.irreflexive next_one)
+
+      -- one that is better in the second chain is no better in the third: it would dominate an entry of its level
+      no_better_in_third : (k : ℕ) → k < from → third (step k) next_one ≡ false
+      no_better_in_third k near =
+          let place = get_or steps k 0 in
+          let there : k < length steps = omega (arith, near, put.better.within) in
+          let ahead = better_is_ahead first second third swept.led.second_is_chain swept.led.third_is_chain (step k) next_one (in_first k there) (better_in_second k near) in
+          false_from_ne_true (third (step k) next_one) (λ in_both. both_ways (over (step k) next_one) (members_are_apart i n place i (is_step k there) (omega (arith, inside)) at)
+          (ahead_is_over place i (step_inside k there) inside (ahead in_both)))
+
+      no_worse_in_third : (k : ℕ) → to ≤ k → k < length steps → third next_one (step k) ≡ false
+      no_worse_in_third k past there = grind (arith, put.taken_out.next (omega (arith, past, there)), in_third to k past there, swept.led.third_is_chain.strict.transitive (step to) next_one (step k))
+
+      -- which steps are left
+      left_in_front : (k : ℕ) → k < from → Among (get_or steps k 0) new_steps
+      left_in_front k near =
+          in_left (take from steps) (i ∷ drop to steps) (get_or steps k 0)
+          (subst (λ p. Among p (take from steps)) (get_or-take from steps k 0 near) (among_place (take from steps) k 0 (omega (arith, near, put.better.within, length-take from steps))))
+
+      left_behind : (k : ℕ) → to ≤ k → k < length steps → Among (get_or steps k 0) new_steps
+      left_behind k past there =
+          let same : to + (k - to) ≡ k = omega (arith, past) in
+          in_right (take from steps) (i ∷ drop to steps) (get_or steps k 0)
+          (inr (subst (λ p. Among p (drop to steps)) (get_or-drop to steps (k - to) 0 ∙ ap (λ l. get_or steps l 0) same) (among_place (drop to steps) (k - to) 0 (omega (arith, past, there, length-drop to steps)))))
+
+      here : Among i new_steps
+      here = in_right (take from steps) (i ∷ drop to steps) i (inl refl)
+
+      in_front : (p : ℕ) → Among p (take from steps) → (k : ℕ) × (k < from) × (get_or steps k 0 ≡ p)
+      in_front p m =
+          let w = place_of (take from steps) p 0 m in
+          let near : w.0 < from = omega (arith, w.1, length-take from steps, put.better.within) in
+          (w.0, near, sym (get_or-take from steps w.0 0 near) ∙ w.2)
+
+      behind : (p : ℕ) → Among p (drop to steps) → (k : ℕ) × (to ≤ k) × (k < length steps) × (get_or steps k 0 ≡ p)
+      behind p m = let w = place_of (drop to steps) p 0 m in (to + w.0, omega arith, omega (arith, w.1, length-drop to steps, put.taken_out.within), sym (get_or-drop to steps w.0 0) ∙ w.2)
+
+      within_more : (p : ℕ) → Among p new_steps → IsMember over all (i + 1) n p
+      within_more p m =
+          let old : (k : ℕ) → k < length steps → get_or steps k 0 ≡ p → IsMember over all (i + 1) n p =
+          λ k there same. subst (IsMember over all (i + 1) n) same (omega (arith, (is_step k there).0), (is_step k there).1) in
+          elim (in_either (take from steps) (i ∷ drop to steps) p m) [
+            | inl front ↦ let w = in_front p front in old w.0 (omega (arith, w.1, put.better.within)) w.2
+            | inr rest ↦ elim rest [
+              | inl same ↦ subst (IsMember over all (i + 1) n) (sym same) (omega arith, at)
+              | inr back ↦ let w = behind p back in old w.0 w.2 w.3
+            ]
+          ]
+
+      -- the new step stands for those that are taken out
+      covers_more : (j : ℕ) → IsMember over all (i + 1) n j → (p : ℕ) × Among p new_steps × (second (entry_at all j) (entry_at all p) ≡ false) × (third (entry_at all j) (entry_at all p) ≡ false)
+      covers_more j member =
+          let led = swept.led in
+          let m = entry_at all j in
+          elim (cases_eq j i) [
+            | inl same ↦ (
+              i,
+              here,
+              ap (λ l. second (entry_at all l) next_one) same ∙ led.second_is_chain.strict.irreflexive next_one,
+              ap (λ l. third (entry_at all l) next_one) same ∙ led.third_is_chain.strict.irreflexive next_one,
+            )
+            | inr other ↦
+                let w = covering j (omega (arith, member.0, other), member.1) in
+                let k = w.0 in
+                elim (cases_lt k from) [
+                  | inl near ↦ (get_or steps k 0, left_in_front k near, w.2, w.3)
+                  | inr past ↦ elim (cases_lt k to) [
+                    | inl taken ↦ (
+                      i,
+                      here,
+                      no_worse_then second led.second_is_chain next_one (step k) m (no_better_in_second k past w.1) w.2,
+                      no_worse_then third led.third_is_chain next_one (step k) m (put.taken_out.skipped k past taken) w.3,
+                    )
+                    | inr far ↦ (get_or steps k 0, left_behind k far w.1, w.2, w.3)
+                  ]
+                ]
+          ]
+
+      -- the new one stands in its place
+      in_order_anew : (le : ℕ → ℕ → Bool) → IsInOrder le steps → ((k : ℕ) → k < from → le (get_or steps k 0) i ≡ true) → ((k : ℕ) → to ≤ k → k < length steps → le i (get_or steps k 0) ≡ true)
+          → IsInOrder le new_steps
+      in_order_anew le ordered front back =
+          let first_part = in_order_front le (take from steps) (drop from steps) (subst (IsInOrder le) (sym (take-append-drop from steps)) ordered) in
+          let last_part = in_order_back le (take to steps) (drop to steps) (subst (IsInOrder le) (sym (take-append-drop to steps)) ordered) in
+          let across : (a b : ℕ) → Among a (take from steps) → Among b (drop to steps) → le a b ≡ true =
+          λ a b ma mb.
+          let x = in_front a ma in
+          let y = behind b mb in
+          ap (λ v. le v b) (sym x.2) ∙ (ap (le (get_or steps x.0 0)) (sym y.3) ∙ in_order_at le steps x.0 y.0 0 ordered (omega (arith, x.1, y.1, put.taken_out.from_to)) y.2) in
+          in_order_with le (take from steps) (drop to steps) i (in_order_joined le (take from steps) (drop to steps) first_part last_part across)
+          (λ a ma. let x = in_front a ma in ap (λ v. le v i) (sym x.2) ∙ front x.0 x.1) (λ b mb. let y = behind b mb in ap (le i) (sym y.3) ∙ back y.0 y.1 y.2)
+
+      -- what is kept then: the run begins anew where the class does
+      module _ (new : Level) (x : Item) (run : List Item) (steps_are : new.steps.items ≡ put_steps) (class_is : new.class ≡ class) (run_is : new.run.items ≡ run ++ x ∷ [])
+          (place_is : x.place ≡ i) (signed : x.signature ≡ rule next_one) (word : x.signature < 2 ^ 64)
+          (runs : ((kept.class ≡ class) × (run ≡ kept.run.items)) ⊎ ((kept.class ≡ class → ⊥) × (run ≡ []))) where
+        run_within_more : (y : Item) → Among y new.run.items → IsMember over all (i + 1) n y.place × IsItem rule all y
+        run_within_more y m =
+            elim (in_either run (x ∷ []) y (subst (Among y) run_is m)) [
+              | inl old ↦ elim runs [
+                | inl more ↦ let w = stands.run_within y (subst (Among y) more.1 old) in ((omega (arith, w.0.0), w.0.1), w.1)
+                | inr anew ↦ absurd (subst (Among y) anew.1 old)
+              ]
+              | inr last ↦ grind (arith)
+            ]
+
+        run_covers_more : (j : ℕ) → class ≤ j → IsMember over all (i + 1) n j → (y : Item) × Among y new.run.items × StandAlike over (entry_at all y.place) (entry_at all j)
+        run_covers_more j behind member =
+            elim (cases_eq j i) [
+              | inl same ↦
+                  let alike : StandAlike over (entry_at all j) (entry_at all j) = record { above = λ c. refl; below = λ c. refl } in
+                  (x, subst (Among x) (sym run_is) (in_right run (x ∷ []) x (inl refl)), subst (λ (p : ℕ). StandAlike over (entry_at all p) (entry_at all j)) (same ∙ sym place_is) alike)
+              | inr other ↦
+                  let w = stands.run_covers j behind (omega (arith, member.0, other), member.1) in
+                  let y = w.1.0 in
+                  elim runs [
+                    | inl more ↦ (y, subst (Among y) (sym run_is) (in_left run (x ∷ []) y (subst (Among y) (sym more.1) w.1.1)), w.1.2)
+                    | inr anew ↦ absurd (anew.0 w.0)
+                  ]
+            ]
+
+        pub put_stands : StandsFor over second third rule all class (i + 1) n new
+        put_stands =
+            let le_second : ℕ → ℕ → Bool = λ p q. not (second (entry_at all q) (entry_at all p)) in
+            let le_third : ℕ → ℕ → Bool = λ p q. not (third (entry_at all p) (entry_at all q)) in
+            let new_is : new.steps.items ≡ new_steps = steps_are ∙ put.is in
+            let by_second = in_order_anew le_second stands.by_second (λ k near. ap not (no_worse_in_second k near)) (λ k past there. ap not (no_better_in_second k (omega (arith, past, put.taken_out.from_to)) there)) in
+            let by_third = in_order_anew le_third stands.by_third (λ k near. ap not (no_better_in_third k near)) (λ k past there. ap not (no_worse_in_third k past there)) in
+            record {
+              steps_within = λ p m. within_more p (subst (Among p) new_is m);
+              steps_cover = λ j member. let w = covers_more j member in (w.0, subst (Among w.0) (sym new_is) w.1, w.2, w.3);
+              by_second = subst (IsInOrder le_second) (sym new_is) by_second;
+              by_third = subst (IsInOrder le_third) (sym new_is) by_third;
+              run_within = run_within_more;
+              run_covers = λ j behind member. (class_is, run_covers_more j behind member);
+            }

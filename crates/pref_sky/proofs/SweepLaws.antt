@@ -1,0 +1,408 @@
+-- One pass over entries in order: the class of the next entry, how many levels are above it, and what is known behind it.
+use Rattle.pref_sky.proofs.Common.{◌≡◌, ℕ, suc, zero, ◌<◌, ◌≤◌, ◌+◌, ◌-◌, Bool, true, false, not, inl, inr, List, [], ◌∷◌, ◌++◌, refl, sym, ◌∙◌, ap, subst, arith, length, get_or, set}
+use Rattle.pref_sky.proofs.Common.{both_ways, and_from, cases_Bool, cases_eq, cases_lt, cond-true, cond-false, false_from_ne_true, get_or-set_same, get_or-set_other, length-set, length_push}
+use Rattle.pref_sky.proofs.Common.{get_or_push, get_or_append_left, All, add-one, comes_after, Entry, entry_at, Item, count_above, Among, IsChain, StandAlike, are_level, comes_first, in_turn}
+use Rattle.pref_sky.proofs.ChainLaws.{chain_in_turn}
+use Rattle.pref_sky.proofs.LeveledLaws.{HasChain, count_is}
+use Rattle.pref_sky.proofs.ListLaws.{among_place, place_of}
+use Rattle.pref_sky.proofs.Merges.{comes_after_upto, unbeaten_over}
+use Rattle.pref_sky.proofs.StepLaws.{alike_stays, new_class, same_level, stays}
+use Rattle.pref_sky.specs.Sweep.{AreSwept, HasBegun, HasFoundClass, HasSwept, IsClass, IsMember, IsSameLevel, StandsFor, are_level_in, is_at}
+use Rattle.pref_sky.specs.declared.level.Level.{Level}
+use Rattle.pref_sky.specs.declared.sweep.Sweep.{Sweep}
+
+-- ---- lists of which each element has a property
+
+-- one is replaced by another that has it
+each_set : {L : Type 0} (P : ℕ → L → Type 0) (xs : List L) (n : ℕ) (y : L) → n < length xs → P n y → ((k : ℕ) (d : L) → k < length xs → (k ≡ n → ⊥) → P k (get_or xs k d))
+    → (k : ℕ) (d : L) → k < length (set xs n y) → P k (get_or (set xs n y) k d)
+each_set P xs n y there here others k d inside =
+    elim (cases_eq k n) [
+      | inl same ↦ subst (λ m. P m (get_or (set xs n y) m d)) (sym same) (subst (P n) (sym (get_or-set_same xs n y d there)) here)
+      | inr other ↦ subst (P k) (sym (get_or-set_other xs n k y d other)) (others k d (omega (arith, inside, length-set xs n y)) other)
+    ]
+
+-- one comes behind them
+each_pushed : {L : Type 0} (P : ℕ → L → Type 0) (xs : List L) (y : L) → ((k : ℕ) (d : L) → k < length xs → P k (get_or xs k d)) → P (length xs) y
+    → (k : ℕ) (d : L) → k < length (xs ++ y ∷ []) → P k (get_or (xs ++ y ∷ []) k d)
+each_pushed P xs y before last k d inside =
+    elim (cases_lt k (length xs)) [
+      | inl old ↦ subst (P k) (sym (get_or_append_left xs (y ∷ []) d k old)) (before k d old)
+      | inr behind ↦
+          let same : k ≡ length xs = omega (arith, behind, inside, length_push xs y) in
+          subst (λ m. P m (get_or (xs ++ y ∷ []) m d)) (sym same) (subst (P (length xs)) (sym (get_or_push xs y d (length xs) refl)) last)
+    ]
+
+-- ---- how many levels are above an entry
+
+-- as many as a chain over it has entries
+chain_of_count : {E : Type 0} (over : E → E → Bool) (cut : ℕ) (all : List E) (e : E) → HasChain over cut all e (count_above over all cut e)
+chain_of_count over zero all e = record { within = omega arith; after = refl; no_more = λ less. absurd (omega (arith, less)) }
+chain_of_count over (suc cut) all e =
+    elim (cases_Bool (comes_after over all (suc cut) e)) [
+      | inl below ↦
+          let is : count_above over all (suc cut) e ≡ suc cut = cond-true (comes_after over all (suc cut) e) (suc cut) (count_above over all cut e) below in
+          subst (HasChain over (suc cut) all e) (sym is) (record { within = omega arith; after = below; no_more = λ less. absurd (omega (arith, less)) })
+      | inr within ↦
+          let is : count_above over all (suc cut) e ≡ count_above over all cut e = cond-false (comes_after over all (suc cut) e) (suc cut) (count_above over all cut e) within in
+          let chain = chain_of_count over cut all e in
+          let n = count_above over all cut e in
+          subst (HasChain over (suc cut) all e) (sym is) (record {
+            within = omega (arith, chain.within);
+            after = chain.after;
+            no_more = λ less. elim (cases_lt n cut) [
+              | inl early ↦ chain.no_more early
+              | inr last ↦ let same : cut ≡ n = omega (arith, last, less) in subst (λ k. comes_after over all (suc k) e ≡ false) same within
+            ];
+          })
+    ]
+
+-- alike entries have the same above them
+alike_after : {E : Type 0} (over : E → E → Bool) (all : List E) (a b : E) → StandAlike over a b → (n : ℕ) → comes_after over all n a ≡ comes_after over all n b
+alike_after over all a b alike n = grind (arith)
+
+count_alike : {E : Type 0} (over : E → E → Bool) (all : List E) (a b : E) → StandAlike over a b → (cut : ℕ) → count_above over all cut a ≡ count_above over all cut b
+count_alike over all a b alike zero = refl
+count_alike over all a b alike (suc cut) = grind (arith, alike_after over all a b alike (suc cut), count_alike over all a b alike cut)
+
+alike_at : {E : Type 0} (over : E → E → Bool) (all : List E) (a b : E) → StandAlike over a b → (n : ℕ) → is_at over all n a ≡ is_at over all n b
+alike_at over all a b alike n = grind (arith, alike_after over all a b alike n, alike_after over all a b alike (suc n))
+
+-- the level that it is of
+chain_at : {E : Type 0} (over : E → E → Bool) (cut : ℕ) (all : List E) (e : E) (n : ℕ) → n < cut → is_at over all n e ≡ true → HasChain over cut all e n
+chain_at over cut all e n early at = grind (arith)
+
+level_is : {E : Type 0} (over : E → E → Bool) (cut : ℕ) (all : List E) (e : E) (n : ℕ) → n < cut → is_at over all n e ≡ true → count_above over all cut e ≡ n
+level_is over cut all e n early at = count_is over cut all e n (chain_at over cut all e n early at)
+
+pub at_level_of : {E : Type 0} (over : E → E → Bool) (cut : ℕ) (all : List E) (e : E) (n : ℕ) → n < cut → n ≡ count_above over all cut e → is_at over all n e ≡ true
+at_level_of over cut all e n early is =
+    let chain : HasChain over cut all e n = subst (HasChain over cut all e) (sym is) (chain_of_count over cut all e) in
+    and_from (comes_after over all n e) (not (comes_after over all (suc n) e)) chain.after (ap not (chain.no_more early))
+
+-- a search by halves for how many levels are above an entry
+pub record IsSought {E L : Type 0} (over : E → E → Bool) (all : List E) (e : E) (levels : List L) (low high : ℕ) : Type 0 where
+  pub ordered : low ≤ high
+  pub within : high ≤ length levels
+  pub above : comes_after over all low e ≡ true
+  pub next : high < length levels → comes_after over all (suc high) e ≡ false
+
+module _ {E L : Type 0} (over : E → E → Bool) (all : List E) (e : E) (levels : List L) where
+  pub sought_at_begin : (high : ℕ) → high ≡ length levels → IsSought over all e levels 0 high
+  sought_at_begin high is = record { ordered = omega arith; within = omega (arith, is); above = refl; next = λ less. absurd (omega (arith, less, is)) }
+
+  module _ (low high middle : ℕ) (asked : L) (sought : IsSought over all e levels low high) where
+    pub sought_below : middle < high → comes_after over all (suc middle) e ≡ true → IsSought over all e (set levels middle asked) (middle + 1) high
+    sought_below inside stands =
+        let long = length-set levels middle asked in
+        record {
+          ordered = omega (arith, inside);
+          within = omega (arith, sought.within, long);
+          above = subst (λ n. comes_after over all n e ≡ true) (sym (add-one middle)) stands;
+          next = λ less. sought.next (omega (arith, less, long));
+        }
+
+    pub sought_above : low ≤ middle → middle < high → comes_after over all (suc middle) e ≡ false → IsSought over all e (set levels middle asked) low middle
+    sought_above from inside stands = record { ordered = from; within = omega (arith, inside, sought.within, length-set levels middle asked); above = sought.above; next = λ _. stands }
+
+-- ---- classes: entries that are level in three chains
+
+-- two that are level with a third in one chain are level in it
+level_in_one : {E : Type 0} (better : E → E → Bool) → IsChain better → (a b c : E) → are_level better a b ≡ true → are_level better b c ≡ true → are_level better a c ≡ true
+level_in_one better chain a b c ab bc = grind (arith, chain.between a b c, chain.between c b a)
+
+module _ {E : Type 0} (first second third : E → E → Bool) (f : IsChain first) (s : IsChain second) (t : IsChain third) where
+  level_with_itself : (a : E) → are_level_in first second third a a ≡ true
+  level_with_itself a = grind (arith, f.strict.irreflexive a, s.strict.irreflexive a, t.strict.irreflexive a)
+
+  level_back : (a b : E) → are_level_in first second third a b ≡ true → are_level_in first second third b a ≡ true
+  level_back a b level = grind (arith)
+
+  level_then : (a b c : E) → are_level_in first second third a b ≡ true → are_level_in first second third b c ≡ true → are_level_in first second third a c ≡ true
+  level_then a b c ab bc = grind (arith, level_in_one first f a b c, level_in_one second s a b c, level_in_one third t a b c)
+
+  -- those that are level in all three are level in their order
+  level_in_order : (a b : E) → are_level_in first second third a b ≡ true → comes_first first second third a b ≡ false
+  level_in_order a b level = grind (arith, level)
+
+  level_from_order : (a b : E) → comes_first first second third a b ≡ false → comes_first first second third b a ≡ false → are_level_in first second third a b ≡ true
+  level_from_order a b ab ba = grind (arith, ab, ba)
+
+  -- of three in order the middle one is level with the last where the first is
+  between_level : (a b c : E) → comes_first first second third b a ≡ false → comes_first first second third c b ≡ false
+      → are_level_in first second third a c ≡ true → are_level_in first second third b c ≡ true
+  between_level a b c ba cb ac =
+      let order = chain_in_turn first (in_turn second third) f (chain_in_turn second third s t) in
+      level_from_order b c (false_from_ne_true (comes_first first second third b c) (λ h. both_ways (comes_first first second third a c) (level_in_order a c ac) (order.between b a c h ba))) cb
+
+-- ---- what stands for members is inside
+
+module _ {over second third : Entry → Entry → Bool} {rule : Entry → ℕ} {all : List Entry} {class i n : ℕ} {kept : Level} (inside : i < length all)
+    (stands : StandsFor over second third rule all class i n kept) where
+  pub steps_inside : All (λ p. p < length all) kept.steps.items
+  steps_inside k d there = omega (arith, inside, (stands.steps_within (get_or kept.steps.items k d) (among_place kept.steps.items k d there)).0)
+
+  pub run_inside : All (λ (x : Item). x.place < length all) kept.run.items
+  run_inside k d there = omega (arith, inside, (stands.run_within (get_or kept.run.items k d) (among_place kept.run.items k d there)).0.0)
+
+-- ---- the next entry
+
+module _ {over first second third : Entry → Entry → Bool} {all : List Entry} (swept : AreSwept over first second third all) where
+  abbrev is_level : ℕ → ℕ → Bool
+  is_level i j = are_level_in first second third (entry_at all i) (entry_at all j)
+
+  abbrev Class : ℕ → ℕ → Type 0
+  Class class i = IsClass first second third all class i
+
+  -- an entry that is level with the one before it is of its class
+  class_goes_on : (class i : ℕ) → 0 < i → Class class (i - 1) → is_level (i - 1) i ≡ true → Class class i
+  class_goes_on class i some is level =
+      let f = swept.led.first_is_chain in
+      let s = swept.led.second_is_chain in
+      let t = swept.led.third_is_chain in
+      let before = entry_at all (i - 1) in
+      let e = entry_at all i in
+      record {
+        begins = omega (arith, is.begins);
+        level = λ j from to. elim (cases_eq j i) [
+          | inl same ↦ subst (λ k. is_level k i ≡ true) (sym same) (level_with_itself first second third f s t e)
+          | inr other ↦ level_then first second third f s t (entry_at all j) before e (is.level j from (omega (arith, to, other, some))) level
+        ];
+        apart = λ j earlier. false_from_ne_true (is_level j i)
+            (λ h. both_ways (is_level j (i - 1)) (is.apart j earlier) (level_then first second third f s t (entry_at all j) e before h (level_back first second third f s t before e level)));
+      }
+
+  -- another begins a class: what is before the one before it is no nearer
+  class_begins : (i : ℕ) → i < length all → (0 < i → is_level (i - 1) i ≡ false) → Class i i
+  class_begins i inside apart =
+      let f = swept.led.first_is_chain in
+      let s = swept.led.second_is_chain in
+      let t = swept.led.third_is_chain in
+      let before = entry_at all (i - 1) in
+      let e = entry_at all i in
+      record {
+        begins = omega arith;
+        level = λ j from to. let same : i ≡ j = omega (arith, from, to) in subst (λ k. is_level k i ≡ true) same (level_with_itself first second third f s t e);
+        apart = λ j earlier.
+            let to_before = swept.in_lead j (i - 1) (omega (arith, earlier)) (omega (arith, earlier, inside)) in
+            let from_before = swept.in_lead (i - 1) i (omega arith) inside in
+            false_from_ne_true (is_level j i)
+            (λ h. both_ways (is_level (i - 1) i) (apart (omega (arith, earlier))) (between_level first second third f s t (entry_at all j) before e to_before from_before h));
+      }
+
+  module _ (i : ℕ) (inside : i < length all) where
+    -- what is over an entry stands before it
+    over_stands : (x : Entry) → Among x all → over x (entry_at all i) ≡ true → (j : ℕ) × (j < i) × (entry_at all j ≡ x)
+    over_stands x m above =
+        let e = entry_at all i in
+        let w = place_of all x (record { id = 0; row = [] }) m in
+        elim (cases_lt w.0 i) [
+          | inl before ↦ (w.0, before, w.2)
+          | inr behind ↦ absurd (both_ways (over x e) (subst (λ y. over y e ≡ false) w.2 (swept.in_order i w.0 behind w.1)) above)
+        ]
+
+    -- where a chain of n + 1 stands over an entry, one of level n does, that stands before it
+    level_over : (n : ℕ) → comes_after over all (suc n) (entry_at all i) ≡ true → (j : ℕ) × IsMember over all i n j
+    level_over n h =
+        let w = unbeaten_over over swept.strict (comes_after over all n) all (entry_at all i) h in
+        let at = over_stands w.0 w.1 w.3 in
+        (at.0, (at.1, subst (λ x. is_at over all n x ≡ true) (sym at.2) (and_from (comes_after over all n w.0) (not (comes_after over all (suc n) w.0)) w.2 (ap not w.4))))
+
+-- a level is known where those of the entries before are and that of the next entry is
+known_more : (over : Entry → Entry → Bool) (all : List Entry) (cut i count : ℕ) → ((j n : ℕ) → n < cut → IsMember over all i n j → n < count)
+    → ((n : ℕ) → n < cut → is_at over all n (entry_at all i) ≡ true → n < count) → (j n : ℕ) → n < cut → IsMember over all (i + 1) n j → n < count
+known_more over all cut i count known next j n early member = elim (cases_eq j i) [
+  | inl same ↦ next n early (subst (λ k. is_at over all n (entry_at all k) ≡ true) same member.1)
+  | inr other ↦ known j n early (omega (arith, member.0, other), member.1)
+]
+
+here_again : (i : ℕ) → i + 1 - 1 ≡ i
+here_again i = omega arith
+
+module _ {over first second third : Entry → Entry → Bool} {all : List Entry} (rule : Entry → ℕ) (cut : ℕ) (swept : AreSwept over first second third all) (i : ℕ) (inside : i < length all) where
+  abbrev e : Entry
+  e = entry_at all i
+
+  abbrev level_before : Bool
+  level_before = are_level_in first second third (entry_at all (i - 1)) e
+
+  abbrev count : Entry → ℕ
+  count x = count_above over all cut x
+
+  abbrev Stands : ℕ → ℕ → ℕ → Level → Type 0
+  Stands class j n kept = StandsFor over second third rule all class j n kept
+
+  abbrev AllStand : ℕ → ℕ → List Level → Type 0
+  AllStand class j levels = (n : ℕ) (d : Level) → n < length levels → Stands class j n (get_or levels n d)
+
+  abbrev Swept : ℕ → Sweep → Type 0
+  Swept j sweep = HasSwept over first second third rule cut all j sweep
+
+  abbrev Found : Sweep → Type 0
+  Found sweep = HasFoundClass over first second third rule cut all i sweep
+
+  -- ---- its class
+
+  pub found_same : (sweep : Sweep) → Swept i sweep → 0 < i → level_before ≡ true → Found sweep
+  found_same sweep so_far some level = record { within = so_far.within; stand = so_far.stand; known = so_far.known; class = class_goes_on swept sweep.class i some (so_far.class some) level }
+
+  pub found_new : (sweep new : Sweep) → Swept i sweep → (0 < i → level_before ≡ false) → new.levels.items ≡ sweep.levels.items → new.class ≡ i → Found new
+  found_new sweep new so_far apart same begins = record {
+    within = omega (arith, so_far.within, ap length same);
+    stand = subst (AllStand new.class i) (sym same)
+        (λ n d known. new_class over second third rule all sweep.class i n (get_or sweep.levels.items n d) (so_far.stand n d known) new.class (omega (arith, begins)));
+    known = λ j n early member. omega (arith, so_far.known j n early member, ap length same);
+    class = subst (λ class. IsClass first second third all class i) (sym begins) (class_begins swept i inside apart);
+  }
+
+  -- ---- its level
+
+  -- one of the levels so far stands for its members
+  pub stands_there : (sweep : Sweep) (n : ℕ) (kept : Level) → Found sweep → n < length sweep.levels.items → kept ≡ get_or sweep.levels.items n kept → Stands sweep.class i n kept
+  stands_there sweep n kept so_far there is = subst (Stands sweep.class i n) (sym is) (so_far.stand n kept there)
+
+  -- a level that was asked has another order of its run at most
+  pub found_asked : (sweep new : Sweep) (n : ℕ) (kept asked : Level) → Found sweep → n < length sweep.levels.items → kept ≡ get_or sweep.levels.items n kept → IsSameLevel kept asked
+      → new.levels.items ≡ set sweep.levels.items n asked → new.class ≡ sweep.class → Found new
+  found_asked sweep new n kept asked so_far there here same is class =
+      let levels = sweep.levels.items in
+      let long : length new.levels.items ≡ length levels = ap length is ∙ length-set levels n asked in
+      let stands = same_level over second third rule all sweep.class i n kept asked same (stands_there sweep n kept so_far there here) in
+      let all_stand = each_set (Stands sweep.class i) levels n asked there stands (λ k d old other. so_far.stand k d old) in
+      record {
+        within = omega (arith, so_far.within, long);
+        stand = subst (λ c. AllStand c i new.levels.items) (sym class) (subst (AllStand sweep.class i) (sym is) all_stand);
+        known = λ j k early member. omega (arith, so_far.known j k early member, long);
+        class = subst (λ c. IsClass first second third all c i) (sym class) so_far.class;
+      }
+
+  -- as many levels are above it as a search among those so far finds
+  pub count_found : (sweep : Sweep) (low high : ℕ) → Found sweep → IsSought over all e sweep.levels.items low high → high ≤ low → low ≡ count e
+  count_found sweep low high so_far sought met =
+      let same : low ≡ high = omega (arith, sought.ordered, met) in
+      sym (count_is over cut all e low (record {
+        within = omega (arith, same, sought.within, so_far.within);
+        after = sought.above;
+        no_more = λ early. elim (cases_lt low (length sweep.levels.items)) [
+          | inl known ↦ subst (λ n. comes_after over all (suc n) e ≡ false) (sym same) (sought.next (omega (arith, known, same)))
+          | inr all_known ↦ false_from_ne_true (comes_after over all (suc low) e) (λ h. let w = level_over swept i inside low h in absurd (omega (arith, all_known, so_far.known w.0 low early w.1)))
+        ];
+      }))
+
+  -- a level for it is there, so that it can be kept
+  pub record HasLevel (sweep new : Sweep) : Type 0 where
+    pub found : Found new
+    pub there : new.above < length new.levels.items
+    pub above : new.above ≡ sweep.above
+
+  -- where more levels were above it than are known, one would have an entry before it
+  above_within : (sweep : Sweep) → Found sweep → sweep.above ≡ count e → sweep.above < cut → sweep.above ≤ length sweep.levels.items
+  above_within sweep so_far above early =
+      let known = length sweep.levels.items in
+      elim (cases_lt known sweep.above) [
+        | inl past ↦
+            let chain : comes_after over all sweep.above e ≡ true = subst (λ n. comes_after over all n e ≡ true) (sym above) (chain_of_count over cut all e).after in
+            let w = level_over swept i inside known (comes_after_upto over all (suc known) sweep.above e (omega (arith, past)) chain) in
+            absurd (omega (arith, so_far.known w.0 known (omega (arith, past, early)) w.1))
+        | inr within ↦ within
+      ]
+
+  -- no entry so far is of a level that is begun
+  found_longer : (sweep new : Sweep) (empty : Level) → Found sweep → length sweep.levels.items < cut
+      → (((j : ℕ) → IsMember over all i (length sweep.levels.items) j → ⊥) → Stands sweep.class i (length sweep.levels.items) empty)
+      → new.levels.items ≡ sweep.levels.items ++ empty ∷ [] → new.class ≡ sweep.class → Found new
+  found_longer sweep new empty so_far early is_empty is class =
+      let known = length sweep.levels.items in
+      let long : length new.levels.items ≡ known + 1 = ap length is ∙ length_push sweep.levels.items empty in
+      let stands = is_empty (λ j member. absurd (omega (arith, so_far.known j known early member))) in
+      let all_stand = each_pushed (Stands sweep.class i) sweep.levels.items empty so_far.stand stands in
+      record {
+        within = omega (arith, long, early);
+        stand = subst (λ c. AllStand c i new.levels.items) (sym class) (subst (AllStand sweep.class i) (sym is) all_stand);
+        known = λ j n early_n member. omega (arith, long, so_far.known j n early_n member);
+        class = subst (λ c. IsClass first second third all c i) (sym class) so_far.class;
+      }
+
+  pub found_begun : (sweep new : Sweep) → Found sweep → sweep.above ≡ count e → sweep.above < cut → HasBegun sweep new → HasLevel sweep new
+  found_begun sweep new so_far above early begun =
+      let levels = sweep.levels.items in
+      elim (cases_eq sweep.above (length levels)) [
+        | inl last ↦
+            let w = begun.begun last in
+            record {
+              found = found_longer sweep new w.0 so_far (omega (arith, last, early)) (w.2 over second third rule all sweep.class i (length levels)) w.1 begun.class;
+              there = omega (arith, begun.above, last, ap length w.1, length_push levels w.0);
+              above = begun.above;
+            }
+        | inr other ↦
+            let same = begun.known other in
+            record {
+              found = record {
+                within = omega (arith, so_far.within, ap length same);
+                stand = subst (λ c. AllStand c i new.levels.items) (sym begun.class) (subst (AllStand sweep.class i) (sym same) so_far.stand);
+                known = λ j n early_n member. omega (arith, so_far.known j n early_n member, ap length same);
+                class = subst (λ c. IsClass first second third all c i) (sym begun.class) so_far.class;
+              };
+              there = omega (arith, begun.above, above_within sweep so_far above early, other, ap length same);
+              above = begun.above;
+            }
+      ]
+
+  -- ---- what is known behind it
+
+  -- it is alike to the one before it
+  pub swept_alike : (sweep : Sweep) → Swept i sweep → 0 < i → StandAlike over (entry_at all (i - 1)) e → level_before ≡ true → Swept (i + 1) sweep
+  swept_alike sweep so_far some alike level =
+      let before = entry_at all (i - 1) in
+      let same = alike_at over all before e alike in
+      let class = so_far.class some in
+      record {
+        within = so_far.within;
+        stand = λ n d there.
+            let kept = get_or sweep.levels.items n d in
+            let stands = so_far.stand n d there in
+            elim (cases_Bool (is_at over all n before)) [
+              | inl at ↦ alike_stays over second third rule all sweep.class i n kept stands first swept.led.second_is_chain swept.led.third_is_chain some class.begins at alike level
+              | inr apart ↦ stays over second third rule all sweep.class i n kept stands (sym (same n) ∙ apart)
+            ];
+        known = known_more over all cut i (length sweep.levels.items) so_far.known (λ n early at. so_far.known (i - 1) n early (omega (arith, some), same n ∙ at));
+        class = λ _. subst (IsClass first second third all sweep.class) (sym (here_again i)) (class_goes_on swept sweep.class i some class level);
+        last = λ _. so_far.last some ∙ (count_alike over all before e alike cut ∙ ap (λ k. count (entry_at all k)) (sym (here_again i)));
+      }
+
+  -- it is below the cut
+  pub swept_below : (sweep : Sweep) → Found sweep → sweep.above ≡ count e → cut ≤ sweep.above → Swept (i + 1) sweep
+  swept_below sweep so_far above past =
+      let none : (n : ℕ) → n < cut → is_at over all n e ≡ false =
+      λ n early. false_from_ne_true (is_at over all n e) (λ at. absurd (omega (arith, level_is over cut all e n early at, above, past, early))) in
+      record {
+        within = so_far.within;
+        stand = λ n d there. stays over second third rule all sweep.class i n (get_or sweep.levels.items n d) (so_far.stand n d there) (none n (omega (arith, there, so_far.within)));
+        known = known_more over all cut i (length sweep.levels.items) so_far.known (λ n early at. absurd (both_ways (is_at over all n e) (none n early) at));
+        class = λ _. subst (IsClass first second third all sweep.class) (sym (here_again i)) so_far.class;
+        last = λ _. above ∙ ap (λ k. count (entry_at all k)) (sym (here_again i));
+      }
+
+  -- it is kept in its level
+  pub swept_put : (sweep new : Sweep) (put : Level) → Found sweep → sweep.above ≡ count e → sweep.above < length sweep.levels.items → Stands sweep.class (i + 1) sweep.above put
+      → new.levels.items ≡ set sweep.levels.items sweep.above put → new.class ≡ sweep.class → new.above ≡ sweep.above → Swept (i + 1) new
+  swept_put sweep new put so_far above there stands is class same =
+      let n = sweep.above in
+      let levels = sweep.levels.items in
+      let long : length new.levels.items ≡ length levels = ap length is ∙ length-set levels n put in
+      let apart : (k : ℕ) → k < length levels → (k ≡ n → ⊥) → is_at over all k e ≡ false =
+      λ k old other. false_from_ne_true (is_at over all k e) (λ at. absurd (other (sym (level_is over cut all e k (omega (arith, old, so_far.within)) at) ∙ sym above))) in
+      let all_stand = each_set (Stands sweep.class (i + 1)) levels n put there stands
+      (λ k d old other. stays over second third rule all sweep.class i k (get_or levels k d) (so_far.stand k d old) (apart k old other)) in
+      record {
+        within = omega (arith, long, so_far.within);
+        stand = subst (λ c. AllStand c (i + 1) new.levels.items) (sym class) (subst (AllStand sweep.class (i + 1)) (sym is) all_stand);
+        known = known_more over all cut i (length new.levels.items) (λ j k early member. omega (arith, long, so_far.known j k early member))
+            (λ k early at. omega (arith, level_is over cut all e k early at, above, there, long));
+        class = λ _. subst (λ c. IsClass first second third all c (i + 1 - 1)) (sym class) (subst (IsClass first second third all sweep.class) (sym (here_again i)) so_far.class);
+        last = λ _. same ∙ (above ∙ ap (λ k. count (entry_at all k)) (sym (here_again i)));
+      }
+
+  -- so many levels are above it
+  pub chain_of_last : (sweep : Sweep) → Swept (i + 1) sweep → HasChain over cut all e sweep.above
+  chain_of_last sweep so_far = subst (HasChain over cut all e) (sym (so_far.last (omega arith) ∙ ap (λ k. count (entry_at all k)) (here_again i))) (chain_of_count over cut all e)

@@ -1,0 +1,48 @@
+use Rattle.pref_sky.proofs.Common.{◌≡◌, ◌&&◌, ◌∙◌, ℕ, [], Entry, ap, cases_Bool, entry_at, get_or_read, inl, inr, own_order, subst, sym}
+use Rattle.pref_sky.proofs.StepLaws.{found_one, found_step, none_over}
+use Rattle.pref_sky.specs.Leads.{rule_of, second_of}
+use Rattle.pref_sky.specs.Steps.{IsAsked}
+use Rattle.pref_term.specs.Signatures.{is_within}
+use Rattle.std.proofs.lemmas.Bool.{ne_eqb}
+use Rattle.pref_sky.proofs.level.Level.dominates.Goals.{After-has_step_over}
+use Rattle.pref_sky.proofs.level.Level.dominates.Goals as goal
+
+here : (c : After-has_step_over) → c.index-entries-place.result ≡ entry_at c.args.entries.now c.args.place
+here c = get_or_read c.args.entries.now c.args.place c.index-entries-place.result c.requires.inside c.index-entries-place.is (record { id = 0; row = [] })
+
+asked : (c : After-has_step_over)
+    → IsAsked (own_order c.args.order.now) (second_of c.args.order.now c.args.lead.now) c.args.entries.now c.args.self.now.steps.items (entry_at c.args.entries.now c.args.place) c.has_step_over.result
+asked c = subst (λ (e : Entry). IsAsked (own_order c.args.order.now) (second_of c.args.order.now c.args.lead.now) c.args.entries.now c.args.self.now.steps.items e c.has_step_over.result) (here c) c.has_step_over.ensures
+
+pub returns-then-has_step_over-clause-dominated : goal.returns-then-has_step_over-clause-dominated
+returns-then-has_step_over-clause-dominated c sweeps of_class n stands =
+    let w = asked ((goal.at.returns-then-has_step_over-clause-dominated c).After-has_step_over) in
+    let found = c.if-has_step_over.true in
+    found ∙ sym (found_step _ _ _ _ c.args.entries.now sweeps.swept (rule_of c.args.lead.now) c.args.class c.args.place n c.args.self.now stands c.requires.inside c.has_step_over.result w found)
+
+pub returns-then-self-class-clause-dominated : goal.returns-then-self-class-clause-dominated
+returns-then-self-class-clause-dominated c sweeps of_class n stands =
+    let over = own_order c.args.order.now in
+    let all = c.args.entries.now in
+    let rule = rule_of c.args.lead.now in
+    let e = entry_at all c.args.place in
+    let at = (goal.at.returns-then-self-class-clause-dominated c).After-has_step_over in
+    let w = asked at in
+    elim (cases_Bool c.has_one_over.result) [
+      | inl found ↦
+          let x = c.has_one_over.ensures.found found in
+          let above = ap (over (entry_at all x.0.place)) (sym (here at)) ∙ x.2 in
+          found ∙ sym (found_one over _ _ _ all sweeps.swept rule c.args.class c.args.place n c.args.self.now stands c.requires.inside x.0 x.1 above)
+      | inr none ↦
+          none
+          ∙ sym (none_over over _ _ _ all sweeps.swept rule c.args.class c.args.place n c.args.self.now stands c.requires.inside sweeps.signed of_class c.has_step_over.result w c.if-has_step_over.false
+          (λ same x m. ap (λ (s : ℕ). is_within x.signature s && over (entry_at all x.place) e) (sym c.requires.signature)
+          ∙ (ap (λ (y : Entry). is_within x.signature c.args.signature && over (entry_at all x.place) y) (sym (here at)) ∙ c.has_one_over.ensures.none none x m)))
+    ]
+
+pub returns-else-self-class-clause-dominated : goal.returns-else-self-class-clause-dominated
+returns-else-self-class-clause-dominated c sweeps of_class n stands =
+    let w = asked ((goal.at.returns-else-self-class-clause-dominated c).After-has_step_over) in
+    ne_eqb c.args.self.now.class c.args.class c.if-self-class.false
+    ∙ sym (none_over _ _ _ _ c.args.entries.now sweeps.swept (rule_of c.args.lead.now) c.args.class c.args.place n c.args.self.now stands c.requires.inside sweeps.signed of_class
+    c.has_step_over.result w c.if-has_step_over.false (λ same x m. absurd (c.if-self-class.false same)))

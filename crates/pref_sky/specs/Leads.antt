@@ -1,0 +1,45 @@
+-- No public contract cites this.
+-- The three chains that lead the order of entries in a sweep, each with the groups before its keys, and the rule by which they are signed.
+use Rattle.std.specs.Prelude.{◌≡◌, Bool, true, ℕ, List, [], get_or, map}
+use Rattle.pref_term.specs.Chains.{by_chain}
+use Rattle.pref_term.specs.Extension.{ask_keys}
+use Rattle.pref_term.specs.Order.{is_same}
+use Rattle.pref_term.specs.Signatures.{is_within}
+use Rattle.pref_term.specs.declared.key.Key.{Key}
+use Rattle.pref_sky.specs.Chains.{better_in, by_row, earlier_in, in_turn}
+use Rattle.pref_sky.specs.Items.{signature_by}
+use Rattle.pref_sky.specs.Members.{Among}
+use Rattle.pref_sky.specs.OwnOrders.{own_order}
+use Rattle.pref_sky.specs.Sweep.{AreSwept, are_level_in}
+use Rattle.pref_sky.specs.declared.entry.Entry.{Entry}
+use Rattle.pref_sky.specs.declared.lead.Lead.{Lead}
+use Rattle.pref_sky.specs.declared.own_order.OwnOrder.{OwnOrder}
+
+-- the chains
+abbrev pub chains_of : Lead → List (List Key)
+chains_of lead = map (λ chain. chain.now) lead.chains.items
+
+-- the n-th of them, without a key where there are fewer
+abbrev pub chain_at : Lead → ℕ → List Key
+chain_at lead n = get_or (chains_of lead) n []
+
+-- the earlier group is better in the first, and worse in the others: so rows of two groups are apart in their product
+abbrev pub first_of : OwnOrder → Lead → Entry → Entry → Bool
+first_of order lead = by_row (in_turn (earlier_in order.ask.group) (better_in (chain_at lead 0)))
+
+abbrev pub second_of : OwnOrder → Lead → Entry → Entry → Bool
+second_of order lead = by_row (in_turn (λ a b. earlier_in order.ask.group b a) (better_in (chain_at lead 1)))
+
+abbrev pub third_of : OwnOrder → Lead → Entry → Entry → Bool
+third_of order lead = by_row (in_turn (λ a b. earlier_in order.ask.group b a) (better_in (chain_at lead 2)))
+
+-- the signature of an entry
+abbrev pub rule_of : Lead → Entry → ℕ
+rule_of lead = signature_by lead.scales
+
+-- these chains lead the order of these entries, which are in order, and see no difference that the question's keys do not; and what dominates another has no bit in its signature that the other lacks
+pub record LeadsSweep (order : OwnOrder) (lead : Lead) (all : List Entry) : Type 0 where
+  pub swept : AreSwept (own_order order) (first_of order lead) (second_of order lead) (third_of order lead) all
+  pub signed : (a b : Entry) → own_order order a b ≡ true → is_within (rule_of lead a) (rule_of lead b) ≡ true
+  pub keyed : (a b : Entry) → Among a all → Among b all → is_same (by_chain (ask_keys order.ask) a.row b.row) ≡ true
+      → are_level_in (first_of order lead) (second_of order lead) (third_of order lead) a b ≡ true

@@ -1,0 +1,90 @@
+-- No public contract cites this.
+-- One pass over entries in order: three chains that lead their order, and what is kept of each level so far, as far as later entries are compared with it.
+use Rattle.std.specs.Prelude.{◌≡◌, ◌<◌, ◌≤◌, ◌-◌, get_or, Bool, true, false, not, ◌&&◌, ◌||◌, ℕ, suc, List, [], ◌∷◌, ◌++◌, length}
+use Rattle.pref_term.specs.Order.{IsStrictOrder, StandAlike}
+use Rattle.pref_sky.specs.OwnOrders.{comes_after, count_above}
+use Rattle.pref_sky.specs.Items.{IsItem, entry_at}
+use Rattle.pref_sky.specs.Members.{Among}
+use Rattle.pref_sky.specs.Chains.{IsChain, IsInOrder, are_level, comes_first}
+use Rattle.pref_sky.specs.declared.entry.Entry.{Entry}
+use Rattle.pref_sky.specs.declared.item.Item.{Item}
+use Rattle.pref_sky.specs.declared.level.Level.{Level}
+use Rattle.pref_sky.specs.declared.sweep.Sweep.{Sweep}
+
+-- no worse in each of three chains, and better in one of them
+abbrev pub is_ahead : {E : Type 0} → (E → E → Bool) → (E → E → Bool) → (E → E → Bool) → E → E → Bool
+is_ahead first second third a b = (not (first b a) && (not (second b a) && not (third b a))) && (first a b || (second a b || third a b))
+
+-- level in all three
+abbrev pub are_level_in : {E : Type 0} → (E → E → Bool) → (E → E → Bool) → (E → E → Bool) → E → E → Bool
+are_level_in first second third a b = are_level first a b && (are_level second a b && are_level third a b)
+
+-- three chains lead the order of some entries: what is ahead in them dominates, and what dominates is ahead in them, or level in all
+pub record AreLed {E : Type 0} (over first second third : E → E → Bool) (all : List E) : Type 0 where
+  pub first_is_chain : IsChain first
+  pub second_is_chain : IsChain second
+  pub third_is_chain : IsChain third
+  pub ahead : (a b : E) → Among a all → Among b all → is_ahead first second third a b ≡ true → over a b ≡ true
+  pub decided : (a b : E) → Among a all → Among b all → over a b ≡ true → (is_ahead first second third a b || are_level_in first second third a b) ≡ true
+
+-- entries in order: none dominates an earlier one, and none comes before an earlier one by the first of the leading chains in which they differ
+pub record AreSwept (over first second third : Entry → Entry → Bool) (all : List Entry) : Type 0 where
+  pub strict : IsStrictOrder over
+  pub led : AreLed over first second third all
+  pub in_order : (j p : ℕ) → j ≤ p → p < length all → over (entry_at all p) (entry_at all j) ≡ false
+  pub in_lead : (j p : ℕ) → j ≤ p → p < length all → comes_first first second third (entry_at all p) (entry_at all j) ≡ false
+
+-- the entries from one place up to another are level in the leading chains, and none before them is level with these
+pub record IsClass (first second third : Entry → Entry → Bool) (all : List Entry) (class i : ℕ) : Type 0 where
+  pub begins : class ≤ i
+  pub level : (j : ℕ) → class ≤ j → j ≤ i → are_level_in first second third (entry_at all j) (entry_at all i) ≡ true
+  pub apart : (j : ℕ) → j < class → are_level_in first second third (entry_at all j) (entry_at all i) ≡ false
+
+-- n levels are above an entry, and no more
+abbrev pub is_at : {E : Type 0} → (E → E → Bool) → List E → ℕ → E → Bool
+is_at over all n e = comes_after over all n e && not (comes_after over all (suc n) e)
+
+-- an entry before this place has n levels above it
+abbrev pub IsMember : (Entry → Entry → Bool) → List Entry → (i n place : ℕ) → Type 0
+IsMember over all i n place = (place < i) × (is_at over all n (entry_at all place) ≡ true)
+
+-- what is kept stands for the entries before a place that have n levels above them.
+-- Steps: each of these is no better than one of the steps in the second and third chain; they stand from the best in the second to the best in the third.
+-- The run: of the entries from the class on, each is alike to one of the run.
+pub record StandsFor (over second third : Entry → Entry → Bool) (rule : Entry → ℕ) (all : List Entry) (class i n : ℕ) (kept : Level) : Type 0 where
+  pub steps_within : (p : ℕ) → Among p kept.steps.items → IsMember over all i n p
+  pub steps_cover : (j : ℕ) → IsMember over all i n j → (p : ℕ) × Among p kept.steps.items × (second (entry_at all j) (entry_at all p) ≡ false) × (third (entry_at all j) (entry_at all p) ≡ false)
+  pub by_second : IsInOrder (λ p q. not (second (entry_at all q) (entry_at all p))) kept.steps.items
+  pub by_third : IsInOrder (λ p q. not (third (entry_at all p) (entry_at all q))) kept.steps.items
+  pub run_within : (x : Item) → Among x kept.run.items → IsMember over all i n x.place × IsItem rule all x
+  pub run_covers : (j : ℕ) → class ≤ j → IsMember over all i n j → (kept.class ≡ class) × ((x : Item) × Among x kept.run.items × StandAlike over (entry_at all x.place) (entry_at all j))
+
+-- the same, but for the order of the run
+pub record IsSameLevel (old new : Level) : Type 0 where
+  pub steps : new.steps.items ≡ old.steps.items
+  pub class : new.class ≡ old.class
+  pub run : (x : Item) → Among x new.run.items → Among x old.run.items
+  pub back : (x : Item) → Among x old.run.items → Among x new.run.items
+
+-- what a sweep that goes up to a cut knows before the i-th entry: what is kept stands for each level so far, none is left out, and how the last entry stands
+pub record HasSwept (over first second third : Entry → Entry → Bool) (rule : Entry → ℕ) (cut : ℕ) (all : List Entry) (i : ℕ) (sweep : Sweep) : Type 0 where
+  pub within : length sweep.levels.items ≤ cut
+  pub stand : (n : ℕ) (d : Level) → n < length sweep.levels.items → StandsFor over second third rule all sweep.class i n (get_or sweep.levels.items n d)
+  pub known : (j n : ℕ) → n < cut → IsMember over all i n j → n < length sweep.levels.items
+  pub class : 0 < i → IsClass first second third all sweep.class (i - 1)
+  pub last : 0 < i → sweep.above ≡ count_above over all cut (entry_at all (i - 1))
+
+-- the same once the class of the i-th entry is found, before its level is
+pub record HasFoundClass (over first second third : Entry → Entry → Bool) (rule : Entry → ℕ) (cut : ℕ) (all : List Entry) (i : ℕ) (sweep : Sweep) : Type 0 where
+  pub within : length sweep.levels.items ≤ cut
+  pub stand : (n : ℕ) (d : Level) → n < length sweep.levels.items → StandsFor over second third rule all sweep.class i n (get_or sweep.levels.items n d)
+  pub known : (j n : ℕ) → n < cut → IsMember over all i n j → n < length sweep.levels.items
+  pub class : IsClass first second third all sweep.class i
+
+-- where the last entry is of no level that is known, its level is begun, without an entry so far
+pub record HasBegun (old new : Sweep) : Type 0 where
+  pub class : new.class ≡ old.class
+  pub above : new.above ≡ old.above
+  pub known : (old.above ≡ length old.levels.items → ⊥) → new.levels.items ≡ old.levels.items
+  pub begun : old.above ≡ length old.levels.items → (empty : Level) × (new.levels.items ≡ old.levels.items ++ empty ∷ [])
+      × ((over second third : Entry → Entry → Bool) (rule : Entry → ℕ) (all : List Entry) (class i n : ℕ) → ((j : ℕ) → IsMember over all i n j → ⊥) → StandsFor over second third rule all class i n empty)

@@ -1,0 +1,200 @@
+//! What leads the order of entries in a sweep: up to three chains, whose product decides wherever it sees a difference.
+
+ghost use Rattle.std.specs.Prelude.{◌≡◌, ◌&&◌, true, false, All, IfOk, map};
+ghost use Rattle.pref_term.specs.Chains.{AreInRow, by_chain};
+ghost use Rattle.pref_term.specs.Extension.{ask_keys};
+ghost use Rattle.pref_term.specs.Order.{StandAlike, is_same};
+ghost use Rattle.pref_sky.specs.Chains.{better_in, earlier_in, in_turn, tells_none_apart};
+ghost use Rattle.pref_sky.specs.ChosenChains.{LeadAmong, SayTheSame};
+ghost use Rattle.pref_sky.specs.OwnOrders.{AreInOrder, own_order};
+ghost use Rattle.pref_sky.specs.Sweep.{are_level_in};
+
+use crate::entry::Entry;
+use crate::grouped::compare_groups;
+use crate::own_order::OwnOrder;
+use crate::signatures::scales_of;
+use crate::sweep::Standing;
+use pref_table::Row;
+use pref_term::{Chain, Relation, Scales, in_same_group};
+use std::alloc::{AllocError, Global};
+use std::cmp::Ordering;
+
+/// The most chains that lead a sweep: of each level then a list of steps is kept, of which one is asked.
+const MOST: usize = 3;
+
+/// What leads the order of entries in a sweep.
+#[derive(Drop)]
+pub(crate) struct Lead<'a> {
+    /// The chains whose product leads it, at most three.
+    pub(crate) chains: Vec<&'a Chain>,
+    /// By which entries are signed that are the same in all chains.
+    pub(crate) scales: Scales,
+    ghost in_row: { All AreInRow (map (λ chain. chain.now) chains.items) },
+}
+
+/// Whether two of these entries that stand beside each other differ in a chain.
+fn tells_apart(chain: &Chain, entries: &[Entry]) -> bool
+    requires { AreInRow chain.now }
+    ensures { result ≡ false → tells_none_apart chain.now entries.now }
+{
+    for place in 1..entries.len() {
+        let before = &entries[place - 1];
+        if !chain.compare(&before.row, &entries[place].row).is_same() {
+            return true;
+        }
+    }
+    false
+}
+
+/// The chains that tell some of these entries apart.
+fn telling_chains<'a>(
+    alloc: Global,
+    chains: &'a [Chain],
+    entries: &[Entry],
+) -> Result<Vec<&'a Chain>, AllocError>
+    requires { All AreInRow chains.now }
+    ensures in_row { IfOk result (λ telling. All AreInRow (map (λ chain. chain.now) telling.items)) }
+    ensures same { IfOk result (λ telling. SayTheSame entries.now chains.now (map (λ chain. chain.now) telling.items)) }
+{
+    let mut telling = Vec::new(alloc);
+    for chain in chains {
+        if tells_apart(chain, entries) {
+            telling.push(chain)?;
+        }
+    }
+    Ok(telling)
+}
+
+/// The chains that lead these entries: those that lead the order, where they are no more than three; else those of them that tell
+/// entries apart, and none where these are more than three too.
+fn chosen_chains<'a>(
+    alloc: Global,
+    order: &'a OwnOrder,
+    entries: &[Entry],
+) -> Result<Vec<&'a Chain>, AllocError>
+    ensures { IfOk result (λ chosen. LeadAmong order.now.ask entries.now (map (λ chain. chain.now) chosen.items)) }
+{
+    let chains = order.ask.leading_chains();
+    if chains.len() <= MOST {
+        return all_chains(alloc, chains);
+    }
+    let telling = telling_chains(alloc, chains, entries)?;
+    if telling.len() > MOST {
+        return Ok(Vec::new(alloc));
+    }
+    Ok(telling)
+}
+
+/// All of these chains.
+fn all_chains<'a>(alloc: Global, chains: &'a [Chain]) -> Result<Vec<&'a Chain>, AllocError>
+    ensures { IfOk result (λ all. map (λ chain. chain.now) all.items ≡ chains.now) }
+{
+    let mut all = Vec::with_capacity(alloc, chains.len())?;
+    for chain in chains {
+        all.push(chain)?;
+    }
+    Ok(all)
+}
+
+impl<'a> Lead<'a> {
+    // Here, since what the file names at its top may not name the struct.
+    ghost use Rattle.pref_sky.specs.Leads.{LeadsSweep, chain_at, first_of, rule_of, second_of, third_of};
+
+    /// What leads these entries, which are in order.
+    ///
+    /// Cost: for more than three chains a look at each two entries that stand beside each other, until they are told apart. Memory: a list of
+    /// chains, and scales where no chain leads.
+    pub(crate) fn of(
+        alloc: Global,
+        order: &'a OwnOrder,
+        entries: &[Entry],
+    ) -> Result<Lead<'a>, AllocError>
+        requires { AreInOrder order.now entries.now }
+        ensures { IfOk result (λ lead. LeadsSweep order.now lead entries.now) }
+    {
+        let chains = chosen_chains(alloc, order, entries)?;
+        let scales = if chains.is_empty() {
+            scales_of(alloc, &order.ask, entries)?
+        } else {
+            Scales::none()
+        };
+        Ok(Lead { chains, scales })
+    }
+
+    /// How two rows of a group compare in the n-th chain from 0 on: the same where there is none.
+    #[inline(always)]
+    fn compare(&self, n: usize, a: &Row, b: &Row) -> Relation
+        ensures { result ≡ by_chain (chain_at self.now n) a.now b.now }
+    {
+        if n < self.chains.len() {
+            self.chains[n].compare(a, b)
+        } else {
+            Relation::Same
+        }
+    }
+
+    /// Whether a row of another group, or of the same, is better in the n-th chain behind the groups, of which the later one is better.
+    #[inline(always)]
+    fn is_better_in(&self, order: &OwnOrder, n: usize, a: &Entry, b: &Entry) -> bool
+        ensures { result ≡ in_turn (λ x y. earlier_in order.now.ask.group y x) (better_in (chain_at self.now n)) a.now.row b.now.row }
+    {
+        match compare_groups(order.ask.group(), &b.row, &a.row) {
+            Ordering::Less => true,
+            Ordering::Equal => self.compare(n, &a.row, &b.row).is_better(),
+            Ordering::Greater => false,
+        }
+    }
+
+    /// Whether the first entry is better in the second chain.
+    #[inline(always)]
+    pub(crate) fn is_better_in_second(&self, order: &OwnOrder, a: &Entry, b: &Entry) -> bool
+        ensures { result ≡ second_of order.now self.now a.now b.now }
+    {
+        self.is_better_in(order, 1, a, b)
+    }
+
+    /// Whether the first entry is better in the third chain.
+    #[inline(always)]
+    pub(crate) fn is_better_in_third(&self, order: &OwnOrder, a: &Entry, b: &Entry) -> bool
+        ensures { result ≡ third_of order.now self.now a.now b.now }
+    {
+        self.is_better_in(order, 2, a, b)
+    }
+
+    /// Whether two rows are the same in all chains.
+    fn is_same(&self, a: &Row, b: &Row) -> bool
+        ensures { result ≡ (is_same (by_chain (chain_at self.now 0) a.now b.now) && (is_same (by_chain (chain_at self.now 1) a.now b.now) && is_same (by_chain (chain_at self.now 2) a.now b.now))) }
+    {
+        self.compare(0, a, b).is_same()
+            && self.compare(1, a, b).is_same()
+            && self.compare(2, a, b).is_same()
+    }
+
+    /// How an entry stands to the one before it. Cost: for entries that are alike one comparison of their rows.
+    pub(crate) fn standing(&self, order: &OwnOrder, before: &Entry, entry: &Entry) -> Standing
+        // The chains see no difference that the question's keys do not.
+        requires { is_same (by_chain (ask_keys order.now.ask) before.now.row entry.now.row) ≡ true
+            → are_level_in (first_of order.now self.now) (second_of order.now self.now) (third_of order.now self.now) before.now entry.now ≡ true }
+        ensures alike { result ≡ Standing.Alike → StandAlike (own_order order.now) before.now entry.now }
+        ensures same { (result ≡ Standing.Apart → ⊥) → are_level_in (first_of order.now self.now) (second_of order.now self.now) (third_of order.now self.now) before.now entry.now ≡ true }
+        ensures apart { result ≡ Standing.Apart → are_level_in (first_of order.now self.now) (second_of order.now self.now) (third_of order.now self.now) before.now entry.now ≡ false }
+    {
+        let (a, b) = (&before.row, &entry.row);
+        if !order.ask.distinct() && order.ask.compare_in_order(a, b).is_same() {
+            return Standing::Alike;
+        }
+        if in_same_group(order.ask.group(), a, b) && self.is_same(a, b) {
+            Standing::InClass
+        } else {
+            Standing::Apart
+        }
+    }
+
+    /// The signature of an entry.
+    #[inline(always)]
+    pub(crate) fn sign(&self, entry: &Entry) -> u64
+        ensures { result ≡ rule_of self.now entry.now }
+    {
+        self.scales.signature(&entry.row)
+    }
+}

@@ -1,0 +1,261 @@
+//! What a sweep of entries in order keeps of one level, as far as later entries are compared with it.
+//!
+//! ```text
+//! low(price) * low(distance) * low(noise), in order of price; rows of one level, and its steps after each:
+//!
+//! rows       (1, 9, 4)   (2, 7, 6)              (3, 5, 8)                         (4, 4, 5)
+//! steps      (9, 4)      (7, 6) (9, 4)          (5, 8) (7, 6) (9, 4)              (4, 5) (9, 4)
+//! ```
+//!
+//! All steps are no dearer than what comes later. The last step that is no farther than a later row is the least noisy one of those: where
+//! it does not dominate the row, no row of the level does that is not the same in all three.
+
+ghost use Rattle.std.specs.Prelude.{◌≡◌, ◌<◌, ◌≤◌, ◌+◌, ◌&&◌, ℕ, suc, Bool, List, true, false, All, MatchOption, OnOk, get_or, length};
+ghost use Rattle.pref_term.specs.Signatures.{is_within};
+ghost use Rattle.pref_sky.specs.OwnOrders.{comes_after, own_order};
+ghost use Rattle.pref_sky.specs.Items.{entry_at};
+ghost use Rattle.pref_sky.specs.Leads.{LeadsSweep, first_of, rule_of, second_of, third_of};
+ghost use Rattle.pref_sky.specs.Members.{Among};
+ghost use Rattle.pref_sky.specs.Steps.{AreBetter, AreNoBetter, AreNoWorse, IsAsked, IsStepPut};
+ghost use Rattle.pref_sky.specs.Sweep.{IsClass, IsMember, IsSameLevel, StandsFor, is_at};
+ghost use Rattle.pref_sky.specs.declared.entry.Entry.{Entry};
+ghost use Rattle.pref_sky.specs.declared.item.Item.{Item};
+
+use crate::entry::Entry;
+use crate::item::Item;
+use crate::lead::Lead;
+use crate::own_order::OwnOrder;
+use pref_term::is_within;
+use std::alloc::{AllocError, Global};
+
+/// What is kept of a level.
+#[derive(Drop)]
+pub(crate) struct Level {
+    /// Places of entries of which each other one is no better than one in the second and the third of the leading chains: from the best in
+    /// the second to the best in the third.
+    pub(crate) steps: Vec<usize>,
+    /// One of each that are alike, of those that are the same in all leading chains as the first entry of a class: what stands behind these chains decides among them.
+    pub(crate) run: Vec<Item>,
+    /// The place of the first entry of this class.
+    pub(crate) class: usize,
+}
+
+/// How many steps are better than an entry in the second chain: they are the first ones. A search by halves.
+fn count_better(
+    order: &OwnOrder,
+    lead: &Lead,
+    entries: &[Entry],
+    steps: &[usize],
+    entry: &Entry,
+) -> usize
+    requires { All (λ place. place < length entries.now) steps.now }
+    ensures { AreBetter (second_of order.now lead.now) entries.now steps.now entry.now result }
+{
+    let mut low = 0;
+    let mut high = steps.len();
+    'halves: while low < high {
+        let middle = low + (high - low) / 2;
+        if lead.is_better_in_second(order, &entries[steps[middle]], entry) {
+            low = middle + 1;
+        } else {
+            high = middle;
+        }
+    }
+    low
+}
+
+/// Where, from one place on, the first step stands that is better than an entry in the third chain.
+fn end_of_no_better(
+    order: &OwnOrder,
+    lead: &Lead,
+    entries: &[Entry],
+    steps: &[usize],
+    entry: &Entry,
+    from: usize,
+) -> usize
+    requires places { All (λ place. place < length entries.now) steps.now }
+    requires from { from ≤ length steps.now }
+    ensures { AreNoBetter (third_of order.now lead.now) entries.now steps.now entry.now from result }
+{
+    for (skipped, step) in steps[from..].iter().enumerate() {
+        if lead.is_better_in_third(order, &entries[*step], entry) {
+            return from + skipped;
+        }
+    }
+    steps.len()
+}
+
+/// The place in the run of the first that dominates an entry.
+fn first_over(
+    order: &OwnOrder,
+    entries: &[Entry],
+    run: &[Item],
+    entry: &Entry,
+    signature: u64,
+) -> Option<usize>
+    requires { All (λ (x : Item). x.place < length entries.now) run.now }
+    ensures { MatchOption result
+        (All (λ (x : Item). (is_within x.signature signature && own_order order.now (entry_at entries.now x.place) entry.now) ≡ false) run.now)
+        (λ at. (at < length run.now) × ((d : Item) → own_order order.now (entry_at entries.now (get_or run.now at d).place) entry.now ≡ true)) }
+{
+    for (at, item) in run.iter().enumerate() {
+        if is_within(item.signature, signature) && order.is_over(&entries[item.place], entry) {
+            return Some(at);
+        }
+    }
+    None
+}
+
+impl Level {
+    /// Nothing of a level. Takes no memory.
+    pub(crate) fn new(alloc: Global) -> Level
+        ensures { (over second third : Entry → Entry → Bool) (rule : Entry → ℕ) (all : List Entry) (class i n : ℕ)
+            → ((j : ℕ) → IsMember over all i n j → ⊥) → StandsFor over second third rule all class i n result }
+    {
+        Level {
+            steps: Vec::new(alloc),
+            run: Vec::new(alloc),
+            class: 0,
+        }
+    }
+
+    /// How many steps are no worse than an entry in the second chain: they are the first ones. A search by halves.
+    fn count_no_worse(
+        &self,
+        order: &OwnOrder,
+        lead: &Lead,
+        entries: &[Entry],
+        entry: &Entry,
+    ) -> usize
+        requires { All (λ place. place < length entries.now) self.now.steps.items }
+        ensures { AreNoWorse (second_of order.now lead.now) entries.now self.now.steps.items entry.now result }
+    {
+        let mut low = 0;
+        let mut high = self.steps.len();
+        'halves: while low < high {
+            let middle = low + (high - low) / 2;
+            if lead.is_better_in_second(order, entry, &entries[self.steps[middle]]) {
+                high = middle;
+            } else {
+                low = middle + 1;
+            }
+        }
+        low
+    }
+
+    /// Whether a step dominates an entry that comes later: the last one that is no worse in the second chain stands for all. Where there is
+    /// one step, as with one or two chains, it is asked at once.
+    fn has_step_over(&self, order: &OwnOrder, lead: &Lead, entries: &[Entry], entry: &Entry) -> bool
+        requires { All (λ place. place < length entries.now) self.now.steps.items }
+        ensures { IsAsked (own_order order.now) (second_of order.now lead.now) entries.now self.now.steps.items entry.now result }
+    {
+        if self.steps.len() == 1 {
+            return order.is_over(&entries[self.steps[0]], entry);
+        }
+        let count = self.count_no_worse(order, lead, entries, entry);
+        count > 0 && order.is_over(&entries[self.steps[count - 1]], entry)
+    }
+
+    /// Whether one of the run dominates an entry. The one that does is met sooner the next time.
+    fn has_one_over(
+        &mut self,
+        order: &OwnOrder,
+        entries: &[Entry],
+        entry: &Entry,
+        signature: u64,
+    ) -> bool
+        requires { All (λ (x : Item). x.place < length entries.now) self.old.run.items }
+        ensures same { IsSameLevel self.old self.new }
+        ensures found { result ≡ true → (x : Item) × Among x self.old.run.items × (own_order order.now (entry_at entries.now x.place) entry.now ≡ true) }
+        ensures none { result ≡ false → (x : Item) → Among x self.old.run.items → (is_within x.signature signature && own_order order.now (entry_at entries.now x.place) entry.now) ≡ false }
+    {
+        match first_over(order, entries, &self.run, entry, signature) {
+            Some(at) => {
+                self.run.swap(at / 2, at);
+                true
+            }
+            None => false,
+        }
+    }
+
+    /// Whether an entry of this level dominates the one at a place behind them, which is of this class.
+    ///
+    /// Cost: a search by halves among the steps, and where the level has entries of the class, a look at their signatures.
+    pub(crate) fn dominates(
+        &mut self,
+        order: &OwnOrder,
+        lead: &Lead,
+        entries: &[Entry],
+        class: usize,
+        place: usize,
+        signature: u64,
+    ) -> bool
+        requires inside { place < length entries.now }
+        requires steps { All (λ p. p < length entries.now) self.old.steps.items }
+        requires run { All (λ (x : Item). x.place < length entries.now) self.old.run.items }
+        requires signature { signature ≡ rule_of lead.now (entry_at entries.now place) }
+        ensures same { IsSameLevel self.old self.new }
+        ensures dominated { let over = own_order order.now in
+            LeadsSweep order.now lead.now entries.now → IsClass (first_of order.now lead.now) (second_of order.now lead.now) (third_of order.now lead.now) entries.now class place
+            → (n : ℕ) → StandsFor over (second_of order.now lead.now) (third_of order.now lead.now) (rule_of lead.now) entries.now class place n self.old
+            → result ≡ comes_after over entries.now (suc n) (entry_at entries.now place) }
+    {
+        let entry = &entries[place];
+        self.has_step_over(order, lead, entries, entry)
+            || (self.class == class && self.has_one_over(order, entries, entry, signature))
+    }
+
+    /// Puts a place among the steps, and takes out those that are no better in the second and third chain.
+    fn put_step(
+        &mut self,
+        order: &OwnOrder,
+        lead: &Lead,
+        entries: &[Entry],
+        place: usize,
+    ) -> Result<(), AllocError>
+        requires inside { place < length entries.now }
+        requires steps { All (λ p. p < length entries.now) self.old.steps.items }
+        ensures others { (self.new.run ≡ self.old.run) × (self.new.class ≡ self.old.class) }
+        ensures put { OnOk result (IsStepPut (second_of order.now lead.now) (third_of order.now lead.now) entries.now self.old.steps.items place self.new.steps.items) }
+    {
+        let entry = &entries[place];
+        let from = count_better(order, lead, entries, &self.steps, entry);
+        let to = end_of_no_better(order, lead, entries, &self.steps, entry, from);
+        if from == to {
+            self.steps.insert(from, place)?;
+        } else {
+            // Mostly one step is replaced: then none moves.
+            self.steps[from] = place;
+            drop(self.steps.drain(from + 1..to));
+        }
+        Ok(())
+    }
+
+    /// Keeps the entry at a place behind all others of the level, which is of it and of this class.
+    pub(crate) fn put(
+        &mut self,
+        order: &OwnOrder,
+        lead: &Lead,
+        entries: &[Entry],
+        class: usize,
+        place: usize,
+        signature: u64,
+    ) -> Result<(), AllocError>
+        requires inside { place < length entries.now }
+        requires steps { All (λ p. p < length entries.now) self.old.steps.items }
+        requires signature { signature ≡ rule_of lead.now (entry_at entries.now place) }
+        ensures { let over = own_order order.now in
+            LeadsSweep order.now lead.now entries.now → IsClass (first_of order.now lead.now) (second_of order.now lead.now) (third_of order.now lead.now) entries.now class place
+            → (n : ℕ) → StandsFor over (second_of order.now lead.now) (third_of order.now lead.now) (rule_of lead.now) entries.now class place n self.old
+            → is_at over entries.now n (entry_at entries.now place) ≡ true
+            → OnOk result (StandsFor over (second_of order.now lead.now) (third_of order.now lead.now) (rule_of lead.now) entries.now class (place + 1) n self.new) }
+    {
+        self.put_step(order, lead, entries, place)?;
+        if self.class != class {
+            self.run.clear();
+            self.class = class;
+        }
+        self.run.push(Item { signature, place })?;
+        Ok(())
+    }
+}

@@ -1,0 +1,170 @@
+//! The levels of entries in order, by one pass: the level of an entry is the first of which no entry before it dominates it.
+
+ghost use Rattle.std.specs.Prelude.{◌≡◌, ◌<◌, ◌+◌, ◌-◌, true, false, IfOk, OnOk, length};
+ghost use Rattle.pref_term.specs.Order.{StandAlike};
+ghost use Rattle.pref_sky.specs.OwnOrders.{count_above, own_order, with_levels};
+ghost use Rattle.pref_sky.specs.Items.{entry_at};
+ghost use Rattle.pref_sky.specs.Leads.{LeadsSweep, first_of, rule_of, second_of, third_of};
+ghost use Rattle.pref_sky.specs.Sweep.{HasBegun, HasFoundClass, HasSwept, are_level_in};
+
+use crate::entry::{Entry, Ranked};
+use crate::lead::Lead;
+use crate::level::Level;
+use crate::own_order::OwnOrder;
+use std::alloc::{AllocError, Global};
+
+/// How an entry stands to the one before it.
+#[derive(Clone, Copy)]
+pub(crate) enum Standing {
+    /// Alike: it is of the same level.
+    Alike,
+    /// The same in all leading chains.
+    InClass,
+    /// Worse in one of these.
+    Apart,
+}
+
+/// A sweep at some entry: what is kept of each level of the entries before it.
+#[derive(Drop)]
+pub(crate) struct Sweep {
+    pub(crate) levels: Vec<Level>,
+    /// The place of the first entry that is the same in all leading chains as the last one.
+    pub(crate) class: usize,
+    /// How many levels are above the last one; the cut where they are more.
+    pub(crate) above: usize,
+}
+
+impl Sweep {
+    /// How many levels are above the entry at the next place: a search by halves, since where an entry of a level dominates it, one of each level before
+    /// does.
+    fn count_above(
+        &mut self,
+        order: &OwnOrder,
+        lead: &Lead,
+        entries: &[Entry],
+        place: usize,
+        signature: u64,
+    ) -> usize
+        requires inside { place < length entries.now }
+        requires swept { LeadsSweep order.now lead.now entries.now }
+        requires signature { signature ≡ rule_of lead.now (entry_at entries.now place) }
+        requires so_far { HasFoundClass (own_order order.now) (first_of order.now lead.now) (second_of order.now lead.now) (third_of order.now lead.now) (rule_of lead.now) order.now.cut entries.now place self.old }
+        ensures above { result ≡ count_above (own_order order.now) entries.now order.now.cut (entry_at entries.now place) }
+        ensures so_far { HasFoundClass (own_order order.now) (first_of order.now lead.now) (second_of order.now lead.now) (third_of order.now lead.now) (rule_of lead.now) order.now.cut entries.now place self.new }
+    {
+        let mut low = 0;
+        let mut high = self.levels.len();
+        'halves: while low < high {
+            let middle = low + (high - low) / 2;
+            if self.levels[middle].dominates(order, lead, entries, self.class, place, signature) {
+                low = middle + 1;
+            } else {
+                high = middle;
+            }
+        }
+        low
+    }
+
+    /// Begins the level of the last entry, where it is the first of it.
+    fn begin_level(&mut self, alloc: Global) -> Result<(), AllocError>
+        ensures { OnOk result (HasBegun self.old self.new) }
+    {
+        if self.above == self.levels.len() {
+            self.levels.push(Level::new(alloc))?;
+        }
+        Ok(())
+    }
+
+    /// Keeps the entry at the next place in its level.
+    fn put(
+        &mut self,
+        alloc: Global,
+        order: &OwnOrder,
+        lead: &Lead,
+        entries: &[Entry],
+        place: usize,
+        signature: u64,
+    ) -> Result<(), AllocError>
+        requires inside { place < length entries.now }
+        requires swept { LeadsSweep order.now lead.now entries.now }
+        requires signature { signature ≡ rule_of lead.now (entry_at entries.now place) }
+        requires so_far { HasFoundClass (own_order order.now) (first_of order.now lead.now) (second_of order.now lead.now) (third_of order.now lead.now) (rule_of lead.now) order.now.cut entries.now place self.old }
+        requires above { self.old.above ≡ count_above (own_order order.now) entries.now order.now.cut (entry_at entries.now place) }
+        ensures { OnOk result (HasSwept (own_order order.now) (first_of order.now lead.now) (second_of order.now lead.now) (third_of order.now lead.now) (rule_of lead.now) order.now.cut entries.now (place + 1) self.new) }
+    {
+        if self.above >= order.cut as usize {
+            return Ok(());
+        }
+        self.begin_level(alloc)?;
+        self.levels[self.above].put(order, lead, entries, self.class, place, signature)
+    }
+
+    /// Goes on by one entry.
+    fn step(
+        &mut self,
+        alloc: Global,
+        order: &OwnOrder,
+        lead: &Lead,
+        entries: &[Entry],
+        place: usize,
+    ) -> Result<(), AllocError>
+        requires inside { place < length entries.now }
+        requires swept { LeadsSweep order.now lead.now entries.now }
+        requires so_far { HasSwept (own_order order.now) (first_of order.now lead.now) (second_of order.now lead.now) (third_of order.now lead.now) (rule_of lead.now) order.now.cut entries.now place self.old }
+        ensures { OnOk result (HasSwept (own_order order.now) (first_of order.now lead.now) (second_of order.now lead.now) (third_of order.now lead.now) (rule_of lead.now) order.now.cut entries.now (place + 1) self.new) }
+    {
+        match standing_at(order, lead, entries, place) {
+            Standing::Alike => return Ok(()),
+            Standing::InClass => {}
+            Standing::Apart => self.class = place,
+        }
+        let signature = lead.sign(&entries[place]);
+        self.above = self.count_above(order, lead, entries, place, signature);
+        self.put(alloc, order, lead, entries, place, signature)
+    }
+}
+
+/// How the entry at a place stands to the one before it. The first one is apart.
+fn standing_at(order: &OwnOrder, lead: &Lead, entries: &[Entry], place: usize) -> Standing
+    requires inside { place < length entries.now }
+    requires swept { LeadsSweep order.now lead.now entries.now }
+    ensures alike { result ≡ Standing.Alike → StandAlike (own_order order.now) (entry_at entries.now (place - 1)) (entry_at entries.now place) }
+    ensures same { (result ≡ Standing.Apart → ⊥) → (0 < place) × (are_level_in (first_of order.now lead.now) (second_of order.now lead.now) (third_of order.now lead.now)
+        (entry_at entries.now (place - 1)) (entry_at entries.now place) ≡ true) }
+    ensures apart { result ≡ Standing.Apart → 0 < place → are_level_in (first_of order.now lead.now) (second_of order.now lead.now) (third_of order.now lead.now)
+        (entry_at entries.now (place - 1)) (entry_at entries.now place) ≡ false }
+{
+    if place == 0 {
+        return Standing::Apart;
+    }
+    lead.standing(order, &entries[place - 1], &entries[place])
+}
+
+/// Those of these entries, which are in order, that are of the levels up to the cut, each with its level.
+pub(crate) fn find_levels(
+    alloc: Global,
+    order: &OwnOrder,
+    lead: &Lead,
+    entries: &[Entry],
+) -> Result<Vec<Ranked>, AllocError>
+    requires { LeadsSweep order.now lead.now entries.now }
+    ensures { IfOk result (λ found. found.items ≡ with_levels (own_order order.now) entries.now order.now.cut entries.now) }
+{
+    let mut found = Vec::with_capacity(alloc, entries.len())?;
+    let mut sweep = Sweep {
+        levels: Vec::new(alloc),
+        class: 0,
+        above: 0,
+    };
+    for (place, entry) in entries.iter().enumerate() {
+        sweep.step(alloc, order, lead, entries, place)?;
+        if sweep.above < order.cut as usize {
+            found.push(Ranked {
+                level: sweep.above as u32 + 1,
+                id: entry.id,
+                row: entry.row,
+            })?;
+        }
+    }
+    Ok(found)
+}

@@ -1,0 +1,211 @@
+-- Where the product of the chains that lead a preference sees a difference, it decides; and these chains, one after the other, lead the chain of all keys.
+use Rattle.pref_term.proofs.Common.{◌≡◌, arith, ◌<◌, ℤ, Bool, true, false, not, List, [], ◌∷◌, ◌++◌, refl, sym, ap, subst, ◌∙◌, ◌⊎◌, and_from, and_parts, false≢true}
+use Rattle.pref_term.proofs.Common.{All, All-append, All-cons, All-contains, All-nil, All-head, All-tail, AreInRow, by_chain, is_chain, in_same_group, better, is_better, is_same, is_worse, key_for}
+use Rattle.pref_term.proofs.Common.{Preference, scored, pareto, prior, reverse, Question, IsAsk, in_priority, in_product, Key, Relation, Same}
+use Rattle.std.proofs.lemmas.List.Elements.{All-pop, All-push, All-weaker}
+use Rattle.std.specs.Prelude.{Contains, Some}
+use Rattle.pref_term.specs.Extension.{all_keys, group_keys}
+use Rattle.pref_term.specs.LeadingChains.{AreBoth, IsLedBy, Leads, by_product, each_behind, joined}
+use Rattle.pref_term.specs.RelationLaws.{priority-same, product-same}
+use Rattle.pref_term.specs.Walk.{directed}
+use Rattle.pref_term.proofs.ChainLaws.{chain-append, one_key, priority-assoc, priority_same}
+use Rattle.pref_term.proofs.ExtensionLaws.{all_extend, all_in_row, group_same}
+use Rattle.pref_term.proofs.KeyLaws.{directed_priority, directed_product, directed_reverse, key_law, product-assoc, product_same}
+use Rattle.pref_term.proofs.WalkLaws.{walked_better}
+
+-- the second relation is the first wherever this sees a difference
+abbrev Decides : Relation → Relation → Type 0
+Decides r s = in_priority r s ≡ s
+
+-- ---- relations
+
+itself_decides : (r s : Relation) → r ≡ s → Decides r s
+itself_decides r s h = grind (arith, h)
+
+product_behind : (r s t : Relation) → in_product (in_priority r s) (in_priority r t) ≡ in_priority r (in_product s t)
+product_behind r s t = grind arith
+
+asked_again : (r s t : Relation) → in_priority (in_priority r s) (in_priority r t) ≡ in_priority r (in_priority s t)
+asked_again r s t = grind arith
+
+factor_again : (r s : Relation) → in_product (in_product r s) r ≡ in_product r s
+factor_again r s = grind arith
+
+priority_again : (r s : Relation) → in_priority (in_priority r s) r ≡ in_priority r s
+priority_again r s = grind arith
+
+first_decides : (r s t : Relation) → Decides r s → Decides r (in_priority s t)
+first_decides r s t h = grind (arith, h)
+
+behind_decides : (r s t : Relation) → Decides s t → Decides (in_priority r s) (in_priority r t)
+behind_decides r s t h = asked_again r s t ∙ ap (in_priority r) h
+
+both_decide : (r s t u : Relation) → Decides r t → is_same r ≡ is_same t → Decides s u → Decides (in_priority r s) (in_priority t u)
+both_decide r s t u h e k = grind (arith, h, e, k)
+
+-- ---- lists of chains
+
+-- rows are the same in the chains one after the other just where they are the same in their product
+same_joined : (chains : List (List Key)) (a b : List ℤ) → is_same (by_chain (joined chains) a b) ≡ is_same (by_product chains a b)
+same_joined [] a b = refl
+same_joined (chain ∷ chains) a b = grind (arith, chain-append chain (joined chains) a b, same_joined chains a b, priority-same, product-same)
+
+product_behind_chain : (keys : List Key) (chains : List (List Key)) (a b : List ℤ) → by_product (each_behind keys chains) a b ≡ in_priority (by_chain keys a b) (by_product chains a b)
+product_behind_chain keys [] a b = product_same (by_chain keys a b) ∙ sym (priority_same (by_chain keys a b))
+product_behind_chain keys (chain ∷ []) a b = grind (arith, product_same, chain-append keys chain a b)
+product_behind_chain keys (chain ∷ next ∷ chains) a b =
+    (λ i. in_product (chain-append keys chain a b i) (product_behind_chain keys (next ∷ chains) a b i))
+    ∙ product_behind (by_chain keys a b) (by_chain chain a b) (by_product (next ∷ chains) a b)
+
+joined_behind_chain : (keys : List Key) (chains : List (List Key)) (a b : List ℤ) → by_chain (joined (each_behind keys chains)) a b ≡ in_priority (by_chain keys a b) (by_chain (joined chains) a b)
+joined_behind_chain keys [] a b = chain-append keys [] a b
+joined_behind_chain keys (chain ∷ []) a b = grind (arith, chain-append, priority_same)
+joined_behind_chain keys (chain ∷ next ∷ chains) a b =
+    grind (arith, chain-append (keys ++ chain) (joined (each_behind keys (next ∷ chains))) a b, chain-append keys chain a b, joined_behind_chain keys (next ∷ chains) a b, asked_again, chain-append chain (joined (next ∷ chains)) a b)
+
+behind_in_row : (keys : List Key) (chains : List (List Key)) → AreInRow keys → All AreInRow chains → All AreInRow (each_behind keys chains)
+behind_in_row keys [] h k = All-push AreInRow [] keys k h
+behind_in_row keys (chain ∷ []) h k = All-push AreInRow [] (keys ++ chain) (All-nil AreInRow) (All-append (λ key. key.col < 16) keys chain h (All-head AreInRow chain [] k))
+behind_in_row keys (chain ∷ next ∷ chains) h k =
+    All-cons AreInRow (keys ++ chain) (each_behind keys (next ∷ chains)) (All-append (λ key. key.col < 16) keys chain h (All-head AreInRow chain (next ∷ chains) k))
+    (behind_in_row keys (next ∷ chains) h (All-tail AreInRow chain (next ∷ chains) k))
+
+-- ---- the chains of two products
+
+product-append : (xs ys : List (List Key)) (a b : List ℤ) → by_product (xs ++ ys) a b ≡ in_product (by_product xs a b) (by_product ys a b)
+product-append [] ys a b = refl
+product-append (x ∷ xs) ys a b = ap (in_product (by_chain x a b)) (product-append xs ys a b) ∙ sym (product-assoc (by_chain x a b) (by_product xs a b) (by_product ys a b))
+
+joined-append : (xs ys : List (List Key)) (a b : List ℤ) → by_chain (joined (xs ++ ys)) a b ≡ in_priority (by_chain (joined xs) a b) (by_chain (joined ys) a b)
+joined-append [] ys a b = refl
+joined-append (x ∷ xs) ys a b = grind (arith, chain-append x (joined (xs ++ ys)) a b, joined-append xs ys a b, priority-assoc, chain-append x (joined xs) a b)
+
+-- a chain that is one of the factors adds nothing
+each_again : (chains : List (List Key)) (a b : List ℤ) → All (λ chain. in_product (by_product chains a b) (by_chain chain a b) ≡ by_product chains a b) chains
+each_again [] a b = All-nil (λ chain. by_chain chain a b ≡ Same)
+each_again (x ∷ xs) a b =
+    All-cons (λ chain. in_product (by_product (x ∷ xs) a b) (by_chain chain a b) ≡ by_product (x ∷ xs) a b) x xs (factor_again (by_chain x a b) (by_product xs a b))
+    (All-weaker (λ chain. in_product (by_product xs a b) (by_chain chain a b) ≡ by_product xs a b) (λ chain. in_product (by_product (x ∷ xs) a b) (by_chain chain a b) ≡ by_product (x ∷ xs) a b)
+    (λ chain e. product-assoc (by_chain x a b) (by_product xs a b) (by_chain chain a b) ∙ ap (in_product (by_chain x a b)) e) xs (each_again xs a b))
+
+each_again_joined : (chains : List (List Key)) (a b : List ℤ) → All (λ chain. in_priority (by_chain (joined chains) a b) (by_chain chain a b) ≡ by_chain (joined chains) a b) chains
+each_again_joined [] a b = All-nil (λ chain. by_chain chain a b ≡ Same)
+each_again_joined (x ∷ xs) a b =
+    All-cons (λ chain. in_priority (by_chain (joined (x ∷ xs)) a b) (by_chain chain a b) ≡ by_chain (joined (x ∷ xs)) a b) x xs (grind (arith, chain-append x (joined xs) a b, priority_again))
+    (All-weaker (λ chain. in_priority (by_chain (joined xs) a b) (by_chain chain a b) ≡ by_chain (joined xs) a b) (λ chain. in_priority (by_chain (joined (x ∷ xs)) a b) (by_chain chain a b) ≡ by_chain (joined (x ∷ xs)) a b)
+    (λ chain e. grind (arith, chain-append x (joined xs) a b, priority-assoc, e)) xs (each_again_joined xs a b))
+
+pub one_added : (xs ys all : List (List Key)) (y : List Key) → AreBoth xs ys all → AreBoth xs (ys ++ y ∷ []) (all ++ y ∷ [])
+one_added xs ys all y h = record {
+  in_row = λ k l. let parts = All-pop AreInRow (ys ++ y ∷ []) ys (Some y) refl l in All-push AreInRow all y (h.in_row k parts.0) parts.1;
+  product = λ a b. grind (arith, product-append all (y ∷ []) a b, h.product a b, product-assoc, product-append ys (y ∷ []) a b);
+  in_order = λ a b. grind (arith, joined-append all (y ∷ []) a b, h.in_order a b, priority-assoc, joined-append ys (y ∷ []) a b);
+}
+
+pub one_held : (xs ys all : List (List Key)) (y : List Key) → AreBoth xs ys all → Contains all y → AreBoth xs (ys ++ y ∷ []) all
+one_held xs ys all y h stands =
+    let more = one_added xs ys all y h in
+    record {
+      in_row = λ k l. h.in_row k (All-pop AreInRow (ys ++ y ∷ []) ys (Some y) refl l).0;
+      product = λ a b.
+          sym (product-append all (y ∷ []) a b ∙ (ap (in_product (by_product all a b)) (product_same (by_chain y a b))
+          ∙ All-contains (λ chain. in_product (by_product all a b) (by_chain chain a b) ≡ by_product all a b) all y (each_again all a b) stands)) ∙ more.product a b;
+      in_order = λ a b.
+          sym (joined-append all (y ∷ []) a b ∙ (ap (in_priority (by_chain (joined all) a b)) (one_joined y a b)
+          ∙ All-contains (λ chain. in_priority (by_chain (joined all) a b) (by_chain chain a b) ≡ by_chain (joined all) a b) all y (each_again_joined all a b) stands)) ∙ more.in_order a b;
+    }
+  where
+    one_joined : (chain : List Key) (a b : List ℤ) → by_chain (joined (chain ∷ [])) a b ≡ by_chain chain a b
+    one_joined chain a b = chain-append chain [] a b ∙ priority_same (by_chain chain a b)
+
+-- ---- a preference, or its converse
+
+-- all keys of a chain are its order
+chain_is_keys : (p : Preference) (s : Bool) (a b : List ℤ) → is_chain p ≡ true → by_chain (all_keys p s) a b ≡ directed s p a b
+chain_is_keys (scored t) s a b h = one_key (key_for t s) a b ∙ key_law t s a b
+chain_is_keys (pareto p q) s a b h = absurd (false≢true h)
+chain_is_keys (prior p q) s a b h =
+    let both = and_parts (is_chain p) (is_chain q) h in
+    chain-append (all_keys p s) (all_keys q s) a b
+    ∙ ((λ i. in_priority (chain_is_keys p s a b both.0 i) (chain_is_keys q s a b both.1 i)) ∙ sym (directed_priority s p q a b))
+chain_is_keys (reverse p) s a b h = chain_is_keys p (not s) a b h ∙ directed_reverse s p a b
+
+-- it is led by itself
+pub chain_leads : (p : Preference) (s : Bool) → is_chain p ≡ true → IsLedBy p s (all_keys p s ∷ []) true
+chain_leads p s h =
+    let is : (a b : List ℤ) → by_product (all_keys p s ∷ []) a b ≡ directed s p a b = λ a b. product_same (by_chain (all_keys p s) a b) ∙ chain_is_keys p s a b h in
+    record {
+      in_row = λ reads. All-push AreInRow [] (all_keys p s) (All-nil AreInRow) (all_in_row p s reads);
+      decides = λ a b. itself_decides (by_product (all_keys p s ∷ []) a b) (directed s p a b) (is a b);
+      all = λ _. is;
+      in_order = λ a b. itself_decides (by_chain (joined (all_keys p s ∷ [])) a b) (by_chain (all_keys p s) a b) (chain-append (all_keys p s) [] a b ∙ priority_same (by_chain (all_keys p s) a b));
+    }
+
+pub one_leads : (p : Preference) (turned whole : Bool) (chain : List Key) (chains : List (List Key)) → is_chain p ≡ true → chain ≡ all_keys p turned → chains ≡ chain ∷ [] → whole ≡ true → IsLedBy p turned chains whole
+one_leads p turned whole chain chains h k e w =
+    subst (IsLedBy p turned chains) (sym w) (subst (λ (cs : List (List Key)). IsLedBy p turned cs true) (sym (e ∙ ap (λ (c : List Key). c ∷ []) k)) (chain_leads p turned h))
+
+-- the chains of both factors lead a product of chains
+pub both_lead : (p q : Preference) (s : Bool) (xs ys all : List (List Key)) → IsLedBy p s xs true → IsLedBy q s ys true → AreBoth xs ys all → IsLedBy (pareto p q) s all true
+both_lead p q s xs ys all h k both =
+    let is : (a b : List ℤ) → by_product all a b ≡ directed s (pareto p q) a b =
+    λ a b. both.product a b ∙ ((λ i. in_product (h.all refl a b i) (k.all refl a b i)) ∙ sym (directed_product s p q a b)) in
+    record {
+      in_row = λ reads. both.in_row (h.in_row reads.0) (k.in_row reads.1);
+      decides = λ a b. itself_decides (by_product all a b) (directed s (pareto p q) a b) (is a b);
+      all = λ _. is;
+      in_order = λ a b.
+          rw (both.in_order a b, chain-append (all_keys p s) (all_keys q s) a b)
+          (both_decide (by_chain (joined xs) a b) (by_chain (joined ys) a b) (by_chain (all_keys p s) a b) (by_chain (all_keys q s) a b)
+          (h.in_order a b) (same_joined xs a b ∙ (ap is_same (h.all refl a b) ∙ sym (all_extend p s a b).same)) (k.in_order a b));
+    }
+
+-- what leads the second part of a priority leads it behind the first, where that is a chain
+pub behind_leads : (p q : Preference) (s whole : Bool) (chains : List (List Key)) → is_chain p ≡ true → IsLedBy q s chains whole → IsLedBy (prior p q) s (each_behind (all_keys p s) chains) whole
+behind_leads p q s whole chains h k =
+    let behind : (a b : List ℤ) → by_product (each_behind (all_keys p s) chains) a b ≡ in_priority (directed s p a b) (by_product chains a b) =
+    λ a b. product_behind_chain (all_keys p s) chains a b ∙ ap (λ r. in_priority r (by_product chains a b)) (chain_is_keys p s a b h) in
+    record {
+      in_row = λ reads. behind_in_row (all_keys p s) chains (all_in_row p s reads.0) (k.in_row reads.1);
+      decides = λ a b. rw (behind a b, directed_priority s p q a b) (behind_decides (directed s p a b) (by_product chains a b) (directed s q a b) (k.decides a b));
+      all = λ e a b. behind a b ∙ (ap (in_priority (directed s p a b)) (k.all e a b) ∙ sym (directed_priority s p q a b));
+      in_order = λ a b.
+          rw (joined_behind_chain (all_keys p s) chains a b, chain-append (all_keys p s) (all_keys q s) a b)
+          (behind_decides (by_chain (all_keys p s) a b) (by_chain (joined chains) a b) (by_chain (all_keys q s) a b) (k.in_order a b));
+    }
+
+-- else what leads the first part
+pub first_leads : (p q : Preference) (s whole : Bool) (chains : List (List Key)) → IsLedBy p s chains whole → IsLedBy (prior p q) s chains false
+first_leads p q s whole chains h = record {
+  in_row = λ reads. h.in_row reads.0;
+  decides = λ a b. rw (directed_priority s p q a b) (first_decides (by_product chains a b) (directed s p a b) (directed s q a b) (h.decides a b));
+  all = λ e. absurd (false≢true e);
+  in_order = λ a b.
+      rw (chain-append (all_keys p s) (all_keys q s) a b) (first_decides (by_chain (joined chains) a b) (by_chain (all_keys p s) a b) (by_chain (all_keys q s) a b) (h.in_order a b));
+}
+
+-- ---- a question, within its groups
+
+better_decides : (r s : Relation) → Decides r s → is_better r ≡ true → is_better s ≡ true
+better_decides r s h k = grind (arith, h)
+
+better_or_same : (r s : Relation) → Decides r s → is_better s ≡ true → (is_better r ≡ true) ⊎ (is_same r ≡ true)
+better_or_same r s h k = grind (arith, h)
+
+not_worse : (r s t : Relation) → is_same r ≡ true → Decides s t → is_worse (in_priority r t) ≡ false → is_worse s ≡ false
+not_worse r s t h k l = grind (arith, h, k)
+
+-- the chains that lead the preference of a question lead it
+pub leading_lead : (q : Question) (chains : List (List Key)) (whole : Bool) → IsAsk q → IsLedBy q.preference false chains whole → Leads q chains
+leading_lead q chains whole known led = record {
+  in_row = led.in_row known.columns.preference;
+  better = λ a b near h.
+      and_from (in_same_group q.group a b) (better q.preference a b) near
+      (sym (walked_better q.preference a b) ∙ better_decides (by_product chains a b) (directed false q.preference a b) (led.decides a b) h);
+  decided = λ a b h.
+      better_or_same (by_product chains a b) (directed false q.preference a b) (led.decides a b)
+      (walked_better q.preference a b ∙ (and_parts (in_same_group q.group a b) (better q.preference a b) h).1);
+  in_order = λ a b near h.
+      not_worse (by_chain (group_keys q.group) a b) (by_chain (joined chains) a b) (by_chain (all_keys q.preference false) a b)
+      (group_same q.group a b ∙ near) (led.in_order a b) (ap is_worse (sym (chain-append (group_keys q.group) (all_keys q.preference false) a b)) ∙ h);
+}

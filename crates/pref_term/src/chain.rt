@@ -1,0 +1,223 @@
+//! Chains, and the product of chains that leads a term.
+ghost use Rattle.std.specs.Prelude.{◌≡◌, ◌++◌, [], ◌∷◌, false, true, Bool, Contains, IfOk, OnOk};
+ghost use Rattle.pref_term.specs.Chains.{AreInRow, by_chain, is_chain};
+ghost use Rattle.pref_term.specs.Extension.{all_keys};
+ghost use Rattle.pref_term.specs.LeadingChains.{AreBoth, IsLedBy, each_behind};
+ghost use Rattle.pref_term.specs.Preference.{Preference, pareto, preference_of, prior};
+ghost use Rattle.pref_term.specs.declared.relation.Relation.TheVariants.{Neither};
+
+use crate::key::Key;
+use crate::keys::{compare_in_chain, push_all, push_copies};
+use crate::relation::Relation;
+use crate::term::Term;
+use pref_table::Row;
+use std::alloc::{AllocError, Global};
+use std::marker::Model;
+
+/// The most chains that one chain is put before, since each takes a copy of its keys.
+const MOST: usize = 16;
+
+/// A chain: a list of keys, numbers without sign that each row has and of which less is better. The first key in which two
+/// rows differ decides between them. Contracts see the list.
+#[derive(Drop)]
+pub struct Chain {
+    keys: Vec<Key>,
+}
+
+impl Model for Chain {
+    ghost use Rattle.std.specs.Prelude.{List};
+    ghost use Rattle.pref_term.specs.declared.key.Key.{Key};
+
+    ghost Value = { List Key };
+
+    ghost view = { λ chain. chain.keys.items };
+}
+
+impl Chain {
+    /// How the first row compares with the second one, which is never `Neither`. Takes no memory.
+    pub fn compare(&self, a: &Row, b: &Row) -> Relation
+        requires { AreInRow self.now }
+        ensures value { result ≡ by_chain self.now a.now b.now }
+        ensures decided { result ≡ Neither → ⊥ }
+    {
+        compare_in_chain(&self.keys, a, b)
+    }
+
+    /// All keys of a term as one chain, or of its converse.
+    fn of(alloc: Global, term: &Term, turned: bool) -> Result<Chain, AllocError>
+        ensures { IfOk result (λ chain. chain ≡ all_keys (preference_of term.now) turned) }
+    {
+        let mut keys = Vec::new(alloc);
+        push_all(alloc, &mut keys, term, turned)?;
+        Ok(Chain { keys })
+    }
+
+    /// These keys, and behind them its own.
+    fn behind(&self, alloc: Global, before: &[Key]) -> Result<Chain, AllocError>
+        ensures { IfOk result (λ chain. chain ≡ before.now ++ self.now) }
+    {
+        let mut keys = Vec::new(alloc);
+        push_copies(alloc, &mut keys, before)?;
+        push_copies(alloc, &mut keys, &self.keys)?;
+        Ok(Chain { keys })
+    }
+}
+
+/// Whether they are the same keys in the same order.
+fn are_same(keys: &[Key], others: &[Key]) -> bool
+    ensures { result ≡ true → keys.now ≡ others.now }
+{
+    keys == others
+}
+
+/// Whether this is one of the chains.
+fn contains(chains: &[Chain], chain: &Chain) -> bool
+    ensures { result ≡ true → Contains chains.now chain.now }
+{
+    for other in chains {
+        if are_same(&other.keys, &chain.keys) {
+            return true;
+        }
+    }
+    false
+}
+
+/// Puts those of some chains behind others that are not there already.
+fn push_others(chains: &mut Vec<Chain>, others: Vec<Chain>) -> Result<(), AllocError>
+    ensures { OnOk result (AreBoth chains.old.items others.items chains.new.items) }
+{
+    for other in others {
+        if !contains(chains, &other) {
+            chains.push(other)?;
+        }
+    }
+    Ok(())
+}
+
+/// This chain before each of the others; alone where there is none.
+fn each_behind(alloc: Global, first: Chain, chains: &[Chain]) -> Result<Vec<Chain>, AllocError>
+    ensures { IfOk result (λ found. found.items ≡ each_behind first chains.now) }
+{
+    let mut found = Vec::new(alloc);
+    for chain in chains {
+        found.push(chain.behind(alloc, &first.keys)?)?;
+    }
+    if found.is_empty() {
+        found.push(first)?;
+    }
+    Ok(found)
+}
+
+/// Whether the term has no product in it, so that all its keys are one chain.
+fn is_chain(term: &Term) -> bool
+    ensures { result ≡ is_chain (preference_of term.now) }
+{
+    match term {
+        Term::Pareto(..) => false,
+        Term::Prior(p, q) => is_chain(p) && is_chain(q),
+        Term::Reverse(p) => is_chain(p),
+        _ => true,
+    }
+}
+
+/// The chains that lead a term: where their product sees a difference between two rows, it decides.
+#[derive(Drop)]
+pub(crate) struct Lead {
+    pub(crate) chains: Vec<Chain>,
+    // Whether their product is all that the term says.
+    is_whole: bool,
+}
+
+impl Lead {
+    /// No chain.
+    fn none(alloc: Global) -> Lead
+        ensures chains { result.chains.items ≡ [] }
+        ensures whole { result.is_whole ≡ false }
+    {
+        Lead {
+            chains: Vec::new(alloc),
+            is_whole: false,
+        }
+    }
+
+    /// A chain that is all that a term says.
+    fn one(alloc: Global, chain: Chain) -> Result<Lead, AllocError>
+        ensures { IfOk result (λ lead. (lead.chains.items ≡ chain ∷ []) × (lead.is_whole ≡ true)) }
+    {
+        let mut chains = Vec::new(alloc);
+        chains.push(chain)?;
+        Ok(Lead {
+            chains,
+            is_whole: true,
+        })
+    }
+
+    /// The chains of two products, where both are whole, in one.
+    fn product(alloc: Global, first: Lead, second: Lead) -> Result<Lead, AllocError>
+        ensures { IfOk result (λ lead. (p q : Preference) (turned : Bool) → IsLedBy p turned first.chains.items first.is_whole → IsLedBy q turned second.chains.items second.is_whole
+            → IsLedBy (pareto p q) turned lead.chains.items lead.is_whole) }
+    {
+        if !first.is_whole || !second.is_whole {
+            return Ok(Lead::none(alloc));
+        }
+        let mut chains = first.chains;
+        push_others(&mut chains, second.chains)?;
+        Ok(Lead {
+            chains,
+            is_whole: true,
+        })
+    }
+
+    /// This chain before each of the others, or alone where these are very many.
+    fn behind(alloc: Global, first: Chain, second: Lead) -> Result<Lead, AllocError>
+        ensures { IfOk result (λ lead. (p q : Preference) (turned : Bool) → is_chain p ≡ true → first ≡ all_keys p turned → IsLedBy q turned second.chains.items second.is_whole
+            → IsLedBy (prior p q) turned lead.chains.items lead.is_whole) }
+    {
+        if second.chains.len() > MOST {
+            return Ok(Lead::one(alloc, first)?.of_more());
+        }
+        let chains = each_behind(alloc, first, &second.chains)?;
+        Ok(Lead {
+            chains,
+            is_whole: second.is_whole,
+        })
+    }
+
+    /// The same chains, where they lead the first part of a term.
+    fn of_more(self) -> Lead
+        ensures { (p q : Preference) (turned : Bool) → IsLedBy p turned self.chains.items self.is_whole → IsLedBy (prior p q) turned result.chains.items result.is_whole }
+    {
+        Lead {
+            chains: self.chains,
+            is_whole: false,
+        }
+    }
+
+    /// The chains that lead a term, or its converse. Takes memory for their lists of keys, and for the sets.
+    pub(crate) fn of(alloc: Global, term: &Term, turned: bool) -> Result<Lead, AllocError>
+        ensures { IfOk result (λ lead. IsLedBy (preference_of term.now) turned lead.chains.items lead.is_whole) }
+    {
+        if is_chain(term) {
+            return Lead::one(alloc, Chain::of(alloc, term, turned)?);
+        }
+        match term {
+            Term::Pareto(p, q) => {
+                let first = Lead::of(alloc, p, turned)?;
+                let second = Lead::of(alloc, q, turned)?;
+                Lead::product(alloc, first, second)
+            }
+            Term::Prior(p, q) => {
+                if is_chain(p) {
+                    let first = Chain::of(alloc, p, turned)?;
+                    let second = Lead::of(alloc, q, turned)?;
+                    Lead::behind(alloc, first, second)
+                } else {
+                    let first = Lead::of(alloc, p, turned)?;
+                    Ok(first.of_more())
+                }
+            }
+            Term::Reverse(p) => Lead::of(alloc, p, !turned),
+            _ => Ok(Lead::none(alloc)),
+        }
+    }
+}
