@@ -46,7 +46,7 @@ LEFT_BY_HAND = """\
 left by hand (docs/CONTRIBUTING.md, "A release"):
 - the figures of docs/PERFORMANCE.md and the times of README.md, measured on this commit
 - real data sets, which packages of R have: python3 python/tests/real_data.py
-- the number of the version: VERSION in crates/prefq/src/args.rt, docs/GUIDE.md, python, CHANGELOG.md
+- the number of the version: VERSION in crates/prefq/src/args.rt, PREFQ_VERSION in library/include/prefq.h, docs/GUIDE.md, python, CHANGELOG.md
 - a new kit: its name and its logic in README.md"""
 
 
@@ -223,6 +223,7 @@ BUILT = [
     command("python3", "tests/model/threads.py"),
     command("python3", "tests/live.py"),
     command("python/tests/run.sh"),
+    command("library/tests/run.sh"),
     command("python3", "examples/parts/parts.py", PROGRAM, "--check", "120000"),
     command("python3", "tests/arguments.py"),
     command("tests/faults_of_the_program.sh"),

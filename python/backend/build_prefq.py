@@ -1,6 +1,7 @@
 """Builds the package with the standard library alone: a wheel that bundles the built program, a source archive and an editable wheel (PEP 517, PEP 660).
 
 The program is the one that PREFQ_PROGRAM names, else program/prefq beside pyproject.toml (in a source archive), else the repository's crates/prefq/out/prefq.
+libprefq.so and prefq.h come along where the library is built: that of PREFQ_LIBRARY, else library/ beside pyproject.toml, else the repository's library/out.
 """
 import base64
 import hashlib
@@ -33,6 +34,16 @@ def program():
     if not found:
         raise SystemExit(f"the program prefq is not built, and the package needs it: {BUILD}")
     return found[0].read_bytes()
+
+
+def library():
+    """The built library and its header, by their places in the package; none where it is not built."""
+    header = next((folder for folder in (TOP / "library/prefq.h", TOP.parent / "library/include/prefq.h") if folder.is_file()), None)
+    places = [os.environ.get("PREFQ_LIBRARY"), TOP / "library/libprefq.so", TOP.parent / "library/out/libprefq.so"]
+    found = [Path(place) for place in places if place and Path(place).is_file()]
+    if not found or header is None:
+        return {}
+    return {"lib/libprefq.so": found[0].read_bytes(), "include/prefq.h": header.read_bytes()}
 
 
 def metadata():
@@ -68,7 +79,8 @@ def write_wheel(folder, tag, files):
 def build_wheel(wheel_directory, config_settings=None, metadata_directory=None):
     files = {name[len("src/"):]: data for name, data in sources("src").items()}
     tag = f"py3-none-linux_{platform.machine()}"
-    return write_wheel(wheel_directory, tag, {**files, "prefq/bin/prefq": program()})
+    along = {f"prefq/{name}": data for name, data in library().items()}
+    return write_wheel(wheel_directory, tag, {**files, "prefq/bin/prefq": program(), **along})
 
 
 def build_editable(wheel_directory, config_settings=None, metadata_directory=None):
@@ -79,7 +91,8 @@ def build_editable(wheel_directory, config_settings=None, metadata_directory=Non
 def build_sdist(sdist_directory, config_settings=None):
     archive = f"{NAME}.tar.gz"
     files = {"pyproject.toml": PROJECT.encode(), "README.md": (TOP / "README.md").read_bytes(), **sources("backend", "src", "tests"),
-             "PKG-INFO": metadata().encode(), "program/prefq": program()}
+             "PKG-INFO": metadata().encode(), "program/prefq": program(),
+             **{f"library/{Path(name).name}": data for name, data in library().items()}}
     with tarfile.open(Path(sdist_directory, archive), "w:gz", format=tarfile.PAX_FORMAT) as tar:
         for name, data in files.items():
             entry = tarfile.TarInfo(f"{NAME}/{name}")

@@ -68,12 +68,25 @@ class Install(TestCase):
         sources = {path.relative_to(PACKAGE / "src").as_posix() for path in (PACKAGE / "src/prefq").rglob("*") if path.is_file() and "__pycache__" not in path.parts}
         self.assertIn("prefq/py.typed", sources)
         about = {f"prefq-{prefq.__version__}.dist-info/{name}" for name in ("METADATA", "WHEEL", "RECORD")}
-        self.assertEqual(set(names), {*sources, *about, "prefq/bin/prefq"})
+        along = {"prefq/lib/libprefq.so", "prefq/include/prefq.h"}
+        self.assertEqual(set(names) - along, {*sources, *about, "prefq/bin/prefq"})
         self.assertEqual(wheel.read("prefq/bin/prefq"), Path(self.program).read_bytes())
         source = next(self.room.glob("*.tar.gz"))
         with tarfile.open(source) as archive:
             archive.extractall(self.room)
         self.assertEqual((self.room / f"prefq-{prefq.__version__}/program/prefq").read_bytes(), Path(self.program).read_bytes())
+
+    def test_the_library_comes_along(self):
+        library = self.room / "libprefq.so"
+        library.write_bytes(b"a library")
+        for call in ("build_wheel", "build_sdist"):
+            status, said = self.build(f"{call}({str(self.room)!r})", PREFQ_PROGRAM=self.program, PREFQ_LIBRARY=str(library))
+            self.assertEqual(status, 0, said)
+        wheel = zipfile.ZipFile(next(self.room.glob("*.whl")))
+        self.assertEqual(wheel.read("prefq/lib/libprefq.so"), b"a library")
+        self.assertEqual(wheel.read("prefq/include/prefq.h"), (PACKAGE.parent / "library/include/prefq.h").read_bytes())
+        with tarfile.open(next(self.room.glob("*.tar.gz"))) as archive:
+            self.assertEqual(archive.extractfile(f"prefq-{prefq.__version__}/library/libprefq.so").read(), b"a library")
 
     def test_without_a_program(self):
         status, said = run(sys.executable, "-c", "import shutil, sys; shutil.copytree(sys.argv[1], sys.argv[2])", PACKAGE, self.room / "python")
