@@ -1,5 +1,5 @@
 -- What the calls of a table behind a handle do. (this project)
-use Rattle.std.specs.Prelude.{ℕ, ◌≡◌, ◌≤◌, ◌+◌, ◌++◌, ◌^◌, List, [], length, take, drop, min, Option, None, Some, IsNone, IfSome, string_bytes}
+use Rattle.std.specs.Prelude.{ℕ, ◌≡◌, ◌≤◌, ◌+◌, ◌++◌, ◌^◌, List, [], length, take, drop, Option, None, IfSome, string_bytes}
 use Rattle.pref_core.specs.Limits.{Limits}
 use Rattle.pref_script.specs.LiveTable.{IsOpened, OpeningFault, PrintsLine, next_number}
 use Rattle.pref_script.specs.Output.{fault_text}

@@ -1,5 +1,7 @@
 //! A table as a pointer that a program of another language keeps.
 ghost use Rattle.std.specs.Prelude.{◌≡◌, Option, None, Some, IsSome};
+ghost use Rattle.std.specs.Coded.{codes};
+ghost use Rattle.pref_term.specs.PreferenceCode.{coded_question};
 ghost use Rattle.prefq_c.specs.declared.table.Table.{Table};
 
 use crate::table::Table;
@@ -12,7 +14,7 @@ use std::ptr;
 #[derive(Drop)]
 pub struct Handle {
     at: *mut u8,
-    pub ghost value: { Option Table },
+    pub ghost value: { Option Table } by { Prim.hlevel (codes, coded_question) },
 }
 
 impl Model for Handle {

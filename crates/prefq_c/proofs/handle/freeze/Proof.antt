@@ -1,19 +1,18 @@
 -- `freeze` keeps the pointer of the box.
 use Rattle.std.specs.Prelude.{Some}
 use Rattle.std.proofs.Common.{◌≡◌, List, [], ◌∷◌, ◌++◌, refl, sym, ap, ◌∙◌, subst}
-use mir.Syntax.{dcons, dnil, tcons, tnil, impl, method}
+use mir.Syntax.{dnil, tcons, tnil, impl, method}
 use mir.Raw.{raw as bare}
-use mir.Val.{Val, vptr, vstruct, vcons, vnil, of_list, has_ty, WT}
-use lib.Dec.{T}
+use mir.Val.{Val, vptr, vstruct, vcons, vnil}
 use base.Fraction.{full_share}
 use base.Logic.{SProp, ent, emp, never, id⊢, fst∗}
-use base.Fml.{ftrue, fsep, flft}
+use base.Fml.{ftrue, flft}
 use prog.Wp.{WpFn}
 use types.Logic.{sem}
-use types.Kit.{‵, raw, ◌⊛◌, some, later, at_ret, ◌$◌, ◌∵◌, !, qed, by, move, keep, drop, split, split3, join, fsplit, fsplit3, fjoin, fjoin3, fpick, fpack, pick, suffices, use0, use1, await, rewrite, feq_i, feq_l}
-use types.Run.{stop, fld, of_opd, no_more, and_then, first, blocks, exec, returns, enter}
-use types.ByLocal.{alloc_all, pass_all, free_all, look_at, get, get_in, sets, lands_as}
-use types.Part.{agg, sub, whole}
+use types.Kit.{‵, raw, ◌⊛◌, some, later, ◌$◌, ◌∵◌, !, qed, by, move, keep, drop, split, join, fsplit, fjoin, fpack, pick, suffices, use0, use1, await, feq_i, feq_l}
+use types.Run.{of_opd, no_more, and_then, returns, enter}
+use types.ByLocal.{alloc_all, pass_all, free_all, look_at, get, sets, lands_as}
+use types.Part.{agg}
 use contract.Monad.{fact, fact_i}
 use contract.BorrowLft.{◌⊑◌, ⊑_static}
 use contract.Lifetimes.{Lfts}
@@ -22,10 +21,10 @@ use denote.Exit.{no, yes}
 use denote.RattleType.{RattleType, Valss, owns}
 use denote.Struct.Struct.{within}
 use denote.Struct.Owning.{shape}
-use denote.Signature.{types_at, plain}
+use denote.Signature.{plain}
 use denote.Builtin.{RawPtr}
 use denote.RawPtr.{Ptr, block_ptr, null_ptr, ptr_val, in_a_block}
-use denote.Steps.{nothing, only, heard}
+use denote.Steps.{nothing, only}
 use denote.Param.{arg, param, layout}
 use denote.Param.Laws.{Laws, arg_laws}
 use denote.Param.NoDrop as NoDrop
@@ -48,8 +47,8 @@ use Rattle.prefq_c.proofs.prefq_c++table++Table+Destruct.drop.Symbol as drop_sym
 use denote.Triple.Spec.{triple_of}
 use denote.Triple.Call.{calls_at}
 use denote.Triple.Walked.{Stays, stay_dropped, walk_of, Goes-dropped}
-use Rattle.core.proofs.alloc.Calls.{token, handle_tells}
-use Rattle.core.proofs.atomic.Steps.{fm, tail}
+use Rattle.core.proofs.alloc.Calls.{token}
+use Rattle.core.proofs.atomic.Steps.{fm}
 use Rattle.std_alloc.specs.Box.Ownership.{box_owns}
 use Rattle.std_alloc.proofs.BoxSteps.Form as box
 use Rattle.std_alloc.proofs.BoxSteps.Steps.{box_out, box_in}

@@ -1,35 +1,22 @@
 -- A handle of nothing.
-use Rattle.std.specs.Prelude.{Option, None, Some, IsSome}
-use Rattle.prefq_c.specs.Held.{held}
-use Rattle.std.proofs.Common.{arith, ◌<◌, ◌^◌, ◌≡◌, List, [], ◌∷◌, ◌++◌, refl, sym, ap, ◌∙◌, subst}
-use mir.Syntax.{dcons, dnil, tcons, tnil, impl}
-use mir.Raw.{raw as bare}
-use mir.Val.{Val, vptr, vstruct, vcons, vnil, of_list, has_ty, WT}
-use lib.Dec.{T}
-use base.Fraction.{full_share}
-use base.Logic.{SProp, ent, emp, never, id⊢, fst∗}
-use base.Fml.{ftrue, fsep, flft}
-use prog.Wp.{WpFn}
-use types.Logic.{sem}
-use types.Kit.{‵, raw, ◌⊛◌, some, later, at_ret, ◌$◌, ◌∵◌, !, qed, by, move, keep, drop, split, split3, join, fsplit, fsplit3, fjoin, fjoin3, fpick, fpack, pick, suffices, use0, use1, await, rewrite, feq_i, feq_l}
-use types.Run.{stop, fld, of_opd, no_more, and_then, lit, returns, enter}
-use types.ByLocal.{alloc_all, pass_all, free_all, look_at, get, get_in, sets, lands_last, is, env}
-use types.Part.{agg, sub, whole}
+use Rattle.std.specs.Prelude.{None}
+use Rattle.std.proofs.Common.{arith, ◌<◌, ◌^◌, ◌≡◌, List, [], ◌∷◌, refl}
+use mir.Val.{Val, vstruct, vcons, vnil}
+use base.Logic.{SProp, emp}
+use base.Fml.{ftrue}
+use types.Kit.{‵, raw, ◌⊛◌, ◌$◌, ◌∵◌, !, qed, by, keep, fjoin, fpack, use0, feq_i}
+use types.Run.{no_more, and_then, lit, returns, enter}
+use types.ByLocal.{alloc_all, pass_all, free_all, look_at, sets}
+use types.Part.{agg}
 use contract.Monad.{fact, fact_i}
-use contract.BorrowLft.{◌⊑◌, ⊑_static}
-use contract.Lifetimes.{Lfts}
 use contract.Running.{tables}
-use denote.Exit.{no, yes}
 use denote.RattleType.{RattleType, Valss, owns}
 use denote.Struct.Struct.{within}
 use denote.Struct.Owning.{shape}
-use denote.Signature.{types_at, plain}
 use denote.Builtin.{RawPtr}
-use denote.RawPtr.{Ptr, block_ptr, null_ptr, ptr_val, in_a_block}
-use denote.Steps.{nothing, only, heard}
-use denote.Triple.Clauses.{Lasts, lasts}
-use denote.Triple.Spec.{triple_of}
-use denote.Triple.Walked.{Stays, stay_dropped, walk_of, Goes-dropped}
+use denote.RawPtr.{null_ptr, ptr_val}
+use denote.Steps.{nothing, only}
+use denote.Triple.Walked.{Stays, walk_of}
 use Rattle.std.proofs.raw_atomic.Walks.{proved_at, leaves}
 use Rattle.prefq_c.specs.contracts.handle.Handle as Handle
 use Rattle.prefq_c.specs.contracts.handle.none.{ended, clauses}

@@ -2,30 +2,29 @@
 use Rattle.std.specs.Prelude.{Option, None, Some, IsSome}
 use Rattle.prefq_c.specs.Held.{held}
 use Rattle.std.proofs.Common.{arith, ◌≡◌, List, [], ◌∷◌, ◌++◌, refl, sym, ap, ◌∙◌, subst}
-use mir.Syntax.{dcons, dnil, tcons, tnil, impl}
+use mir.Syntax.{dnil, tcons, tnil, impl}
 use mir.Raw.{raw as bare}
 use mir.Val.{Val, vptr, vstruct, vcons, vnil, of_list, has_ty, WT}
 use lib.Dec.{T}
 use base.Fraction.{full_share}
 use base.Logic.{SProp, ent, emp, never, id⊢, fst∗}
-use base.Fml.{ftrue, fsep, flft}
+use base.Fml.{ftrue, flft}
 use prog.Wp.{WpFn}
 use types.Logic.{sem}
-use types.Kit.{‵, raw, ◌⊛◌, some, later, at_ret, ◌$◌, ◌∵◌, !, qed, by, move, keep, drop, split, split3, join, fsplit, fsplit3, fjoin, fjoin3, fpick, pick, suffices, use0, use1, await, rewrite, feq_i, feq_l}
+use types.Kit.{‵, raw, ◌⊛◌, some, later, at_ret, ◌$◌, ◌∵◌, !, qed, by, move, keep, drop, split, split3, join, fsplit, fjoin, fjoin3, fpick, pick, suffices, use0, use1, await, rewrite, feq_i, feq_l}
 use types.Run.{stop, fld, of_opd, no_more, and_then, first, blocks, exec, returns, enter}
 use types.ByLocal.{alloc_all, pass_all, free_all, look_at, get, get_in, sets, lands_last, is, env}
-use types.Part.{agg, sub, whole}
+use types.Part.{sub, whole}
 use contract.Monad.{fact, fact_i}
 use contract.BorrowLft.{◌⊑◌, ⊑_static}
 use contract.Lifetimes.{Lfts}
 use contract.Running.{tables}
 use denote.Exit.{no, yes}
 use denote.RattleType.{RattleType, owns}
-use denote.Signature.{types_at, plain}
-use denote.Builtin.{RawPtr}
+use denote.Signature.{plain}
 use denote.RawPtr.{Ptr, block_ptr, null_ptr, ptr_val, in_a_block}
 use denote.Steps.{nothing, only, heard}
-use denote.Param.{arg, param, layout}
+use denote.Param.{arg, layout}
 use denote.Param.Laws.{Laws, arg_laws}
 use denote.Param.NoDrop as NoDrop
 use denote.Triple.Clauses.{Lasts, lasts}
