@@ -31,7 +31,7 @@ extern "C" {
 #define PREFQ_VERSION "0.2.0"
 
 /* What a call may need of the caller's stack: at least twice what the deepest questions take (library/out/calls --stack measures it, and fails otherwise). */
-#define PREFQ_STACK 131072
+#define PREFQ_STACK 327680
 
 /* A table with its clients. */
 typedef struct prefq prefq;
