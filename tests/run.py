@@ -3,7 +3,7 @@
 
     python3 tests/run.py quick       for every change: the layout of the files, the lists of definitions and of edits, each test without its
                                      proof, the stored run, the scripts, the examples and what the documents show. The tests of the Python
-                                     package run too, where the program is built or PREFQ_PROGRAM names one
+                                     package run too, where the library is built or PREFQ_LIBRARY names one
     python3 tests/run.py all         before a merge: the proofs, the must-fail edits and the tests by `rt ci`, which proves from nothing what it has not passed
                                      before on this machine, in just these files; then the lists, and each check over the built programs that takes seconds
     python3 tests/run.py release     before a release: all that, every proof from nothing; then the edits of tests/must-fail, and whether each edit
@@ -31,6 +31,7 @@ from typing import Callable, Optional
 
 TOP = Path(__file__).resolve().parent.parent
 PROGRAM = "crates/prefq/out/prefq"
+LIBRARY = "library/out/libprefq.so"
 CHECKS_AT_ONCE = 2
 # More than any check takes. (`rt ci` by itself reckons with twice as much or more.)
 KILOBYTES_A_PROOF = 3_000_000
@@ -182,10 +183,10 @@ def scripts_unproved(room, log):
 
 
 def python_package(room, log):
-    """The tests of the Python package, on a program that is there already: none is kept by `rt try`."""
-    if os.environ.get("PREFQ_PROGRAM") or os.access(TOP / PROGRAM, os.X_OK):
+    """The tests of the Python package, on a library that is there already: none is kept by `rt try`."""
+    if os.environ.get("PREFQ_LIBRARY") or (TOP / LIBRARY).is_file():
         return run(log, "python/tests/run.sh")
-    print(f"skipped: the tests of the Python package, since {PROGRAM} is not built and PREFQ_PROGRAM names no other", file=log)
+    print(f"skipped: the tests of the Python package, since {LIBRARY} is not built and PREFQ_LIBRARY names no other", file=log)
     return None
 
 
@@ -221,10 +222,10 @@ BUILT = [
     command("python3", "tests/scripts.py"),
     command("python3", "tests/model/compare.py"),
     command("python3", "tests/model/threads.py"),
+    command("library/tests/run.sh"),
     command("python3", "tests/live.py"),
     command("python/tests/run.sh"),
-    command("library/tests/run.sh"),
-    command("python3", "examples/parts/parts.py", PROGRAM, "--check", "120000"),
+    command("python3", "examples/parts/parts.py", "--check", "120000"),
     command("python3", "tests/arguments.py"),
     command("tests/faults_of_the_program.sh"),
     command("tests/count_begin_and_abandon.sh"),

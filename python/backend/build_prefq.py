@@ -1,7 +1,7 @@
 """Builds the package with the standard library alone: a wheel that bundles the built program, a source archive and an editable wheel (PEP 517, PEP 660).
 
 The program is the one that PREFQ_PROGRAM names, else program/prefq beside pyproject.toml (in a source archive), else the repository's crates/prefq/out/prefq.
-libprefq.so and prefq.h come along where the library is built: that of PREFQ_LIBRARY, else library/ beside pyproject.toml, else the repository's library/out.
+The library is the one that PREFQ_LIBRARY names, else library/ beside pyproject.toml, else the repository's library/out; its header comes along.
 """
 import base64
 import hashlib
@@ -17,6 +17,8 @@ TOP = Path(__file__).resolve().parent.parent
 SOURCES = TOP / "src"
 PROJECT = (TOP / "pyproject.toml").read_text(encoding="utf-8")
 BUILD = "build it in the repository by `(cd crates/prefq && rt run prefq < stdin)`, which makes crates/prefq/out/prefq, or let PREFQ_PROGRAM name it"
+
+BUILD_LIBRARY = "build it in the repository by `library/build.sh`, which makes library/out/libprefq.so, or let PREFQ_LIBRARY name it"
 
 
 def field(name):
@@ -37,12 +39,12 @@ def program():
 
 
 def library():
-    """The built library and its header, by their places in the package; none where it is not built."""
+    """The built library and its header, by their places in the package."""
     header = next((folder for folder in (TOP / "library/prefq.h", TOP.parent / "library/include/prefq.h") if folder.is_file()), None)
     places = [os.environ.get("PREFQ_LIBRARY"), TOP / "library/libprefq.so", TOP.parent / "library/out/libprefq.so"]
     found = [Path(place) for place in places if place and Path(place).is_file()]
     if not found or header is None:
-        return {}
+        raise SystemExit(f"the library libprefq.so is not built, and the package needs it: {BUILD_LIBRARY}")
     return {"lib/libprefq.so": found[0].read_bytes(), "include/prefq.h": header.read_bytes()}
 
 
@@ -84,7 +86,7 @@ def build_wheel(wheel_directory, config_settings=None, metadata_directory=None):
 
 
 def build_editable(wheel_directory, config_settings=None, metadata_directory=None):
-    """The sources stay where they are; the program is then the built one of the repository, or that of PREFQ_PROGRAM."""
+    """The sources stay where they are; program and library are then the built ones of the repository, or those of PREFQ_PROGRAM and PREFQ_LIBRARY."""
     return write_wheel(wheel_directory, "py3-none-any", {"prefq.pth": f"{SOURCES}\n".encode()})
 
 

@@ -131,23 +131,20 @@ class Options(TestCase):
             for value in (2.0, "2", True):
                 with self.refuses(TypeError, f"{name} is {value!r}"):
                     hotels(**{name: value})
-        for value in (0, -1, float("nan"), float("inf")):
-            with self.refuses(ValueError, "timeout"):
-                hotels(timeout=value)
-        for value in ("5", True):
-            with self.refuses(TypeError, "timeout"):
-                hotels(timeout=value)
+        for name in ("timeout", "program"):
+            with self.refuses(TypeError, name):
+                hotels(**{name: 5})
+            with self.refuses(TypeError, f"Frame.from_records has no option '{name}'"):
+                prefq.Frame.from_records([{"x": 1}], **{name: 5})
 
     def test_clients(self):
         with hotels(clients=3) as table:
-            for call in (lambda client: table.insert([1, 2], client=client), lambda client: table.room(client), lambda client: table.get(1, client),
-                         lambda client: table.query(QUESTION, client), lambda client: table.commit(("delete", 1), client=client)):
-                for client in (0, 4, 9, -1):
-                    with self.refuses(ValueError, f"client is {client}: not from 1 to 3"):
-                        call(client)
-                for client in ("", "1", "1 insert 5,5\nas 1", "1 abandon\nas 1", 2.0, True):
-                    with self.refuses(TypeError, f"client is {client!r}"):
-                        call(client)
+            for client in (0, 4, 9, -1):
+                with self.refuses(ValueError, f"client is {client}: not from 1 to 3"):
+                    table.query(QUESTION, client)
+            for client in ("", "1", "1 insert 5,5\nas 1", "1 abandon\nas 1", 2.0, True):
+                with self.refuses(TypeError, f"client is {client!r}"):
+                    table.query(QUESTION, client)
             self.assertEqual([table.room() for _ in range(3)], [1017] * 3)
 
     def test_ids(self):

@@ -8,7 +8,7 @@ from fractions import Fraction
 
 import prefq
 from prefq.desk import Desk
-from support import TestCase, is_running
+from support import TestCase
 
 try:
     import pandas
@@ -176,10 +176,9 @@ class Growth(TestCase):
 
 class WhileOthersAsk(TestCase):
     def test_an_open_query_goes_on(self):
-        """It is of the table that there was, whose program ends after it."""
+        """It is of the table that there was, which ends after it."""
         with prices(60, 50, 70) as frame:
             old = frame.table
-            pid = old.pid
             with old.query("best low(c0)") as query:
                 frame.insert({"price": "0.5"})
                 frame.delete(2)
@@ -187,10 +186,10 @@ class WhileOthersAsk(TestCase):
                 self.assertEqual([row.values[0] for row in query.answer()], [50])
             del query
             self.assertIsNot(frame.table, old)
-            self.assertTrue(is_running(pid))
-            del old
+            self.assertEqual(len(old), 3)
             self.assertEqual(frame.best("best low(price)").ids, [4])
-            self.assertFalse(is_running(pid))
+            with self.refuses(prefq.Ended, kind="closed"):
+                len(old)
 
     def test_a_question_between_two_tables(self):
         """The frame grows while a question is on its way: the answer is that of one table or the other, with its values."""

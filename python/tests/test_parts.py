@@ -20,7 +20,6 @@ from unittest import mock
 import prefq
 from prefq import parts
 from prefq.parts import Job, Partition, RowsLeft, best
-from support import program
 
 EXAMPLES = Path(__file__).resolve().parents[2] / "examples/parts"
 COLUMNS = ["price", "dist", "city"]
@@ -318,31 +317,12 @@ class Refusals(unittest.TestCase):
                 best(partitions, "best low(price)")
             self.assertIn(said, str(caught.exception))
 
-    def test_a_program_that_takes_too_long(self):
-        with program("exec sleep 60") as path, self.assertRaises(prefq.Ended) as caught:
-            best([Partition(["a"], [[1]])], "best low(a)", program=path, timeout=0.2)
-        self.assertEqual((caught.exception.kind, str(caught.exception)), ("timeout", "the program has not ended within 0.2 seconds"))
-        self.assertEqual(pickle.loads(pickle.dumps(caught.exception)).kind, "timeout")
-        for timeout, exception in [(0, ValueError), (-1, ValueError), ("5", TypeError), (True, TypeError)]:
-            with self.subTest(timeout=timeout), self.assertRaises(exception):
-                best([Partition(["a"], [[1]])], "best low(a)", timeout=timeout)
-        self.assertEqual(len(best([Partition(["a"], [[1]])], "best low(a)", timeout=60)), 1)
-
     def test_rows_that_nothing_dominates(self):
         rows = [f"{number},{number % 7}" for number in range(66_000)]
         with self.assertRaises(RowsLeft) as caught:
             best([Partition(["offer", "price"], rows[:30_000]), Partition(["offer", "price"], rows[30_000:])], "best low(price) by offer")
         self.assertEqual((caught.exception.left, caught.exception.count), (66_000, 66_000))
         self.assertIn("66000 rows of 66000 are left", str(caught.exception))
-
-    def test_no_program(self):
-        with self.assertRaises(prefq.ProgramNotFound):
-            best([Partition(["a"], [[1]])], "best low(a)", program="/no/such/program")
-        with self.assertRaises(prefq.Ended) as caught:
-            best([Partition(["a"], [[1]])], "best low(a)", program="/bin/false")
-        self.assertIn("status 1", str(caught.exception))
-        with self.assertRaises(prefq.Ended):
-            best([Partition(["a"], [[1]])], "best low(a)", program="/bin/true")
 
     def test_exceptions_jobs_and_results_can_be_pickled(self):
         left = pickle.loads(pickle.dumps(RowsLeft(70_000, 80_000)))
@@ -424,7 +404,7 @@ class Engines(unittest.TestCase):
         question = "best low(price) * low(dist)"
         done = self.example("pool.py", self.folder, question, "2")
         self.assertEqual([tuple(map(int, line.replace(":", "").split()[1:4:2])) for line in done.stdout.splitlines()], self.wanted[question], done.stderr)
-        done = self.example("parts.py", prefq.find_program(), str(self.files[0]), question)
+        done = self.example("parts.py", str(self.files[0]), question)
         self.assertEqual(done.returncode, 0, done.stderr)
         self.assertEqual(len(done.stdout.splitlines()), len(best(self.files[:1], question)))
 

@@ -1,7 +1,5 @@
 """Many threads over one table: no request is lost, and no answer is wrong."""
-import os
 import random
-import signal
 import threading
 
 import prefq
@@ -96,20 +94,3 @@ class Threads(TestCase):
             asks.start()
             asks.join(30)
             self.assertEqual(other, [4])
-
-    def test_killed_under_many_threads(self):
-        table = hotels(block=16)
-        started = threading.Barrier(21)
-
-        def work(number):
-            started.wait()
-            with self.assertRaises(prefq.Ended):
-                while True:
-                    table.best(QUESTION)
-
-        def kills(_):
-            started.wait()
-            os.kill(table.pid, signal.SIGKILL)
-
-        with self.within(60):
-            self.assertEqual(all_of(21, lambda number: kills(number) if number == 20 else work(number)), [])

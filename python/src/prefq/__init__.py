@@ -11,8 +11,9 @@ from . import parts
 from .answer import Answer
 from .asynchronous import AsyncQuery, AsyncTable
 from .columns import Column
-from .errors import Ended, Error, ProgramNotFound, Refused
+from .errors import Ended, Error, LibraryNotFound, ProgramNotFound, Refused
 from .frame import Frame, UnknownValue
+from .library import find_library
 from .program import find_program
 from .query import Query
 from .records import Record
@@ -21,5 +22,5 @@ from .select import psel
 from .table import Table
 
 __version__ = "0.2.0"
-__all__ = ["Answer", "AsyncQuery", "AsyncTable", "Column", "Ended", "Error", "Frame", "ProgramNotFound", "Query", "Record", "Refused", "Row", "Table",
-           "UnknownValue", "find_program", "parts", "psel"]
+__all__ = ["Answer", "AsyncQuery", "AsyncTable", "Column", "Ended", "Error", "Frame", "LibraryNotFound", "ProgramNotFound", "Query", "Record", "Refused", "Row", "Table",
+           "UnknownValue", "find_library", "find_program", "parts", "psel"]

@@ -71,7 +71,7 @@ class AsyncTable:
     async def close(self) -> None:
         """Ends the table; a call that is under way raises `Ended`."""
         self._closed = True
-        if not self._table._exchange.is_ours():
+        if not self._table._engine.is_ours():
             return
         await asyncio.get_running_loop().run_in_executor(None, self._table.close)
         self._executor.shutdown(wait=False)
@@ -110,7 +110,7 @@ class AsyncTable:
             return await query.pairs()
 
     async def best(self, question: str) -> List[Row]:
-        """See `Table.best`. Other tasks' calls may come between the blocks that it scans."""
+        """See `Table.best`. Other tasks' calls may come between the pieces that it scans."""
         async with self.query(question) as query:
             return await query.answer()
 
@@ -127,7 +127,7 @@ class AsyncTable:
 
     def _usable(self) -> None:
         """A fork has no thread that would make a call, nor has a table that was closed."""
-        self._table._exchange.ours()
+        self._table._engine.ours()
         if self._closed:
             raise Ended("the table was closed", "closed")
 
@@ -186,10 +186,10 @@ class AsyncQuery:
         return await self._finish(self._begun().pairs)
 
     async def _finish(self, answer: Callable[[], Result]) -> Result:
-        """Scans block by block, so that other tasks' calls come in between, and finishes."""
+        """Scans piece by piece, so that other tasks' calls come in between, and finishes."""
         query = self._begun()
         while query.left:
-            await self._table._call(query.scan)
+            await self._table._call(query.scan_piece)
         result = await self._table._call(answer)
         self._give_back()
         return result

@@ -4,8 +4,8 @@ import threading
 import time
 from typing import TYPE_CHECKING, Optional
 
+from .engine import Engine, Holder
 from .errors import Refused
-from .exchange import Exchange, Holder
 
 if TYPE_CHECKING:
     from .query import Query
@@ -19,14 +19,13 @@ STEP = 0.005
 class Clients:
     """Deals out clients for queries; one that is asked for without a number waits until another query ends, for a minute at most."""
 
-    def __init__(self, count: int, exchange: Exchange) -> None:
+    def __init__(self, count: int, engine: Engine) -> None:
         self._count = count
-        self._exchange = exchange
+        self._engine = engine
         self._collects_from = 0.0
 
     def take(self, query: "Query", client: Optional[int]) -> Holder:
         """This client, or any that has no open query, for this query."""
-        self._exchange.ours()
         begun, has_collected = time.monotonic(), False
         while True:
             holder = self._free(query, client)
@@ -56,15 +55,17 @@ class Clients:
             self._collects_from = end + max(SECONDS_TO_COLLECTION, (end - begun) / MOST_TIME_FOR_COLLECTIONS)
 
     def _all_are_of_this_thread(self) -> bool:
-        return {holder.thread for holder in list(self._exchange.queries.values())} == {threading.get_ident()}
+        return {holder.thread for holder in list(self._engine.queries.values())} == {threading.get_ident()}
 
     def _free(self, query: "Query", client: Optional[int]) -> Optional[Holder]:
         """Takes a client that is free now, if there is one."""
-        self._exchange.settle()
-        queries = self._exchange.queries
+        self._engine.check()
+        queries = self._engine.queries
+        if queries:
+            self._engine.settle()
         for number in range(1, self._count + 1) if client is None else [client]:
             if number not in queries:
-                holder = Holder(query, self._exchange.dropped.append, number, threading.get_ident())
+                holder = Holder(query, number)
                 # With this one step it is taken, and will be given back where nobody has the query any more.
                 if queries.setdefault(number, holder) is holder:
                     return holder

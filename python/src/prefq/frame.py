@@ -3,6 +3,7 @@ import sys
 import threading
 import warnings
 from contextlib import contextmanager
+from functools import partial
 from typing import Any, Callable, Dict, Iterable, Iterator, List, Mapping, Optional, Sequence, Tuple, TypeVar
 
 from .answer import Answer
@@ -24,7 +25,7 @@ from .translate import Plan, plan
 from .why import Rivals
 
 Result = TypeVar("Result")
-TABLE_OPTIONS = ("capacity", "clients", "block", "window", "timeout", "program")
+TABLE_OPTIONS = ("capacity", "clients", "block", "window")
 CSV_OPTIONS = ("columns", "kinds", "missing", "encoding", "delimiter", "decimal", "thousands", "skip", "null_padding")
 
 
@@ -44,7 +45,7 @@ class Frame:
     """A live table of records, whose columns are whole numbers, decimals, floats, true and false, dates, times or texts, with gaps or without.
 
     It is made from a CSV file, from records, or from a DataFrame of pandas; every value comes back exactly. Its rows have the ids 1, 2, 3 and so on. Any
-    thread may call it. Beside its columns it takes what `Table` takes by name: capacity, clients, block, window, timeout, program.
+    thread may call it. Beside its columns it takes what `Table` takes by name: capacity, clients, block, window.
 
     >>> import prefq
     >>> with prefq.Frame.from_records([{"City": "Lyon", "Price (EUR)": 60}, {"City": "Bern", "Price (EUR)": 90}, {"City": "Köln"}]) as hotels:
@@ -68,7 +69,6 @@ class Frame:
         self._is_opening = False
         self._is_closed = False
         self._last = len(rows)
-        self._options = {name: options[name] for name in ("program", "timeout") if name in options}
 
     @classmethod
     def from_csv(cls, source: Source, *, columns: Optional[Sequence[str]] = None, kinds: Optional[Mapping[str, str]] = None, missing: Optional[Iterable[str]] = None,
@@ -296,7 +296,7 @@ class Frame:
             rows = {opened.ids.outside(number): numbers for number, numbers in opened.table.rows()}
         if id not in rows:
             raise opened.missing_row(id)
-        rivals = Rivals(question, read, opened.below, rows, id, self._options)
+        rivals = Rivals(question, read, opened.below, rows, id)
         records = self._records(opened, [(level, other, rows[other]) for other, level in rivals.dominators()])
         return Answer(question, opened.columns, records, others=self.rows, index=self._index)
 
@@ -306,12 +306,7 @@ class Frame:
     def _run(self, opened: Opened, asked: Plan, progress: Optional[Progress]) -> List[Any]:
         try:
             with opened.table.query(asked.text) as query:
-                blocks = query.left
-                while query.left:
-                    query.scan()
-                    if progress:
-                        progress("scanning", blocks - query.left, blocks)
-                return query.answer()
+                return query.answer(progress and partial(progress, "scanning"))
         except Refused as why:
             raise asked.refusal(why) from None
 

@@ -1,6 +1,7 @@
 """One question over rows that nobody asks again."""
 import os
 from concurrent.futures import ThreadPoolExecutor
+from functools import partial
 from typing import Any, Callable, Dict, Iterable, List, Optional, Sequence
 
 from . import parts
@@ -14,19 +15,14 @@ from .table import Table
 def ask_once(columns: Sequence[str], rows: Zipped, question: str, *, progress: Optional[Progress] = None, **options: Any) -> List[Row]:
     """The answer to a question over these rows of whole numbers, whose ids are 1, 2, 3 and so on. More of them than one table holds are asked in parts."""
     if len(rows) > MOST_ROWS:
-        return _in_parts(columns, rows, question, progress, **{name: options[name] for name in ("program", "timeout") if name in options})
+        return _in_parts(columns, rows, question, progress)
     settings: Dict[str, Any] = {"clients": 1, "capacity": max(1, len(rows)), "block": 1024 if progress else MOST_ROWS, **options}
     with Table(columns, rows, **settings) as table:
         with table.query(question) as query:
-            blocks = query.left
-            while query.left:
-                query.scan()
-                if progress:
-                    progress("comparing", blocks - query.left, blocks)
-            return query.answer()
+            return query.answer(progress and partial(progress, "comparing"))
 
 
-def _in_parts(columns: Sequence[str], rows: Zipped, question: str, progress: Optional[Progress], **options: Any) -> List[Row]:
+def _in_parts(columns: Sequence[str], rows: Zipped, question: str, progress: Optional[Progress]) -> List[Row]:
     partitions = [Partition(columns, rows[begin:begin + MOST_ROWS]) for begin in range(0, len(rows), MOST_ROWS)]
     with ThreadPoolExecutor(os.cpu_count()) as pool:
 
@@ -39,4 +35,4 @@ def _in_parts(columns: Sequence[str], rows: Zipped, question: str, progress: Opt
                     progress("comparing", len(found), len(asked))
             return found
 
-        return parts.best(partitions, question, map=mapped, **options)
+        return parts.best(partitions, question, map=mapped)

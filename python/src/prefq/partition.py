@@ -9,7 +9,7 @@ from typing import Any, Iterable, List, Sequence, Tuple, Union
 
 from .checks import names
 from .errors import Refused
-from .rows import WholeRows, line, whole_texts
+from .rows import Zipped, checked
 
 PLAIN = b"0123456789,+- \t"
 NUMBER = re.compile(r"[ \t]*[-+]?[0-9]+[ \t]*")
@@ -24,7 +24,7 @@ class Partition:
     """
 
     columns: Sequence[str]
-    rows: Union[Iterable[Any], WholeRows]
+    rows: Union[Iterable[Any], Zipped]
 
 
 # Any is a DataFrame of pandas.
@@ -70,15 +70,15 @@ def text_of(source: Source) -> Tuple[Tuple[str, ...], List[bytes]]:
     if not isinstance(source, Partition):
         return _read(source)
     columns = names(source.columns)
-    if isinstance(source.rows, WholeRows):
-        return columns, b"".join(piece.text for piece in whole_texts(source.rows.pieces())).splitlines()
+    if isinstance(source.rows, Zipped):
+        return columns, source.rows.lines()
     return columns, [_line(columns, number, row) for number, row in enumerate(source.rows, 1)]
 
 
 def _line(columns: Sequence[str], number: int, row: Any) -> bytes:
-    """A row as a line. What a line of text says is read by the program; it must be a line of numbers, and no command."""
+    """A row as a line. What a line of text says is read by the library; it must be a line of numbers, and no command."""
     if not isinstance(row, (str, bytes)):
-        return line(row, columns, f"row {number}, ").encode()
+        return ",".join(map(str, checked(row, columns, f"row {number}, "))).encode()
     text = row.encode() if isinstance(row, str) else row
     if not text or text.translate(None, PLAIN):
         raise TypeError(f"row {number} is {row!r}: not whole numbers with commas between them")

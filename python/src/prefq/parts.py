@@ -20,20 +20,18 @@ the one with the smallest id dominates the others here, and ids follow the order
 import csv
 import os
 import re
-import subprocess
 from dataclasses import dataclass, field, replace
 from functools import reduce as fold
 from typing import Any, Callable, Dict, Iterable, Iterator, List, Optional, Sequence, Tuple
 from uuid import uuid4
 
-from .checks import MOST_ROWS, header, seconds, text_of_question
-from .errors import Ended, Error, Refused, refused
+from .checks import MOST_ROWS, text_of_question
+from .errors import Refused
 from .partition import Partition, Source, partitions_of, text_of
-from .program import find_program
-from .rows import Row
+from .rows import Row, TextRows
+from .table import Table
 
 MOST_BYTES = 16_000_000    # of the rows of one table as text; a script may have 16,777,216 bytes
-BLOCK = 1024               # rows of one scan
 MERGED = 8                 # partial results that one merge takes
 SHRINKS = 15 / 16          # rows that may be left of all rows where asking piece by piece goes on
 MOST_LEVELS = 1000         # that a question can ask for
@@ -77,8 +75,7 @@ class Partial:
 class Job:
     """A question over partitions as three functions that an engine can run anywhere; a job can be pickled, and so can what its methods return.
 
-    `levels` is how many levels the parts are asked for, where the question itself does not say it (`at_least`); `program` is the path of the program where
-    the job runs, found there by `prefq.find_program` if it is None; `timeout` is how many seconds one run of it may take, None for ever.
+    `levels` is how many levels the parts are asked for, where the question itself does not say it (`at_least`).
 
     No two jobs are the same to an engine that keeps results by what they were made of, as Dask does: each job reads its files anew.
 
@@ -89,13 +86,11 @@ class Job:
 
     question: str
     levels: Optional[int] = None
-    program: Optional[str] = None
-    timeout: Optional[float] = None
     call: str = field(default_factory=lambda: uuid4().hex, compare=False, repr=False)
 
     def of_levels(self, levels: int) -> "Job":
         """Another job, which asks the parts for so many levels."""
-        return Job(self.question, levels, self.program, self.timeout)
+        return Job(self.question, levels)
 
     def part(self, partition: Source) -> Partial:
         """What is left of one partition: the first function, to be mapped over all of them."""
@@ -165,31 +160,23 @@ class Job:
         """The level and the index of each row of a piece that answers a question of levels. The job's own question is begun first, so that what is wrong
         with it is said of its text."""
         lines = partial.lines[piece.start::piece.step]
-        begins = "\nas 1 abandon\n".join(f"as 1 begin {asked}" for asked in dict.fromkeys([self.question, question]))
-        blocks = max(1, -(-len(lines) // BLOCK))
-        script = [b"table", header(partial.columns).strip().encode(), *lines, b"end", begins.encode(errors="replace"), *[b"as 1 scan"] * blocks, b"as 1 finish", b""]
-        done = self._run(["play", "--clients", "1", "--cap", str(blocks * BLOCK), "--block", str(BLOCK)], b"\n".join(script))
-        replies = done.stdout.splitlines()
-        answer = next((number for number, line in enumerate(replies) if line.startswith(b"1 answer ")), 0)
-        if done.returncode != 0 or not answer or not replies[0].startswith(b"1 begun "):
-            raise _refusal(done, partial, piece, self.question)
-        return [(int(words[1]), piece[int(words[3][:-1]) - 1]) for words in (row.split(None, 4) for row in replies[answer + 1:])]
-
-    def _run(self, words: Sequence[str], script: bytes) -> "subprocess.CompletedProcess[bytes]":
         try:
-            return subprocess.run([find_program(self.program), *words], input=script, stdout=subprocess.PIPE, timeout=self.timeout)
-        except subprocess.TimeoutExpired:
-            raise Ended(f"the program has not ended within {self.timeout} seconds", "timeout") from None
+            with Table(partial.columns, TextRows(lines), clients=1, capacity=max(1, len(lines))) as table:
+                for other in dict.fromkeys([self.question, question]):
+                    with table.query(other) as query:
+                        found = [(row.level, piece[row.id - 1]) for row in query.answer()] if other == question else []
+                return found
+        except Refused as why:
+            raise _of_partition(why, partial, piece) from None
 
 
-def best(partitions: Iterable[Source], question: str, *, map: Callable[..., Any] = map, reduce: Optional[Callable[..., Partial]] = None,
-         program: Optional[str] = None, timeout: Optional[float] = None) -> List[Row]:
+def best(partitions: Iterable[Source], question: str, *, map: Callable[..., Any] = map, reduce: Optional[Callable[..., Partial]] = None) -> List[Row]:
     """The answer over the rows of all partitions, whose ids are their numbers in the order of the partitions, from 1.
 
     A partition is the path of a CSV file, read where it is asked, a `Partition` with rows or a DataFrame of pandas; each has the same columns.
     `map(function, items)` returns the results in the order of the items, or Dask's futures of them: `map` of a `concurrent.futures` or `mpi4py.futures`
     executor and of a `dask.distributed` client are such functions. Partial results are merged by a tree of further maps, or by
-    `reduce(function of two, results)`, if it is given. `timeout` is how many seconds one run of the program may take, None for ever.
+    `reduce(function of two, results)`, if it is given.
 
     A question is one of whole numbers, as of a `prefq.Table`; what is wrong with it is `Refused`. `RowsLeft` says that the answer, or what has to be compared
     for it, is larger than one table. A file counts as it was at one moment of the call, each at its own: `at_least` may read all of them several times, and
@@ -204,7 +191,7 @@ def best(partitions: Iterable[Source], question: str, *, map: Callable[..., Any]
     if not partitions:
         raise ValueError("there is no partition")
     rows: List[Row] = []
-    for job in _jobs(Job(text_of_question(question).strip(" \t"), None, program, seconds(timeout))):     # places are counted from the first word
+    for job in _jobs(Job(text_of_question(question).strip(" \t"))):     # places are counted from the first word
         partials = list(map(job.part, partitions))
         if reduce is not None:
             partials = [reduce(job.merge_two, partials)]
@@ -266,11 +253,9 @@ def _in_partition(why: Exception, partition: Source) -> Exception:
     return TypeError(message) if isinstance(why, TypeError) else ValueError(message)
 
 
-def _refusal(done: "subprocess.CompletedProcess[bytes]", partial: Partial, piece: range, question: str) -> Error:
-    """Why a run has no answer. A row is named by its number among the rows of its partition."""
-    said = next((line for line in done.stdout.decode(errors="replace").splitlines() if " refused" in line or "fault" in line), "nothing")
-    if done.returncode not in (0, 2) or said == "nothing":
-        return Ended(f"the program ended with status {done.returncode} and said {said}", "died")
-    if said.startswith("table refused"):
-        return refused(re.sub(r" row (\d+)", lambda found: f" row {partial.places[piece[int(found[1]) - 1]] + 1}", said))
-    return refused(said, question)
+def _of_partition(why: Refused, partial: Partial, piece: range) -> Refused:
+    """A refusal whose row is named by its number among the rows of its partition."""
+    if why.kind != "table":
+        return why
+    text = re.sub(r" row (\d+)", lambda found: f" row {partial.places[piece[int(found[1]) - 1]] + 1}", str(why.args[0]))
+    return Refused(text, why.kind, why.number, why.place)
