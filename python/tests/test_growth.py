@@ -3,12 +3,13 @@ import io
 import threading
 import unittest.mock
 import warnings
+import weakref
 from decimal import Decimal
 from fractions import Fraction
 
 import prefq
 from prefq.desk import Desk
-from support import TestCase
+from support import TestCase, around, raises
 
 try:
     import pandas
@@ -186,10 +187,11 @@ class WhileOthersAsk(TestCase):
                 self.assertEqual([row.values[0] for row in query.answer()], [50])
             del query
             self.assertIsNot(frame.table, old)
-            self.assertEqual(len(old), 3)
+            engine = weakref.ref(old._engine)
+            self.assertIsNotNone(engine())
+            del old
             self.assertEqual(frame.best("best low(price)").ids, [4])
-            with self.refuses(prefq.Ended, kind="closed"):
-                len(old)
+            self.assertIsNone(engine())
 
     def test_a_question_between_two_tables(self):
         """The frame grows while a question is on its way: the answer is that of one table or the other, with its values."""
@@ -321,16 +323,20 @@ class Closing(TestCase):
         with self.assertRaises(prefq.Ended):
             frame.rows()
 
-    def test_the_table_before_ends_with_the_call_that_replaced_it(self):
-        """And not as garbage, where an interruption would be lost; but not while somebody uses it."""
+    def test_the_table_before_is_there_as_long_as_somebody_uses_it(self):
         with prices(60, 50) as frame:
             before = frame._opened
             frame.insert({"price": "48.5"})
-            with self.assertRaises(prefq.Ended):
-                before.table.room()
-            with frame._in_use() as used:
-                frame.insert({"price": "48.25"})
-                self.assertEqual(used.table.room(), 1024 - 3)
-            with self.assertRaises(prefq.Ended):
-                used.table.room()
-            self.assertEqual([row.price for row in frame.rows()], [60, 50, Decimal("48.5"), Decimal("48.25")])
+            self.assertEqual(before.table.room(), 1024 - 2)
+            engine = weakref.ref(before.table._engine)
+            del before
+            self.assertIsNone(engine())
+            self.assertEqual([row.price for row in frame.rows()], [60, 50, Decimal("48.5")])
+
+    def test_an_interruption_between_an_insert_and_the_note_of_its_id(self):
+        """No later row gets the id."""
+        with prices(60, 50) as frame:
+            with around(frame.table, "insert", behind=raises(KeyboardInterrupt)), self.assertRaises(KeyboardInterrupt):
+                frame.insert({"price": 40})
+            self.assertEqual(frame.insert({"price": "48.5"}), 4)
+            self.assertEqual([(row.id, row.price) for row in frame.rows()], [(1, 60), (2, 50), (3, 40), (4, Decimal("48.5"))])

@@ -10,7 +10,7 @@ from typing import Dict, Iterable, List, Optional, Sequence, Tuple
 from .answer import Answer
 from .columns import Column
 from .errors import Ended, Error
-from .frame import UnknownValue
+from .frame_query import UnknownValue
 from .infer import kind_of_texts, oddity
 from .kinds import Texts
 from .kinds.forms import Form

@@ -41,8 +41,7 @@ class Holder(ref):  # type: ignore[type-arg]
 
     @property
     def is_dropped(self) -> bool:
-        """Whether nobody will use the query any more. The collector says that it is gone before it runs the finalizers that may still use it, so whoever uses it
-        looks whether it has its client."""
+        """Whether nobody uses the query any more."""
         return self() is None or not self.is_wanted and not self.is_used
 
 
@@ -67,8 +66,8 @@ class Engine:
         self.queries: Dict[int, Holder] = {}
 
     def __del__(self) -> None:
-        # Here alone its memory is given back: whoever is in the middle of a call still has the engine.
-        if self._pointer:
+        # Here alone its memory is given back: whoever is in the middle of a call still has the engine. A fork may have copied it in the middle of one.
+        if self._pointer and self.is_ours():
             self._calls.prefq_close(self._pointer)
 
     @staticmethod
@@ -209,21 +208,15 @@ class Engine:
                     self._calls.prefq_abandon(self._pointer, holder.client)
                     self.give_back(holder)
 
-    def has_queries(self) -> bool:
-        """Whether a query is open."""
-        if self.queries:
-            self.ours()
-            self.settle()
-        return bool(self.queries)
-
     def give_back(self, holder: Holder) -> None:
         """Its query has ended."""
-        if self.has(holder):
+        if self.queries.get(holder.client) is holder:
             del self.queries[holder.client]
 
-    def has(self, holder: Holder) -> bool:
-        """Whether the client of a query still has that query."""
-        return self.queries.get(holder.client) is holder
+    def is_open(self, holder: Holder) -> bool:
+        """Whether a query may be used: nobody has abandoned it, and its client has no other one. The collector says that a query is gone before it runs the
+        finalizers that may still use it."""
+        return holder.is_wanted and holder() is not None and self.queries.get(holder.client) is holder
 
     def begin(self, holder: Holder, question: str) -> int:
         """Begins a query, and returns the number of blocks."""
@@ -241,7 +234,7 @@ class Engine:
         """A call of a query, which has its client as long as that takes."""
         self.ours()
         with self.lock:
-            if not holder.is_wanted or not self.has(holder):
+            if not self.is_open(holder):
                 self.check()
                 raise Refused("this query has ended", "client", 4)
             if holder.is_used:

@@ -1,8 +1,5 @@
 """Frames: live tables of columns of every kind."""
-import sys
 import threading
-import warnings
-from contextlib import contextmanager
 from functools import partial
 from typing import Any, Callable, Dict, Iterable, Iterator, List, Mapping, Optional, Sequence, Tuple, TypeVar
 
@@ -16,29 +13,18 @@ from .loading import Encoded, File, check_known, chosen, column_of_values, decod
 from .missing import Missing
 from .opened import Opened
 from .options import check_options
-from .questions import Mode, Question, read_question
+from .frame_query import FrameQuery
+from .questions import Mode, read_question
 from .reading import Dialect, Progress, Source, read_csv
 from .records import Record, mapping_of, values_of
-from .rows import WholeRows, Zipped
-from .table import Table
-from .translate import Plan, plan
+from .rows import Row, WholeRows, Zipped
+from .table import Table, check_changes
+from .translate import plan
 from .why import Rivals
 
 Result = TypeVar("Result")
 TABLE_OPTIONS = ("capacity", "clients", "block", "window")
 CSV_OPTIONS = ("columns", "kinds", "missing", "encoding", "delimiter", "decimal", "thousands", "skip", "null_padding")
-
-
-class UnknownValue(UserWarning):
-    """A warning: a question names a value that no row has, so that it prefers nothing.
-
-    >>> import prefq
-    >>> import warnings
-    >>> with prefq.Frame.from_records([{"City": "Lyon"}]) as hotels, warnings.catch_warnings(record=True) as caught:
-    ...     answer = hotels.best("best pos(City, 'Lion')")
-    >>> print(caught[0].category.__name__, caught[0].message, sep=": ")
-    UnknownValue: no row of 'City' has 'Lion'; did you mean 'Lyon'?
-    """
 
 
 class Frame:
@@ -66,6 +52,7 @@ class Frame:
         self.notes = list(notes)
         # Held while the rows change, by the thread that changes them; and the last id that was given.
         self._changing = threading.RLock()
+        self._subscribed: List[Callable[[], None]] = []
         self._is_opening = False
         self._is_closed = False
         self._last = len(rows)
@@ -162,8 +149,7 @@ class Frame:
 
     def __len__(self) -> int:
         """The number of rows."""
-        with self._in_use() as opened:
-            return len(opened.table)
+        return len(self.table)
 
     def __iter__(self) -> Iterator[Record]:
         return iter(self.rows())
@@ -202,10 +188,11 @@ class Frame:
         ...     frame.insert({"x": 5})
         2
         """
-        with self._change():
+        def insert() -> int:
             [numbers] = self._numbers([record])
             self._last = self._opened.ids.outside(self.table.insert(numbers))
             return self._last
+        return self._change(insert)
 
     def insert_many(self, records: Iterable[Any]) -> Sequence[int]:
         """Adds records at one moment, and returns their ids; all of them or, where there is no room, none.
@@ -215,7 +202,7 @@ class Frame:
         ...     frame.insert_many([{"x": 5}, [6, 7]])
         range(2, 4)
         """
-        with self._change():
+        def insert_many() -> range:
             numbers = self._numbers(list(records))      # By this the table may become another one.
             inside = self.table.insert_many(numbers)
             if not inside:
@@ -223,6 +210,7 @@ class Frame:
             first = self._opened.ids.outside(inside[0])
             self._last = first + len(inside) - 1
             return range(first, self._last + 1)
+        return self._change(insert_many)
 
     def update(self, id: int, record: Any) -> None:
         """Gives a row the values of a record; where that is a mapping, what it does not name stays as it is. Kinds grow as by `insert`.
@@ -233,33 +221,57 @@ class Frame:
         ...     frame.get(1)
         <id 1: {'x': 1, 'y': None}>
         """
-        found = mapping_of(record)
-        with self._change():
-            [numbers] = self._numbers([record], id)
-            if found is not None and not set(self.names) <= set(found):
-                before = self._of_row(id, self.table.get)
-                numbers = [number if name in found else old for name, number, old in zip(self.names, numbers, before)]
-            self._of_row(id, lambda row: self.table.update(row, numbers))
+        def update() -> None:
+            [numbers] = self._numbers([record], [id])
+            whole = self._whole(id, record, numbers)
+            self._of_row(id, lambda row: self.table.update(row, whole))
+        self._change(update)
 
     def delete(self, id: int) -> None:
         """Deletes a row; its id is never used again."""
-        with self._change():
-            self._of_row(id, self.table.delete)
+        self._change(lambda: self._of_row(id, self.table.delete))
+
+    def commit(self, *changes: Sequence[Any]) -> int:
+        """Makes one to eight changes at one moment, or none: each is ("insert", record), ("update", id, record) or ("delete", id). Kinds grow as by `insert`.
+
+        Returns the id of the first new row, 0 where none is new; the others have the next ones.
+
+        >>> import prefq
+        >>> with prefq.Frame.from_records([{"x": 1, "y": 2}]) as frame:
+        ...     frame.commit(("update", 1, {"y": 3}), ("insert", {"x": 5}))
+        ...     frame.rows()
+        2
+        [<id 1: {'x': 1, 'y': 3}>, <id 2: {'x': 5, 'y': None}>]
+        """
+        return self._change(lambda: self._commit(check_changes(changes)))
+
+    def subscribe(self, call: Callable[[], None]) -> Callable[[], None]:
+        """Has this called after each change, by the thread that made it, so it must be quick. Returns what ends it.
+
+        >>> import prefq
+        >>> with prefq.Frame.from_records([{"x": 1}]) as frame:
+        ...     end = frame.subscribe(lambda: print(frame.best("best low(x)").ids))
+        ...     frame.update(1, {"x": 2})
+        ...     end()
+        ...     frame.delete(1)
+        [1]
+        """
+        self._subscribed.append(call)
+        return lambda: self._subscribed.remove(call)
 
     def get(self, id: int) -> Record:
         """The row with this id."""
-        with self._in_use() as opened:
-            return self._records(opened, [(None, id, self._of_row(id, opened.table.get, opened))])[0]
+        opened = self._opened
+        return self._records(opened, [(None, id, self._of_row(id, opened.table.get, opened))])[0]
 
     def rows(self) -> List[Record]:
         """All rows, in order of id."""
-        with self._in_use() as opened:
-            return self._records(opened, [(None, opened.ids.outside(id), numbers) for id, numbers in opened.table.rows()])
+        opened = self._opened
+        return self._records(opened, [(None, opened.ids.outside(id), numbers) for id, numbers in opened.table.rows()])
 
     def room(self) -> int:
         """How many more versions of rows there is room for."""
-        with self._in_use() as opened:
-            return opened.table.room()
+        return self.table.room()
 
     def best(self, question: str, *, progress: Optional[Progress] = None) -> Answer:
         """The answer to a question in the names and values of the columns.
@@ -271,17 +283,36 @@ class Frame:
 
     def answer(self, question: str, mode: Optional[Mode], progress: Optional[Progress] = None) -> Answer:
         """The same of a question that has this mode, if it has none itself."""
-        with self._in_use() as opened:
-            read = self._read(opened, question, mode)
-            while True:
-                asked = plan(question, read, opened.below)
-                rows = self._run(opened, asked, progress)
-                # A row that came in the meantime may have a new text, or the first gap of a column.
-                if plan(question, read, opened.below).text == asked.text:
-                    break
-        warn_of(asked)
-        found = [(row.level, opened.ids.outside(row.id), row.values) for row in without_twins(rows, asked)]
-        return Answer(question, opened.columns, self._records(opened, found), others=self.rows, index=self._index)
+        with self._query(question, mode) as query:
+            return query.answer(progress and partial(progress, "scanning"))
+
+    def query(self, question: str) -> FrameQuery:
+        """Begins a query, which asks the frame as it is now; see `Table.query`.
+
+        >>> import prefq
+        >>> with prefq.Frame.from_records([{"x": 1}, {"x": 2}]) as frame, frame.query("best low(x)") as query:
+        ...     frame.delete(1)         # after the begin, so the answer still has the row
+        ...     query.answer().ids
+        [1]
+        """
+        return self._query(question, None)
+
+    def _query(self, question: str, mode: Optional[Mode]) -> FrameQuery:
+        opened = self._opened
+        read = read_question(question, opened.by_name.get, opened.names, mode)
+        while True:
+            asked = plan(question, read, opened.below)
+            try:
+                query = opened.table.query(asked.text)
+            except Refused as why:
+                raise asked.refusal(why) from None
+            # A row that came in the meantime may have a new text, or the first gap of a column.
+            if plan(question, read, opened.below).text == asked.text:
+                return FrameQuery(query, asked, partial(self._answer, question, opened))
+
+    def _answer(self, question: str, opened: Opened, rows: Sequence[Row]) -> Answer:
+        records = self._records(opened, [(row.level, opened.ids.outside(row.id), row.values) for row in rows])
+        return Answer(question, opened.columns, records, others=self.rows, index=self._index)
 
     def why(self, id: int, question: str) -> Answer:
         """The rows that dominate this one in a question: those because of which it is not in the answer. Each has its own level.
@@ -291,27 +322,17 @@ class Frame:
         ...     frame.why(2, "best low(x) * low(y)").ids
         [1]
         """
-        with self._in_use() as opened:
-            read = self._read(opened, question)
-            rows = {opened.ids.outside(number): numbers for number, numbers in opened.table.rows()}
+        opened = self._opened
+        read = read_question(question, opened.by_name.get, opened.names)
+        rows = {opened.ids.outside(number): numbers for number, numbers in opened.table.rows()}
         if id not in rows:
             raise opened.missing_row(id)
         rivals = Rivals(question, read, opened.below, rows, id)
         records = self._records(opened, [(level, other, rows[other]) for other, level in rivals.dominators()])
         return Answer(question, opened.columns, records, others=self.rows, index=self._index)
 
-    def _read(self, opened: Opened, question: str, mode: Optional[Mode] = None) -> Question:
-        return read_question(question, opened.by_name.get, opened.names, mode)
-
-    def _run(self, opened: Opened, asked: Plan, progress: Optional[Progress]) -> List[Any]:
-        try:
-            with opened.table.query(asked.text) as query:
-                return query.answer(progress and partial(progress, "scanning"))
-        except Refused as why:
-            raise asked.refusal(why) from None
-
-    def _numbers(self, records: Sequence[Any], id: Optional[int] = None) -> List[List[int]]:
-        """The numbers of some records, for which columns that are too narrow become wider; of a row with this id, if it is there."""
+    def _numbers(self, records: Sequence[Any], ids: Iterable[int] = ()) -> List[List[int]]:
+        """The numbers of some records, for which columns that are too narrow become wider, if the rows with these ids are there."""
         if self._opened.is_outgrown():
             self._open_anew({})
         while True:
@@ -323,37 +344,54 @@ class Frame:
                     raise
             for record in records:
                 self._opened.numbers(record, wider)     # What is refused then, too, changes nothing.
-            if id is not None:
+            for id in ids:
                 self._of_row(id, self.table.get)
             self._open_anew(wider)
 
-    @contextmanager
-    def _in_use(self) -> Iterator[Opened]:
-        """The table as it is now, which stays open in the block although another one takes its place."""
-        user = object()
-        while not (opened := self._opened).enter(user):
-            pass
-        try:
-            yield opened
-        finally:
-            opened.leave(user)
+    def _whole(self, id: int, record: Any, numbers: List[int]) -> List[int]:
+        """The numbers of a record for a row, with those that the row has where the record is a mapping that does not name them."""
+        found = mapping_of(record)
+        if found is None or set(self.names) <= set(found):
+            return numbers
+        return [number if name in found else old for name, number, old in zip(self.names, numbers, self._of_row(id, self.table.get))]
 
-    @contextmanager
-    def _change(self) -> Iterator[None]:
+    def _commit(self, changes: Sequence[Tuple[str, int, Any]]) -> int:
+        """Makes changes, each of which is a verb, an id and a record."""
+        ids = [id for verb, id, _ in changes if verb != "insert"]
+        twice = next((place for place, (verb, id, _) in enumerate(changes) if verb != "insert" and id in [other for _, other, _ in changes[:place]]), None)
+        if twice is not None:       # which the table says as well, but only after a column became wider
+            raise Refused(f"twice place {twice + 1}", "commit", 12, twice + 1)
+        numbers = iter(self._numbers([record for verb, _, record in changes if verb != "delete"], ids))
+        inside = self._opened.ids.inside
+        made: List[Tuple[Any, ...]] = []
+        for verb, id, record in changes:
+            row = () if verb == "insert" else (inside(id),)
+            made.append((verb, *row) if verb == "delete" else (verb, *row, next(numbers) if verb == "insert" else self._whole(id, record, next(numbers))))
+        for id in ids:
+            self._of_row(id, self.table.get)
+        first = self.table.commit(*made)
+        if first == 0:
+            return 0
+        first = self._opened.ids.outside(first)
+        self._last = first + sum(verb == "insert" for verb, _, _ in changes) - 1
+        return first
+
+    def _change(self, change: Callable[[], Result]) -> Result:
         """One change after the other. A signal handler of this thread makes none while the table is opened anew, which would not have it."""
         with self._changing:
             if self._is_opening:
                 raise Ended("a call that opens the table anew is under way in this thread", "interrupted")
-            yield
+            result = change()
+        for call in list(self._subscribed):
+            call()
+        return result
 
     def _open_anew(self, kinds: Mapping[str, Kind]) -> None:
         self._is_opening = True
         try:
-            before = self._opened
-            self._opened = before.anew(kinds, self._last)
+            self._opened = self._opened.anew(kinds, self._last)
             if self._is_closed:         # meanwhile, which ended the table before
                 self.table.close()
-            before.give_way()
         finally:
             self._is_opening = False
 
@@ -369,26 +407,6 @@ class Frame:
         """The records of rows, each with its level and id."""
         values = decoded(opened.columns, [numbers for _, _, numbers in found])
         return [Record(zip(opened.names, row), id=id, level=level) for (level, id, _), row in zip(found, values)]
-
-
-def without_twins(rows: List[Any], asked: Plan) -> List[Any]:
-    """The rows of an answer; of those that are equal in the columns of a distinct clause, the first."""
-    if asked.twins is None:
-        return rows
-    places = [int(name[1:]) for name in asked.twins]
-    first: Dict[Tuple[int, ...], Any] = {}
-    for row in rows:
-        first.setdefault(tuple(row.values[place] for place in places), row)
-    return list(first.values())
-
-
-def warn_of(asked: Plan) -> None:
-    """Warns of the values of a question that no row has, at the caller's line."""
-    level = 2
-    while sys._getframe(level - 1).f_globals.get("__package__") == __package__ and sys._getframe(level - 1).f_back:
-        level += 1
-    for message in asked.unknown:
-        warnings.warn(message, UnknownValue, stacklevel=level)
 
 
 def _mapping(record: Any, row: int) -> Dict[str, Any]:

@@ -16,7 +16,7 @@ def ask_once(columns: Sequence[str], rows: Zipped, question: str, *, progress: O
     """The answer to a question over these rows of whole numbers, whose ids are 1, 2, 3 and so on. More of them than one table holds are asked in parts."""
     if len(rows) > MOST_ROWS:
         return _in_parts(columns, rows, question, progress)
-    settings: Dict[str, Any] = {"clients": 1, "capacity": max(1, len(rows)), "block": 1024 if progress else MOST_ROWS, **options}
+    settings: Dict[str, Any] = {"clients": 1, "capacity": max(1, len(rows)), **options}
     with Table(columns, rows, **settings) as table:
         with table.query(question) as query:
             return query.answer(progress and partial(progress, "comparing"))

@@ -5,7 +5,7 @@ from typing import Callable, List, Optional, Tuple, Type
 from .clients import Clients
 from .engine import Engine
 from .errors import Ended
-from .rows import Made, Row, pair, rows_of
+from .rows import Made, Numbers, Row, as_pairs, as_rows, rows_of
 
 Progress = Callable[[int, int], None]
 # A piece of a scan: an interruption comes behind it, and so do other threads' calls.
@@ -56,12 +56,12 @@ class Query:
         """The rows of the answer, by level and then by id; scans the blocks that are left first. The query has ended then. `progress` is called with the
         number of blocks that are scanned, and how many there are."""
         self._scan_all(progress)
-        return self._finish(Row)
+        return self._finish(as_rows)
 
     def pairs(self) -> List[Tuple[int, List[int]]]:
         """The answer as pairs of an id and its values."""
         self._scan_all(None)
-        return self._finish(pair)
+        return self._finish(as_pairs)
 
     def abandon(self) -> None:
         """Ends the query without an answer; nothing is done where it has ended. Waits for nothing: the table does it before its next call."""
@@ -71,9 +71,9 @@ class Query:
 
     @property
     def _is_open(self) -> bool:
-        return self._holder.is_wanted and self._engine.has(self._holder)
+        return self._engine.is_open(self._holder)
 
-    def _finish(self, make: Callable[[int, int, List[int]], Made]) -> List[Made]:
+    def _finish(self, make: Callable[[Numbers], List[Made]]) -> List[Made]:
         numbers = self._engine.finish(self._holder)
         return rows_of(numbers, self._engine.width, make)
 

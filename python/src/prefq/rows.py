@@ -12,6 +12,7 @@ from .library import Setup
 from .pauses import let_others_run
 
 Made = TypeVar("Made")
+Numbers = Iterator[Tuple[int, ...]]
 TOGETHER = 256
 ANSWER_PIECE = 4_096        # numbers of an answer
 LOOKED_THROUGH = 65_536
@@ -99,24 +100,29 @@ class Zipped(WholeRows):
         return [(line % row).encode() for row in zip(*(column[self._rows.start:self._rows.stop] for column in self._columns))]
 
 
-def pair(level: int, id: int, values: List[int]) -> Tuple[int, List[int]]:
-    """A row without its level."""
-    return id, values
+def as_rows(numbers: Numbers) -> List[Row]:
+    """The rows of an answer."""
+    return [Row(level, id, values) for level, id, *values in numbers]
 
 
-def rows_of(answer: bytes, width: int, make: Callable[[int, int, List[int]], Made]) -> List[Made]:
+def as_pairs(numbers: Numbers) -> List[Tuple[int, List[int]]]:
+    """The same as pairs of an id and its values."""
+    return [(id, values) for _, id, *values in numbers]
+
+
+def rows_of(answer: bytes, width: int, make: Callable[[Numbers], List[Made]]) -> List[Made]:
     """What is made of the level, the id and the values of each row of an answer."""
     size = BYTES * (2 + width)
     piece = size * max(1, ANSWER_PIECE // (2 + width))
     if len(answer) <= piece:
-        return _made(answer, width, make)
+        return make(struct.iter_unpack(f"{2 + width}q", answer))
     rows: List[Made] = []
     looked, collects = 0, gc.isenabled()
     try:
         # Rows are no garbage. Left to itself, the collector looks through all of them again and again while every thread waits; this looks at the new ones.
         gc.disable()
         for begin in range(0, len(answer), piece):
-            rows += _made(answer[begin:begin + piece], width, make)
+            rows += make(struct.iter_unpack(f"{2 + width}q", answer[begin:begin + piece]))
             if collects and (begin - looked >= BYTES * LOOKED_THROUGH or begin + piece >= len(answer)):
                 looked = begin
                 gc.collect(0)
@@ -125,10 +131,6 @@ def rows_of(answer: bytes, width: int, make: Callable[[int, int, List[int]], Mad
         if collects:
             gc.enable()
     return rows
-
-
-def _made(answer: bytes, width: int, make: Callable[[int, int, List[int]], Made]) -> List[Made]:
-    return [make(level, id, values) for level, id, *values in struct.iter_unpack(f"{2 + width}q", answer)]
 
 
 def in_pieces(rows: Any) -> Iterator[Any]:

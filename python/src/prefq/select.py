@@ -4,7 +4,8 @@ from typing import Any, Callable, Dict, List, Mapping, Optional, Sequence
 from .checks import whole
 from .columns import Column
 from .errors import Refused
-from .frame import TABLE_OPTIONS, Frame, warn_of, without_twins
+from .frame import TABLE_OPTIONS, Frame
+from .frame_query import warn_of, without_twins
 from .loading import Encoded, check_known
 from .once import ask_once
 from .options import check_options

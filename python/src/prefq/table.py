@@ -79,11 +79,6 @@ class Table:
             self._engine.count(rows)
         return rows
 
-    @property
-    def has_queries(self) -> bool:
-        """Whether a query is open."""
-        return self._engine.has_queries()
-
     def check(self) -> None:
         """Raises `Ended` if the table has ended."""
         self._engine.check()
@@ -151,9 +146,9 @@ class Table:
         ...     hotels.commit(("update", 1, [45, 8]), ("delete", 2), ("insert", [60, 3]))
         3
         """
-        if not 1 <= len(changes) <= IN_COMMIT:
-            raise ValueError(f"there are {len(changes)} changes: not from 1 to {IN_COMMIT}")
-        return self._engine.commit([self._change(change, f"change {place}, ") for place, change in enumerate(changes, 1)])
+        checked = check_changes(changes)
+        return self._engine.commit([(verb, id, None if verb == "delete" else self._packed(values, f"change {place}, "))
+                                    for place, (verb, id, values) in enumerate(checked, 1)])
 
     def get(self, id: int) -> List[int]:
         """The values of a row. Refused where there is no such row.
@@ -212,14 +207,19 @@ class Table:
         with self.query(question) as query:
             return query.answer()
 
-    def _change(self, change: Any, where: str) -> Tuple[str, int, Optional[bytes]]:
-        """A change of a commit: its verb, id and values."""
-        forms = {"insert": 2, "update": 3, "delete": 2}
+
+def check_changes(changes: Sequence[Any]) -> List[Tuple[str, int, Any]]:
+    """The changes of a commit, each as its verb, the id of its row, which is 0 of a new one, and its values, which are None of one that is deleted."""
+    if not 1 <= len(changes) <= IN_COMMIT:
+        raise ValueError(f"there are {len(changes)} changes: not from 1 to {IN_COMMIT}")
+    forms, found = {"insert": 2, "update": 3, "delete": 2}, []
+    for place, change in enumerate(changes, 1):
         if not isinstance(change, (tuple, list)) or not change or not isinstance(change[0], str) or len(change) != forms.get(change[0]):
-            raise TypeError(f'{where}{change!r}: not ("insert", values), ("update", id, values) or ("delete", id)')
+            raise TypeError(f'change {place}, {change!r}: not ("insert", values), ("update", id, values) or ("delete", id)')
         verb, *rest = change
-        id = 0 if verb == "insert" else checks.whole(rest[0], f"{where}id", 0, checks.MOST_IDS)
-        return verb, id, None if verb == "delete" else self._packed(rest[-1], where)
+        id = 0 if verb == "insert" else checks.whole(rest[0], f"change {place}, id", 0, checks.MOST_IDS)
+        found.append((verb, id, None if verb == "delete" else rest[-1]))
+    return found
 
 
 def _id(id: Any) -> int:
