@@ -3,6 +3,7 @@
 PREFQ_TIMES=100 makes the tests that try many moments try a hundred times as many.
 """
 import contextlib
+import dis
 import gc
 import os
 import random
@@ -13,18 +14,53 @@ import threading
 import time
 import unittest
 import weakref
+from functools import lru_cache
 from itertools import count
 
 import prefq
 from support import QUESTION, TestCase, around, hotels, in_a_fork, numbers, raised_after, raises
 
 NEVER = 60
+PACKAGE = os.path.dirname(prefq.__file__)
 SEED = 1
 TIMES = int(os.environ.get("PREFQ_TIMES", "1"))
 
 
 class Interruption(BaseException):
     """What a signal handler raises, as KeyboardInterrupt is raised by Ctrl-C."""
+
+
+class Interrupter:
+    """Raises an interruption at the n-th place of the package at which Python may call a signal handler: behind a call, and at the begin of a function."""
+
+    def __init__(self, place):
+        self.left, self.where = place, None
+
+    def runs(self, function):
+        before = sys.gettrace()
+        sys.settrace(self)
+        try:
+            function()
+        finally:
+            sys.settrace(before)
+
+    def __call__(self, frame, event, _):
+        if os.path.dirname(frame.f_code.co_filename) != PACKAGE:
+            return None
+        frame.f_trace_opcodes = True
+        if event == "opcode" and frame.f_lasti in places_of(frame.f_code):
+            self.left -= 1
+            if self.left == 0:
+                self.where = f"{os.path.basename(frame.f_code.co_filename)}, line {frame.f_lineno}"
+                raise Interruption
+        return self
+
+
+@lru_cache(maxsize=None)
+def places_of(code):
+    """The offsets of the instructions before which Python may call a signal handler."""
+    instructions = list(dis.get_instructions(code))
+    return {after.offset for before, after in zip(instructions, instructions[1:]) if before.opname in ("CALL", "CALL_FUNCTION_EX", "CALL_KW", "RESUME")}
 
 
 class Holder:
@@ -145,6 +181,26 @@ class Interrupted(TestCase):
                     for id, _ in table.rows()[50:]:
                         table.delete(id)
         print(f"\n{60 * TIMES} interruptions", file=sys.stderr)
+
+    @unittest.skipIf(sys.version_info < (3, 11), "where Python calls signal handlers is known of 3.11 and later")
+    def test_at_each_place(self):
+        """Wherever Python may call a signal handler within the package, one after the other."""
+        with numbers(50, clients=2, block=16, capacity=64) as table:
+            counted = Interrupter(-1)
+            counted.runs(lambda: self.use(table))
+            places = range(1, -counted.left, max(1, 10 // TIMES))
+            for place in places:
+                interrupter = Interrupter(place)
+                with contextlib.suppress(Interruption):
+                    interrupter.runs(lambda: self.use(table))
+                self.assertEqual(interrupter.left, 0)
+                with self.subTest(interrupter.where):
+                    self.assertEqual(self.in_a_thread(lambda: self.use_all_clients(table)), [1, 50])
+                    self.assertEqual(self.in_a_thread(lambda: len(table)), len(table.rows()))
+                    self.assertEqual(len(table._engine.queries), 0)
+                for id, _ in table.rows()[50:]:
+                    table.delete(id)
+        print(f"\n{len(places)} places of {-counted.left - 1}", file=sys.stderr)
 
     def use(self, table):
         self.assertEqual(table.get(7), [77])

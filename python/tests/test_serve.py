@@ -318,6 +318,7 @@ class OfADesk(TestCase):
             try:
                 versions = []
                 for _ in range(40):
+                    time.sleep(0.001)       # for the changes
                     seen = desk.picture("best around(Distance, 50)")
                     nearest = min(abs(row.numbers[2] - 50) for row in seen.rows)
                     self.assertEqual([row.id for row in seen.best], [row.id for row in seen.rows if abs(row.numbers[2] - 50) == nearest])

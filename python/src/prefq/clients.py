@@ -2,18 +2,21 @@
 import gc
 import threading
 import time
-from typing import TYPE_CHECKING, Optional
+from typing import Optional
 
 from .engine import Engine, Holder
 from .errors import Refused
-
-if TYPE_CHECKING:
-    from .query import Query
 
 SECONDS_TO_WAIT = 60.0
 SECONDS_TO_COLLECTION = 1.0
 MOST_TIME_FOR_COLLECTIONS = 1 / 20
 STEP = 0.005
+
+
+class Asker:
+    """Who has a client for one call."""
+
+    __slots__ = ("__weakref__",)
 
 
 class Clients:
@@ -24,7 +27,7 @@ class Clients:
         self._engine = engine
         self._collects_from = 0.0
 
-    def take(self, query: "Query", client: Optional[int]) -> Holder:
+    def take(self, query: object, client: Optional[int]) -> Holder:
         """This client, or any that has no open query, for this query."""
         begun, has_collected = time.monotonic(), False
         while True:
@@ -57,7 +60,7 @@ class Clients:
     def _all_are_of_this_thread(self) -> bool:
         return {holder.thread for holder in list(self._engine.queries.values())} == {threading.get_ident()}
 
-    def _free(self, query: "Query", client: Optional[int]) -> Optional[Holder]:
+    def _free(self, query: object, client: Optional[int]) -> Optional[Holder]:
         """Takes a client that is free now, if there is one."""
         self._engine.check()
         queries = self._engine.queries

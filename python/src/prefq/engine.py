@@ -22,6 +22,18 @@ CLOSED = ("the table was closed", "closed")
 OUT_OF_MEMORY_SAID = ("the table was refused memory: open it again", "memory")
 
 
+# How many forks led to this process, which is told at once by this number.
+_forks = 0
+
+
+def _count_fork() -> None:
+    global _forks
+    _forks += 1
+
+
+os.register_at_fork(after_in_child=_count_fork)
+
+
 class Holder(ref):  # type: ignore[type-arg]
     """Who has an open query: the client, the thread, and a weak reference to the query. `is_wanted` until the query is abandoned, `is_used` within its calls."""
 
@@ -57,7 +69,7 @@ class Engine:
         """Use `opened` or `opened_text`."""
         self._pointer = c_void_p()
         self._calls = calls()
-        self._owner = os.getpid()
+        self._owner, self._forks = os.getpid(), _forks
         self._ended: Optional[Tuple[str, str]] = None
         self.width = len(columns)
         self._row = ctypes.c_int64 * self.width
@@ -94,7 +106,7 @@ class Engine:
 
     def is_ours(self) -> bool:
         """Whether this is the process that opened the table."""
-        return os.getpid() == self._owner
+        return self._forks == _forks
 
     def ours(self) -> None:
         """Raises `Ended` in another process than the owner: without the lock, which a fork may have copied while it was held."""
@@ -131,22 +143,26 @@ class Engine:
     def insert(self, values: bytes) -> int:
         """Adds a row, and returns its id."""
         id = c_uint64()
-        self._call(1, self._calls.prefq_insert, values, self.width, byref(id))
+        self._change(1, self._calls.prefq_insert, values, self.width, byref(id))
         return id.value
 
     def insert_many(self, values: bytes, rows: int) -> int:
         """Adds rows, and returns the id of the first."""
         first = c_uint64()
-        self._call(rows, self._calls.prefq_insert_many, values, rows, self.width, byref(first))
+        self._change(rows, self._calls.prefq_insert_many, values, rows, self.width, byref(first))
         return first.value
 
     def update(self, id: int, values: bytes) -> None:
         """Gives a row these values."""
-        self._call(0, self._calls.prefq_update, id, values, self.width)
+        if self.queries:
+            self.settle()
+        result = self._calls.prefq_update(self._pointer, id, values, self.width)
+        if result:
+            raise self._wrong(result)
 
     def delete(self, id: int) -> None:
         """Deletes a row."""
-        self._call(-1, self._calls.prefq_delete, id)
+        self._change(-1, self._calls.prefq_delete, id)
 
     def commit(self, changes: Sequence[Tuple[str, int, Optional[bytes]]]) -> int:
         """Makes changes at one moment, and returns the id of the first new row, or 0. Each is a verb, an id and values."""
@@ -155,7 +171,7 @@ class Engine:
         for place, (verb, id, _) in enumerate(changes):
             made[place] = Change(VERBS[verb], id, ctypes.cast(kept[place], c_void_p))
         more = sum({"insert": 1, "delete": -1}.get(verb, 0) for verb, _, _ in changes)
-        self._call(more, self._calls.prefq_commit, made, len(changes), self.width, byref(first))
+        self._change(more, self._calls.prefq_commit, made, len(changes), self.width, byref(first))
         return first.value
 
     def get(self, id: int) -> List[int]:
@@ -169,7 +185,11 @@ class Engine:
     def room(self) -> int:
         """How many more versions there is room for, after what is no longer read is given up."""
         room = c_uint32()
-        self._call(0, self._calls.prefq_room, byref(room))
+        if self.queries:
+            self.settle()
+        result = self._calls.prefq_room(self._pointer, byref(room))
+        if result:
+            raise self._wrong(result)
         return room.value
 
     @property
@@ -181,7 +201,7 @@ class Engine:
         """They were counted."""
         self._rows = rows
 
-    def _call(self, more: int, call: Any, *words: Any) -> None:
+    def _change(self, more: int, call: Any, *words: Any) -> None:
         """A call behind which there are so many rows more."""
         self.ours()
         with self.lock:
@@ -189,7 +209,7 @@ class Engine:
                 self.settle()
             try:
                 result = call(self._pointer, *words)
-                if result == OK and more and self._rows is not None:
+                if result == OK and self._rows is not None:
                     self._rows += more
             except BaseException:
                 self._rows = None
@@ -201,6 +221,7 @@ class Engine:
 
     def settle(self) -> None:
         """Abandons the queries that nobody uses any more."""
+        self.ours()
         with self.lock:
             for holder in list(self.queries.values()):
                 if holder.is_dropped:
@@ -245,6 +266,18 @@ class Engine:
             finally:
                 holder.is_used = False
 
+    def ask(self, holder: Holder, question: str) -> bytes:
+        """The answer to a question, as `finish` has it, by one call: only where that cannot take long."""
+        return self._call_as(holder, self._ask, question)
+
+    def _ask(self, holder: Holder, question: str) -> bytes:
+        text, numbers, count = question.encode(), c_void_p(), c_size_t()
+        result = self._calls.prefq_ask(self._pointer, holder.client, text, len(text), byref(numbers), byref(count))
+        if result:
+            self.give_back(holder)
+            raise self._wrong(result, question)
+        return self._answer(holder, numbers, count)
+
     def _begin(self, holder: Holder, question: str) -> int:
         text, blocks = question.encode(), c_uint32()
         result = self._calls.prefq_begin(self._pointer, holder.client, text, len(text), byref(blocks))
@@ -265,6 +298,10 @@ class Engine:
         result = self._calls.prefq_finish(self._pointer, holder.client, byref(numbers), byref(count))
         if result:
             raise self._wrong(result)
+        return self._answer(holder, numbers, count)
+
+    def _answer(self, holder: Holder, numbers: c_void_p, count: c_size_t) -> bytes:
+        """A copy of an answer. Until it is made, the client gets no other query."""
         found = ctypes.string_at(numbers, BYTES * count.value * (2 + self.width)) if count.value else b""
         self.give_back(holder)
         return found

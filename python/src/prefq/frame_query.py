@@ -22,7 +22,13 @@ class UnknownValue(UserWarning):
 
 
 class FrameQuery:
-    """An open query of a frame, which `Frame.query` begins; see `prefq.Query`. Its answer is that of the frame as it was at the begin."""
+    """An open query of a frame, which `Frame.query` begins; see `prefq.Query`. Its answer is that of the frame as it was at the begin.
+
+    >>> import prefq
+    >>> with prefq.Frame.from_records([{"City": "Lyon", "Price": 60}]) as hotels, hotels.query("best low(Price)") as query:
+    ...     query.scan(), query.answer().ids
+    (0, [1])
+    """
 
     def __init__(self, query: Query, asked: Plan, answered: Callable[[Sequence[Row]], Answer]) -> None:
         self._query, self._asked, self._answered = query, asked, answered

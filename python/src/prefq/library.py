@@ -45,6 +45,7 @@ CALLS = {
     "commit": [c_void_p, c_void_p, c_size_t, c_size_t, c_void_p],
     "get": [c_void_p, c_uint64, c_void_p, c_size_t],
     "room": [c_void_p, c_void_p],
+    "ask": [c_void_p, c_uint32, c_char_p, c_size_t, c_void_p, c_void_p],
     "begin": [c_void_p, c_uint32, c_char_p, c_size_t, c_void_p],
     "scan": [c_void_p, c_uint32, c_uint32, c_void_p],
     "finish": [c_void_p, c_uint32, c_void_p, c_void_p],

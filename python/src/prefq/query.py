@@ -50,7 +50,8 @@ class Query:
 
     def scan(self) -> int:
         """Scans the next block, and returns how many are left."""
-        return self._scan(1)
+        self.left = self._engine.scan(self._holder, 1)
+        return self.left
 
     def answer(self, progress: Optional[Progress] = None) -> List[Row]:
         """The rows of the answer, by level and then by id; scans the blocks that are left first. The query has ended then. `progress` is called with the
@@ -80,7 +81,7 @@ class Query:
     def scan_piece(self) -> None:
         """Scans as many blocks of those that are left as a piece has time for."""
         begun = time.monotonic()
-        self._scan(self._together)
+        self.left = self._engine.scan(self._holder, self._together)
         taken = time.monotonic() - begun
         if 4 * taken > SECONDS_OF_A_PIECE:
             # Whoever waits for the table gets it now.
@@ -92,7 +93,3 @@ class Query:
             self.scan_piece()
             if progress:
                 progress(self._blocks - self.left, self._blocks)
-
-    def _scan(self, blocks: int) -> int:
-        self.left = self._engine.scan(self._holder, blocks)
-        return self.left

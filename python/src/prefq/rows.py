@@ -193,11 +193,15 @@ class Packing:
 
     def __call__(self, row: Any, where: str = "") -> bytes:
         """Its values one after the other. What is wrong names its column, behind `where`."""
-        if type(row) in LISTS and len(row) == self._width and set(map(type, row)) == {int}:
-            try:
-                return self._pack(*row)
-            except struct.error:
-                pass        # A number is out of range, which is said with its column.
+        if type(row) in LISTS and len(row) == self._width:
+            for cell in row:
+                if type(cell) is not int:
+                    break
+            else:
+                try:
+                    return self._pack(*row)
+                except struct.error:
+                    pass        # A number is out of range, which is said with its column.
         return self._pack(*checked(row, self._columns, where))
 
 

@@ -2,12 +2,12 @@
 from typing import Any, Iterable, Iterator, List, Optional, Sequence, Tuple, Type, Union
 
 from . import checks
-from .clients import Clients
+from .clients import Asker, Clients
 from .errors import Ended, Refused
 from .library import Setup
 from .query import Query
 from .questions import explained
-from .rows import Packing, Row, WholeRows, packed
+from .rows import Packing, Row, WholeRows, as_rows, packed, rows_of
 
 Values = Iterable[int]
 IN_COMMIT = 8
@@ -40,6 +40,7 @@ class Table:
         self.capacity = checks.whole(capacity, "capacity", 1, checks.MOST_ROWS)
         self.clients = checks.whole(clients, "clients", 1, 8)
         setup = Setup(self.clients, self.capacity, checks.whole(block, "block", 1, checks.MOST_ROWS), checks.whole(window, "window", 1, checks.MOST_ROWS))
+        self._is_one_block = self.capacity <= block
         self._engine = opening.opened(self.columns, setup)
         self._free = Clients(self.clients, self._engine)
 
@@ -204,8 +205,15 @@ class Table:
         ...     hotels.best("top_level 2 low(price) & low(dist)")
         [Row(level=1, id=1, values=[50, 8]), Row(level=2, id=2, values=[80, 2])]
         """
-        with self.query(question) as query:
-            return query.answer()
+        if not self._is_one_block:
+            with self.query(question) as query:
+                return query.answer()
+        text, asker = checks.text_of_question(question), Asker()
+        try:
+            answer = self._engine.ask(self._free.take(asker, None), text)
+        except Refused as why:
+            raise explained(why, self.columns) from None
+        return rows_of(answer, len(self.columns), as_rows)
 
 
 def check_changes(changes: Sequence[Any]) -> List[Tuple[str, int, Any]]:
