@@ -4,7 +4,7 @@
     python3 examples/booking/booking.py [--port 8765] [--still] [--offers 60]
 
 Open the address that it prints, in two windows. With `--still` nothing moves but by you; otherwise an offer is repriced each second.
-Needs the package `prefq`: `pip install ./python`, or PYTHONPATH=python/src and PREFQ_PROGRAM=crates/prefq/out/prefq.
+Needs the package `prefq`: `pip install ./python`, or PYTHONPATH=python/src with the library built.
 """
 import argparse
 import random

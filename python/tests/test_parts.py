@@ -373,10 +373,10 @@ class Engines(unittest.TestCase):
         self.assertEqual(printed["changed"], [[9], [1], "refused", [3]])
 
     def test_dask_workers_that_have_nothing(self):
-        """Separate worker processes without the package and the program, by the example."""
+        """Separate worker processes without the package and the library, by the example."""
         needs(self, "distributed")
         place = f"127.0.0.1:{free_port()}"
-        bare = {name: value for name, value in os.environ.items() if name not in ("PYTHONPATH", "PREFQ_PROGRAM")}
+        bare = {name: value for name, value in os.environ.items() if name not in ("PYTHONPATH", "PREFQ_LIBRARY")}
         words = [sys.executable, "-m", "distributed.cli.dask_worker", f"tcp://{place}", "--nthreads", "1", "--no-dashboard", "--no-nanny"]
         with contextlib.ExitStack() as stack:
             for command in ([sys.executable, "-m", "distributed.cli.dask_scheduler", "--host", f"tcp://{place}", "--no-dashboard"],
@@ -388,7 +388,7 @@ class Engines(unittest.TestCase):
             refused = self.example("dask_workers.py", f"tcp://{place}", self.folder, "best low(prize)")
         self.assertEqual([tuple(map(int, line.replace(":", "").split()[1:4:2])) for line in done.stdout.splitlines()], self.wanted[question], done.stderr)
         self.assertEqual(refused.returncode, 1)
-        self.assertIn("unknown column", refused.stderr)
+        self.assertIn("no column 'prize'", refused.stderr)
 
     def test_mpi(self):
         needs(self, "mpi4py")

@@ -1,9 +1,10 @@
 """Many threads over one table: no request is lost, and no answer is wrong."""
 import random
 import threading
+import time
 
 import prefq
-from support import QUESTION, TestCase, hotels
+from support import QUESTION, TestCase, around, hotels, numbers
 
 
 def all_of(count, function):
@@ -94,3 +95,25 @@ class Threads(TestCase):
             asks.start()
             asks.join(30)
             self.assertEqual(other, [4])
+
+    def test_a_change_comes_between_two_pieces_of_a_long_question(self):
+        """Which has a snapshot from before."""
+        with numbers(50, block=1, capacity=60) as table:
+            pieces, answers = [], []
+
+            def takes_long():
+                pieces.append(time.monotonic())
+                time.sleep(0.02)
+
+            with around(table, "scan", before=takes_long):
+                asks = threading.Thread(target=lambda: answers.append(table.best("best low(x)")))
+                asks.start()
+                while not pieces:
+                    time.sleep(0.001)
+                table.insert([5])
+                between = len(pieces)
+                asks.join(60)
+            self.assertLess(between, len(pieces))
+            self.assertEqual(len(pieces), 60)
+            self.assertEqual([row.id for row in answers[0]], [1])
+            self.assertEqual([row.id for row in table.best("best low(x)")], [51])

@@ -136,7 +136,7 @@ class Engine:
             self._ended = self._ended or OUT_OF_MEMORY_SAID
             self._calls.prefq_end(self._pointer)
         self.check()
-        return Ended("the table has ended", "closed")
+        return Ended(self._calls.prefq_last_refusal()[0].text.decode(errors="replace"), "closed")
 
     # ---- rows ----
 
@@ -167,7 +167,7 @@ class Engine:
     def commit(self, changes: Sequence[Tuple[str, int, Optional[bytes]]]) -> int:
         """Makes changes at one moment, and returns the id of the first new row, or 0. Each is a verb, an id and values."""
         made, first = (Change * len(changes))(), c_uint64()
-        kept = [None if values is None else ctypes.c_char_p(values) for _, _, values in changes]
+        kept = [ctypes.c_char_p(values) for _, _, values in changes]
         for place, (verb, id, _) in enumerate(changes):
             made[place] = Change(VERBS[verb], id, ctypes.cast(kept[place], c_void_p))
         more = sum({"insert": 1, "delete": -1}.get(verb, 0) for verb, _, _ in changes)

@@ -284,7 +284,7 @@ class Frame:
     def answer(self, question: str, mode: Optional[Mode], progress: Optional[Progress] = None) -> Answer:
         """The same of a question that has this mode, if it has none itself."""
         with self._query(question, mode) as query:
-            return query.answer(progress and partial(progress, "scanning"))
+            return query.answer(partial(progress, "scanning") if progress else None)
 
     def query(self, question: str) -> FrameQuery:
         """Begins a query, which asks the frame as it is now; see `Table.query`.

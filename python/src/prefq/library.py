@@ -4,7 +4,7 @@ import os
 from ctypes import POINTER, Structure, c_char_p, c_int, c_int32, c_int64, c_size_t, c_uint32, c_uint64, c_void_p
 from functools import lru_cache
 from pathlib import Path
-from typing import Union
+from typing import Any, Dict, List, Union
 
 from .errors import LibraryNotFound
 
@@ -35,7 +35,7 @@ class Change(Structure):
 
 # The arguments of each call. Arrays, texts and places for results are given by any pointer.
 SETUP = POINTER(Setup)
-CALLS = {
+CALLS: Dict[str, List[Any]] = {
     "open": [c_char_p, c_size_t, c_void_p, c_size_t, c_size_t, SETUP, c_void_p],
     "open_text": [c_char_p, c_size_t, SETUP, c_void_p],
     "insert": [c_void_p, c_void_p, c_size_t, c_void_p],

@@ -220,7 +220,8 @@ def check_changes(changes: Sequence[Any]) -> List[Tuple[str, int, Any]]:
     """The changes of a commit, each as its verb, the id of its row, which is 0 of a new one, and its values, which are None of one that is deleted."""
     if not 1 <= len(changes) <= IN_COMMIT:
         raise ValueError(f"there are {len(changes)} changes: not from 1 to {IN_COMMIT}")
-    forms, found = {"insert": 2, "update": 3, "delete": 2}, []
+    forms = {"insert": 2, "update": 3, "delete": 2}
+    found: List[Tuple[str, int, Any]] = []
     for place, change in enumerate(changes, 1):
         if not isinstance(change, (tuple, list)) or not change or not isinstance(change[0], str) or len(change) != forms.get(change[0]):
             raise TypeError(f'change {place}, {change!r}: not ("insert", values), ("update", id, values) or ("delete", id)')
