@@ -69,6 +69,9 @@ class Closed(TestCase):
         with around(table, "get", behind=table.close):
             self.assertEqual(table.get(2), [22])
         table = numbers(3)
+        with around(table, "ask", behind=table.close):
+            self.assertEqual([row.id for row in table.best("best low(x)")], [1])
+        table = numbers(3, block=512)
         with around(table, "scan", behind=table.close), self.refuses(prefq.Ended, kind="closed"):
             table.best("best low(x)")
 
@@ -96,8 +99,9 @@ class Closed(TestCase):
 class OutOfMemory(TestCase):
     def test_the_table_ends(self):
         """What such a call has done is not known."""
-        for call, name in [(lambda: table.insert([1]), "insert"), (lambda: table.get(1), "get"), (lambda: table.best("best low(x)"), "finish")]:
-            table = numbers(3)
+        for call, name, block in [(lambda: table.insert([1]), "insert", 1024), (lambda: table.get(1), "get", 1024), (lambda: table.best("best low(x)"), "ask", 1024),
+                                  (lambda: table.best("best low(x)"), "finish", 512)]:
+            table = numbers(3, block=block)
             table._engine._calls = Refusing(table._engine._calls, f"prefq_{name}")
             for _ in range(2):
                 with self.refuses(prefq.Ended, "was refused memory", kind="memory"):

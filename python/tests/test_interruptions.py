@@ -90,6 +90,14 @@ class Interrupted(TestCase):
                         table.best("best low(x)")
                     self.assertEqual([row.id for row in table.best("best high(x)")], [20])
 
+    def test_before_and_behind_a_question_of_one_block(self):
+        with numbers(20, clients=1) as table:
+            for when in ("before", "behind"):
+                with self.subTest(when):
+                    with around(table, "ask", **{when: raises(Interruption())}), self.assertRaises(Interruption):
+                        table.best("best low(x)")
+                    self.assertEqual([row.id for row in table.best("best high(x)")], [20])
+
     def test_a_query_that_is_interrupted_goes_on(self):
         with numbers(20, block=1, capacity=20) as table, table.query("best high(x)") as query:
             for when in ("before", "behind"):
@@ -125,22 +133,23 @@ class Interrupted(TestCase):
 
     def test_a_signal_handler_that_calls(self):
         """Before or behind each call of C, it may make any call of its own, but for those of the query that is in the middle of one."""
-        with numbers(5, clients=2) as table:
-            said = []
+        for block, names in [(1024, ("get", "ask", "room")), (512, ("get", "begin", "scan", "finish", "room"))]:
+            with numbers(5, clients=2, block=block) as table:
+                said = []
 
-            def calls():
-                said.append((table.get(2), [row.id for row in table.best("best low(x)")], table.insert([1000]), len(table)))
-                table.delete(said[-1][2])
+                def calls():
+                    said.append((table.get(2), [row.id for row in table.best("best low(x)")], table.insert([1000]), len(table)))
+                    table.delete(said[-1][2])
 
-            for name in ("get", "begin", "scan", "finish", "room"):
-                for when in ("before", "behind"):
-                    with around(table, name, **{when: once(calls)}):
-                        table.room()
-                        self.assertEqual(table.get(3), [33])
-                        self.assertEqual([row.id for row in table.best("best high(x)")], [5])
-            self.assertEqual(len(said), 10)
-            self.assertEqual({(*got, *best, rows) for got, best, _, rows in said}, {(22, 1, 6)})
-            self.assertEqual(len(table), 5)
+                for name in names:
+                    for when in ("before", "behind"):
+                        with around(table, name, **{when: once(calls)}):
+                            table.room()
+                            self.assertEqual(table.get(3), [33])
+                            self.assertEqual([row.id for row in table.best("best high(x)")], [5])
+                self.assertEqual(len(said), 2 * len(names))
+                self.assertEqual({(*got, *best, rows) for got, best, _, rows in said}, {(22, 1, 6)})
+                self.assertEqual(len(table), 5)
 
     def test_a_signal_handler_that_ends_the_query_of_a_call(self):
         """Its client gets no other query before the call is over."""
@@ -185,21 +194,25 @@ class Interrupted(TestCase):
     @unittest.skipIf(sys.version_info < (3, 11), "where Python calls signal handlers is known of 3.11 and later")
     def test_at_each_place(self):
         """Wherever Python may call a signal handler within the package, one after the other."""
-        with numbers(50, clients=2, block=16, capacity=64) as table:
-            counted = Interrupter(-1)
-            counted.runs(lambda: self.use(table))
-            places = range(1, -counted.left, max(1, 10 // TIMES))
-            for place in places:
-                interrupter = Interrupter(place)
-                with contextlib.suppress(Interruption):
-                    interrupter.runs(lambda: self.use(table))
-                self.assertEqual(interrupter.left, 0)
-                with self.subTest(interrupter.where):
-                    self.assertEqual(self.in_a_thread(lambda: self.use_all_clients(table)), [1, 50])
-                    self.assertEqual(self.in_a_thread(lambda: len(table)), len(table.rows()))
-                    self.assertEqual(len(table._engine.queries), 0)
-                for id, _ in table.rows()[50:]:
-                    table.delete(id)
+        for block in (16, 64):
+            with numbers(50, clients=2, block=block, capacity=64) as table:
+                self.interrupt_each_place(table)
+
+    def interrupt_each_place(self, table):
+        counted = Interrupter(-1)
+        counted.runs(lambda: self.use(table))
+        places = range(1, -counted.left, max(1, 10 // TIMES))
+        for place in places:
+            interrupter = Interrupter(place)
+            with contextlib.suppress(Interruption):
+                interrupter.runs(lambda: self.use(table))
+            self.assertEqual(interrupter.left, 0)
+            with self.subTest(interrupter.where):
+                self.assertEqual(self.in_a_thread(lambda: self.use_all_clients(table)), [1, 50])
+                self.assertEqual(self.in_a_thread(lambda: len(table)), len(table.rows()))
+                self.assertEqual(len(table._engine.queries), 0)
+            for id, _ in table.rows()[50:]:
+                table.delete(id)
         print(f"\n{len(places)} places of {-counted.left - 1}", file=sys.stderr)
 
     def use(self, table):
