@@ -275,6 +275,43 @@ class Interrupted(TestCase):
             self.assertEqual(len(table.best("best low(a)")), 1)
 
 
+class OfFrames(TestCase):
+    @unittest.skipIf(sys.version_info < (3, 11), "where Python calls signal handlers is known of 3.11 and later")
+    def test_at_each_place(self):
+        """A change is made or is not, no id is given twice, and nothing is kept from other threads, also where a column becomes wider."""
+        changes = [lambda frame: frame.insert({"x": "0.5"}), lambda frame: frame.update(2, {"x": "7.25"}), lambda frame: frame.insert_many([[8], [9]]),
+                   lambda frame: frame.commit(("insert", {"x": "0.125"}), ("delete", 1), ("update", 3, {"x": 4}))]
+        count = 0
+        for change in changes:
+            with self.frame() as frame:
+                before = self.rows(frame)
+                counted = Interrupter(-1)
+                counted.runs(lambda: change(frame))
+                behind = self.rows(frame)
+            for place in range(1, -counted.left, max(1, 20 // TIMES)):
+                interrupter = Interrupter(place)
+                with self.frame() as frame:
+                    with contextlib.suppress(Interruption):
+                        interrupter.runs(lambda: change(frame))
+                    with self.subTest(interrupter.where):
+                        found = self.rows(frame)
+                        self.assertIn(found, (before, behind))
+                        said = []
+                        thread = threading.Thread(target=lambda: said.append(frame.insert({"x": 1})), daemon=True)
+                        thread.start()
+                        thread.join(NEVER)
+                        self.assertEqual(said, [1 + max(found)], "a lock is lost, or an id is given twice")
+                        self.assertEqual(len(frame), len(found) + 1)
+                count += 1
+        print(f"\n{count} places of changes of a frame", file=sys.stderr)
+
+    def frame(self):
+        return prefq.Frame.from_records([{"x": 1}, {"x": 2}, {"x": 3}])
+
+    def rows(self, frame):
+        return {row.id: row.x for row in frame.rows()}
+
+
 def once(function):
     """A function that runs this one, the first time."""
     left = [function]
