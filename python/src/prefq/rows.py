@@ -160,6 +160,8 @@ def _sliced(rows: Any) -> Iterator[Any]:
 
 def packed(rows: Any, columns: Sequence[str]) -> Packed:
     """Rows of whole numbers, looked at. What is wrong names its row, from 1, and its column."""
+    if _is_plain_array(rows, len(columns)):
+        return Packed(rows.astype("int64").tobytes(), len(columns))
     found, begin = array("q"), 1
     for piece in in_pieces(rows):
         values = _at_once(piece, len(columns))
@@ -168,6 +170,13 @@ def packed(rows: Any, columns: Sequence[str]) -> Packed:
         found.extend(values)
         begin += len(piece)
     return Packed(found.tobytes(), len(columns))
+
+
+def _is_plain_array(rows: Any, width: int) -> bool:
+    """Whether this is an array of numpy that a table takes as it is: of whole numbers with a sign, in so many columns. One with a mask is another type."""
+    kind = type(rows)
+    return ((kind.__module__, kind.__name__) == ("numpy", "ndarray") and rows.dtype.kind == "i" and rows.ndim == 2 and rows.shape[1] == width
+            and len(rows) <= MOST_ROWS)
 
 
 def _at_once(rows: Sequence[Any], width: int) -> "Optional[array[int]]":
