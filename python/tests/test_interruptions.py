@@ -16,6 +16,7 @@ import unittest
 import weakref
 from functools import lru_cache
 from itertools import count
+from unittest import mock
 
 import prefq
 from support import QUESTION, TestCase, around, hotels, in_a_fork, numbers, raised_after, raises
@@ -358,6 +359,27 @@ class Garbage(TestCase):
             self.assertEqual(said, [4, 4, 4, None])
             self.assertEqual([row.id for row in table.best("best high(x)")], [9])
 
+    def test_finalizers_of_a_table_that_is_gone_itself(self):
+        """Whichever of them runs first."""
+        said = []
+
+        class Late:
+            def __del__(self):
+                for call in (self.query.scan, self.query.answer, self.table.room, lambda: self.table.get(1), lambda: self.table.insert([1]), lambda: len(self.table),
+                             lambda: self.table.update(1, [1]), lambda: self.table.query("best low(x)"), self.table.check, self.table.close, self.query.abandon):
+                    try:
+                        call()
+                    except prefq.Error as why:
+                        said.append(why.kind)
+
+        for first in (Late(), None):
+            table = numbers(9)
+            late = first or Late()
+            late.table, late.query, late.itself = table, table.query("best low(x)"), late
+            del table, late, first
+            gc.collect()
+        self.assertLessEqual(set(said), {"closed", "client"})
+
     def test_a_finalizer_in_the_middle_of_a_call(self):
         """It abandons a query before the next call, and waits for nothing."""
         with numbers(9, clients=2) as table:
@@ -391,6 +413,24 @@ class Garbage(TestCase):
                 release.set()
                 other.join(NEVER)
             self.assertEqual(len([table.query("best low(x)") for _ in range(8)]), 8)
+
+    def test_garbage_that_another_thread_is_collecting(self):
+        """A collection does nothing then, and all clients are of this thread: they are waited for, a moment at most."""
+        collect, calls = gc.collect, []
+
+        def collects_later():
+            calls.append(1)
+            return 0 if len(calls) < 3 else collect()
+
+        gc.disable()
+        try:
+            with numbers(3, clients=2) as table, mock.patch("gc.collect", collects_later):
+                Holder(table, "best low(x)")
+                Holder(table, "best low(x)")
+                self.assertEqual([row.id for row in table.best("best high(x)")], [3])
+                self.assertEqual(len(calls), 3)
+        finally:
+            gc.enable()
 
     def test_clients_that_garbage_has_are_waited_for_a_second_at_most(self):
         gc.disable()

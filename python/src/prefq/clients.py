@@ -29,7 +29,7 @@ class Clients:
 
     def take(self, query: object, client: Optional[int]) -> Holder:
         """This client, or any that has no open query, for this query."""
-        begun, has_collected = time.monotonic(), False
+        begun, pause = time.monotonic(), STEP
         while True:
             holder = self._free(query, client)
             if holder is not None:
@@ -37,16 +37,16 @@ class Clients:
             if client is not None:
                 raise Refused(f"client {client} has an open query", "client", 3)
             waited, waits_for_itself = time.monotonic() - begun, self._all_are_of_this_thread()
-            if waits_for_itself and not has_collected:
-                gc.collect()
-                has_collected = True
-                continue
-            if waits_for_itself or waited > SECONDS_TO_WAIT:
+            if waited > (SECONDS_TO_COLLECTION if waits_for_itself else SECONDS_TO_WAIT):
                 raise Refused(f"each of the {self._count} clients has an open query", "client", 3)
-            if waited > SECONDS_TO_COLLECTION:
+            if waits_for_itself:
+                # But for garbage, that is. A collection finds none while another thread is in the middle of one.
+                gc.collect()
+                pause *= 2
+            elif waited > SECONDS_TO_COLLECTION:
                 self.collect()
-            # A short sleep: an interruption within a Condition would leave its lock locked.
-            time.sleep(STEP)
+            # A sleep: an interruption within a Condition would leave its lock locked.
+            time.sleep(pause)
 
     def collect(self) -> None:
         """Finds the queries that are garbage; once in a while only, since that takes long where a program has many objects."""

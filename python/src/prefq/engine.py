@@ -78,9 +78,12 @@ class Engine:
         self.queries: Dict[int, Holder] = {}
 
     def __del__(self) -> None:
-        # Here alone its memory is given back: whoever is in the middle of a call still has the engine. A fork may have copied it in the middle of one.
-        if self._pointer and self.is_ours():
-            self._calls.prefq_close(self._pointer)
+        # Here alone its memory is given back: whoever is in the middle of a call still has the engine. Other finalizers of the same garbage may still use it.
+        pointer, self._pointer = self._pointer, c_void_p()
+        if not pointer or not self.is_ours():       # a fork may have copied it in the middle of a call
+            return
+        self._ended = self._ended or CLOSED
+        self._calls.prefq_close(pointer)
 
     @staticmethod
     def opened(columns: Sequence[str], values: bytes, rows: int, setup: Setup) -> "Engine":
@@ -127,7 +130,7 @@ class Engine:
 
     def _wrong(self, result: int, question: Optional[str] = None) -> Error:
         """Why the last call of this thread has done nothing."""
-        if result == REFUSED:
+        if result == REFUSED and self._ended is None:
             why: Refusal = self._calls.prefq_last_refusal()[0]
             kind = KINDS[why.kind]
             return Refused(why.text.decode(errors="replace"), kind, why.number or None, None if why.place < 0 else why.place, question if kind == "term" else None)
