@@ -333,6 +333,23 @@ class Closing(TestCase):
             self.assertIsNone(engine())
             self.assertEqual([row.price for row in frame.rows()], [60, 50, Decimal("48.5")])
 
+    def test_a_signal_handler_that_changes_a_frame_which_is_opened_anew(self):
+        """The new table would not have it."""
+        with prices(60, 50) as frame:
+            anew, said = frame._opened.anew, []
+
+            def changes_meanwhile(*words):
+                found = anew(*words)
+                with self.refuses(prefq.Refused, "under way in this thread", kind="client"):
+                    frame.insert({"price": 1})
+                said.append([row.price for row in frame.rows()])
+                return found
+
+            with unittest.mock.patch.object(frame._opened, "anew", changes_meanwhile):
+                self.assertEqual(frame.insert({"price": "48.5"}), 3)
+            self.assertEqual(said, [[60, 50]])
+            self.assertEqual(frame.insert({"price": 1}), 4)
+
     def test_an_interruption_between_an_insert_and_the_note_of_its_id(self):
         """No later row gets the id."""
         with prices(60, 50) as frame:

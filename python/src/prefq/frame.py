@@ -6,7 +6,7 @@ from typing import Any, Callable, Dict, Iterable, Iterator, List, Mapping, Optio
 from .answer import Answer
 from .checks import MOST_ROWS
 from .columns import Column, listed
-from .errors import Ended, Refused
+from .errors import Refused
 from .kinds import Kind
 from .kinds.forms import Form
 from .loading import Encoded, File, check_known, chosen, column_of_values, decoded, encoded
@@ -380,7 +380,7 @@ class Frame:
         """One change after the other. A signal handler of this thread makes none while the table is opened anew, which would not have it."""
         with self._changing:
             if self._is_opening:
-                raise Ended("a call that opens the table anew is under way in this thread", "interrupted")
+                raise Refused("a change that opens the table anew is under way in this thread", "client")
             result = change()
         for call in list(self._subscribed):
             call()
