@@ -3,7 +3,7 @@
 No cell of such lines is looked at by itself; what that saves is in docs/PERFORMANCE.md.
 """
 import re
-from typing import Iterable, Iterator, List, NamedTuple, Optional, Sequence, Tuple
+from typing import Iterable, List, NamedTuple, Optional, Sequence, Tuple
 
 from .checks import LEAST
 from .reading import Chunk
