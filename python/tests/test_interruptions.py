@@ -106,6 +106,14 @@ class Interrupted(TestCase):
                     query.answer()
             self.assertEqual([row.id for row in query.answer()], [20])
 
+    def test_an_interruption_right_behind_the_last_scan(self):
+        with numbers(20, block=10, capacity=20) as table, table.query("best high(x)") as query:
+            for left in (1, 0):
+                with around(table, "scan", behind=raises(Interruption())), self.assertRaises(Interruption):
+                    query.scan()
+                self.assertEqual(query.left, left)
+            self.assertEqual([row.id for row in query.answer()], [20])
+
     def test_an_answer_that_is_interrupted_is_lost(self):
         with numbers(3) as table, table.query("best high(x)") as query:
             with around(table, "finish", behind=raises(Interruption())), self.assertRaises(Interruption):

@@ -242,13 +242,13 @@ class Engine:
         finalizers that may still use it."""
         return holder.is_wanted and holder() is not None and self.queries.get(holder.client) is holder
 
-    def begin(self, holder: Holder, question: str) -> int:
-        """Begins a query, and returns the number of blocks."""
-        return self._call_as(holder, self._begin, question)
+    def begin(self, holder: Holder, question: str, left: c_uint32) -> None:
+        """Begins a query, of which so many blocks are left then."""
+        self._call_as(holder, self._begin, question, left)
 
-    def scan(self, holder: Holder, blocks: int) -> int:
-        """Scans some blocks, and returns how many are left."""
-        return self._call_as(holder, self._scan, blocks)
+    def scan(self, holder: Holder, blocks: int, left: c_uint32) -> None:
+        """Scans some blocks. How many are left is told by the call itself, so that no interruption can come in between."""
+        self._call_as(holder, self._scan, blocks, left)
 
     def finish(self, holder: Holder) -> bytes:
         """The rows of the answer one after the other: each is its level, its id and its values. The query has ended then."""
@@ -281,20 +281,17 @@ class Engine:
             raise self._wrong(result, question)
         return self._answer(holder, numbers, count)
 
-    def _begin(self, holder: Holder, question: str) -> int:
-        text, blocks = question.encode(), c_uint32()
-        result = self._calls.prefq_begin(self._pointer, holder.client, text, len(text), byref(blocks))
+    def _begin(self, holder: Holder, question: str, left: c_uint32) -> None:
+        text = question.encode()
+        result = self._calls.prefq_begin(self._pointer, holder.client, text, len(text), byref(left))
         if result:
             self.give_back(holder)
             raise self._wrong(result, question)
-        return blocks.value
 
-    def _scan(self, holder: Holder, blocks: int) -> int:
-        left = c_uint32()
+    def _scan(self, holder: Holder, blocks: int, left: c_uint32) -> None:
         result = self._calls.prefq_scan(self._pointer, holder.client, blocks, byref(left))
         if result:
             raise self._wrong(result)
-        return left.value
 
     def _finish(self, holder: Holder) -> bytes:
         numbers, count = c_void_p(), c_size_t()

@@ -1,5 +1,6 @@
 """A query: a question that is asked of the table as it was when the query began."""
 import time
+from ctypes import c_uint32
 from typing import Callable, List, Optional, Tuple, Type
 
 from .clients import Clients
@@ -28,12 +29,13 @@ class Query:
 
     def __init__(self, engine: Engine, clients: Clients, question: str, client: Optional[int]) -> None:
         self.question = question
-        self.left = 0
+        self._left = c_uint32()
         self._together = 1
         self._engine = engine
         self._holder = clients.take(self, client)
         self.client = self._holder.client
-        self.left = self._blocks = engine.begin(self._holder, question)
+        engine.begin(self._holder, question, self._left)
+        self._blocks = self.left
 
     def __repr__(self) -> str:
         return f"<prefq.Query {self.question!r}, {f'{self.left} blocks left' if self._is_open else 'ended'}>"
@@ -48,9 +50,14 @@ class Query:
             if failed is None:
                 raise
 
+    @property
+    def left(self) -> int:
+        """How many blocks are still to be scanned."""
+        return self._left.value
+
     def scan(self) -> int:
         """Scans the next block, and returns how many are left."""
-        self.left = self._engine.scan(self._holder, 1)
+        self._engine.scan(self._holder, 1, self._left)
         return self.left
 
     def answer(self, progress: Optional[Progress] = None) -> List[Row]:
@@ -81,7 +88,7 @@ class Query:
     def scan_piece(self) -> None:
         """Scans as many blocks of those that are left as a piece has time for."""
         begun = time.monotonic()
-        self.left = self._engine.scan(self._holder, self._together)
+        self._engine.scan(self._holder, self._together, self._left)
         taken = time.monotonic() - begun
         if 4 * taken > SECONDS_OF_A_PIECE:
             # Whoever waits for the table gets it now.
