@@ -15,7 +15,7 @@ Made = TypeVar("Made")
 Numbers = Iterator[Tuple[int, ...]]
 TOGETHER = 256
 ANSWER_PIECE = 4_096        # numbers of an answer
-LOOKED_THROUGH = 65_536
+LOOKED_THROUGH = 16_384
 LISTS = (list, tuple)
 
 
