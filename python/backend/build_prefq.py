@@ -81,8 +81,8 @@ def write_wheel(folder, tag, files):
 def build_wheel(wheel_directory, config_settings=None, metadata_directory=None):
     files = {name[len("src/"):]: data for name, data in sources("src").items()}
     tag = f"py3-none-linux_{platform.machine()}"
-    along = {f"prefq/{name}": data for name, data in library().items()}
-    return write_wheel(wheel_directory, tag, {**files, "prefq/bin/prefq": program(), **along})
+    along = {"prefq/bin/prefq": program(), **{f"prefq/{name}": data for name, data in library().items()}}
+    return write_wheel(wheel_directory, tag, {**files, **along})
 
 
 def build_editable(wheel_directory, config_settings=None, metadata_directory=None):
