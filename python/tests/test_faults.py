@@ -139,7 +139,7 @@ class SmallStack(TestCase):
                 thread.join(NEVER)
             finally:
                 threading.stack_size(before)
-            self.assertEqual(said, [("arguments", "the thread has less than 131072 bytes of stack left")])
+            self.assertEqual(said, [("arguments", "the thread has less than 327680 bytes of stack left")])
             self.assertEqual(table.get(1), [11])
 
 
