@@ -206,7 +206,8 @@ class Engine:
 
     def _change(self, more: int, call: Any, *words: Any) -> None:
         """A call behind which there are so many rows more."""
-        self.ours()
+        if self._forks != _forks:
+            self.ours()
         with self.lock:
             if self.queries:
                 self.settle()
@@ -256,7 +257,8 @@ class Engine:
 
     def _call_as(self, holder: Holder, call: Callable[..., Result], *words: Any) -> Result:
         """A call of a query, which has its client as long as that takes."""
-        self.ours()
+        if self._forks != _forks:
+            self.ours()
         with self.lock:
             if not self.is_open(holder):
                 self.check()

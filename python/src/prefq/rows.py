@@ -102,7 +102,8 @@ class Zipped(WholeRows):
 
 def as_rows(numbers: Numbers) -> List[Row]:
     """The rows of an answer."""
-    return [Row(level, id, values) for level, id, *values in numbers]
+    new = tuple.__new__         # that of a named tuple is written in Python, and takes longer
+    return [new(Row, (level, id, values)) for level, id, *values in numbers]
 
 
 def as_pairs(numbers: Numbers) -> List[Tuple[int, List[int]]]:
