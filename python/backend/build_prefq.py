@@ -71,18 +71,26 @@ def write_wheel(folder, tag, files):
     wheel = f"{NAME}-{tag}.whl"
     with zipfile.ZipFile(Path(folder, wheel), "w") as archive:
         for name, data in files.items():
+            # Not packed: what packing gives differs between versions of zlib, and the same files have to make the same bytes.
             entry = zipfile.ZipInfo(name)
-            entry.compress_type = zipfile.ZIP_DEFLATED
             entry.external_attr = (0o100755 if name.endswith("bin/prefq") else 0o100644) << 16
             archive.writestr(entry, data)
     return wheel
 
 
+def built():
+    """The program, and the library with its header, by their places in the wheel."""
+    return {"prefq/bin/prefq": program(), **{f"prefq/{name}": data for name, data in library().items()}}
+
+
+def package():
+    """All files of the package, by their places in the wheel."""
+    return {**{name[len("src/"):]: data for name, data in sources("src").items()}, **built()}
+
+
 def build_wheel(wheel_directory, config_settings=None, metadata_directory=None):
-    files = {name[len("src/"):]: data for name, data in sources("src").items()}
-    tag = f"py3-none-linux_{platform.machine()}"
-    along = {"prefq/bin/prefq": program(), **{f"prefq/{name}": data for name, data in library().items()}}
-    return write_wheel(wheel_directory, tag, {**files, **along})
+    """A wheel for machines like this one: its tag does not say which glibc the program needs, as that of a release does (dist/release.py)."""
+    return write_wheel(wheel_directory, f"py3-none-linux_{platform.machine()}", package())
 
 
 def build_editable(wheel_directory, config_settings=None, metadata_directory=None):

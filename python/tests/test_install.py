@@ -1,6 +1,5 @@
 """The package is installed without a network, and finds the library that it brings along."""
 import os
-import subprocess
 import sys
 import tarfile
 import tempfile
@@ -9,18 +8,11 @@ import zipfile
 from pathlib import Path
 
 import prefq
+from environments import install, new_python, run
 from support import TestCase
 
 PACKAGE = Path(__file__).resolve().parent.parent
 ASK = "import prefq; print(prefq.find_library()); print(prefq.Table(['a', 'b'], [[1, 2], [0, 3]]).best('best low(a)'))"
-
-
-def run(*words, **setting):
-    """What a command prints, in an environment that knows neither this package nor the library."""
-    hidden = {"PYTHONPATH", "PREFQ_PROGRAM", "PREFQ_LIBRARY"}
-    environment = {**{name: value for name, value in os.environ.items() if name not in hidden}, "PATH": "/usr/bin:/bin", **setting}
-    done = subprocess.run([str(word) for word in words], env=environment, stdout=subprocess.PIPE, stderr=subprocess.STDOUT, text=True, timeout=120, cwd="/")
-    return done.returncode, done.stdout
 
 
 class Install(TestCase):
@@ -37,25 +29,18 @@ class Install(TestCase):
 
     def environment(self):
         """The Python of a new environment."""
-        status, said = run(sys.executable, "-m", "venv", self.room / "new")
-        if status and "ensurepip" in said:
-            self.skipTest("python3-venv is not installed")
-        self.assertEqual(status, 0, said)
-        return self.room / "new/bin/python"
-
-    def install(self, python, *words, **setting):
-        return run(python, "-m", "pip", "install", "--no-index", "--disable-pip-version-check", *words, **setting)
+        return new_python(self.room / "new") or self.skipTest("python3-venv is not installed")
 
     def test_from_the_folder(self):
         python = self.environment()
-        status, said = self.install(python, PACKAGE, **self.built)
+        status, said = install(python, PACKAGE, **self.built)
         self.assertEqual(status, 0, said)
         status, said = run(python, "-c", ASK)
         self.assertEqual((status, said), (0, f"{self.room}/new/lib/python{sys.version_info[0]}.{sys.version_info[1]}/site-packages/prefq/lib/libprefq.so\n[Row(level=1, id=2, values=[0, 3])]\n"))
         self.assertEqual(run(python, "-m", "prefq", "--help")[0], 0)
         self.assertEqual(run(python, "-m", "pip", "uninstall", "-y", "prefq")[0], 0)
 
-        status, said = self.install(python, "-e", PACKAGE, **self.built)
+        status, said = install(python, "-e", PACKAGE, **self.built)
         self.assertEqual(status, 0, said)
         status, said = run(python, "-c", ASK, PREFQ_LIBRARY=self.library)
         self.assertEqual((status, said), (0, f"{self.library}\n[Row(level=1, id=2, values=[0, 3])]\n"))
