@@ -61,10 +61,10 @@ def sources(*folders):
 
 
 def write_wheel(folder, tag, files):
-    """A wheel of these files, with its three files about itself."""
+    """A wheel of these files, with its four files about itself."""
     info = f"{NAME}.dist-info"
     pure = str(tag == "py3-none-any").lower()
-    files = {**files, f"{info}/METADATA": metadata().encode(),
+    files = {**files, f"{info}/METADATA": metadata().encode(), f"{info}/entry_points.txt": f"[console_scripts]\nprefq = {field('prefq')}\n".encode(),
              f"{info}/WHEEL": f"Wheel-Version: 1.0\nGenerator: build_prefq\nRoot-Is-Purelib: {pure}\nTag: {tag}\n".encode()}
     lines = [f"{name},sha256={base64.urlsafe_b64encode(hashlib.sha256(data).digest()).rstrip(b'=').decode()},{len(data)}\n" for name, data in files.items()]
     files[f"{info}/RECORD"] = "".join([*lines, f"{info}/RECORD,,\n"]).encode()

@@ -19,7 +19,7 @@ from xml.etree import ElementTree
 import prefq
 from prefq.__main__ import main
 from prefq.ask import Progress
-from support import TestCase
+from support import TestCase, program
 
 HOTELS = Path(__file__).parent / "data" / "hotels.csv"
 DOCUMENT = Path(__file__).resolve().parents[2] / "docs" / "PYTHON.md"
@@ -139,6 +139,26 @@ class Asks(TestCase):
         self.assertIn("python -m prefq serve FILE.csv", self.prints(run("--help")))
         for word in ("examples:", "--plot OUT.svg", "top_level K TERM"):
             self.assertIn(word, self.prints(run("ask", "--help")))
+
+    def test_commands_of_the_program(self):
+        script = "table\nx\n3\n1\nend\nas 1 begin best low(x)\nas 1 scan\nas 1 finish\n"
+        for words in (["play"], ["live", "--block", "1"], ["threads", "--clients", "1"], ["play", "--help"], ["live", "--clients", "9"]):
+            wanted = subprocess.run([prefq.find_program(), *words], input=script, capture_output=True, encoding="utf-8", timeout=120)
+            done = process(*words, input=script)
+            self.assertEqual((done.returncode, done.stdout, done.stderr), (wanted.returncode, wanted.stdout, wanted.stderr))
+            self.assertTrue(wanted.stdout or wanted.stderr)
+
+    def test_the_program_inherits_no_signal_that_python_ignores(self):
+        with program("grep SigIgn /proc/$$/status") as path:
+            started, done = (subprocess.run(words, capture_output=True, text=True, env={**ENVIRONMENT, "PREFQ_PROGRAM": path}, timeout=120)
+                             for words in ([path], [sys.executable, "-m", "prefq", "live"]))
+        self.assertIn("SigIgn:", started.stdout)
+        self.assertEqual(done.stdout, started.stdout)
+
+    def test_without_the_program(self):
+        done = subprocess.run([sys.executable, "-m", "prefq", "live"], capture_output=True, text=True, env={**ENVIRONMENT, "PREFQ_PROGRAM": "/nowhere/prefq"}, timeout=120)
+        self.assertEqual((done.returncode, done.stdout), (1, ""))
+        self.assertTrue(done.stderr.startswith("prefq: /nowhere/prefq is not there. Build it"), done.stderr)
 
     def test_a_reader_that_goes_away(self):
         process = subprocess.Popen([sys.executable, "-m", "prefq", "ask", str(HOTELS), "top_level 1000 low(Stars)", "--json"], stdout=subprocess.PIPE,

@@ -296,5 +296,25 @@ class Library(TestCase):
         self.assertEqual([ctypes.sizeof(structure) for structure in (library.Refusal, library.Setup, library.Change)], [40, 16, 24])
 
 
+class Program(TestCase):
+    def test_the_command_of_python_is_not_the_program(self):
+        with tempfile.TemporaryDirectory() as folder:
+            command, found = Path(folder, "command/prefq"), Path(folder, "program/prefq")
+            for place in (command, found):
+                place.parent.mkdir()
+                place.write_text("#!/bin/sh\nexit 0\n")
+                place.chmod(0o755)
+            command.write_text("#!/a/python\nimport sys\nfrom prefq.__main__ import command\nsys.exit(command())\n")
+            with mock.patch("prefq.program.BUNDLED", Path("/nowhere")), mock.patch("prefq.program.BUILT", Path("/nowhere")), mock.patch.dict(os.environ):
+                os.environ.pop("PREFQ_PROGRAM", None)
+                os.environ["PATH"] = f"{command.parent}:{found.parent}"
+                self.assertEqual(prefq.find_program(), str(found))
+                os.environ["PATH"] = str(command.parent)
+                with self.refuses(prefq.ProgramNotFound, "not on the PATH"):
+                    prefq.find_program()
+            with self.refuses(prefq.ProgramNotFound, f"{command} is the command of the Python package, and not the program"):
+                prefq.find_program(command)
+
+
 if __name__ == "__main__":
     unittest.main()

@@ -33,15 +33,23 @@ class Install(TestCase):
 
     def test_from_the_folder(self):
         python = self.environment()
+        file = self.room / "rows.csv"
+        file.write_text("x\n3\n1\n")
         status, said = install(python, PACKAGE, **self.built)
         self.assertEqual(status, 0, said)
         status, said = run(python, "-c", ASK)
         self.assertEqual((status, said), (0, f"{self.room}/new/lib/python{sys.version_info[0]}.{sys.version_info[1]}/site-packages/prefq/lib/libprefq.so\n[Row(level=1, id=2, values=[0, 3])]\n"))
         self.assertEqual(run(python, "-m", "prefq", "--help")[0], 0)
+        command = python.with_name("prefq")
+        self.assertEqual(run(command, "--version"), (0, f"prefq {prefq.__version__}\n"))
+        self.assertEqual(run(command, "ask", file, "best low(x)", "--csv"), (0, "level,id,x\n1,2,1\n"))
+        self.assertEqual(run("sh", "-c", f"printf 'table\\nx\\nend\\nas 1 insert 7\\n' | {command} live"), (0, "1 inserted 1\n"))
         self.assertEqual(run(python, "-m", "pip", "uninstall", "-y", "prefq")[0], 0)
 
         status, said = install(python, "-e", PACKAGE, **self.built)
         self.assertEqual(status, 0, said)
+        status, said = run(command, "live", PREFQ_PROGRAM=str(command))
+        self.assertEqual((status, said.partition(". ")[0]), (1, f"prefq: {command} is the command of the Python package, and not the program"))
         status, said = run(python, "-c", ASK, PREFQ_LIBRARY=self.library)
         self.assertEqual((status, said), (0, f"{self.library}\n[Row(level=1, id=2, values=[0, 3])]\n"))
 
@@ -57,7 +65,7 @@ class Install(TestCase):
         names = wheel.namelist()
         sources = {path.relative_to(PACKAGE / "src").as_posix() for path in (PACKAGE / "src/prefq").rglob("*") if path.is_file() and "__pycache__" not in path.parts}
         self.assertIn("prefq/py.typed", sources)
-        about = {f"prefq-{prefq.__version__}.dist-info/{name}" for name in ("METADATA", "WHEEL", "RECORD")}
+        about = {f"prefq-{prefq.__version__}.dist-info/{name}" for name in ("METADATA", "WHEEL", "RECORD", "entry_points.txt")}
         self.assertEqual(set(names), {*sources, *about, "prefq/bin/prefq", "prefq/lib/libprefq.so", "prefq/include/prefq.h"})
         self.assertEqual(wheel.read("prefq/bin/prefq"), Path(self.program).read_bytes())
         source = next(self.room.glob("*.tar.gz"))
