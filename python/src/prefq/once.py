@@ -11,6 +11,9 @@ from .reading import Progress
 from .rows import Row, Zipped
 from .table import Table
 
+# Several parts are asked at once: small tables take less memory together, and what is left of them to be merged is little more.
+ROWS_OF_A_PART = 16_384
+
 
 def ask_once(columns: Sequence[str], rows: Zipped, question: str, *, progress: Optional[Progress] = None, **options: Any) -> List[Row]:
     """The answer to a question over these rows of whole numbers, whose ids are 1, 2, 3 and so on. More of them than one table holds are asked in parts."""
@@ -23,7 +26,7 @@ def ask_once(columns: Sequence[str], rows: Zipped, question: str, *, progress: O
 
 
 def _in_parts(columns: Sequence[str], rows: Zipped, question: str, progress: Optional[Progress]) -> List[Row]:
-    partitions = [Partition(columns, rows[begin:begin + MOST_ROWS]) for begin in range(0, len(rows), MOST_ROWS)]
+    partitions = [Partition(columns, rows[begin:begin + ROWS_OF_A_PART]) for begin in range(0, len(rows), ROWS_OF_A_PART)]
     with ThreadPoolExecutor(os.cpu_count()) as pool:
 
         def mapped(function: Callable[[Any], Any], items: Iterable[Any]) -> List[Any]:
