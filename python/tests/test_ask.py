@@ -19,7 +19,7 @@ from xml.etree import ElementTree
 import prefq
 from prefq.__main__ import main
 from prefq.ask import Progress
-from support import TestCase, program
+from support import TestCase
 
 HOTELS = Path(__file__).parent / "data" / "hotels.csv"
 DOCUMENT = Path(__file__).resolve().parents[2] / "docs" / "PYTHON.md"
@@ -43,6 +43,17 @@ def run(*words, text=""):
 def process(*words, **more):
     """Runs the command as a process."""
     return subprocess.run([sys.executable, "-m", "prefq", *map(str, words)], capture_output=True, encoding="utf-8", timeout=120, env=ENVIRONMENT, **more)
+
+
+@contextlib.contextmanager
+def program(text):
+    """The command runs a shell script in place of the program; its path."""
+    with tempfile.TemporaryDirectory() as folder:
+        path = Path(folder, "program")
+        path.write_text(f"#!/bin/sh\n{text}\n")
+        path.chmod(0o755)
+        with unittest.mock.patch.dict(ENVIRONMENT, PREFQ_PROGRAM=str(path)):
+            yield str(path)
 
 
 class Asks(TestCase):
@@ -141,17 +152,15 @@ class Asks(TestCase):
             self.assertIn(word, self.prints(run("ask", "--help")))
 
     def test_commands_of_the_program(self):
-        script = "table\nx\n3\n1\nend\nas 1 begin best low(x)\nas 1 scan\nas 1 finish\n"
-        for words in (["play"], ["live", "--block", "1"], ["threads", "--clients", "1"], ["play", "--help"], ["live", "--clients", "9"]):
-            wanted = subprocess.run([prefq.find_program(), *words], input=script, capture_output=True, encoding="utf-8", timeout=120)
-            done = process(*words, input=script)
-            self.assertEqual((done.returncode, done.stdout, done.stderr), (wanted.returncode, wanted.stdout, wanted.stderr))
-            self.assertTrue(wanted.stdout or wanted.stderr)
+        """The program gets the words and the script as they are; what it prints, and its status, are those of the command."""
+        with program('printf "<%s>" "$@"; cat; echo "line 3" >&2; exit 7'):
+            for words in (["play"], ["live", "--block", "1"], ["threads", "--clients", "1"], ["play", "--help"], ["live", "a b", ""]):
+                done = process(*words, input="table\nx\n3\nend\n")
+                self.assertEqual((done.returncode, done.stdout, done.stderr), (7, "".join(f"<{word}>" for word in words) + "table\nx\n3\nend\n", "line 3\n"))
 
     def test_the_program_inherits_no_signal_that_python_ignores(self):
         with program("grep SigIgn /proc/$$/status") as path:
-            started, done = (subprocess.run(words, capture_output=True, text=True, env={**ENVIRONMENT, "PREFQ_PROGRAM": path}, timeout=120)
-                             for words in ([path], [sys.executable, "-m", "prefq", "live"]))
+            started, done = subprocess.run([path], capture_output=True, text=True, timeout=120), process("live")
         self.assertIn("SigIgn:", started.stdout)
         self.assertEqual(done.stdout, started.stdout)
 

@@ -3,6 +3,7 @@ import ctypes
 import gc
 import multiprocessing
 import os
+import re
 import signal
 import subprocess
 import sys
@@ -17,6 +18,7 @@ from prefq import engine, library
 from support import QUESTION, SKYLINE, TestCase, around, hotels, in_a_fork, numbers
 
 NEVER = 60
+HEADER = Path(__file__).resolve().parents[2] / "library/include/prefq.h"
 
 
 class Closed(TestCase):
@@ -139,7 +141,8 @@ class SmallStack(TestCase):
                 thread.join(NEVER)
             finally:
                 threading.stack_size(before)
-            self.assertEqual(said, [("arguments", "the thread has less than 327680 bytes of stack left")])
+            needed = re.search(r"^#define PREFQ_STACK (\d+)$", HEADER.read_text(), re.MULTILINE)[1]
+            self.assertEqual(said, [("arguments", f"the thread has less than {needed} bytes of stack left")])
             self.assertEqual(table.get(1), [11])
 
 
