@@ -1,13 +1,14 @@
 #!/usr/bin/env python3
 """Makes the wheel of a release, with its checksum and the commit that it is built from.
 
-    python3 dist/release.py             of the commit that is checked out, with the program that is built (and the library where it is)
+    python3 dist/release.py             of the commit that is checked out, with the program and the library that are built
     python3 dist/release.py --check     builds the wheel that is here anew, from its commit in a clone of its own, and compares the bytes
 
-The wheel takes the place of the one before. Needs git; with --check the Rattle kit too, and a C compiler where the wheel has the library:
-it proves what has no kept proof, so it takes minutes or an hour.
+The wheel takes the place of the one before. Needs git; with --check the Rattle kit and a C compiler too: it proves what has no kept proof, so
+it takes minutes or an hour.
 """
 import argparse
+import ctypes
 import hashlib
 import os
 import re
@@ -21,6 +22,7 @@ from pathlib import Path
 DIST = Path(__file__).resolve().parent
 TOP = DIST.parent
 PROGRAM, LIBRARY = "crates/prefq/out/prefq", "library/out/libprefq.so"
+HOW_TO_BUILD = {PROGRAM: "(cd crates/prefq && rt run prefq < stdin)", LIBRARY: "library/build.sh"}
 CHECKSUM, COMMIT = DIST / "SHA256SUMS", DIST / "COMMIT"
 MADE = ["dist/*.whl", "dist/SHA256SUMS", "dist/COMMIT"]
 
@@ -56,22 +58,32 @@ def committed():
 
 def backend():
     """The package's build backend, which takes what is built in this repository and nothing else."""
-    if not (TOP / PROGRAM).is_file():
-        raise Refused(f"{PROGRAM} is not there: build it by `(cd crates/prefq && rt run prefq < stdin)`")
-    os.environ.pop("PREFQ_LIBRARY", None)
-    os.environ["PREFQ_PROGRAM"] = str(TOP / PROGRAM)
+    for place, command in HOW_TO_BUILD.items():
+        if not (TOP / place).is_file():
+            raise Refused(f"{place} is not there: build it by `{command}`")
+    os.environ.update(PREFQ_PROGRAM=str(TOP / PROGRAM), PREFQ_LIBRARY=str(TOP / LIBRARY))
     sys.path.insert(0, str(TOP / "python/backend"))
     import build_prefq
     return build_prefq
+
+
+def version_of_the_library():
+    try:
+        call = ctypes.CDLL(str(TOP / LIBRARY)).prefq_version
+    except (OSError, AttributeError) as why:
+        raise Refused(f"{LIBRARY} cannot be used: {why}") from None
+    call.restype = ctypes.c_char_p
+    return f"prefq {call().decode()}"
 
 
 def wheel_in(folder):
     """The wheel, which it writes into a folder."""
     import linux
     build = backend()
-    says, wanted = read(TOP / PROGRAM, "--version").strip(), f"{build.field('name')} {build.field('version')}"
-    if says != wanted:
-        raise Refused(f"{PROGRAM} is {says}, and the package is {wanted}: build it anew")
+    wanted = f"{build.field('name')} {build.field('version')}"
+    for place, says in [(PROGRAM, read(TOP / PROGRAM, "--version").strip()), (LIBRARY, version_of_the_library())]:
+        if says != wanted:
+            raise Refused(f"{place} is {says}, and the package is {wanted}: build it anew")
     try:
         tag = linux.tag({name: data for name, data in build.built().items() if not name.endswith(".h")})
     except linux.Strange as why:
@@ -114,13 +126,12 @@ def kept():
     return wheels[0], commit[1]
 
 
-def built_anew(wheel, commit, clone):
-    """The wheel that the commit of this one makes, in a new clone."""
+def built_anew(commit, clone):
+    """The wheel that a commit makes, in a new clone."""
     read("git", "clone", "--quiet", "--no-checkout", TOP, clone)
     read("git", "checkout", "--quiet", "--detach", commit, cwd=clone)
     run("rt", "run", "prefq", cwd=clone / "crates/prefq", stdin=clone / "crates/prefq/stdin")
-    if "prefq/lib/libprefq.so" in zipfile.ZipFile(wheel).namelist():
-        run("library/build.sh", cwd=clone)
+    run("library/build.sh", cwd=clone)
     run(sys.executable, "dist/release.py", cwd=clone)
     return next((clone / "dist").glob("*.whl"))
 
@@ -138,7 +149,7 @@ def check():
         return
     wheel, commit = found
     with tempfile.TemporaryDirectory() as room:
-        anew = built_anew(wheel, commit, Path(room, "clone"))
+        anew = built_anew(commit, Path(room, "clone"))
         if anew.name != wheel.name:
             raise Refused(f"its commit makes {anew.name}, and not {wheel.name}")
         if anew.read_bytes() != wheel.read_bytes():

@@ -1,4 +1,4 @@
-"""Builds the package with the standard library alone: a wheel that bundles the built program, a source archive and an editable wheel (PEP 517, PEP 660).
+"""Builds the package with the standard library alone: a wheel with the built program and library, a source archive and an editable wheel (PEP 517, PEP 660).
 
 The program is the one that PREFQ_PROGRAM names, else program/prefq beside pyproject.toml (in a source archive), else the repository's crates/prefq/out/prefq.
 The library is the one that PREFQ_LIBRARY names, else library/ beside pyproject.toml, else the repository's library/out; its header comes along.
@@ -17,7 +17,6 @@ TOP = Path(__file__).resolve().parent.parent
 SOURCES = TOP / "src"
 PROJECT = (TOP / "pyproject.toml").read_text(encoding="utf-8")
 BUILD = "build it in the repository by `(cd crates/prefq && rt run prefq < stdin)`, which makes crates/prefq/out/prefq, or let PREFQ_PROGRAM name it"
-
 BUILD_LIBRARY = "build it in the repository by `library/build.sh`, which makes library/out/libprefq.so, or let PREFQ_LIBRARY name it"
 
 
@@ -89,7 +88,7 @@ def package():
 
 
 def build_wheel(wheel_directory, config_settings=None, metadata_directory=None):
-    """A wheel for machines like this one: its tag does not say which glibc the program needs, as that of a release does (dist/release.py)."""
+    """A wheel for machines like this one: its tag does not say which glibc it needs, as that of a release does (dist/release.py)."""
     return write_wheel(wheel_directory, f"py3-none-linux_{platform.machine()}", package())
 
 

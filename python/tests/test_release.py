@@ -20,11 +20,13 @@ sys.path.insert(0, str(TOP / "dist"))
 import linux
 
 SMALL = Path("/bin/true")
+PROGRAM, LIBRARY = "crates/prefq/out/prefq", "library/out/libprefq.so"
+# What builds in the made-up repository: each copies the file that the environment names.
 RT = """#!/bin/sh
-[ "$*" = "run prefq" ] && [ -s /dev/stdin ] && mkdir -p out && cp "$RT_PROGRAM" out/prefq
+[ "$*" = "run prefq" ] && [ -s /dev/stdin ] && mkdir -p out && cp "$BUILT_PROGRAM" out/prefq
 """
 BUILD_LIBRARY = """#!/bin/sh
-mkdir -p library/out && cp "$RT_PROGRAM" library/out/libprefq.so
+mkdir -p library/out && cp "$BUILT_LIBRARY" library/out/libprefq.so
 """
 
 
@@ -66,12 +68,25 @@ def broken(chance, data):
     return bytes(file)
 
 
+def built_program():
+    """The path of the program; the test is skipped where it is not built."""
+    try:
+        return Path(prefq.find_program()).resolve()
+    except prefq.ProgramNotFound:
+        raise unittest.SkipTest("the program is not built") from None
+
+
+def tag_by_names(*paths):
+    """The tag of these built files, by the names of versions that stand in them."""
+    newest = max(tuple(map(int, number)) for path in paths for number in re.findall(rb"\0GLIBC_(\d+)\.(\d+)\b", path.read_bytes()))
+    return f"manylinux_{newest[0]}_{newest[1]}_{os.uname().machine}"
+
+
 class Linux(TestCase):
-    def test_the_program_names_its_glibc(self):
-        data = Path(prefq.find_program()).read_bytes()
-        newest = max(tuple(map(int, number)) for number in re.findall(rb"\0GLIBC_(\d+)\.(\d+)\b", data))
-        processor = os.uname().machine
-        self.assertEqual(linux.tag({"prefq": data}), f"manylinux_{newest[0]}_{newest[1]}_{processor}")
+    def test_program_and_library_name_their_glibc(self):
+        program, library = built_program(), Path(prefq.find_library())
+        for paths in ([program], [library], [program, library]):
+            self.assertEqual(linux.tag({path.name: path.read_bytes() for path in paths}), tag_by_names(*paths))
 
     @unittest.skipUnless(shutil.which("readelf"), "readelf is not installed")
     def test_readelf_reads_the_same(self):
@@ -123,7 +138,7 @@ class Release(TestCase):
         room = tempfile.TemporaryDirectory()
         self.addCleanup(room.cleanup)
         self.top, self.tools = Path(room.name, "top"), Path(room.name, "tools")
-        self.program = Path(prefq.find_program()).resolve()
+        self.program, self.library = built_program(), Path(prefq.find_library()).resolve()
         self.write(self.tools / "rt", RT)
         self.write(self.top / "library/build.sh", BUILD_LIBRARY)
         self.write(self.top / "crates/prefq/stdin", "a script\n")
@@ -133,7 +148,8 @@ class Release(TestCase):
         shutil.copy(TOP / ".gitignore", self.top)
         self.git("init", "--quiet")
         self.commit()
-        self.put(self.program)
+        self.put(self.program, PROGRAM)
+        self.put(self.library, LIBRARY)
 
     def write(self, path, text):
         path.parent.mkdir(parents=True, exist_ok=True)
@@ -149,14 +165,21 @@ class Release(TestCase):
         self.git("add", "--all")
         self.git("commit", "--quiet", "--message", "all")
 
-    def put(self, program, place="crates/prefq/out/prefq"):
-        """A program, or a library, as a build leaves it."""
+    def put(self, file, place):
+        """The program, or the library, as a build leaves it."""
         (self.top / place).parent.mkdir(parents=True, exist_ok=True)
-        shutil.copy(program, self.top / place)
+        shutil.copy(file, self.top / place)
 
-    def release(self, *words, rt_program=None):
-        """The status of the command, and what it prints."""
-        return run(sys.executable, self.top / "dist/release.py", *words, PATH=f"{self.tools}:/usr/bin:/bin", PYTHONDONTWRITEBYTECODE="1", RT_PROGRAM=str(rt_program or self.program))
+    def longer(self, file):
+        """A file that works as this one does, with another byte at its end."""
+        made = Path(shutil.copy(file, self.tools))
+        made.write_bytes(file.read_bytes() + b"\0")
+        return made
+
+    def release(self, *words, program=None, library=None):
+        """The status of the command, and what it prints, where a clone builds this program and this library."""
+        return run(sys.executable, self.top / "dist/release.py", *words, PATH=f"{self.tools}:/usr/bin:/bin", PYTHONDONTWRITEBYTECODE="1",
+                   BUILT_PROGRAM=str(program or self.program), BUILT_LIBRARY=str(library or self.library))
 
     def made(self):
         """The wheel, once it is made."""
@@ -181,11 +204,12 @@ class Release(TestCase):
     def test_one_commit_makes_one_wheel(self):
         wheel = self.made()
         data = wheel.read_bytes()
-        self.assertEqual(wheel.name, f"prefq-{prefq.__version__}-py3-none-{linux.tag({'prefq': self.program.read_bytes()})}.whl")
+        self.assertEqual(wheel.name, f"prefq-{prefq.__version__}-py3-none-{tag_by_names(self.program, self.library)}.whl")
         self.assertEqual((self.top / "dist/SHA256SUMS").read_text(), f"{hashlib.sha256(data).hexdigest()}  {wheel.name}\n")
         self.assertEqual((self.top / "dist/COMMIT").read_text(), self.git("rev-parse", "HEAD"))
         with zipfile.ZipFile(wheel) as archive:
-            self.assertEqual(archive.read("prefq/bin/prefq"), self.program.read_bytes())
+            for name, file in [("bin/prefq", self.program), ("lib/libprefq.so", self.library), ("include/prefq.h", TOP / "library/include/prefq.h")]:
+                self.assertEqual(archive.read(f"prefq/{name}"), file.read_bytes())
             self.assertIn(f"\nTag: {wheel.stem.split('-', 2)[2]}\n", archive.read(f"prefq-{prefq.__version__}.dist-info/WHEEL").decode())
         for path in (self.top / "python").rglob("*"):
             os.utime(path, (1, 1))
@@ -199,13 +223,6 @@ class Release(TestCase):
         self.commit()
         self.assertNotEqual(self.made().name, "prefq-0.1.0-py3-none-any.whl")
 
-    def test_the_library_comes_along_and_is_built_anew(self):
-        self.put(self.program, "library/out/libprefq.so")
-        wheel = self.made()
-        with zipfile.ZipFile(wheel) as archive:
-            self.assertEqual(archive.read("prefq/lib/libprefq.so"), self.program.read_bytes())
-        self.is_made_anew(wheel)
-
     def test_nothing_is_made_of_what_is_not_committed(self):
         self.write(self.top / "python/src/prefq/new.py", "")
         self.refused("not as they are committed", "python/src/prefq/new.py")
@@ -214,21 +231,30 @@ class Release(TestCase):
         self.refused("not as they are committed", "python/pyproject.toml")
 
     def test_nothing_is_made_without_the_program_of_this_version(self):
-        self.write(self.top / "crates/prefq/out/prefq", "#!/bin/sh\necho prefq 0.0.1\n")
-        self.refused(f"crates/prefq/out/prefq is prefq 0.0.1, and the package is prefq {prefq.__version__}")
-        self.write(self.top / "crates/prefq/out/prefq", f"#!/bin/sh\necho prefq {prefq.__version__}\n")
+        self.write(self.top / PROGRAM, "#!/bin/sh\necho prefq 0.0.1\n")
+        self.refused(f"{PROGRAM} is prefq 0.0.1, and the package is prefq {prefq.__version__}: build it anew")
+        self.write(self.top / PROGRAM, f"#!/bin/sh\necho prefq {prefq.__version__}\n")
         self.refused("prefq/bin/prefq is no ELF file")
-        (self.top / "crates/prefq/out/prefq").unlink()
-        self.refused("crates/prefq/out/prefq is not there", "(cd crates/prefq && rt run prefq < stdin)")
+        (self.top / PROGRAM).unlink()
+        self.refused(f"{PROGRAM} is not there: build it by `(cd crates/prefq && rt run prefq < stdin)`")
+
+    def test_nothing_is_made_without_the_library_of_this_version(self):
+        data, version = self.library.read_bytes(), prefq.__version__.encode()
+        (self.top / LIBRARY).write_bytes(with_name(data, version, b"9" + version[1:]))
+        self.refused(f"{LIBRARY} is prefq 9{prefq.__version__[1:]}, and the package is prefq {prefq.__version__}: build it anew")
+        self.write(self.top / LIBRARY, "no library\n")
+        self.refused(f"{LIBRARY} cannot be used: ")
+        (self.top / LIBRARY).unlink()
+        self.refused(f"{LIBRARY} is not there: build it by `library/build.sh`")
 
     def test_other_bytes_are_refused(self):
         self.assertEqual(self.release("--check"), (0, "skipped: the wheel of a release is not built anew, since dist has none yet\n"))
         wheel = self.made()
-        longer = self.tools / "longer"
-        longer.write_bytes(self.program.read_bytes() + b"\0")
-        longer.chmod(0o755)
-        self.refused(f"its commit makes other bytes of {wheel.name}, in prefq-{prefq.__version__}.dist-info/RECORD, prefq/bin/prefq", check=True, rt_program=longer)
-        self.refused("`rt run prefq` failed in a clone at the wheel's commit", check=True, rt_program=self.tools / "nothing")
+        others = f"its commit makes other bytes of {wheel.name}, in prefq-{prefq.__version__}.dist-info/RECORD, "
+        self.refused(f"{others}prefq/bin/prefq\n", check=True, program=self.longer(self.program))
+        self.refused(f"{others}prefq/lib/libprefq.so\n", check=True, library=self.longer(self.library))
+        self.refused("`rt run prefq` failed in a clone at the wheel's commit", check=True, program=self.tools / "nothing")
+        self.refused("`library/build.sh` failed in a clone at the wheel's commit", check=True, library=self.tools / "nothing")
         (self.top / "dist/COMMIT").write_text("main\n")
         self.refused("dist/COMMIT names no commit", check=True)
         (self.top / "dist/COMMIT").unlink()
