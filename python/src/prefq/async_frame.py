@@ -6,7 +6,7 @@ from typing import Any, Callable, Iterable, List, Sequence, Tuple
 from .answer import Answer
 from .asynchronous import Awaited, on_a_thread
 from .columns import Column
-from .frame import Frame
+from .frame import Frame, Path
 from .records import Record
 
 
@@ -76,6 +76,10 @@ class AsyncFrame(Awaited):
     async def rows(self) -> List[Record]:
         """See `Frame.rows`."""
         return await self._call(self._frame.rows)
+
+    async def save(self, path: Path) -> None:
+        """See `Frame.save`."""
+        await self._call(self._frame.save, path)
 
     async def why(self, id: int, question: str) -> Answer:
         """See `Frame.why`."""

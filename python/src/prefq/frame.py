@@ -1,7 +1,8 @@
 """Frames: live tables of columns of every kind."""
+import os
 import threading
 from functools import partial
-from typing import Any, Callable, Dict, Iterable, Iterator, List, Mapping, Optional, Sequence, Tuple, TypeVar
+from typing import Any, Callable, Dict, Iterable, Iterator, List, Mapping, Optional, Sequence, Tuple, TypeVar, Union
 
 from .answer import Answer
 from .checks import MOST_ROWS
@@ -11,7 +12,7 @@ from .kinds import Kind
 from .kinds.forms import Form
 from .loading import Encoded, File, check_known, chosen, column_of_values, decoded, encoded
 from .missing import Missing
-from .opened import Opened
+from .opened import Ids, Opened
 from .options import check_options
 from .frame_query import FrameQuery
 from .questions import Mode, read_question
@@ -24,6 +25,7 @@ from .why import Rivals
 
 Result = TypeVar("Result")
 TABLE_OPTIONS = ("capacity", "clients", "block", "window")
+Path = Union[str, "os.PathLike[str]"]
 CSV_OPTIONS = ("columns", "kinds", "missing", "encoding", "delimiter", "decimal", "thousands", "skip", "null_padding")
 
 
@@ -44,9 +46,9 @@ class Frame:
         columns = tuple(columns)
         self._open(columns, Zipped([encoded(column, values) for column, values in zip(columns, zip(*(values_of(row, columns) for row in rows)))]), options)
 
-    def _open(self, columns: Sequence[Column], rows: WholeRows, options: Dict[str, Any], index: Any = None, notes: Iterable[str] = ()) -> None:
+    def _open(self, columns: Sequence[Column], rows: WholeRows, options: Dict[str, Any], index: Any = None, notes: Iterable[str] = (), ids: Ids = Ids()) -> None:
         check_options(options, TABLE_OPTIONS, "Frame")
-        self._opened = Opened(columns, rows, options)
+        self._opened = Opened(columns, rows, options, ids)
         self._index = index
         # What is to be known of how the data were read: which words of a file were taken for missing.
         self.notes = list(notes)
@@ -55,7 +57,7 @@ class Frame:
         self._subscribed: List[Callable[[], None]] = []
         self._is_opening = False
         self._is_closed = False
-        self._last = len(rows)
+        self._last = max(len(rows), ids.last)
 
     @classmethod
     def from_csv(cls, source: Source, *, columns: Optional[Sequence[str]] = None, kinds: Optional[Mapping[str, str]] = None, missing: Optional[Iterable[str]] = None,
@@ -129,15 +131,27 @@ class Frame:
         return cls([Column(name, kinds[name]) for name in names], **options)
 
     @classmethod
+    def open(cls, path: Path, **options: Any) -> "Frame":
+        """The frame that was saved at this path: the same rows under the same ids, the same columns, and the next row has the id that it would have had.
+
+        What pandas had beside them, the types of columns and the index, is not saved. A file that is no saved frame, or of another version, or damaged is
+        `Refused`, of the kind "saved".
+        """
+        from .saved import columns_of, read
+        check_options(options, TABLE_OPTIONS, "Frame.open")
+        contents = read(path)
+        return cls._made(columns_of(contents), Zipped(contents.numbers), options, notes=contents.notes, ids=Ids(contents.ids, contents.last))
+
+    @classmethod
     def _of_numbers(cls, columns: Sequence[Encoded], options: Dict[str, Any], index: Any = None) -> "Frame":
         """The frame of columns with their numbers."""
         return cls._made([column for column, _ in columns], Zipped([numbers for _, numbers in columns]), options, index)
 
     @classmethod
-    def _made(cls, columns: Sequence[Column], rows: WholeRows, options: Dict[str, Any], index: Any = None, notes: Iterable[str] = ()) -> "Frame":
+    def _made(cls, columns: Sequence[Column], rows: WholeRows, options: Dict[str, Any], index: Any = None, notes: Iterable[str] = (), ids: Ids = Ids()) -> "Frame":
         """The frame of columns and rows of their numbers."""
         frame = cls.__new__(cls)
-        frame._open(columns, rows, options, index, notes)
+        frame._open(columns, rows, options, index, notes, ids)
         return frame
 
     def __enter__(self) -> "Frame":
@@ -269,6 +283,30 @@ class Frame:
         opened = self._opened
         return self._records(opened, [(None, opened.ids.outside(id), numbers) for id, numbers in opened.table.rows()])
 
+    def save(self, path: Path) -> None:
+        """Saves the frame as it is now in one file, in place of one that is there: whoever opens that finds the frame before or this one, whole.
+
+        >>> import os, prefq, tempfile
+        >>> with tempfile.TemporaryDirectory() as folder, prefq.Frame.from_records([{"x": 1}, {"x": 2}]) as frame:
+        ...     frame.delete(1)
+        ...     frame.save(os.path.join(folder, "rows.prefq"))
+        ...     with prefq.Frame.open(os.path.join(folder, "rows.prefq")) as opened:
+        ...         opened.rows(), opened.insert({"x": 3})
+        ([<id 2: {'x': 2}>], 3)
+        """
+        from .saved import Contents, Description, write
+
+        def contents() -> Contents:
+            opened = self._opened
+            pairs = opened.table.rows()
+            columns = tuple(map(Description.of, opened.columns))
+            ids = [opened.ids.outside(inside) for inside, _ in pairs]
+            # An interruption may have come between an insert and the note of its id.
+            last = max([self._last, *ids[-1:]])
+            return Contents(columns, ids, list(zip(*(numbers for _, numbers in pairs))) or [()] * len(columns), last, tuple(self.notes))
+
+        write(path, self._alone(contents))
+
     def room(self) -> int:
         """How many more versions of rows there is room for."""
         return self.table.room()
@@ -377,14 +415,18 @@ class Frame:
         return first
 
     def _change(self, change: Callable[[], Result]) -> Result:
-        """One change after the other. A signal handler of this thread makes none while the table is opened anew, which would not have it."""
-        with self._changing:
-            if self._is_opening:
-                raise Refused("a change that opens the table anew is under way in this thread", "client")
-            result = change()
+        """A change, of which those who subscribed are told."""
+        result = self._alone(change)
         for call in list(self._subscribed):
             call()
         return result
+
+    def _alone(self, call: Callable[[], Result]) -> Result:
+        """One call after the other. A signal handler of this thread makes none while the table is opened anew, which would not have it."""
+        with self._changing:
+            if self._is_opening:
+                raise Refused("a change that opens the table anew is under way in this thread", "client")
+            return call()
 
     def _open_anew(self, kinds: Mapping[str, Kind]) -> None:
         self._is_opening = True
