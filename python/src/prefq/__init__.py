@@ -13,6 +13,7 @@ from .async_frame import AsyncFrame
 from .asynchronous import AsyncQuery, AsyncTable
 from .columns import Column
 from .errors import Ended, Error, LibraryNotFound, ProgramNotFound, Refused
+from .follow import Followed
 from .frame import Frame
 from .frame_query import FrameQuery, UnknownValue
 from .library import find_library
@@ -24,5 +25,5 @@ from .select import psel
 from .table import Table
 
 __version__ = "0.2.0"
-__all__ = ["Answer", "AsyncFrame", "AsyncQuery", "AsyncTable", "Column", "Ended", "Error", "Frame", "FrameQuery", "LibraryNotFound", "ProgramNotFound", "Query",
-           "Record", "Refused", "Row", "Table", "UnknownValue", "find_library", "find_program", "parts", "psel"]
+__all__ = ["Answer", "AsyncFrame", "AsyncQuery", "AsyncTable", "Column", "Ended", "Error", "Followed", "Frame", "FrameQuery", "LibraryNotFound",
+           "ProgramNotFound", "Query", "Record", "Refused", "Row", "Table", "UnknownValue", "find_library", "find_program", "parts", "psel"]

@@ -6,6 +6,7 @@ from typing import Any, Callable, Iterable, List, Sequence, Tuple
 from .answer import Answer
 from .asynchronous import Awaited, on_a_thread
 from .columns import Column
+from .follow import Followed
 from .frame import Frame, Path
 from .records import Record
 
@@ -30,8 +31,8 @@ class AsyncFrame(Awaited):
 
     @classmethod
     async def open(cls, make: Callable[..., Frame], *words: Any, **options: Any) -> "AsyncFrame":
-        """The frame that `make(*words, **options)` returns: `Frame.from_csv`, `Frame.from_records` and so on."""
-        executor, frame = await on_a_thread(partial(make, *words, **options))
+        """The frame that `make(*words, **options)` returns: `Frame.from_csv`, `Frame.from_records` and so on, but for `Frame.follow`."""
+        executor, frame = await on_a_thread(partial(_made, make, *words, **options))
         return cls(frame, executor)
 
     async def __aenter__(self) -> "AsyncFrame":
@@ -96,3 +97,12 @@ class AsyncFrame(Awaited):
                 return await self._call(query.answer)
         finally:
             self._free.put_nowait(client)
+
+
+def _made(make: Callable[..., Frame], *words: Any, **options: Any) -> Frame:
+    """The frame that is made, which is none that follows a table: that one is asked while others are."""
+    frame = make(*words, **options)
+    if isinstance(frame, Followed):
+        frame.close()
+        raise TypeError("a frame that follows a table is no Frame: any thread may call it, as by asyncio.to_thread")
+    return frame

@@ -46,8 +46,8 @@ class Error(Exception):
 class Refused(Error):
     """The table refuses a call, and is as it was before.
 
-    `kind` is "term" (a question), "client" (what a client wants cannot be done now), "commit" (its changes), "table" (names or rows), "opening" or
-    "arguments". `question` is the question, where there is one.
+    `kind` is "term" (a question), "client" (what a client wants cannot be done now), "commit" (its changes), "table" (names or rows), "opening",
+    "arguments", "saved" (a file of a frame) or "follow" (a table of a database). `question` is the question, where there is one.
 
     >>> why = Refused("unknown column at 9", "term", 2, 9, "best low(prise)")
     >>> print(why)

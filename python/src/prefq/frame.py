@@ -8,6 +8,7 @@ from .answer import Answer
 from .checks import MOST_ROWS
 from .columns import Column, listed
 from .errors import Refused
+from .follow import Followed, source_of
 from .kinds import Kind
 from .kinds.forms import Form
 from .loading import Encoded, File, check_known, chosen, column_of_values, decoded, encoded
@@ -141,6 +142,29 @@ class Frame:
         check_options(options, TABLE_OPTIONS, "Frame.open")
         contents = read(path)
         return cls._made(columns_of(contents), Zipped(contents.numbers), options, notes=contents.notes, ids=Ids(contents.ids, contents.last))
+
+    @classmethod
+    def follow(cls, connection: Any, table: str, *, key: str = "id", columns: Optional[Sequence[str]] = None, kinds: Optional[Mapping[str, str]] = None,
+               **options: Any) -> Followed:
+        """A frame that follows a table of a database: one of SQLite (a connection of sqlite3).
+
+        Each call sees what is committed by then. The ids of the rows are the values of the column `key`, which are whole numbers or texts; `columns` are all
+        others, where none are given. There may be any number of rows. The frame opens a connection of its own. What cannot be followed is `Refused`, of the kind
+        "follow"; what the database refuses is the database's own exception.
+
+        >>> import os, prefq, sqlite3, tempfile
+        >>> with tempfile.TemporaryDirectory() as folder:
+        ...     db = sqlite3.connect(os.path.join(folder, "hotels.db"), isolation_level=None)
+        ...     created = db.execute("create table hotels (id integer primary key, city text, price real)")
+        ...     with prefq.Frame.follow(db, "hotels", kinds={"price": "decimal(2)"}) as hotels:
+        ...         inserted = db.execute("insert into hotels values (7, 'Lyon', 60.5), (8, 'Bern', 90)")
+        ...         hotels.best("best low(price)")
+        ...     db.close()
+        level  id  city  price
+            1   7  Lyon  60.50
+        """
+        check_options(options, ["key", "columns", "kinds", *TABLE_OPTIONS], "Frame.follow")
+        return Followed(source_of(connection, table, key, columns, kinds or {}), kinds or {}, options)
 
     @classmethod
     def _of_numbers(cls, columns: Sequence[Encoded], options: Dict[str, Any], index: Any = None) -> "Frame":

@@ -51,8 +51,7 @@ class Opened:
         self.ids = ids
         self._options = options
         self._code_books = size_of_code_books(self.columns)
-        # Texts last, so that a record that another column refuses adds none to a code book.
-        self._order = sorted(range(len(self.columns)), key=lambda place: isinstance(self.columns[place].kind, Texts))
+        self._order = texts_last(self.columns)
         self.table = Table(list(self.below.values()), rows, **options)
 
     @property
@@ -92,6 +91,11 @@ class Opened:
     def missing_row(self, id: int) -> Refused:
         """What is said of a row that is not there."""
         return Refused(f"no such row {id}", "client", 7)
+
+
+def texts_last(columns: Sequence[Column]) -> List[int]:
+    """The places of columns, those of texts last, so that a record that another column refuses adds none to a code book."""
+    return sorted(range(len(columns)), key=lambda place: isinstance(columns[place].kind, Texts))
 
 
 def size_of_code_books(columns: Sequence[Column]) -> int:

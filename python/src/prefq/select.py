@@ -4,6 +4,7 @@ from typing import Any, Callable, Dict, List, Mapping, Optional, Sequence
 from .checks import whole
 from .columns import Column
 from .errors import Refused
+from .follow import Followed
 from .frame import TABLE_OPTIONS, Frame
 from .frame_query import warn_of, without_twins
 from .loading import Encoded, check_known
@@ -31,7 +32,7 @@ def psel(frame: Any, text: str, *, top_level: Optional[int] = None, at_least: Op
     """
     mode = mode_of(top_level, at_least)
     check_options(options, ["top_level", "at_least", "kinds", *TABLE_OPTIONS], "psel")
-    if isinstance(frame, Frame):
+    if isinstance(frame, (Frame, Followed)):
         return frame.answer(text, mode)
     if hasattr(frame, "iloc") and hasattr(frame, "columns"):
         return _of_dataframe(frame, text, mode, kinds, options)
