@@ -1,6 +1,6 @@
 """A frame that follows a table of a database: the database keeps the rows, and the frame answers questions about them.
 
-A source (`follow_sqlite`) reads the table as of a place in the order of the database's commits, and then what has changed up to another
+A source (`follow_sqlite`, `follow_postgres`) reads the table as of a place in the order of the database's commits, and then what has changed up to another
 place. The frame makes these changes at one moment, so that a question sees whole transactions, and all of those up to a place that is known.
 """
 import os
@@ -355,7 +355,10 @@ def source_of(connection: Any, table: str, key: str, columns: Optional[Sequence[
     if client == "sqlite3":
         from .follow_sqlite import SqliteSource
         return SqliteSource(connection, table, key, columns)
-    raise TypeError(f"connection is of type {type(connection).__name__}: not a connection of sqlite3")
+    if client in ("psycopg2", "psycopg"):
+        from .follow_postgres import PostgresSource
+        return PostgresSource(connection, table, key, columns, kinds)
+    raise TypeError(f"connection is of type {type(connection).__name__}: not a connection of sqlite3, psycopg2 or psycopg")
 
 
 def missing_row(key: Key) -> Refused:

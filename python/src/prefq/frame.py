@@ -146,7 +146,7 @@ class Frame:
     @classmethod
     def follow(cls, connection: Any, table: str, *, key: str = "id", columns: Optional[Sequence[str]] = None, kinds: Optional[Mapping[str, str]] = None,
                **options: Any) -> Followed:
-        """A frame that follows a table of a database: one of SQLite (a connection of sqlite3).
+        """A frame that follows a table of a database: one of SQLite (a connection of sqlite3), or of PostgreSQL 13 or later (one of psycopg2 or psycopg).
 
         Each call sees what is committed by then. The ids of the rows are the values of the column `key`, which are whole numbers or texts; `columns` are all
         others, where none are given. There may be any number of rows. The frame opens a connection of its own. What cannot be followed is `Refused`, of the kind
