@@ -12,7 +12,7 @@ from typing import Any, Collection, Dict, Iterator, List, Mapping, NamedTuple, O
 from .answer import Answer
 from .checks import MOST, whole
 from .columns import Column
-from .dealt import Asked, Begun, Dealt, Key, Numbers, ordered
+from .dealt import Asked, Begun, Dealt, Found, Key, Numbers, ordered
 from .errors import Ended, Refused
 from .frame_query import warn_of
 from .kinds import Floats, Whole
@@ -20,7 +20,7 @@ from .loading import check_known, column_of_values, decoded, encoded
 from .questions import Mode, read_question
 from .records import Record
 from .rows import Zipped
-from .translate import Plan
+from .translate import Plan, columns_in
 from .why import Rivals
 
 Cells = Sequence[Any]
@@ -52,7 +52,18 @@ class Changes(NamedTuple):
     place: int
     is_cleared: bool
     rows: Mapping[Key, Optional[Cells]]
-    count: Optional[int] = None
+    total: Optional[int] = None
+
+
+class Snapshot(NamedTuple):
+    """All rows and the answer to a question at one moment; `version` counts how often the rows have changed."""
+
+    version: int
+    columns: Sequence[Column]
+    rows: Mapping[Key, Numbers]
+    best: Sequence[Found]
+    plan: Plan
+    asked: Sequence[Column]
 
 
 class Source:
@@ -103,6 +114,7 @@ class Followed:
     def __init__(self, source: Source, kinds: Mapping[str, str], options: Mapping[str, Any]) -> None:
         check_known(list(kinds), source.columns)
         self.at = 0
+        self.version = 0        # how often the rows have changed
         self._source, self._kinds, self._options = source, dict(kinds), dict(options)
         self._owner = os.getpid()
         self._lock = threading.RLock()
@@ -126,7 +138,8 @@ class Followed:
 
     def __len__(self) -> int:
         """The number of rows."""
-        return self._surviving(len)
+        count: int = self._surviving(len)
+        return count
 
     def __bool__(self) -> bool:
         return True
@@ -170,7 +183,8 @@ class Followed:
 
     def refresh(self) -> int:
         """Takes in what the database has committed, and returns the place."""
-        return self._surviving(lambda _: self.at)
+        place: int = self._surviving(lambda _: self.at)
+        return place
 
     def get(self, id: Key) -> Record:
         """The row with this key."""
@@ -179,7 +193,9 @@ class Followed:
             if numbers is None:
                 raise missing_row(id)
             return _records(dealt.columns, [(None, id, numbers)])[0]
-        return self._surviving(found)
+
+        row: Record = self._surviving(found)
+        return row
 
     def rows(self) -> List[Record]:
         """All rows, in order of key: numbers, then texts."""
@@ -209,6 +225,19 @@ class Followed:
         asked, at, rows = self._answered(begun, lambda begun: (*begun, begun[0].answer()), is_there=place is not None)
         warn_of(asked.plan)
         return Answer(question, asked.columns, _records(asked.columns, rows), others=self.rows, at=at)
+
+    def snapshot(self, question: str) -> Snapshot:
+        """All rows and the answer to a question at one moment, as numbers."""
+        def begun(dealt: Dealt) -> Tuple[int, Sequence[Column], Asked, Begun]:
+            read = read_question(question, dealt.by_name.get, dealt.names, None)
+            return self.version, columns_in(read), dealt.begin(question, read), dealt.begin_all()
+
+        def answered(begun: Tuple[int, Sequence[Column], Asked, Begun]) -> Snapshot:
+            version, columns, asked, everything = begun
+            return Snapshot(version, asked.columns, everything.pairs(), asked.answer(), asked.plan, columns)
+
+        found: Snapshot = self._answered(begun, answered)
+        return found
 
     def why(self, id: Key, question: str) -> Answer:
         """The rows that dominate this one in a question: those because of which it is not in the answer."""
@@ -300,13 +329,15 @@ class Followed:
             return False        # where it is refused, if need be
         before = 0 if changes.is_cleared else len(dealt)
         had = {key for key in rows if not changes.is_cleared and dealt.has(key)}
-        if changes.count not in (None, before - len(had) + sum(numbers is not None for numbers in rows.values())):
+        if changes.total not in (None, before - len(had) + sum(numbers is not None for numbers in rows.values())):
             return False
         self._is_whole = False
         if changes.is_cleared:
             dealt.clear()
         if rows:
             dealt.change(rows)
+        if rows or changes.is_cleared:
+            self.version += 1
         self.at, self._is_whole = changes.place, True
         return True
 
@@ -333,6 +364,7 @@ class Followed:
         columns = [self._column(name, values[place], found.kinds.get(name), keys) for place, name in enumerate(self._source.columns)]
         dealt = Dealt([column for column, _ in columns], keys, Zipped([numbers for _, numbers in columns]), self._options)
         self._dealt = dealt
+        self.version += 1
         self.at, self._is_whole = found.place, True
 
     def _column(self, name: str, values: Sequence[Any], own: Optional[Column], keys: Sequence[Key]) -> Tuple[Column, Sequence[int]]:
