@@ -11,7 +11,7 @@ from .hints import unknown_column
 from .infer import kind_of_texts, kind_of_values, plain_column
 from .kinds import Kind, Texts, Whole, kind_named
 from .kinds.forms import PLAIN, Form
-from .kinds.numbers import Number
+from .kinds.numbers import Number, are_in_range
 from .missing import Missing, folded, note_of
 from .reading import Cells, Chunk, check_names, is_blank
 from .rows import WholeRows, Zipped
@@ -348,9 +348,24 @@ def rescaled(part: Part, kind: Kind) -> Iterable[int]:
 def column_of_values(name: str, values: Sequence[Any], kinds: Kinds) -> Encoded:
     """A column of Python's values, and its numbers."""
     given = kinds[name] if kinds and name in kinds else None
-    column = Column(name, kind_of_values(name, values) if given is None else given)
+    whole = plain_whole_numbers(values) if given is None else None
+    column = Column(name, Whole() if whole is not None else kind_of_values(name, values) if given is None else given)
     column.grows = given is None
-    return column, encoded(column, values)
+    if whole is None:
+        return column, encoded(column, values)
+    column.has_gaps = LEAST in whole
+    return column, whole
+
+
+def plain_whole_numbers(values: Sequence[Any]) -> Optional[List[int]]:
+    """The numbers of values that are nothing but Python's own whole numbers, and None, found without a look at each; None where there are others, or no number."""
+    types = set(map(type, values))
+    if int not in types or not types <= {int, type(None)}:
+        return None
+    present = [value for value in values if value is not None] if len(types) == 2 else values
+    if not are_in_range(present):
+        return None
+    return [LEAST if value is None else value for value in values]
 
 
 def encoded(column: Column, values: Sequence[Any]) -> List[int]:
