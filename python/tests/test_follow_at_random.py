@@ -21,7 +21,7 @@ from random_following import KEY, TABLE, Store, quoted
 from support import TestCase
 from test_follow import QUESTION, QUESTIONS, SEED
 
-SECONDS = float(os.environ.get("PREFQ_TEST_SECONDS", 5))
+SECONDS = float(os.environ.get("PREFQ_TEST_SECONDS", 3))
 QUESTIONS_OF_A_TABLE = 20
 ANSWERS = 9
 

@@ -27,7 +27,7 @@ from random_following import KEY, TABLE, Store, quoted
 from support import TestCase
 
 QUESTIONS = int(os.environ.get("PREFQ_TEST_COUNT", 1000))
-SECONDS = float(os.environ.get("PREFQ_TEST_SECONDS", 5))
+SECONDS = float(os.environ.get("PREFQ_TEST_SECONDS", 3))
 SEED = int(os.environ.get("PREFQ_TEST_SEED", 20260501))
 QUESTIONS_OF_A_TABLE = 20
 OFFERS = "create table offers (id integer primary key, hotel text, price integer, dist integer)"
@@ -439,7 +439,7 @@ class StoreOfPostgres(Store):
 
 class RandomTransactions(OfPostgres):
     def test_answers_are_those_of_what_is_committed(self):
-        for number in range(max(1, QUESTIONS // QUESTIONS_OF_A_TABLE)):
+        for number in range(max(1, QUESTIONS // (2 * QUESTIONS_OF_A_TABLE))):
             chance = random.Random(SEED + number)
             with self.subTest(table=number), warnings.catch_warnings():
                 warnings.simplefilter("ignore", prefq.UnknownValue)
