@@ -52,8 +52,7 @@ def main(scheduler, folder, question):
         register = getattr(client, "register_plugin", None) or client.register_worker_plugin     # its name in new and in old versions
         register(SendPrefq(package(), Path(prefq.find_library()).read_bytes()))
         try:
-            for row in best(files, question, map=client.map):
-                print(f"level {row.level} row {row.id}: {','.join(map(str, row.values))}")
+            print(best(files, question, map=client.map).to_csv(), end="")
         except prefq.Error as why:
             sys.exit(str(why))
 

@@ -1,6 +1,6 @@
 #!/usr/bin/env python3
-"""Asks a question of a CSV file of whole numbers that has more rows than one table holds: the file is cut into parts, and `prefq.parts` asks them.
-Ids are the file's row numbers, from 1 on.
+"""Asks a question of a CSV file that has more rows than one table holds: `prefq.parts` cuts it into parts, and asks them. Ids are the file's row numbers, from
+1 on.
 
     python3 examples/parts/parts.py FILE.csv 'best low(price) * low(dist)'
     python3 examples/parts/parts.py --check [ROWS]      # over this number of random rows (200,000): compares with a plain program
@@ -12,7 +12,6 @@ from pathlib import Path
 
 sys.path.insert(0, str(Path(__file__).resolve().parent.parent.parent / "python/src"))
 import prefq
-from prefq.partition import text_of
 from prefq.parts import Partition, best
 
 PART = 50_000
@@ -20,7 +19,7 @@ PART = 50_000
 
 def answer(columns, rows, question):
     """The answer over all rows, part by part, on all processors: each part is asked on a thread."""
-    parts = [Partition(columns, rows[begin:begin + PART]) for begin in range(0, len(rows), PART)] or [Partition(columns, [])]
+    parts = [Partition(columns, rows[begin:begin + PART]) for begin in range(0, len(rows), PART)]
     with ThreadPoolExecutor() as pool:
         return best(parts, question, map=pool.map)
 
@@ -66,9 +65,7 @@ def main(file, *rest):
     if file == "--check":
         sys.exit(0 if check(int(rest[0]) if rest else 200_000) else 1)
     try:
-        columns, rows = text_of(file)
-        for row in answer(columns, rows, rest[0]):
-            print(f"level {row.level} row {row.id}: {','.join(map(str, row.values))}")
+        print(best([file], rest[0]).to_csv(), end="")
     except (prefq.Error, OSError, ValueError) as why:
         sys.exit(str(why))
 

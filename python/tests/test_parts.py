@@ -102,7 +102,7 @@ class Exact(unittest.TestCase):
     def test_levels_are_asked_for_in_turn(self):
         for question, levels in [("at_least 100 low(price) by city", [4, 16, 64, 100]), ("at_least 3 low(price)", [3]), ("best low(price)", [None]),
                                  ("at_least 000000003 low(price)", [3]), (f"at_least {'9' * 5000} low(price)", [None])]:
-            self.assertEqual([job.levels for job in parts._jobs(Job(question))], levels)
+            self.assertEqual([job.levels for job in Job(question).tries()], levels)
 
     def test_a_chain_needs_as_many_levels_as_rows(self):
         rows = [[number, number, 1] for number in range(40)]
@@ -136,9 +136,12 @@ class Exact(unittest.TestCase):
             self.assertEqual(best(partitions, question, reduce=lambda merge, items: reduce(lambda a, b: merge(b, a), reversed(list(items)))), wanted)
 
     def test_values_are_whole_numbers_of_64_bits(self):
-        rows = [[-2**63, 2**63 - 1], [2**63 - 1, -2**63]]
+        rows = [[-2**63 + 1, 2**63 - 1], [2**63 - 1, -2**63 + 1]]
         found = best([Partition(["a", "b"], rows)], "best low(a) * low(b)")
-        self.assertEqual([row.values for row in found], rows)
+        self.assertEqual([list(row.values()) for row in found], rows)
+        with self.assertRaises(ValueError) as caught:
+            best([Partition(["a", "b"], [[1, 2], [-2**63, 1]])], "best low(a) * low(b)")
+        self.assertIn("row 2, column 'a' (whole): -9223372036854775808 does not fit", str(caught.exception))
 
     def test_frames_of_pandas(self):
         needs(self, "pandas")
@@ -148,10 +151,9 @@ class Exact(unittest.TestCase):
             partitions = [pandas.DataFrame(some, columns=COLUMNS).astype(kind) for some in (rows[:25], rows[25:])]
             question = "at_least 9 low(price) * low(dist)"
             self.assertEqual(answered(best(partitions, question)), plain(rows, *QUESTIONS[question]))
-        for wrong in ([1.0, 2.0], [True, False], ["1", "2"], [1, None]):
-            with self.assertRaises(TypeError) as caught:
-                best([pandas.DataFrame({"price": [1, 2], "dist": wrong})], "best low(price)")
-            self.assertIn("column dist", str(caught.exception))
+        for other in ([1.5, 2.0], [True, False], ["1", "2"], [1, None]):
+            [row] = best([pandas.DataFrame({"price": [1, 2], "dist": other})], "best low(price)")
+            self.assertEqual((row.price, row.dist), (1, other[0]))
 
     def test_no_rows(self):
         self.assertEqual(best([Partition(COLUMNS, []), Partition(COLUMNS, [])], "best low(price)"), [])
@@ -175,24 +177,26 @@ class Files(unittest.TestCase):
             "empty lines": b"price,dist\n\n50,8\n\n80,2\n\n", "quotes and empty lines": b'price,dist\n\n"50",8\n\n80,2\n',
         }.items():
             with self.subTest(name):
-                self.assertEqual([tuple(row) for row in best([self.file(data)], "best low(dist)")], [(1, 2, [80, 2])])
+                [row] = best([self.file(data)], "best low(dist)")
+                self.assertEqual((row.level, row.id, dict(row)), (1, 2, {"price": 80, "dist": 2}))
                 self.assertEqual([row.id for row in best([str(self.file(data))], "top_level 2 low(dist)")], [2, 1])
 
     def test_a_fault_of_a_file_names_the_file_and_the_row(self):
         for data, exception, said in [
-            (b"price,dist\n50,8\n50,x\n", prefq.Refused, "row 2, column dist is 'x'"),
-            (b"price,dist\n50,8\n50,\n", prefq.Refused, "row 2"),
-            (b"price,dist\n50,8\n50\n", prefq.Refused, "row 2"),
-            (b"price,dist\n50,8\n60,9223372036854775808\n", prefq.Refused, "row 2"),
-            (b"price,dist\n50,8.5\n", prefq.Refused, "8.5"),
-            (b"", ValueError, "0 columns"),
-            (b"price (EUR),dist\n50,8\n", ValueError, "price (EUR)"),
-            (b"price,dist\n50,\xff\n", ValueError, "decode"),
+            (b"price,dist\n50,8\nx,5\n", prefq.Refused, "column 'price' has texts"),
+            (b"price,dist\n50,8\n50\n", prefq.Refused, "line 3: it has 1 cells"),
+            (b"", prefq.Refused, "is empty"),
+            (b"price,dist\n50,\xff\n", prefq.Refused, "byte 14"),
+            (b"price,price\n50,1\n", prefq.Refused, "two columns are called 'price'"),
         ]:
             with self.subTest(data=data), self.assertRaises(exception) as caught:
                 best([self.file(data)], "best low(price)")
-            self.assertIn("rows.csv: ", str(caught.exception))
             self.assertIn(said, str(caught.exception))
+            if caught.exception.kind == "table":
+                self.assertIn("rows.csv", str(caught.exception))
+        with self.assertRaises(ValueError) as caught:
+            best([self.file(b"price,dist\n50,8\n50.5,1\n")], "best low(price)", kinds={"price": "whole"})
+        self.assertIn("rows.csv: line 3, column 'price' (whole): 50.5 is no whole number", str(caught.exception))
         with self.assertRaises(FileNotFoundError):
             best([self.folder / "none.csv"], "best low(price)")
 
@@ -212,11 +216,11 @@ class Files(unittest.TestCase):
                     raise kept[key]
                 yield kept[key]
 
-        for data, wanted in [(b"price\n5\n", [5]), (b"price\n4\n", [4]), (b"price\nx\n", None), (b"price\n3\n", [3])]:
+        for data, wanted in [(b"price\n5\n", 5), (b"price\n4\n", 4), (b"price\nx\n", None), (b"price\n3\n", 3)]:
             for question in ("best low(price)", "at_least 1 low(price)"):
                 path = self.file(data)
                 if wanted:
-                    self.assertEqual(best([path], question, map=keeps)[0].values, wanted)
+                    self.assertEqual(best([path], question, map=keeps)[0].price, wanted)
                 else:
                     with self.assertRaises(prefq.Refused):
                         best([path], question, map=keeps)
@@ -233,30 +237,37 @@ class Files(unittest.TestCase):
             return map(function, items)
 
         found = best([path], "at_least 9 low(price) * low(dist)", map=changes)
-        self.assertEqual([(row.level, row.id, row.values[0]) for row in found], [(level, level, 999 + level) for level in range(1, 10)])
+        self.assertEqual([(row.level, row.id, row.price) for row in found], [(level, level, 999 + level) for level in range(1, 10)])
 
     def test_a_file_that_is_written_to_while_it_is_read(self):
-        path = self.file(as_csv([[1, 2, 3]]))
+        """While its columns are read, or its rows that are left."""
+        from prefq.reading import Cells
+        for call in ("chunks", "rows_at"):
+            path, before = self.file(as_csv([[1, 2, 3]])), getattr(Cells, call)
 
-        class Reads(io.FileIO):
-            def read(self, *size):
-                found = super().read(*size)
+            def writes(cells, *words, before=before):
+                found = before(cells, *words)
+                found = list(found) if not isinstance(found, dict) else found
                 with open(path, "ab") as file:
                     file.write(b"4,5,6\n")
                 return found
 
-        with mock.patch("builtins.open", lambda path, mode: Reads(path) if mode == "rb" else io.FileIO(path, mode)):
-            with self.assertRaises(prefq.Refused) as caught:
+            with self.subTest(call), mock.patch.object(Cells, call, writes), self.assertRaises(prefq.Refused) as caught:
                 best([path], "best low(price)")
-        self.assertIn("rows.csv: the file was written to while it was read", str(caught.exception))
-        self.assertEqual(len(best([path], "best low(price)")), 1)
+            self.assertIn("rows.csv was written to while it was read", str(caught.exception))
+            self.assertEqual(len(best([path], "best low(price)")), 1)
 
     def test_rows_of_a_partition_that_is_cut_are_counted_in_it(self):
         rows = [f"{number},1" for number in range(90)]
         rows[77] = "5"
-        with mock.patch.object(parts, "MOST_ROWS", 40), self.assertRaises(prefq.Refused) as caught:
+        with mock.patch.object(parts, "MOST_ROWS", 40), self.assertRaises(ValueError) as caught:
             best([Partition(["price", "dist"], rows)], "best low(price)")
         self.assertIn("row 78", str(caught.exception))
+
+    def test_rows_that_can_be_had_once_are_kept_for_the_tries_of_at_least(self):
+        rows = [[number, number, 1] for number in range(40)]
+        found = best([Partition(COLUMNS, iter(rows))], "at_least 9 low(price) * low(dist)")
+        self.assertEqual(answered(found), [(level, level) for level in range(1, 10)])
 
 
 class Refusals(unittest.TestCase):
@@ -265,12 +276,19 @@ class Refusals(unittest.TestCase):
             with self.subTest(rows=rows), self.assertRaises(TypeError):
                 best([Partition(["a"], rows)], "best low(a)")
 
-    def test_rows_that_are_not_whole_numbers(self):
-        for rows in ([[1.5, 2]], [[True, 2]], [["7", 2]], [[None, 2]], [5], [{"a": 1, "b": 2}]):
+    def test_rows_that_are_none(self):
+        for rows in ([5], [{"a": 1, "b": 2}], [{1, 2}], [None]):
             with self.subTest(rows=rows), self.assertRaises(TypeError):
                 best([Partition(["a", "b"], rows)], "best low(a)")
         with self.assertRaises(ValueError):
             best([Partition(["a", "b"], [[1]])], "best low(a)")
+        for source in (5, None, b"a.csv"):
+            with self.subTest(source=source), self.assertRaises(TypeError) as caught:
+                best([source], "best low(a)")
+            self.assertIn("a partition is a path, a Partition or a DataFrame", str(caught.exception))
+        with self.assertRaises(TypeError) as caught:
+            best([Partition(["a"], [[1]])], "best low(a)", sep=";")
+        self.assertIn("it is called 'delimiter' here", str(caught.exception))
 
     def test_a_question_is_refused_at_its_own_place(self):
         for question, place in [("best low(prize)", 9), ("at_least 40 low(prize)", 16), ("at_least 1001 low(price)", 9), (f"at_least {'9' * 900} low(price)", 9), ("at_least40 low(price)", 0),
@@ -279,12 +297,11 @@ class Refusals(unittest.TestCase):
                 best([Partition(COLUMNS, [[1, 2, 3]])], question)
             self.assertEqual((caught.exception.kind, caught.exception.place), ("term", place))
             self.assertEqual(str(caught.exception).splitlines()[-1].index("^") - 4, place)
-        # The longest question: that of the parts has one byte more.
-        long = f"at_least 5 low(price{' ' * 4075})"
-        self.assertEqual(len(long), 4096)
-        for question in (long, "", "best low(price)\nas 1 room", "best low(price)\r"):
+        # The longest question; blanks are not sent.
+        self.assertEqual(len(best([Partition(COLUMNS, [[1, 2, 3]])], f"at_least 5 low(price{' ' * 5000})")), 1)
+        for question in (f"best {' * '.join(['low(price)'] * 700)}", "", "best low(price)\nas 1 room"):
             with self.subTest(question=question), self.assertRaises(prefq.Refused):
-                best([Partition(COLUMNS, [])], question)
+                best([Partition(COLUMNS, [[1, 2, 3]])], question)
         with self.assertRaises(TypeError):
             best([Partition(COLUMNS, [])], None)
 
@@ -292,8 +309,8 @@ class Refusals(unittest.TestCase):
         with self.assertRaises(ValueError):
             best([], "best low(price)")
         with self.assertRaises(prefq.Refused) as caught:
-            best([Partition(["a", "b"], [[1, 2]]), Partition(["b", "a"], [[1, 2]])], "best low(a)")
-        self.assertIn("different columns: a, b and b, a", str(caught.exception))
+            best([Partition(["a", "b"], [[1, 2]]), Partition(["a", "c"], [[1, 2]])], "best low(a)")
+        self.assertIn("different columns: a, b and a, c", str(caught.exception))
 
     def test_one_partition_in_place_of_a_list(self):
         class Frame:
@@ -311,8 +328,8 @@ class Refusals(unittest.TestCase):
                 return []
 
         for partitions, said in [("a.csv", "one path: give a list"), (Path("a.csv"), "one path"), (b"a.csv", "one path"), (Partition(["a"], [[1]]), "one partition"),
-                                 (Pandas(), "a DataFrame: give a list of DataFrames, or ask it by prefq.psel"), (Dask(), "a DataFrame of Dask"),
-                                 ([Pandas(), Dask()], "partition 2 is a DataFrame of Dask: give its partitions, client.compute(frame.to_delayed())")]:
+                                 (Pandas(), "a DataFrame: give a list of DataFrames, or ask it by prefq.psel"),
+                                 ([Pandas(), Dask()], "partition 2 is a DataFrame of Dask: give it alone, in place of the list")]:
             with self.subTest(said), self.assertRaises(TypeError) as caught:
                 best(partitions, "best low(price)")
             self.assertIn(said, str(caught.exception))
@@ -329,7 +346,8 @@ class Refusals(unittest.TestCase):
         self.assertEqual((left.left, left.count, left.kind), (70_000, 80_000, "parts"))
         job = Job("best low(a)")
         part = job.part(Partition(["a"], [[3], [1]]))
-        self.assertEqual(pickle.loads(pickle.dumps((job, part))), (job, part))
+        again, left = pickle.loads(pickle.dumps((job, part)))
+        self.assertEqual((again, list(left.places), left.rows), (job, [1], part.rows))
 
 
 class Engines(unittest.TestCase):
@@ -386,7 +404,7 @@ class Engines(unittest.TestCase):
             question = "at_least 9 low(price) * low(dist)"
             done = self.example("dask_workers.py", f"tcp://{place}", self.folder, question)
             refused = self.example("dask_workers.py", f"tcp://{place}", self.folder, "best low(prize)")
-        self.assertEqual([tuple(map(int, line.replace(":", "").split()[1:4:2])) for line in done.stdout.splitlines()], self.wanted[question], done.stderr)
+        self.assertEqual(printed(done), self.wanted[question], done.stderr)
         self.assertEqual(refused.returncode, 1)
         self.assertIn("no column 'prize'", refused.stderr)
 
@@ -398,15 +416,15 @@ class Engines(unittest.TestCase):
         environment = {**package_path(), "OMPI_ALLOW_RUN_AS_ROOT": "1", "OMPI_ALLOW_RUN_AS_ROOT_CONFIRM": "1"}
         done = subprocess.run(["mpiexec", "--oversubscribe", "-n", "3", sys.executable, "-m", "mpi4py.futures", str(EXAMPLES / "mpi.py"), self.folder, question],
                               env=environment, stdout=subprocess.PIPE, stderr=subprocess.PIPE, universal_newlines=True, timeout=120)
-        self.assertEqual([tuple(map(int, line.replace(":", "").split()[1:4:2])) for line in done.stdout.splitlines()], self.wanted[question], done.stderr)
+        self.assertEqual(printed(done), self.wanted[question], done.stderr)
 
     def test_the_examples_of_a_pool_and_a_cut_file(self):
         question = "best low(price) * low(dist)"
         done = self.example("pool.py", self.folder, question, "2")
-        self.assertEqual([tuple(map(int, line.replace(":", "").split()[1:4:2])) for line in done.stdout.splitlines()], self.wanted[question], done.stderr)
+        self.assertEqual(printed(done), self.wanted[question], done.stderr)
         done = self.example("parts.py", str(self.files[0]), question)
         self.assertEqual(done.returncode, 0, done.stderr)
-        self.assertEqual(len(done.stdout.splitlines()), len(best(self.files[:1], question)))
+        self.assertEqual(printed(done), answered(best(self.files[:1], question)))
 
     def example(self, name, *words):
         return subprocess.run([sys.executable, str(EXAMPLES / name), *words], env=package_path(), stdout=subprocess.PIPE, stderr=subprocess.PIPE,
@@ -419,14 +437,14 @@ def on_dask(*files):
     from distributed import Client, LocalCluster
     options = {"dashboard_address": None, "memory_limit": None, "silence_logs": "ERROR", "local_directory": str(Path(files[0]).parent)}
     with LocalCluster(n_workers=2, threads_per_worker=1, **options) as cluster, Client(cluster) as client:
-        frames = client.compute(dataframe.read_csv(list(files), blocksize=None).to_delayed())
+        frame = dataframe.read_csv(list(files), blocksize=None)
         try:
             refused = best(files, "best low(prize)", map=client.map)
         except prefq.Refused as why:
             refused = [type(why).__name__, why.kind, why.number, why.place]
         print(json.dumps({"refused": refused, "answers": {question: answered(best(files, question, map=client.map)) for question in QUESTIONS},
                           "changed": list(after_changes(client, Path(files[0]).with_name("changed.csv"))),
-                          "frames": answered(best(frames, next(iter(QUESTIONS)), map=client.map))}))
+                          "frames": answered(best(frame, next(iter(QUESTIONS))))}))
 
 
 def after_changes(client, path):
@@ -436,10 +454,15 @@ def after_changes(client, path):
         path.write_text(text)
         kept.append(client.map(Job("best low(price)").part, [path]))
         try:
-            yield best([path], "best low(price)", map=client.map)[0].values
+            yield [best([path], "best low(price)", map=client.map)[0].price]
         except prefq.Refused as why:
             kept.append(why)
             yield "refused"
+
+
+def printed(done):
+    """The levels and ids of an answer that a process printed as CSV."""
+    return [tuple(map(int, line.split(",")[:2])) for line in done.stdout.splitlines()[1:]]
 
 
 def needs(test, module):

@@ -43,11 +43,13 @@ class Answer(List[Record]):
     """
 
     def __init__(self, question: str, columns: Iterable[Column], records: Iterable[Record], *, others: Optional[Callable[[], Iterable[Record]]] = None,
-                 index: Optional[Callable[[Sequence[Record]], Any]] = None, at: Optional[int] = None) -> None:
+                 index: Optional[Callable[[Sequence[Record]], Any]] = None, at: Optional[int] = None, notes: Iterable[str] = ()) -> None:
         super().__init__(records)
         self.question = question
         self.columns = tuple(columns)
         self.at = at
+        # What is to be known of how the data were read, where they were read for this answer.
+        self.notes = list(notes)
         self._others = others
         self._index = index
 

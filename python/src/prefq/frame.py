@@ -45,7 +45,8 @@ class Frame:
 
     def __init__(self, columns: Iterable[Column], rows: Iterable[Sequence[Any]] = (), **options: Any) -> None:
         columns = tuple(columns)
-        self._open(columns, Zipped([encoded(column, values) for column, values in zip(columns, zip(*(values_of(row, columns) for row in rows)))]), options)
+        values = zip(*(values_of(row, columns) for row in fitting(rows, "rows")))
+        self._open(columns, Zipped([encoded(column, some) for column, some in zip(columns, values)]), options)
 
     def _open(self, columns: Sequence[Column], rows: WholeRows, options: Dict[str, Any], index: Any = None, notes: Iterable[str] = (), ids: Ids = Ids()) -> None:
         check_options(options, TABLE_OPTIONS, "Frame")
@@ -93,11 +94,29 @@ class Frame:
         (Column('x', 'whole'), Column('y', 'float'))
         """
         check_options(options, ["columns", "kinds", *TABLE_OPTIONS], "Frame.from_records")
-        rows = [_mapping(record, row) for row, record in enumerate(records, 1)]
+        rows = [_mapping(record, row) for row, record in enumerate(fitting(records, "records"), 1)]
         there = list(dict.fromkeys(name for row in rows for name in row))
         names = chosen(there, columns)
         check_known(list(kinds or ()), there)
         return cls._of_numbers([column_of_values(name, [row.get(name) for row in rows], kinds) for name in names], options)
+
+    @classmethod
+    def from_sql(cls, cursor: Any, *, columns: Optional[Sequence[str]] = None, kinds: Optional[Mapping[str, str]] = None, **options: Any) -> "Frame":
+        """The frame of the rows that a cursor of Python's DB-API has, behind a query that was executed. NULL is missing.
+
+        >>> import prefq, sqlite3
+        >>> offers = sqlite3.connect(":memory:").execute("SELECT 'Lyon' AS city, 57.5 AS price UNION SELECT 'Bern', NULL ORDER BY city")
+        >>> with prefq.Frame.from_sql(offers) as frame:
+        ...     frame.rows()
+        [<id 1: {'city': 'Bern', 'price': None}>, <id 2: {'city': 'Lyon', 'price': 57.5}>]
+        """
+        from .cursors import fetched, names_of
+        check_options(options, ["columns", "kinds", *TABLE_OPTIONS], "Frame.from_sql")
+        there = names_of(cursor)
+        names = chosen(list(there), columns)
+        check_known(list(kinds or ()), there)
+        rows = list(fitting((row for some in fetched(cursor, there) for row in some), "rows of the query"))
+        return cls._of_numbers([column_of_values(name, [row[there.index(name)] for row in rows], kinds) for name in names], options)
 
     @classmethod
     def from_dataframe(cls, dataframe: Any, *, columns: Optional[Sequence[str]] = None, kinds: Optional[Mapping[str, str]] = None,
@@ -473,6 +492,14 @@ class Frame:
         """The records of rows, each with its level and id."""
         values = decoded(opened.columns, [numbers for _, _, numbers in found])
         return [Record(zip(opened.names, row), id=id, level=level) for (level, id, _), row in zip(found, values)]
+
+
+def fitting(some: Iterable[Any], what: str) -> Iterator[Any]:
+    """The same, of which there may be as many as a table holds: one more is `Refused`, without a look at those behind it."""
+    for number, one in enumerate(some, 1):
+        if number > MOST_ROWS:
+            raise Refused(f"there are more than {MOST_ROWS} {what}, which no table holds: prefq.psel and prefq.parts ask more", "table")
+        yield one
 
 
 def _mapping(record: Any, row: int) -> Dict[str, Any]:

@@ -1,7 +1,7 @@
 """A query of a frame, and what is to be done about what its question says."""
 import sys
 import warnings
-from typing import Any, Callable, Dict, List, Optional, Sequence, Tuple
+from typing import Any, Callable, Dict, Iterable, List, Optional, Sequence, Tuple
 
 from .answer import Answer
 from .query import Progress, Query
@@ -79,8 +79,13 @@ def without_twins(rows: List[Row], asked: Plan) -> List[Row]:
 
 def warn_of(asked: Plan) -> None:
     """Warns of the values of a question that no row has, at the caller's line."""
+    warn(asked.unknown)
+
+
+def warn(messages: Iterable[str]) -> None:
+    """Warns of values that no row has, at the caller's line."""
     level = 2
     while sys._getframe(level - 1).f_globals.get("__package__") == __package__ and sys._getframe(level - 1).f_back:
         level += 1
-    for message in asked.unknown:
+    for message in messages:
         warnings.warn(message, UnknownValue, stacklevel=level)

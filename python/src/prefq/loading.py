@@ -24,16 +24,22 @@ MOST_KNOWN = 65_536
 
 
 class File:
-    """The columns of a file, of which one is only understood once it is needed. `notes` say, by column, which words were taken for missing."""
+    """The columns of a file, of which one is only understood once it is needed."""
 
     def __init__(self, cells: Cells, kinds: Kinds = None, missing: Missing = Missing(None), form: Form = PLAIN) -> None:
         self.cells = cells
-        self.notes: Dict[str, str] = {}
+        # The words that were taken for missing, each with the number of its rows, by column.
+        self.words: Dict[str, Dict[str, int]] = {}
         self.rows = 0
         self._kinds = dict(kinds or {})
         self._missing, self._form = missing, form
         self._columns: Dict[str, Encoded] = {}
         check_known(list(self._kinds), cells.names)
+
+    @property
+    def notes(self) -> Dict[str, str]:
+        """What is to be known of each column in which words were taken for missing."""
+        return {name: note_of(name, counts) for name, counts in self.words.items()}
 
     def load(self, names: Iterable[str]) -> None:
         """Reads these columns, all in one pass through the file."""
@@ -88,7 +94,7 @@ class File:
             self._columns[reader.name] = reader.encoded()
             counts = reader.words_taken()
             if counts:
-                self.notes[reader.name] = note_of(reader.name, counts)
+                self.words[reader.name] = counts
 
     def _pass(self, readers: Sequence["ColumnReader"], chunks: Iterable[Chunk]) -> None:
         place_of = {name: place for place, name in enumerate(self.cells.names)}
@@ -311,6 +317,17 @@ class ColumnReader:
                 yield column.encode(text)
             except (TypeError, ValueError) as why:
                 raise CellRefused(texts.index(text), why) from None
+
+
+def column_of_texts(name: str, texts: List[str], kind: Optional[str], missing: Missing, form: Form) -> Encoded:
+    """A column of the texts of a file, and its numbers."""
+    reader = ColumnReader(name, kind, missing, form)
+    reader.add(texts)
+    reader.end()
+    if reader.is_mixed:
+        reader.add(texts)
+        reader.end()
+    return reader.encoded()
 
 
 def joined_kind(parts: Sequence[Part]) -> Optional[Kind]:

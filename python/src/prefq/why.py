@@ -36,10 +36,14 @@ class Rivals:
 
         What dominates a row that dominates the target is among them too, so their levels are those that they have among all rows.
         """
-        over = self._over(self._values[self._target], {*self._values.values()} - {self._values[self._target]})
-        found = sorted({*(id for id, values in self._values.items() if values in over), *self._twins})
+        found = self.ids()
         levels = self._levels(found)
         return sorted(((id, levels.get(id)) for id in found), key=lambda pair: (pair[1] or LEVELS + 1, pair[0]))
+
+    def ids(self) -> List[int]:
+        """The ids of the rows that dominate the target, in order."""
+        over = self._over(self._values[self._target], {*self._values.values()} - {self._values[self._target]})
+        return sorted({*(id for id, values in self._values.items() if values in over), *self._twins})
 
     def _over(self, target: Values, others: Iterable[Values]) -> Set[Values]:
         """Those of the values that dominate those of the target. Each of them and the target are a group of their own, of which the target is not among
