@@ -1,10 +1,12 @@
 """What several tests use."""
+import importlib.util
 import multiprocessing
 import os
 import signal
 import time
 import unittest
 from contextlib import contextmanager
+from pathlib import Path
 
 import prefq
 
@@ -87,6 +89,21 @@ def in_a_fork(function):
         return receiver.recv()
     finally:
         os.waitpid(pid, 0)
+
+
+def printed(done):
+    """The levels and ids of an answer that a process printed as CSV."""
+    return [tuple(map(int, line.split(",")[:2])) for line in done.stdout.splitlines()[1:]]
+
+
+def needs(test, module):
+    if not importlib.util.find_spec(module):
+        test.skipTest(f"{module} is not installed")
+
+
+def package_path():
+    """The environment in which Python finds this package."""
+    return {**os.environ, "PYTHONPATH": str(Path(prefq.__file__).parents[1])}
 
 
 class TestCase(unittest.TestCase):

@@ -13,7 +13,6 @@ import sqlite3
 import subprocess
 import sys
 import tempfile
-import time
 import unittest
 from concurrent.futures import ProcessPoolExecutor, ThreadPoolExecutor
 from concurrent.futures.process import BrokenProcessPool
@@ -24,8 +23,7 @@ from unittest import mock
 import prefq
 from prefq.__main__ import main
 from prefq.parts import Partition, best, why
-from support import TestCase
-from test_parts import needs, package_path, printed
+from support import TestCase, needs, package_path, printed
 
 try:
     import pandas
@@ -275,6 +273,23 @@ class Limits(TestCase):
             path.write_text("price\n" + "5\n" * 66_000 + "no number\n" * 100_000)
             with self.refuses(prefq.Refused, "large.csv has more than 65536 rows", "prefq.psel", "prefq.parts", kind="table"):
                 prefq.Frame.from_csv(path, kinds={"price": "whole"})
+
+    def test_records_and_dataframes_of_any_number_are_asked_by_psel(self):
+        """Tables of 30 rows here."""
+        chance = random.Random(9)
+        records = [{"x": chance.choice([1, 2, 2.5, None]), "y": chance.randrange(9), "z": chance.choice("ab")} for _ in range(100)]
+        frame = pandas and pandas.DataFrame(records)
+        for text, mode in [("low(x) * high(y)", {}), ("low(x) & low(y)", {"top_level": 3}), ("low(y) by z", {"at_least": 20}), ("skyline of distinct x min, y min", {})]:
+            with self.subTest(text):
+                wanted = prefq.psel(records, text, **mode)
+                with mock.patch("prefq.select.MOST_ROWS", 30):
+                    found = prefq.psel(records, text, **mode)
+                    rows = None if frame is None else prefq.psel(frame, text, **mode)
+                self.assertEqual((found, found.ids, found.levels), (wanted, wanted.ids, wanted.levels))
+                if rows is not None:
+                    self.assertEqual((list(rows.index + 1), list(rows[".level"])), (wanted.ids, wanted.levels))
+        with mock.patch("prefq.select.MOST_ROWS", 30), self.refuses(TypeError, "has no option 'capacity'"):
+            prefq.psel(records, "low(x)", capacity=5)
 
     def test_a_cursor_without_rows(self):
         cursor = sqlite3.connect(":memory:").cursor()

@@ -207,14 +207,31 @@ class Files(TestCase):
         self.assertEqual(best(self.files("price\n1\nx\n"), "best low(price)", missing=["X"]).notes, ["column 'price': 'x' (1 row) taken for missing; missing=[..] says otherwise"])
 
     def test_a_file_with_nothing_but_words_for_missing(self):
-        """They may be texts, so it says which file that is."""
-        files = self.files("price\n1\n", "price\nn/a\n-\n")
-        with self.refuses(prefq.Refused, "1.csv: column 'price' has texts", "nothing there but words", "kinds={'price': 'whole'}", kind="term", place=5):
-            best(files, "best low(price)")
-        with self.refuses(prefq.Refused, "column 'price' is whole in ", "0.csv and text in ", "1.csv"):
-            best(files, "best pos(price, 1)")
-        self.assertEqual(best(files, "best low(price)", kinds={"price": "whole"}).ids, [1])
-        self.assertEqual(best(files, "best low(price)", missing=["n/a", "-"]).ids, [1])
+        """They are missing beside numbers, texts beside texts, and where there is nothing else, as in a frame."""
+        words, note = "price,n\nn/a,1\n-,2\n,3\n", ["column 'price': 'n/a' (1 row), '-' (1 row) taken for missing; missing=[..] says otherwise"]
+        for other, question, ids, notes in [
+            ("price,n\n1,4\n", "top_level 2 low(price) & low(n)", [4, 1], note), ("price,n\n1,4\n", "best pos(price, '1')", [4], note),
+            ("price,n\nx,4\n", "best pos(price, '-')", [2], []), ("price,n\nx,4\n", "best high(n) by price", [1, 2, 3, 4], []),
+            ("price,n\n1,4\n", "best high(n) by price", [3, 4], note), ("price,n\n", "best pos(price, '-')", [2], []),
+            ("n,price\n4,none\n", "best pos(price, 'none')", [4], []), ("price,n\ntrue,4\n", "top_level 9 high(price)", [4, 1, 2, 3], note),
+        ]:
+            for texts in ([words, other], [other, words]):
+                with self.subTest(question=question, texts=texts):
+                    answer = best(self.files(*texts), question)
+                    moved = len(other.splitlines()) - 1 if texts[0] == other else 0
+                    rows = [id + moved if id < 4 else 1 if moved else id for id in ids]
+                    self.assertEqual((sorted(answer.ids), sorted(answer.notes)), (sorted(rows), sorted(notes)))
+        for question in ("best low(price)", "best around(price, 1)"):
+            with self.refuses(prefq.Refused, "column 'price' has", kind="term"):
+                best(self.files(words, words), question)
+        with self.refuses(prefq.Refused, "no order", kind="term"):
+            best(self.files(words, "price,n\nx,4\n"), "best low(price)")
+
+    def test_why_beside_a_file_with_nothing_but_words(self):
+        files = self.files("price,n\nn/a,1\n-,2\n", "price,n\n1,4\n", "price,n\nn/a,9\n")
+        found = parts.why(files, 4, "best low(price) & low(n)")
+        self.assertEqual((found.ids, found.levels), ([3, 1, 2], [1, 2, 3]))
+        self.assertEqual(parts.why(files[::2], 3, "best pos(price, 'n/a') & low(n)").ids, [1])
 
     def test_the_file_in_which_a_column_is_one_of_texts(self):
         with self.refuses(prefq.Refused, "1.csv: column 'price' has texts ('x' is no number)", kind="term", place=5):

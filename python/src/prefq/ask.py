@@ -20,7 +20,8 @@ from .missing import Missing
 from .partition import Reading
 from .reading import Dialect, is_blank, read_csv
 from .records import Record
-from .select import names_in, selected
+from .questions import names_in
+from .select import selected
 from .streams import FULL, NotWritten, complain, give_up_output, standard_input, write
 from .visible import in_xml, visible
 

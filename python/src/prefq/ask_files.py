@@ -10,9 +10,8 @@ from .answer import Answer
 from .engines import watched
 from .errors import Ended, Refused
 from .frame_query import warn
-from .missing import note_of
 from .partition import Reading
-from .parts import Found, Job, found_in, records_of
+from .parts import Found, Job, found_in, notes_of, records_of
 from .reading import Progress
 from .records import Record
 
@@ -47,8 +46,7 @@ class FilesAnswer(Answer):
     def __init__(self, job: Job, found: Found) -> None:
         columns, records = records_of(found.rows, found.levels, job.reading)
         self._cells = dict(zip((record.id for record in records), in_one_order(found, [column.name for column in columns])))
-        notes = [note_of(name, counts) for name, counts in found.rows.words.items()]
-        super().__init__(job.question, columns, sorted(records, key=lambda row: (row.level, row.id)), notes=notes)
+        super().__init__(job.question, columns, sorted(records, key=lambda row: (row.level, row.id)), notes=notes_of(found.rows, job.reading))
 
     def cells(self, record: Record) -> List[str]:
         return [str(record.level), str(record.id), *self._cells[record.id]]

@@ -5,7 +5,7 @@ from typing import Any, Iterable, List, Sequence, Tuple
 from .loading import CellRefused, Encoded, column_of_texts, column_of_values
 from .missing import Missing
 from .partition import Reading
-from .widening import Segment, joined
+from .widening import Segment, as_in_a_frame, joined
 
 
 class Rows:
@@ -94,7 +94,7 @@ class FrameRows(Rows):
 def column_of(rows: Sequence[Rows], name: str, reading: Reading) -> Segment:
     """A column of rows of several sources, in their order: of each kind of source it is read at once, and these are brought together."""
     runs = [list(run) for _, run in groupby(rows, type)]
-    return joined([Segment.of(*type(run[0]).column(run, name, reading), "some rows", is_given=name in reading.kinds) for run in runs])
+    return as_in_a_frame(joined([Segment.of(*type(run[0]).column(run, name, reading), "some rows", is_given=name in reading.kinds) for run in runs]))
 
 
 def frame_of(rows: Sequence[Any]) -> Any:

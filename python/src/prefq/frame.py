@@ -94,7 +94,7 @@ class Frame:
         (Column('x', 'whole'), Column('y', 'float'))
         """
         check_options(options, ["columns", "kinds", *TABLE_OPTIONS], "Frame.from_records")
-        rows = [_mapping(record, row) for row, record in enumerate(fitting(records, "records"), 1)]
+        rows = list(mappings(fitting(records, "records")))
         there = list(dict.fromkeys(name for row in rows for name in row))
         names = chosen(there, columns)
         check_known(list(kinds or ()), there)
@@ -502,8 +502,10 @@ def fitting(some: Iterable[Any], what: str) -> Iterator[Any]:
         yield one
 
 
-def _mapping(record: Any, row: int) -> Dict[str, Any]:
-    found = mapping_of(record)
-    if found is None:
-        raise TypeError(f"row {row} is no mapping, but {record!r}")
-    return found
+def mappings(records: Iterable[Any]) -> Iterator[Dict[str, Any]]:
+    """Records as mappings. One that is none is named with its row."""
+    for row, record in enumerate(records, 1):
+        found = mapping_of(record)
+        if found is None:
+            raise TypeError(f"row {row} is no mapping, but {record!r}")
+        yield found

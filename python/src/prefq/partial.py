@@ -2,6 +2,7 @@
 from array import array
 from bisect import bisect_left
 from dataclasses import dataclass, field, replace
+from itertools import product
 from typing import Any, Dict, Iterable, Iterator, List, Mapping, Sequence, Tuple
 
 from .carried import Rows
@@ -39,6 +40,10 @@ class Partial:
         """The same with only the rows that have these numbers among those left, ascending."""
         return replace(self, asked=tuple(segment.at(at) for segment in self.asked), places=array("q", [self.places[index] for index in at]),
                        rows=tuple(_rows_at(self.rows, at)))
+
+    def views(self) -> "Iterator[Partial]":
+        """The same rows for each way in which columns of nothing but words such as n/a may turn out: as texts, or as missing."""
+        return (replace(self, asked=asked) for asked in product(*(segment.views() for segment in self.asked)))
 
     def groups(self, names: Iterable[str]) -> List[Tuple[int, ...]]:
         """The numbers of each row in these columns."""

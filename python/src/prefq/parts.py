@@ -20,6 +20,7 @@ one a level behind n. So what parts have left may be a part in turn, to any dept
 compared, so a group may lie in many parts. Of equal rows, of which `skyline of distinct` keeps one, the one with the smallest id dominates the others here, and
 ids follow the order of the partitions in every part and every merge.
 """
+import builtins
 import csv
 import os
 from dataclasses import dataclass, field, replace
@@ -32,9 +33,9 @@ from .checks import MOST_IDS, MOST_ROWS, whole
 from .columns import Column
 from .errors import Refused
 from .frame_query import warn, without_twins
-from .kinds import Kind, Texts
+from .kinds import Texts
 from .loading import decoded
-from .missing import WORDS, folded, note_of
+from .missing import note_of
 from .once import ask_once
 from .partial import Partial, together
 from .partition import Partition, Reading, Source, called, is_of_dask, partitions_of
@@ -44,7 +45,7 @@ from .records import Record
 from .rows import Zipped
 from .sources import Opened, opened
 from .translate import Plan, columns_in, plan
-from .widening import Nothing, Segment
+from .widening import Nothing, Segment, as_in_a_frame
 
 MERGED = 8                 # partial results that one merge takes
 SHRINKS = 15 / 16          # rows that may be left of all rows where asking piece by piece goes on
@@ -98,7 +99,7 @@ class Job:
     >>> job = Job("best low(price)")
     >>> found = job.answer([job.part(Partition(["price"], [[7], [5]])), job.part(Partition(["price"], [[6], ["5"]]))])
     Traceback (most recent call last):
-    prefq.errors.Refused: column 'price' has values of int and str: a column has whole numbers, Decimals, floats, bools, dates, times or texts; leave it out by columns=[..], or give it a kind by kinds={..}
+    prefq.errors.Refused: column 'price' has values of int and str: ...
     >>> found = job.answer([job.part(Partition(["price"], [[7], [5]])), job.part(Partition(["price"], [[6], [5]]))])
     >>> list(found.rows.places), found.levels, found.is_whole
     ([1, 3], [1, 1], True)
@@ -138,9 +139,9 @@ class Job:
             left = self._narrowed(left)
         if len(left) > MOST_ROWS:
             raise RowsLeft(len(left), left.count)
+        left = replace(left, asked=tuple(map(as_in_a_frame, left.asked)))
         if not left.count:
             return Found(left, [], True)
-        left = replace(left, asked=tuple(map(_as_in_a_frame, left.asked)))
         asked = self.asked(left)
         found = sorted((at, level) for level, at in self._ask(asked, left, range(len(left))))
         rows = left.kept([at for at, _ in found])
@@ -154,22 +155,31 @@ class Job:
 
         def column(name: str) -> Optional[Column]:
             if name in source.names and name not in segments:
-                segments[name] = Segment.of(*source.column(name), what, is_given=name in self.reading.kinds)
+                segments[name] = Segment.of(*source.column(name), what, is_given=name in self.reading.kinds, has_words=source.has_words)
             return segments[name].column if name in segments else None
 
         question = read_question(self.question, column, [name for name in source.names if isinstance(name, str)], self.mode)
-        left = Partial(source.names, tuple(segments[found.name] for found in columns_in(question)), source.count, range(source.count), words=source.words)
-        asked = self._planned_in(left, what)
-        return replace(left, absent={(found.name, text): said for (found, text), said in zip(asked.absent, asked.unknown)})
-
-    def _planned_in(self, left: Partial, what: str) -> Plan:
-        """The plan of a question that was read; where a column's values are the reason why there is none, their file is named."""
+        asked = tuple(segments[found.name] for found in columns_in(question))
+        words = {**source.words, **{segment.column.name: segment.words() for segment in asked if segment.words()}}
+        left = Partial(source.names, asked, source.count, range(source.count), words=words)
         try:
-            return self.asked(left).plan
-        except Refused as why:
-            words = [segment.column.name for segment in left.asked if has_only_words(segment.column.kind)]
-            hint = f"; {words[0]!r} has nothing there but words for what is missing: give it its kind, as kinds={{{words[0]!r}: 'whole'}}" if words else ""
-            raise Refused(f"{what}: {why.args[0]}{hint}", why.kind, why.number, why.place, why.question) from None
+            planned = self.views(left)[0][0].plan
+        except Refused as why:      # by the values of a column, so it says in which file
+            raise Refused(f"{what}: {why.args[0]}", why.kind, why.number, why.place, why.question) from None
+        return replace(left, absent={(found.name, text): said for (found, text), said in zip(planned.absent, planned.unknown)})
+
+    def views(self, partial: Partial) -> List[Tuple[Asked, Partial]]:
+        """What the parts are asked of each way in which these rows may turn out, of which one at least has to take the question. `at_least` counts rows of the
+        whole, so parts are asked for levels."""
+        found, refused = [], None
+        for view in partial.views():
+            try:
+                found.append((self.asked(view, levels=self.levels), view))
+            except Refused as why:
+                refused = why
+        if refused is not None and not found:
+            raise refused
+        return found
 
     def asked(self, partial: Partial, *, levels: Optional[int] = None) -> Asked:
         """The question over these rows, or the one that asks for so many levels in its place."""
@@ -181,12 +191,13 @@ class Job:
         return Asked(question, plan(self.question, question, below), tuple(below.values()))
 
     def _narrowed(self, partial: Partial) -> Partial:
-        """Asks for the levels, one table after the other, and again of what is left, while that is more than one table holds and clearly shrinks. `at_least`
-        counts rows of the whole, so parts are asked for levels."""
-        asked = self.asked(partial, levels=self.levels)
+        """Asks for the levels, one table after the other, and again of what is left, while that is more than one table holds and clearly shrinks. What may be left
+        by any view stays: rows that are too many change no level (`levels_of_parts` holds of them as well)."""
+        views = self.views(partial)
         while True:
             pieces, before = _pieces(len(partial)), len(partial)
-            partial = partial.kept(sorted(at for piece in pieces for _, at in self._ask(asked, partial, piece)))
+            at = sorted({at for piece in pieces for asked, view in views for _, at in self._ask(asked, view, piece)})
+            partial, views = partial.kept(at), [(asked, view.kept(at)) for asked, view in views]
             if len(pieces) == 1 or len(partial) > SHRINKS * before:
                 return partial
 
@@ -267,7 +278,7 @@ def best(partitions: Iterable[Source], question: str, *, map: Callable[..., Any]
         1   3  Post    60.5     5
     """
     job = Job(question, reading=Reading.of(options, "prefq.parts.best"))
-    sources, engine = _sources(partitions, map)
+    sources, engine = _sources(partitions, map, reduce)
     return answer_of(found_in(job, sources, engine, reduce), job)
 
 
@@ -287,9 +298,11 @@ def why(partitions: Iterable[Source], id: int, question: str, *, map: Callable[.
     return dominators(job, *_sources(partitions, map), whole(id, "id", 0, MOST_IDS))
 
 
-def _sources(partitions: Any, map: Callable[..., Any]) -> Tuple[List[Any], Callable[..., Any]]:
+def _sources(partitions: Any, map: Callable[..., Any], reduce: Any = None) -> Tuple[List[Any], Callable[..., Any]]:
     """The partitions, and the engine that asks them: of a DataFrame of Dask its own scheduler."""
     if is_of_dask(partitions):
+        if map is not builtins.map or reduce is not None:
+            raise TypeError("a DataFrame of Dask is asked by Dask's own scheduler: leave out map= and reduce=")
         from .dask_frames import mapped, partitions_in
         return partitions_in(partitions), mapped
     sources = partitions_of(partitions)
@@ -329,8 +342,13 @@ def answer_of(found: Found, job: Job) -> Answer:
     """The rows of an answer as records, by level and then by id."""
     warn(found.rows.absent.values())
     columns, rows = records_of(found.rows, found.levels, job.reading)
-    notes = [note_of(name, counts) for name, counts in found.rows.words.items()]
-    return Answer(job.question, columns, sorted(rows, key=lambda row: (row.level, row.id)), notes=notes)
+    return Answer(job.question, columns, sorted(rows, key=lambda row: (row.level, row.id)), notes=notes_of(found.rows, job.reading))
+
+
+def notes_of(rows: Partial, reading: Reading) -> List[str]:
+    """What is to be known of how these rows were read: words are texts in a column of texts, unless they were given."""
+    texts = [segment.column.name for segment in rows.asked if isinstance(segment.column.kind, Texts)]
+    return [note_of(name, counts) for name, counts in rows.words.items() if name not in texts or reading.missing is not None]
 
 
 def records_of(left: Partial, levels: Sequence[Optional[int]], reading: Reading) -> Tuple[List[Column], List[Record]]:
@@ -340,19 +358,6 @@ def records_of(left: Partial, levels: Sequence[Optional[int]], reading: Reading)
     columns = [segment.column for segment in segments]
     values = decoded(columns, list(zip(*(segment.numbers for segment in segments))))
     return columns, [Record(zip(left.names, row), id=place + 1, level=level) for level, place, row in zip(levels, left.places, values)]
-
-
-def _as_in_a_frame(segment: Segment) -> Segment:
-    """A column of whose rows none has a value is one of texts, as in a frame."""
-    if not isinstance(segment.column.kind, Nothing):
-        return segment
-    column = segment.column.of_kind(Texts())
-    return segment._replace(column=column)
-
-
-def has_only_words(kind: Kind) -> bool:
-    """Whether a column of texts has nothing but words that are missing beside numbers, and texts beside texts."""
-    return isinstance(kind, Texts) and all(folded(text) in WORDS for text in kind.texts)
 
 
 def _pieces(count: int) -> List[range]:

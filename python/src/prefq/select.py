@@ -10,15 +10,15 @@ from .cursors import found_of, is_cursor
 from .engines import watched
 from .errors import Refused
 from .follow import Followed
-from .frame import TABLE_OPTIONS, Frame
+from .frame import TABLE_OPTIONS, Frame, mappings
 from .frame_query import warn, warn_of, without_twins
 from .loading import Encoded, check_known
 from .once import ask_once
 from .options import check_options
 from .partial import Partial
-from .partition import Reading, is_of_dask
+from .partition import Partition, Reading, is_of_dask
 from .parts import Job, answer_of, found_in
-from .questions import Mode, names_in, read_question
+from .questions import Mode, read_question
 from .reading import Progress, check_names
 from .rows import Row, Zipped
 from .translate import columns_in, plan
@@ -54,13 +54,25 @@ def psel(frame: Any, text: str, *, top_level: Optional[int] = None, at_least: Op
         return answer_of(found_of(frame, job), job)
     if hasattr(frame, "iloc") and hasattr(frame, "columns"):
         return _of_dataframe(frame, text, mode, kinds, options)
-    with Frame.from_records(frame, kinds=kinds, **options) as opened:
+    records = frame if isinstance(frame, list) else list(frame)
+    if len(records) > MOST_ROWS:
+        job = _job(text, mode, kinds, options)
+        return answer_of(found_in(job, _partitions_of(records), map), job)
+    with Frame.from_records(records, kinds=kinds, **options) as opened:
         return opened.answer(text, mode)
+
+
+def _partitions_of(records: Sequence[Any]) -> List[Partition]:
+    """Records as partitions that one table holds each: what one does not have is missing."""
+    rows = list(mappings(records))
+    names = list(dict.fromkeys(name for row in rows for name in row))
+    values = [[row.get(name) for name in names] for row in rows]
+    return [Partition(names, values[begin:begin + MOST_ROWS]) for begin in range(0, len(values), MOST_ROWS)]
 
 
 def _job(text: str, mode: Mode, kinds: Optional[Mapping[str, str]], options: Mapping[str, Any]) -> Job:
     """The question as one over partitions, whose tables are as they need to be."""
-    check_options(options, [], "psel of a cursor or a DataFrame of Dask")
+    check_options(options, [], "psel of more rows than one table holds, of a cursor, or of a DataFrame of Dask,")
     return Job(text, mode=mode, reading=Reading(kinds or {}))
 
 

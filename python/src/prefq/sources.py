@@ -15,6 +15,8 @@ class Opened:
     """A partition. `names` are those of its columns; `words` are those that were taken for missing, with the number of their rows, by column."""
 
     names: Tuple[Any, ...]
+    # Whether words such as n/a may be missing values.
+    has_words = False
 
     def __init__(self, names: Iterable[Any]) -> None:
         self.names = tuple(names)
@@ -43,6 +45,7 @@ class OpenedFile(Opened):
     def __init__(self, path: Any, reading: Reading) -> None:
         self._cells = read_csv(path, reading.dialect)
         super().__init__(self._cells.names)
+        self.has_words = reading.missing is None
         self._file = File(self._cells, reading.kinds, Missing(reading.missing), reading.form)
 
     @property

@@ -7,7 +7,7 @@ from typing import Any, Callable, Dict, List, Sequence, Tuple
 from .answer import Answer
 from .checks import MOST_ROWS
 from .errors import Refused
-from .parts import Job, Partial, in_partition, records_of, together, waited_for
+from .parts import Asked, Job, Partial, in_partition, records_of, together, waited_for
 from .partition import Source, called
 from .sources import Opened, opened
 from .why import LEVELS, Rivals
@@ -34,19 +34,22 @@ class Rivalry(Job):
         """The rows of a partition that dominate the target, which has this number among its rows: less than 0, or more than there are, where it is in another."""
         partition, target, place = item
         source, rows = self._rows(partition)
-        found = self.among(target, replace(rows, places=range(1, rows.count + 1)), place + 1).ids()
+        rivals = self.among(target, replace(rows, places=range(1, rows.count + 1)), place + 1)
+        found = sorted({id for some in rivals for id in some.ids()})
         left = rows.kept([id - 1 for id in found])
         return replace(left, asked=tuple(segment.alone() for segment in left.asked), rows=(source.rows_at(left.places),))
 
-    def among(self, target: Partial, rows: Partial, number: int) -> Rivals:
-        """The rivals of the target, which has this number, among rows whose numbers are their places."""
+    def among(self, target: Partial, rows: Partial, number: int) -> List[Rivals]:
+        """The rivals of the target, which has this number, among rows whose numbers are their places; for each way in which they may turn out."""
         both = together([replace(target, rows=()), replace(rows, rows=())])
-        asked = self.asked(both)
-        first, *others = zip(*(segment.numbers for segment in both.asked))
-        numbers: Dict[int, Tuple[int, ...]] = dict(zip(rows.places, others))
+        return [self._rivals(asked, view, rows.places, number) for asked, view in self.views(both)]
+
+    def _rivals(self, asked: Asked, view: Partial, places: Sequence[int], number: int) -> Rivals:
+        first, *others = zip(*(segment.numbers for segment in view.asked))
+        numbers: Dict[int, Tuple[int, ...]] = dict(zip(places, others))
         if numbers.get(number, first) != first:
             raise Refused(CHANGED, "table")
-        names = {id(segment.column): name for segment, name in zip(both.asked, asked.columns)}
+        names = {id(segment.column): name for segment, name in zip(view.asked, asked.columns)}
         return Rivals(self.question, asked.question, names, {**numbers, number: first}, number)
 
     def _rows(self, partition: Source) -> Tuple[Opened, Partial]:
@@ -72,6 +75,8 @@ def dominators(job: Rivalry, sources: Sequence[Any], map: Callable[..., Any], id
     left = waited_for(found)
     if len(left) > MOST_ROWS:
         raise Refused(f"{len(left)} rows dominate row {id}, and {MOST_ROWS} are compared at most", "parts")
-    levels = dict(job.among(target, replace(left, places=[place + 1 for place in left.places]), id).dominators())
+    rivals, *_ = job.among(target, replace(left, places=[place + 1 for place in left.places]), id)
+    levels = dict(rivals.dominators())
+    left = left.kept([at for at, place in enumerate(left.places) if place + 1 in levels])
     columns, rows = records_of(left, [levels[place + 1] for place in left.places], job.reading)
     return Answer(job.question, columns, sorted(rows, key=lambda row: (row.level or LEVELS + 1, row.id)))

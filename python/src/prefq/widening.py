@@ -4,7 +4,7 @@ from array import array
 from decimal import Decimal
 from fractions import Fraction
 from functools import reduce
-from typing import Any, Dict, Iterable, NamedTuple, Optional, Sequence, Tuple
+from typing import Any, Dict, Iterable, List, NamedTuple, Optional, Sequence, Tuple
 
 from .checks import LEAST
 from .columns import Column
@@ -12,6 +12,7 @@ from .errors import Refused
 from .kinds import Booleans, Choices, Floats, Kind, NotRead, Texts, Times, Whole
 from .kinds.moments import Dates
 from .kinds.numbers import Number
+from .missing import WORDS, folded
 
 
 class Nothing(Kind):
@@ -33,6 +34,10 @@ class Nothing(Kind):
         return Fraction(0)
 
 
+class Undecided(Texts):
+    """The kind of a column of a file whose cells are all words such as n/a: they are missing beside values of another kind, and texts beside texts."""
+
+
 class Segment(NamedTuple):
     """A column of some parts, its numbers, and the part from which its kind comes, as it is called in what is said."""
 
@@ -41,11 +46,15 @@ class Segment(NamedTuple):
     source: str
 
     @staticmethod
-    def of(column: Column, numbers: Iterable[int], source: str, *, is_given: bool = False) -> "Segment":
-        """The segment of one part, whose kind counts only where it `is_given` or there is a value."""
+    def of(column: Column, numbers: Iterable[int], source: str, *, is_given: bool = False, has_words: bool = False) -> "Segment":
+        """The segment of one part, whose kind counts only where it `is_given` or there is a value. Where the part `has_words`, these are perhaps missing."""
         found = numbers if isinstance(numbers, array) else array("q", numbers)
-        has_values = is_given or found.count(LEAST) < len(found)
-        own = column.of_kind(column.kind if has_values else Nothing())
+        kind = column.kind
+        if not is_given and found.count(LEAST) == len(found):
+            kind = Nothing()
+        elif has_words and isinstance(kind, Texts) and all(folded(text) in WORDS for text in kind.texts):
+            kind = Undecided(kind.texts)
+        own = column.of_kind(kind)
         own.has_gaps = LEAST in found
         return Segment(own, found, source)
 
@@ -53,9 +62,30 @@ class Segment(NamedTuple):
         """The same of these rows."""
         return self._replace(numbers=array("q", [self.numbers[place] for place in places]))
 
+    def words(self) -> Dict[str, int]:
+        """The words of a column of nothing else, each with the number of its rows."""
+        kind = self.column.kind
+        return {kind.decode(number): self.numbers.count(number) for number in set(self.numbers) - {LEAST}} if isinstance(kind, Undecided) else {}
+
+    def views(self) -> "List[Segment]":
+        """What the column may turn out to be: its words are texts, or they are missing."""
+        if not isinstance(self.column.kind, Undecided):
+            return [self]
+        missing = self.column.of_kind(Nothing())
+        missing.has_gaps = True
+        return [as_in_a_frame(self), self._replace(column=missing, numbers=array("q", [LEAST]) * len(self.numbers))]
+
     def alone(self) -> "Segment":
         """The same with a code book of just the texts that its rows have."""
         return joined([self]) if isinstance(self.column.kind, Texts) else self
+
+
+def as_in_a_frame(segment: Segment) -> Segment:
+    """A column of whose rows none has a value, or a word that may be one, is one of texts, as in a frame."""
+    kind = segment.column.kind
+    if not isinstance(kind, (Nothing, Undecided)):
+        return segment
+    return segment._replace(column=segment.column.of_kind(Texts(kind.texts if isinstance(kind, Undecided) else ())))
 
 
 def joined(segments: Sequence[Segment]) -> Segment:
@@ -66,12 +96,10 @@ def joined(segments: Sequence[Segment]) -> Segment:
     >>> some.column, list(some.numbers)
     (Column('price', 'decimal(2)'), [6000, 4990])
     """
-    with_values = [segment for segment in segments if not isinstance(segment.column.kind, Nothing)]
-    if not with_values:
-        widest = segments[0]
-    else:
-        widest = reduce(_wider, with_values)
-    kind = Texts() if isinstance(widest.column.kind, Texts) else widest.column.kind
+    with_values = [segment for segment in segments if not isinstance(segment.column.kind, (Nothing, Undecided))]
+    with_words = [segment for segment in segments if isinstance(segment.column.kind, Undecided)]
+    widest = reduce(_wider, with_values or with_words[:1] or segments[:1])
+    kind = type(widest.column.kind)() if isinstance(widest.column.kind, Texts) else widest.column.kind
     column = widest.column.of_kind(kind)
     numbers = array("q")
     for segment in segments:
@@ -122,6 +150,8 @@ def _have_one_line_of_time(one: Kind, other: Kind) -> bool:
 def _moved(segment: Segment, kind: Kind) -> "array[int]":
     """The numbers of a segment in a column of this kind."""
     own = segment.column.kind
+    if isinstance(own, Undecided) and not isinstance(kind, Texts):
+        return array("q", [LEAST]) * len(segment.numbers)
     if isinstance(own, Nothing) or not isinstance(own, Texts) and are_alike(own, kind):
         return segment.numbers
     codes: Dict[int, int] = {number: number if number == LEAST else _number(segment, number, kind) for number in dict.fromkeys(segment.numbers)}
