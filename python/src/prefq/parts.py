@@ -192,7 +192,7 @@ class Job:
 
     def _narrowed(self, partial: Partial) -> Partial:
         """Asks for the levels, one table after the other, and again of what is left, while that is more than one table holds and clearly shrinks. What may be left
-        by any view stays: rows that are too many change no level (`levels_of_parts` holds of them as well)."""
+        by any view stays: a row too many lies behind the levels that are asked for, there as in the whole, and changes none of them."""
         views = self.views(partial)
         while True:
             pieces, before = _pieces(len(partial)), len(partial)
