@@ -31,6 +31,8 @@ except ImportError:
 QUESTIONS = int(os.environ.get("PREFQ_TEST_COUNT", 100))
 SEED = int(os.environ.get("PREFQ_TEST_SEED", 20261129))
 QUESTIONS_OF_A_FRAME = 5
+# A word that no text of the random frames is. In a column that no question names it is a text, where the answer has no other value.
+GAP = "n/a"
 DAY = datetime.date(2026, 5, 1)
 NOON = datetime.datetime(2026, 5, 1, 12)
 
@@ -72,10 +74,13 @@ class Deal:
         with open(path, "w", newline="", encoding="utf-8") as file:
             writer = csv.writer(file)
             writer.writerow(names)
-            writer.writerows([["" if record[name] is None else self.cell(name, record[name]) for name in names] for record in self.narrower(records)])
+            words = {name: self.chance.choice(["", GAP]) for name, kind in self.columns.items() if not isinstance(kind, random_frames.Texts)}
+            writer.writerows([[self.cell(name, record[name], words.get(name, "")) for name in names] for record in self.narrower(records)])
         return path
 
-    def cell(self, name, value):
+    def cell(self, name, value, gap):
+        if value is None:
+            return gap
         return str(value) if type(value) is int else self.columns[name].cell(value)
 
 
@@ -98,7 +103,8 @@ class RandomParts(TestCase):
                         refused += 1
                         continue
                     self.assertEqual(list(zip(answer.levels, answer.ids)), question.answer(deal.rows), question.text)
-                    self.assertEqual([dict(row) for row in answer], [deal.rows[row.id] for row in answer], question.text)
+                    self.assertEqual([{name: None if value == GAP else value for name, value in row.items()} for row in answer], [deal.rows[row.id] for row in answer],
+                                     question.text)
         self.assertLessEqual(10 * refused, asked)
 
 
