@@ -235,6 +235,16 @@ class Files(TestCase):
         with self.refuses(prefq.Refused, "no order", kind="term"):
             best(self.files(words, "price,n\nx,4\n"), "best low(price)")
 
+    def test_words_in_a_column_that_no_question_names_beside_values_from_elsewhere(self):
+        """They are missing there, too; texts beside numbers are refused, with where they are."""
+        files = self.files("x,opened\n1,n/a\n", "x,opened\n1,soon\n")
+        days = Partition(["x", "opened"], [[1, DAY]])
+        for sources in ([files[0], days], [days, files[0]]):
+            answer = best(sources, "best low(x)")
+            self.assertEqual({row.opened for row in answer}, {None, DAY})
+        with self.refuses(prefq.Refused, "column 'opened' is text in the files and date in the rows in memory", kind="table"):
+            best([files[1], days], "best low(x)")
+
     def test_why_beside_a_file_with_nothing_but_words(self):
         files = self.files("price,n\nn/a,1\n-,2\n", "price,n\n1,4\n", "price,n\nn/a,9\n")
         found = parts.why(files, 4, "best low(price) & low(n)")

@@ -1,6 +1,6 @@
 """Whole rows as they came from a source: they go with the columns that are asked, and are understood once they are in an answer."""
 from itertools import chain, groupby
-from typing import Any, Iterable, List, Sequence, Tuple
+from typing import Any, Iterable, List, Sequence, Tuple, Type
 
 from .loading import CellRefused, Encoded, column_of_texts, column_of_values
 from .missing import Missing
@@ -94,7 +94,13 @@ class FrameRows(Rows):
 def column_of(rows: Sequence[Rows], name: str, reading: Reading) -> Segment:
     """A column of rows of several sources, in their order: of each kind of source it is read at once, and these are brought together."""
     runs = [list(run) for _, run in groupby(rows, type)]
-    return as_in_a_frame(joined([Segment.of(*type(run[0]).column(run, name, reading), "some rows", is_given=name in reading.kinds) for run in runs]))
+    return as_in_a_frame(joined([_segment(type(run[0]), run, name, reading) for run in runs]))
+
+
+def _segment(source: Type[Rows], run: Sequence[Rows], name: str, reading: Reading) -> Segment:
+    what = "the files" if source is CellRows else "the rows in memory" if source is ValueRows else "the DataFrames"
+    has_words = source is CellRows and reading.missing is None
+    return Segment.of(*source.column(run, name, reading), what, is_given=name in reading.kinds, has_words=has_words)
 
 
 def frame_of(rows: Sequence[Any]) -> Any:
