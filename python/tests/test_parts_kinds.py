@@ -87,10 +87,10 @@ class Deal:
 class RandomParts(TestCase):
     def test_random_parts(self):
         """Answers with whole rows, levels and ids, over a tree of merges of two."""
-        warnings.simplefilter("ignore", prefq.UnknownValue)
         chance, asked, refused = random.Random(SEED), 0, 0
         while asked < QUESTIONS:
-            with tempfile.TemporaryDirectory() as folder, mock.patch.object(parts, "MERGED", 2):
+            with tempfile.TemporaryDirectory() as folder, mock.patch.object(parts, "MERGED", 2), warnings.catch_warnings():
+                warnings.simplefilter("ignore", prefq.UnknownValue)
                 deal = Deal(chance, folder)
                 for _ in range(QUESTIONS_OF_A_FRAME):
                     question = random_frames.Questions(chance, deal.columns).question()
