@@ -10,6 +10,7 @@ from unittest import mock
 import prefq
 from prefq import parts
 from prefq.parts import Job, Partition, RowsLeft, best
+from support import needs
 
 COLUMNS = ["price", "dist", "city"]
 QUESTIONS = {
