@@ -103,9 +103,9 @@ def made_of(data, delimiter, null_padding, missing, form, kinds):
 def _opening(file):
     """The columns and their numbers, as the library gets them."""
     columns, rows = file.opening(file.cells.names, 65_536)
-    lines = rows.lines() if isinstance(rows, Zipped) else rows.text().splitlines()
-    assert len(lines) == len(rows)
-    return columns, list(zip(*([int(cell) for cell in line.decode().split(",")] for line in lines))) or [()] * len(columns)
+    lists = rows.columns if isinstance(rows, Zipped) else list(zip(*(map(int, line.split(b",")) for line in rows.text().splitlines()))) or [()] * len(columns)
+    assert {len(numbers) for numbers in lists} == {len(rows)}
+    return columns, lists
 
 
 def _loaded(file):

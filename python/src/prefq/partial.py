@@ -29,12 +29,10 @@ class Partial:
     def __len__(self) -> int:
         return len(self.places)
 
-    def cut(self, size: int) -> "Iterator[Partial]":
-        """Parts of so many rows that follow each other, where these are all of them and not yet fetched."""
-        for begin in range(0, self.count, size):
-            asked = tuple(segment._replace(numbers=segment.numbers[begin:begin + size]) for segment in self.asked)
-            count = min(size, self.count - begin)
-            yield Partial(self.names, asked, count, range(count))
+    def part(self, piece: range) -> "Partial":
+        """Rows that follow each other, where these are all of them and not yet fetched."""
+        asked = tuple(segment._replace(numbers=segment.numbers[piece.start:piece.stop]) for segment in self.asked)
+        return Partial(self.names, asked, len(piece), range(len(piece)))
 
     def kept(self, at: Sequence[int]) -> "Partial":
         """The same with only the rows that have these numbers among those left, ascending."""

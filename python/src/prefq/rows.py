@@ -75,29 +75,20 @@ class Packed(WholeRows):
 
 
 class Zipped(WholeRows):
-    """The rows of columns of numbers, or a range of them. The columns are arrays, which take nothing but whole numbers of 64 bits."""
+    """The rows of columns of numbers, which are arrays: these take nothing but whole numbers of 64 bits."""
 
-    def __init__(self, columns: Sequence[Sequence[int]], rows: Optional[range] = None) -> None:
-        self._columns = [column if isinstance(column, array) else array("q", column) for column in columns]
-        self._rows = range(len(self._columns[0]) if self._columns else 0) if rows is None else rows
+    def __init__(self, columns: Sequence[Sequence[int]]) -> None:
+        self.columns = [column if isinstance(column, array) else array("q", column) for column in columns]
 
     def __len__(self) -> int:
-        return len(self._rows)
-
-    def __getitem__(self, some: slice) -> "Zipped":
-        return Zipped(self._columns, self._rows[some])
+        return len(self.columns[0]) if self.columns else 0
 
     def opened(self, columns: Sequence[str], setup: Setup) -> Engine:
         found = array("q", bytes(BYTES * len(columns) * len(self)))
-        for place, column in enumerate(self._columns):
-            found[place::len(columns)] = column[self._rows.start:self._rows.stop]
+        for place, column in enumerate(self.columns):
+            found[place::len(columns)] = column
             let_others_run()
         return Engine.opened(columns, found.tobytes(), len(self), setup)
-
-    def lines(self) -> List[bytes]:
-        """The rows as lines of text."""
-        line = ",".join(["%d"] * len(self._columns))
-        return [(line % row).encode() for row in zip(*(column[self._rows.start:self._rows.stop] for column in self._columns))]
 
 
 def as_rows(numbers: Numbers) -> List[Row]:

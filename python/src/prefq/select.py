@@ -135,6 +135,7 @@ def selected(text: str, mode: Optional[Mode], names: Sequence[Any], load: Callab
 
 def _of_many(job: Job, rows: Partial, progress: Optional[Progress]) -> List[Row]:
     """The rows of an answer over more rows than one table holds, which are asked in parts on threads."""
+    pieces = [range(len(rows))[begin:begin + ROWS_OF_A_PART] for begin in range(0, len(rows), ROWS_OF_A_PART)]
     with ThreadPoolExecutor(os.cpu_count()) as pool:
-        found = found_in(job, [[part] for part in rows.cut(ROWS_OF_A_PART)], watched(pool.map, progress), first=lambda job: job.merge)
+        found = found_in(job, pieces, watched(pool.map, progress), first=lambda job: lambda piece: job.merge([rows.part(piece)]))
     return sorted(Row(level, place + 1, []) for level, place in zip(found.levels, found.rows.places))
