@@ -79,7 +79,7 @@ def measure(name, files, map, wanted, rounds):
             begun = time.monotonic()
             rows = best(files, question, map=map)
             times.append(time.monotonic() - begun)
-            right = [(row.level, row.id) for row in rows] == answer and all(row.values[OFFER] == row.id for row in rows)
+            right = [(row.level, row.id) for row in rows] == answer and all(row.offer == row.id for row in rows)
             same &= right
         print(f"{name} | {question} | {statistics.median(times):.2f} s | {len(rows)} rows, {'the same as by numpy' if right else 'OTHER THAN by numpy'} | load {os.getloadavg()[0]:.1f}", flush=True)
     return same
