@@ -453,6 +453,18 @@ class ManyTables(OfSqlite):
                 answer = frame.best(asked.text)
                 self.assertEqual(list(zip(answer.levels, answer.ids)), asked.answer(rows))
 
+    def test_more_rows_than_one_table_holds_are_left_by_all_of_them(self):
+        frame = self.offers(*((number, "x", number, 40 - number) for number in range(40)), capacity=16)
+        with unittest.mock.patch("prefq.dealt.MOST_ROWS", 30), self.refuses(prefq.Refused, "40 rows are left after each table was asked", kind="parts"):
+            frame.best(QUESTION)
+        self.assertEqual(len(frame.best(QUESTION)), 40)
+
+    def test_many_rows_that_are_left_are_asked_in_pieces(self):
+        frame = self.offers(*((number, "x", number % 20, number // 20) for number in range(60)), capacity=16)
+        found = frame.best("top_level 5 low(price) * low(dist)")
+        with unittest.mock.patch("prefq.dealt.MOST_ROWS", 30):
+            self.assertEqual(frame.best("top_level 5 low(price) * low(dist)").ids, found.ids)
+
     def test_a_question_sees_all_tables_as_they_were_at_its_begin(self):
         frame = self.offers(*((number, "x", number, number) for number in range(12)), capacity=4)
         begun = frame._dealt.begin_all()

@@ -264,8 +264,9 @@ class Asked:
         self._names = list(dealt.below.values())
         # Each level has a row, so the first k levels hold what `at_least k` wants of all rows.
         of_parts = replace(plain, mode="top_level") if question.mode == "at_least" and len(dealt.tables) > 1 else plain
+        self._text_of_parts = plan(text, of_parts, dealt.below).text
         try:
-            self._begun = Begun(dealt, plan(text, of_parts, dealt.below).text)
+            self._begun = Begun(dealt, self._text_of_parts)
         except Refused as why:
             raise self.plan.refusal(why) from None
 
@@ -277,11 +278,22 @@ class Asked:
         return rows if self._twins is None else list(_first_of_twins(rows, self._twins))
 
     def _merged(self, rows: List[Found]) -> List[Found]:
-        """The answer over the rows that the tables' answers have together."""
+        """The answer over the rows that the tables' answers have together. Refused where more of them are left than one table holds."""
+        while len(rows) > MOST_ROWS:
+            pieces = [rows[begin:begin + MOST_ROWS] for begin in range(0, len(rows), MOST_ROWS)]
+            fewer = [row for piece in pieces for row in self._asked_of(piece, self._text_of_parts)]
+            if len(fewer) == len(rows):
+                raise Refused(f"{len(rows)} rows are left after each table was asked, and one table holds {MOST_ROWS}: too few rows dominate others. Put what matters "
+                              "most before an &, leave out columns or groups, or ask for fewer levels", "parts")
+            rows = fewer
+        return self._asked_of(rows, self.plan.text)
+
+    def _asked_of(self, rows: List[Found], text: str) -> List[Found]:
+        """The answer over these rows, as many as one table holds."""
         if not rows:
             return []
         try:
-            found = ask_once(self._names, Zipped(list(zip(*(row.numbers for row in rows)))), self.plan.text)
+            found = ask_once(self._names, Zipped(list(zip(*(row.numbers for row in rows)))), text)
         except Refused as why:
             raise self.plan.refusal(why) from None
         return [rows[row.id - 1]._replace(level=row.level) for row in found]

@@ -83,6 +83,9 @@ class Zipped(WholeRows):
     def __len__(self) -> int:
         return len(self.columns[0]) if self.columns else 0
 
+    def __getitem__(self, some: slice) -> "Zipped":
+        return Zipped([column[some] for column in self.columns])
+
     def opened(self, columns: Sequence[str], setup: Setup) -> Engine:
         found = array("q", bytes(BYTES * len(columns) * len(self)))
         for place, column in enumerate(self.columns):
