@@ -3,7 +3,7 @@
 
     PYTHONPATH=python/src /usr/bin/python3 bench/files.py [ROUNDS]
 
-Needs the built program, and pandas. Each figure is a median of the processor time of Python and of the program that it starts; a ratio is the median of those to
+Needs the built library, and pandas. Each figure is a median of the processor time of Python and of the program that it starts; a ratio is the median of those to
 the time that pandas.read_csv takes for the same file right before. Of `ask` the peak memory is printed too, beside that of a Python that has only imported prefq.
 """
 import datetime

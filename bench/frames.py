@@ -4,7 +4,7 @@ what missing values cost. (bench/files.py measures how files are read.)
 
     PYTHONPATH=python/src /usr/bin/python3 bench/frames.py [ROUNDS]
 
-Needs the built program, and pandas for the DataFrame. Each figure is a median of wall time, with Python's processor time behind it.
+Needs the built library, and pandas for the DataFrame. Each figure is a median of wall time, with Python's processor time behind it.
 """
 import csv
 import datetime

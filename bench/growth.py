@@ -1,13 +1,14 @@
 #!/usr/bin/env python3
 """Shows how the time of a `prefq` grows from 1,024 to 65,536 rows, beside the plain Rust program.
 
-    growth.py PREFQ_BINARY [--svg FILE] [--instructions] [--only WORD] [--most SECONDS] [--rounds N] [--sqlite]
+    growth.py PREFQ_BINARY [--svg FILE] [--instructions] [--only WORD] [--most SECONDS] [--rounds N] [--sqlite] [--against WAY]
 
 Runs each growing workload at each size, and prints a table in Markdown: the processor time of the whole process (the median of
 the rounds) at each size, then by what power of the number of rows it grows over the last three doublings, and then prefq_rs and
 prefq_rs --sharp at the largest size that each reached. `--svg` writes the same as a plot, one small one for each workload.
 `--instructions` counts instructions by callgrind in place of time: no noise, but slow, so give it `--only` or an evening.
 A workload is not run at a larger size once a run took more than `--most` seconds (20 where not said).
+`--against known` (or fast, rescan, plain) puts that way of prefq_rs in the place of --sharp.
 `--sqlite` adds what sqlite in memory takes for a skyline by `NOT EXISTS`: the query alone, the table is there already."""
 import argparse
 import math
@@ -30,7 +31,7 @@ class Measured:
     def __init__(self, args):
         self.args = args
         self.binary = os.path.abspath(args.binary)
-        self.ways = {"prefq": [self.binary], "prefq_rs": [runs.PREFQ_RS], "prefq_rs --sharp": [runs.PREFQ_RS, "--sharp"]}
+        self.ways = {"prefq": [self.binary], "prefq_rs": [runs.PREFQ_RS], f"prefq_rs --{args.against}": [runs.PREFQ_RS, "--" + args.against]}
 
     def cost(self, command, script, play):
         """Seconds, or millions of instructions; None where it takes too long or fails."""
@@ -115,7 +116,7 @@ def row_of(name, found, args):
     ours = found.get("prefq", {})
     grows = power(ours)
     cells = [name, *(text_of(ours.get(size), args) for size in workloads.SIZES), f"{grows:.1f}" if grows is not None else ""]
-    for way in ("prefq_rs", "prefq_rs --sharp", *(["sqlite"] if args.sqlite else [])):
+    for way in ("prefq_rs", f"prefq_rs --{args.against}", *(["sqlite"] if args.sqlite else [])):
         costs = found.get(way, {})
         largest = max(costs, default=None)
         note = "" if largest in (None, workloads.SIZES[-1]) else f" ({largest:,} rows)"
@@ -132,10 +133,11 @@ def main():
     parser.add_argument("--most", type=float, default=20)
     parser.add_argument("--rounds", type=int, default=3)
     parser.add_argument("--sqlite", action="store_true")
+    parser.add_argument("--against", choices=runs.WAYS, default="sharp")
     args = parser.parse_args()
     runs.build()
     measured = Measured(args)
-    ways = ["prefq_rs", "--sharp", *(["sqlite"] if args.sqlite else [])]
+    ways = ["prefq_rs", "--" + args.against, *(["sqlite"] if args.sqlite else [])]
     heads = ["workload", *(f"{size:,}" for size in workloads.SIZES), "power", *ways]
     print("| " + " | ".join(heads) + " |\n|" + "---|" * len(heads), flush=True)
     panels = {}

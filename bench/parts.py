@@ -4,8 +4,8 @@
     python3 bench/parts.py [--rows 5000000] [--rounds 3] [--pool 4] [--dask 1 2 4] [--folder FOLDER]
 
 Writes files of 250,000 rows, once, computes the answers with numpy, and then times each engine; an answer that is another one is named, and the status is 1.
-Needs numpy, pandas and, for --dask, distributed: on Debian python3-pandas and python3-distributed, so run it by /usr/bin/python3. Takes the program that
-PREFQ_PROGRAM names, else crates/prefq/out/prefq.
+Needs numpy, pandas and, for --dask, distributed: on Debian python3-pandas and python3-distributed, so run it by /usr/bin/python3. Takes the library that
+PREFQ_LIBRARY names, else library/out/libprefq.so.
 """
 import argparse
 import os
@@ -21,7 +21,7 @@ import pandas
 TOP = Path(__file__).resolve().parent.parent
 sys.path.insert(0, str(TOP / "python/src"))
 os.environ["PYTHONPATH"] = str(TOP / "python/src")
-os.environ.setdefault("PREFQ_PROGRAM", str(TOP / "crates/prefq/out/prefq"))
+os.environ.setdefault("PREFQ_LIBRARY", str(TOP / "library/out/libprefq.so"))
 from prefq.parts import best
 
 FILE = 250_000
@@ -79,7 +79,7 @@ def measure(name, files, map, wanted, rounds):
             begun = time.monotonic()
             rows = best(files, question, map=map)
             times.append(time.monotonic() - begun)
-            right = [(row.level, row.id) for row in rows] == answer and all(row.values[OFFER] == row.id for row in rows)
+            right = [(row.level, row.id) for row in rows] == answer and all(row.offer == row.id for row in rows)
             same &= right
         print(f"{name} | {question} | {statistics.median(times):.2f} s | {len(rows)} rows, {'the same as by numpy' if right else 'OTHER THAN by numpy'} | load {os.getloadavg()[0]:.1f}", flush=True)
     return same

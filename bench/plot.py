@@ -2,10 +2,13 @@
 import math
 from html import escape
 
+import runs
+
 COLUMNS = 4
 WIDTH, HEIGHT = 230, 170  # of a panel
 LEFT, RIGHT, TOP, BOTTOM = 44, 10, 24, 26
-COLOURS = {"prefq": "#c0392b", "prefq_rs": "#7f8c8d", "prefq_rs --sharp": "#2980b9", "sqlite": "#27ae60"}
+# a plot has one of the ways of prefq_rs, beside the one without a name
+COLOURS = {"prefq": "#c0392b", "prefq_rs": "#7f8c8d", **{f"prefq_rs --{way}": "#2980b9" for way in runs.WAYS}, "sqlite": "#27ae60"}
 STYLE = """text { font: 10px sans-serif; fill: #222 } .name { font-weight: bold } .axis { stroke: #bbb; stroke-width: 0.5 }
 path { fill: none; stroke-width: 1.6 } .guide { stroke: #444; stroke-width: 0.8; stroke-dasharray: 2 3 }"""
 

@@ -1,11 +1,11 @@
 #!/usr/bin/env python3
-"""Compares a program with prefq_rs and prefq_rs --sharp on random scripts.
+"""Compares a program with prefq_rs, prefq_rs --sharp and prefq_rs --known on random scripts; without a program these three ways.
 
-    random_scripts.py PREFQ_BINARY [--count N] [--seed N]
+    random_scripts.py [PREFQ_BINARY] [--count N] [--seed N]
 
-Small tables, also sorted, reversed, with few values and with all rows best; random terms, groups and levels; blocks and windows of many
-sizes; updates beside the scans, and the same question again after them. Stops at the first script whose outputs differ, and writes it
-to differs.txt."""
+Small tables, also sorted, reversed, with few values and with all rows best; random terms, products of three to six keys, groups and
+levels; blocks and windows of many sizes; updates beside the scans, and the same question again after them. Stops at the first script
+whose outputs differ, and writes it to differs.txt."""
 import argparse
 import os
 import random
@@ -14,7 +14,7 @@ import sys
 
 import runs
 
-COLUMNS = "abcd"
+COLUMNS = "abcdef"
 
 
 def base(r):
@@ -31,11 +31,19 @@ def term(r, depth):
     return f"({term(r, depth - 1)} {r.choice('*&')} {term(r, depth - 1)})"
 
 
+def product(r):
+    """Three to six keys, which are of different columns at times."""
+    count = r.randrange(3, 7)
+    if r.random() < .5:
+        return " * ".join(base(r) for _ in range(count))
+    return " * ".join(f"{r.choice(['low', 'low', 'high'])}({column})" for column in r.sample(COLUMNS, count))
+
+
 def rows(r, count, values):
     found = [[r.randrange(values) for _ in COLUMNS] for _ in range(count)]
     arrival = r.choice(["sorted", "reversed", "front", "random", "random"])
     if arrival == "front":
-        return [[a, values - a, c, d] for a, _, c, d in found]
+        return [[a, values - a, *others] for a, _, *others in found]
     return found if arrival == "random" else sorted(found, reverse=arrival == "reversed")
 
 
@@ -45,7 +53,8 @@ def script(r):
     cap = count + r.randrange(3)
     block, window = r.choice([1, 3, 16, 100, cap, 2000]), r.choice([1, 2, 7, 64, 1000])
     mode = r.choice(["best", "best", "top_level 2", "top_level 5", "top_level 1000", "at_least 7", "at_least 100"])
-    begin = f"as 1 begin {mode} {term(r, r.choice([0, 1, 1, 2, 2, 3]))}{r.choice([' by d', ' by c, d', '', ''])}"
+    asked = product(r) if r.random() < .4 else term(r, r.choice([0, 1, 1, 2, 2, 3]))
+    begin = f"as 1 begin {mode} {asked}{r.choice([' by d', ' by c, d', '', ''])}"
     lines = ["table", ",".join(COLUMNS), *(",".join(map(str, row)) for row in rows(r, count, values)), "end", begin]
     blocks = -(-cap // block)
     for _ in range(blocks):
@@ -58,12 +67,14 @@ def script(r):
 
 def main():
     parser = argparse.ArgumentParser(description=__doc__, formatter_class=argparse.RawDescriptionHelpFormatter)
-    parser.add_argument("binary")
+    parser.add_argument("binary", nargs="?")
     parser.add_argument("--count", type=int, default=1000)
     parser.add_argument("--seed", type=int, default=1)
     args = parser.parse_args()
     runs.build()
-    ways = [os.path.abspath(args.binary)], [runs.PREFQ_RS], [runs.PREFQ_RS, "--sharp"]
+    ways = [[runs.PREFQ_RS, *way] for way in ([], ["--sharp"], ["--known"])]
+    if args.binary:
+        ways.append([os.path.abspath(args.binary)])
     r = random.Random(args.seed)
     for _ in range(args.count):
         text, play = script(r)

@@ -19,6 +19,7 @@ BUILT = os.path.join(BASELINE, "target", "release")
 PREFQ_RS = os.path.join(BUILT, "prefq_rs")
 PEAK = os.path.join(BUILT, "peak")
 WORK = os.path.join(HERE, "work")
+WAYS = ["sharp", "fast", "known", "rescan", "plain"]
 
 
 @dataclass

@@ -1,10 +1,11 @@
 #!/usr/bin/env python3
 """Shows which shapes of data are slow: fronts, one score, ties, few values, groups, in order and shuffled, by PREFQ and by plain Rust.
 
-    shapes.py PREFQ_BINARY [--rows N] [--most SECONDS] [--only WORD] [--blocks] [--windows]
+    shapes.py PREFQ_BINARY [--rows N] [--most SECONDS] [--only WORD] [--blocks] [--windows] [--against WAY]
 
 Prints for each shape and arrival the user time of PREFQ and of prefq_rs --sharp, in ratio to what the load of the same table takes
 (the same script without the question), and whether both wrote the same. A short run is made several times, and its time is the mean.
+`--against known` (or fast, rescan, plain) puts that way of prefq_rs in the place of --sharp.
 `--rows` are at most 65,536, which is the default. A run is stopped after `--most` seconds of processor time (20 where not said), and
 its time and ratio are bounds (`>`). `--only` takes the shapes that have the word in their name or their arrival. `--blocks` takes
 blocks of 1, 16, 1,024 and all rows in place of 1,024, and `--windows` windows of 1, 64 and all in place of 64."""
@@ -18,7 +19,7 @@ import workloads
 
 ENOUGH, ROUNDS = 0.3, 15  # seconds that the runs of a script take together, and how many they are at most
 SLACK = 20  # how many times its processor time a run may take beside other work
-HEADS = ["shape", "arrival", "block", "window", "load ms", "prefq ms", "prefq/load", "--sharp ms", "--sharp/load", "prefq/--sharp", "output"]
+HEADS = ["shape", "arrival", "block", "window", "load ms", "prefq ms", "prefq/load", "{0} ms", "{0}/load", "prefq/{0}", "output"]
 
 
 def short(number):
@@ -57,12 +58,12 @@ def taken(command, lines, play, most):
     return Taken(found)
 
 
-def verdict(prefq, sharp):
-    if prefq.fault or sharp.fault:
-        return prefq.fault or sharp.fault
-    if prefq.bound or sharp.bound:
+def verdict(prefq, other):
+    if prefq.fault or other.fault:
+        return prefq.fault or other.fault
+    if prefq.bound or other.bound:
         return "stopped"
-    return "same" if prefq.digest == sharp.digest else "DIFFERS"
+    return "same" if prefq.digest == other.digest else "DIFFERS"
 
 
 def size(number):
@@ -74,7 +75,7 @@ class Measured:
 
     def __init__(self, args):
         self.args = args
-        self.commands = [os.path.abspath(args.binary)], [runs.PREFQ_RS, "--sharp"]
+        self.commands = [os.path.abspath(args.binary)], [runs.PREFQ_RS, "--" + args.against]
         self.loads = {}
 
     def both(self, lines, play):
@@ -88,10 +89,10 @@ class Measured:
 
     def row(self, name, arrival, block, window):
         """A line of the table in Markdown."""
-        load, load_of_sharp = self.load(name, arrival)
-        prefq, sharp = self.both(*workloads.shape(name, arrival, self.args.rows, block, window))
-        times = [str(load), str(prefq), prefq.over(load), str(sharp), sharp.over(load_of_sharp), prefq.over(sharp)]
-        return "| " + " | ".join([name, arrival, size(block), size(window), *times, verdict(prefq, sharp)]) + " |"
+        load, load_of_other = self.load(name, arrival)
+        prefq, other = self.both(*workloads.shape(name, arrival, self.args.rows, block, window))
+        times = [str(load), str(prefq), prefq.over(load), str(other), other.over(load_of_other), prefq.over(other)]
+        return "| " + " | ".join([name, arrival, size(block), size(window), *times, verdict(prefq, other)]) + " |"
 
 
 def main():
@@ -102,12 +103,14 @@ def main():
     parser.add_argument("--only", default="")
     parser.add_argument("--blocks", action="store_true")
     parser.add_argument("--windows", action="store_true")
+    parser.add_argument("--against", choices=runs.WAYS, default="sharp")
     args = parser.parse_args()
     runs.build()
     os.makedirs(runs.WORK, exist_ok=True)
     measured = Measured(args)
     choices = workloads.blocks_and_windows(workloads.BLOCKS if args.blocks else [1024], workloads.WINDOWS if args.windows else [64])
-    print("| " + " | ".join(HEADS) + " |\n|" + "---|" * len(HEADS), flush=True)
+    heads = [head.format("--" + args.against) for head in HEADS]
+    print("| " + " | ".join(heads) + " |\n|" + "---|" * len(heads), flush=True)
     for name in workloads.SHAPES:
         for arrival in workloads.ARRIVALS:
             if args.only in f"{name} {arrival}":

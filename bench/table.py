@@ -1,9 +1,9 @@
 #!/usr/bin/env python3
-"""Measures the Python package's table beside sqlite3 of the standard library: rows a second, and what a question takes beside the program's own time.
+"""Measures the Python package's table beside sqlite3 of the standard library, in memory, in one run: processor microseconds of a call, and their ratio.
 
     PYTHONPATH=python/src python3 bench/table.py [ROUNDS]
 
-Needs the built program. The rounds alternate, and each figure is a median.
+Needs the built library. The rounds alternate, and each figure is a median.
 """
 import random
 import sqlite3
@@ -14,72 +14,75 @@ import time
 import prefq
 
 COUNT = 60_000
-SINGLE = 10_000
+SINGLE = 5_000
 COLUMNS = ["a", "b", "c", "d"]
+INSERT = "insert into t(a, b, c, d) values(?, ?, ?, ?)"
 QUESTION = "best low(a) * low(b)"
 
 
-def seconds(call):
-    begun = time.perf_counter()
+def microseconds(calls, call):
+    """Of this process, for each of so many calls."""
+    begun = time.process_time()
     call()
-    return time.perf_counter() - begun
+    return (time.process_time() - begun) * 1e6 / calls
 
 
-def database():
+def each(call):
+    """Calls it for each id."""
+    def calls():
+        for id in range(1, SINGLE + 1):
+            call(id)
+    return calls
+
+
+def database(rows=()):
     connection = sqlite3.connect(":memory:")
     connection.execute("create table t(id integer primary key, a, b, c, d)")
+    connection.executemany(INSERT, rows)
     return connection
 
 
-def one_round(rows):
-    """Rows a second by each way."""
-    insert = "insert into t(a, b, c, d) values(?, ?, ?, ?)"
-    tables = []
-    yield "opening with rows", COUNT / seconds(lambda: tables.append(prefq.Table(COLUMNS, rows)))
-    tables.pop().close()
-    yield "sqlite3, executemany", COUNT / seconds(lambda: database().executemany(insert, rows))
+def single_calls(rows):
+    """What one call takes, by the table and by sqlite3, over a thousand rows."""
+    execute = database(rows[:1000]).cursor().execute
+    with prefq.Table(COLUMNS, rows[:1000], capacity=65_536) as table:
+        yield "get", SINGLE, each(lambda id: table.get(id % 1000 + 1)), each(lambda id: execute("select a, b, c, d from t where id = ?", (id % 1000 + 1,)).fetchone())
+        yield ("update", SINGLE, each(lambda id: table.update(id % 1000 + 1, rows[id])),
+               each(lambda id: execute("update t set a = ?, b = ?, c = ?, d = ? where id = ?", (*rows[id], id % 1000 + 1))))
+        yield "insert", SINGLE, each(lambda id: table.insert(rows[id])), each(lambda id: execute(INSERT, rows[id]))
+
+
+def many_rows(rows):
+    """What a row takes, of many."""
+    filled, other = database(rows), database()
+    yield "opening", COUNT, lambda: prefq.Table(COLUMNS, rows).close(), lambda: database(rows)
     with prefq.Table(COLUMNS, capacity=65_536) as table:
-        yield "insert_many", COUNT / seconds(lambda: table.insert_many(rows))
-        yield "rows, all of them", COUNT / seconds(table.rows)
-        yield "get, one by one", SINGLE / seconds(lambda: [table.get(id) for id in range(1, SINGLE + 1)])
-        yield "update, one by one", SINGLE / seconds(lambda: [table.update(id, rows[id]) for id in range(1, SINGLE + 1)])
-    with prefq.Table(COLUMNS, capacity=65_536) as table:
-        yield "insert, one by one", SINGLE / seconds(lambda: [table.insert(row) for row in rows[:SINGLE]])
-        yield "commit of 8", SINGLE / seconds(lambda: [table.commit(*(("insert", row) for row in rows[at:at + 8])) for at in range(0, SINGLE, 8)])
-    connection = database()
-    yield "sqlite3, one by one", SINGLE / seconds(lambda: [connection.execute(insert, row) for row in rows[:SINGLE]])
+        yield "insert_many", COUNT, lambda: table.insert_many(rows), lambda: other.executemany(INSERT, rows)
+        yield "rows", COUNT, table.rows, lambda: filled.execute("select id, a, b, c, d from t order by id").fetchall()
 
 
-def question(rows):
-    """Milliseconds that a question takes: by the table, and by a plain talk of as many lines with the same program, which is the program's own time."""
-    with prefq.Table(COLUMNS, rows, capacity=65_536) as table:
-        by_table = seconds(lambda: table.best(QUESTION))
-        process = table._exchange._process
-        lines = [f"as 1 begin {QUESTION}", *["as 1 scan"] * 64, "as 1 finish"]
-
-        def talk():
-            process.send("".join(f"{line}\n" for line in lines).encode())
-            while not process.line().startswith("1 answer"):
-                pass
-            process.rest(by_answer)
-
-        by_answer = len(table.best(QUESTION))
-        return 1000 * by_table, 1000 * seconds(talk)
+def question(capacity):
+    """Microseconds of a question over a thousand rows, ten of which are in the answer."""
+    rows = [[number, 10 - number] if number < 10 else [number, 1000] for number in range(1000)]
+    with prefq.Table(["a", "b"], rows, capacity=capacity) as table:
+        table.best(QUESTION)
+        return microseconds(200, lambda: [table.best(QUESTION) for _ in range(200)])
 
 
 def main(rounds=5):
     chance = random.Random(1)
     rows = [[chance.randrange(10**6) for _ in COLUMNS] for _ in range(COUNT)]
-    found = {}
+    found, questions = {}, []
     for _ in range(int(rounds)):
-        for name, speed in one_round(rows):
-            found.setdefault(name, []).append(speed)
-    for name, speeds in found.items():
-        print(f"{name}: {statistics.median(speeds):,.0f} rows a second")
-    ratios = [mine / other for mine, other in zip(found["opening with rows"], found["sqlite3, executemany"])]
-    print(f"opening in ratio to executemany: {statistics.median(ratios):.2f}")
-    times = [question(rows) for _ in range(int(rounds))]
-    print("a question over {:,} rows: {:.1f} ms by the table, {:.1f} ms by the program itself".format(COUNT, *(statistics.median(some) for some in zip(*times))))
+        for calls in (single_calls, many_rows):
+            for name, count, ours, theirs in calls(rows):
+                found.setdefault(name, []).append((microseconds(count, ours), microseconds(count, theirs)))
+        questions.append((question(1024), question(65_536)))
+    for name, pairs in found.items():
+        mine, other = (statistics.median(some) for some in zip(*pairs))
+        print(f"{name}: {mine:.2f} microseconds, sqlite3 {other:.2f}, ratio {statistics.median(one / two for one, two in pairs):.2f}")
+    small, large = (statistics.median(some) for some in zip(*questions))
+    print(f"best 10 of 1,000 rows: {small:.1f} microseconds at a capacity of 1,024, {large:.1f} at 65,536")
 
 
 main(*sys.argv[1:])

@@ -27,7 +27,7 @@ TOP = Path(__file__).resolve().parent.parent
 DOCUMENT = TOP / "docs/DEFINITIONS.md"
 # The crates of this repository, lowest first, behind the one of the kit that they take definitions from.
 KIT_CRATE = "csv"
-CRATES = ["pref_table", "pref_term", "pref_sky", "pref_core", "pref_share", "pref_script"]
+CRATES = ["pref_table", "pref_term", "pref_sky", "pref_core", "pref_share", "pref_script", "prefq_c"]
 ALL_CRATES = [KIT_CRATE, *CRATES]
 SPOKEN_OF = {"read_input", "write_result", "LiveTable"}
 

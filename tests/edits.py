@@ -18,7 +18,7 @@ import contracts
 
 TOP = Path(__file__).resolve().parent.parent
 PAGE = TOP / "docs/EDITS.md"
-CRATES = ["pref_table", "pref_term", "pref_sky", "pref_core", "pref_share", "share_tests", "pref_script"]
+CRATES = ["pref_table", "pref_term", "pref_sky", "pref_core", "pref_share", "share_tests", "pref_script", "prefq_c"]
 # What an edit says of itself, and the heading of its column.
 COLUMNS = {"promise": "promise", "shows": "how the mistake shows", "clause": "clause that refuses it"}
 MOST_IN_A_CELL = 200

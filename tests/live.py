@@ -184,11 +184,11 @@ def at_a_terminal(program):
     process.wait()
 
 
-def from_python(program):
+def from_python():
     """What examples/live/README.md shows is printed, and the dashboard writes its pictures."""
     folder = TOP / "examples/live"
     blocks = dict(re.findall(r"^```(python|text)\n(.*?)^```$", (folder / "README.md").read_text(), re.MULTILINE | re.DOTALL))
-    setting = {**os.environ, "PYTHONPATH": str(TOP / "python/src"), "PREFQ_PROGRAM": program, "PYTHONDONTWRITEBYTECODE": "1"}
+    setting = {**os.environ, "PYTHONPATH": str(TOP / "python/src"), "PYTHONDONTWRITEBYTECODE": "1"}
     done = subprocess.run([sys.executable, "-c", blocks["python"]], env=setting, capture_output=True, text=True, timeout=60)
     if done.stdout + done.stderr != blocks["text"]:
         yield f"examples/live/README.md shows something else than {done.stdout + done.stderr}"
@@ -256,7 +256,7 @@ def main():
     checks = {
         "--long": [flat_memory(program, 10_000_000)],
         "--time": [exchange_time(program)],
-    }.get(flags[0] if flags else "", [same_as_played(program), one_reply_each(program), named_ends(program), at_a_terminal(program), from_python(program), flat_memory(program, 500_000)])
+    }.get(flags[0] if flags else "", [same_as_played(program), one_reply_each(program), named_ends(program), at_a_terminal(program), from_python(), flat_memory(program, 500_000)])
     wrong = [why for check in checks for why in check]
     print(*wrong, f"{len(checks)} checks of live, {len(wrong)} wrong", sep="\n")
     sys.exit(1 if wrong else 0)

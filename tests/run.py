@@ -2,12 +2,12 @@
 """Runs the tests, names what failed, and ends with a count of what passed, what failed and what was skipped.
 
     python3 tests/run.py quick       for every change: the layout of the files, the lists of definitions and of edits, each test without its
-                                     proof, the stored run, the scripts, the examples and what the documents show. The tests of the Python
-                                     package run too, where the program is built or PREFQ_PROGRAM names one
+                                     proof, the stored run, the scripts, the examples, what the documents show, and the wheel of dist/. The
+                                     tests of the Python package run too, where the library is built or PREFQ_LIBRARY names one
     python3 tests/run.py all         before a merge: the proofs, the must-fail edits and the tests by `rt ci`, which proves from nothing what it has not passed
                                      before on this machine, in just these files; then the lists, and each check over the built programs that takes seconds
-    python3 tests/run.py release     before a release: all that, every proof from nothing; then the edits of tests/must-fail, and whether each edit
-                                     turns an answer
+    python3 tests/run.py release     before a release: all that, every proof from nothing; then the wheel of dist/ built anew from its commit, the edits of
+                                     tests/must-fail, and whether each edit turns an answer
 
 tests/quick.sh and tests/all.sh are short names of the first two. Needs the Rattle kit and Python 3.9, and but for `quick` a C compiler, on
 Linux. Tests of the Python package that need pandas, matplotlib, dask, uvicorn, starlette or Chromium are skipped, with a line that says so, where
@@ -31,6 +31,7 @@ from typing import Callable, Optional
 
 TOP = Path(__file__).resolve().parent.parent
 PROGRAM = "crates/prefq/out/prefq"
+LIBRARY = "library/out/libprefq.so"
 CHECKS_AT_ONCE = 2
 # More than any check takes. (`rt ci` by itself reckons with twice as much or more.)
 KILOBYTES_A_PROOF = 3_000_000
@@ -46,7 +47,8 @@ LEFT_BY_HAND = """\
 left by hand (docs/CONTRIBUTING.md, "A release"):
 - the figures of docs/PERFORMANCE.md and the times of README.md, measured on this commit
 - real data sets, which packages of R have: python3 python/tests/real_data.py
-- the number of the version: VERSION in crates/prefq/src/args.rt, docs/GUIDE.md, python, CHANGELOG.md
+- the number of the version: VERSION in crates/prefq/src/args.rt, PREFQ_VERSION in library/include/prefq.h, docs/GUIDE.md, python, CHANGELOG.md
+- the wheel, made of the commit that has all this: python3 dist/release.py
 - a new kit: its name and its logic in README.md"""
 
 
@@ -182,10 +184,10 @@ def scripts_unproved(room, log):
 
 
 def python_package(room, log):
-    """The tests of the Python package, on a program that is there already: none is kept by `rt try`."""
-    if os.environ.get("PREFQ_PROGRAM") or os.access(TOP / PROGRAM, os.X_OK):
+    """The tests of the Python package, on a library that is there already: none is kept by `rt try`."""
+    if os.environ.get("PREFQ_LIBRARY") or (TOP / LIBRARY).is_file():
         return run(log, "python/tests/run.sh")
-    print(f"skipped: the tests of the Python package, since {PROGRAM} is not built and PREFQ_PROGRAM names no other", file=log)
+    print(f"skipped: the tests of the Python package, since {LIBRARY} is not built and PREFQ_LIBRARY names no other", file=log)
     return None
 
 
@@ -199,6 +201,7 @@ QUICK = [
     command(*DEFINITIONS, name="list of definitions"),
     command(*EDITS, name="list of edits"),
     Check("Python package", python_package),
+    command("python3", "tests/wheel.py", name="wheel of the last release"),
 ]
 
 
@@ -221,9 +224,11 @@ BUILT = [
     command("python3", "tests/scripts.py"),
     command("python3", "tests/model/compare.py"),
     command("python3", "tests/model/threads.py"),
+    command("library/tests/run.sh"),
     command("python3", "tests/live.py"),
     command("python/tests/run.sh"),
-    command("python3", "examples/parts/parts.py", PROGRAM, "--check", "120000"),
+    command("python3", "tests/wheel.py"),
+    command("python3", "examples/parts/parts.py", "--check", "120000"),
     command("python3", "tests/arguments.py"),
     command("tests/faults_of_the_program.sh"),
     command("tests/count_begin_and_abandon.sh"),
@@ -301,10 +306,11 @@ def minutes_since(begun):
 def release(count):
     """All, with nothing taken from earlier runs; then what takes hours, shown as it comes."""
     whole(count, "--anew")
-    for words in (["tests/wrong_edits.sh"], ["python3", "tests/edits_turn_answers.py"]):
+    for words in (["python3", "dist/release.py", "--check"], ["tests/wrong_edits.sh"], ["python3", "tests/edits_turn_answers.py"]):
         say(f"== {' '.join(words)}")
         lines, is_passed = run_and_show(*words)
         fail_empty_edits(count, lines)
+        count.skipped += sum(line.startswith("skipped: ") for line in lines)
         if is_passed:
             count.passed += 1
         else:

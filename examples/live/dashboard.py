@@ -15,7 +15,7 @@ WIDTH, HEIGHT = 320, 200
 QUESTION = "best high(severity) * high(minutes)"
 
 
-def producer(table, client, chance):
+def producer(table, name, chance):
     """One change after the other: mostly a new ticket, else one that is worse by now or done."""
     mine = []
     while True:
@@ -23,13 +23,13 @@ def producer(table, client, chance):
         try:
             if mine and chance.random() < 0.4:
                 if chance.random() < 0.5:
-                    table.update(chance.choice(mine), values, client)
+                    table.update(chance.choice(mine), values)
                 else:
-                    table.delete(mine.pop(chance.randrange(len(mine))), client)
+                    table.delete(mine.pop(chance.randrange(len(mine))))
             else:
-                mine.append(table.insert(values, client))
+                mine.append(table.insert(values))
         except prefq.Refused as full:
-            print(f"client {client} is refused: {full}")
+            print(f"producer {name} is refused: {full}")
         yield
 
 
@@ -45,7 +45,7 @@ def picture(rows, others):
 
 def main(folder=None):
     with prefq.Table(["severity", "minutes"], [[3, 20], [5, 5], [1, 55]], capacity=64, block=16) as table:
-        producers = [producer(table, client, random.Random(client)) for client in (2, 3, 4)]
+        producers = [producer(table, name, random.Random(name)) for name in (2, 3, 4)]
         for number in range(1, 6):
             with table.query(QUESTION) as query:
                 while query.scan():

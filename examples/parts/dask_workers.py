@@ -1,5 +1,5 @@
 #!/usr/bin/env python3
-"""Asks a question of all CSV files of a folder on a Dask cluster, whose workers need neither this package nor the program: both are sent to them.
+"""Asks a question of all CSV files of a folder on a Dask cluster, whose workers need neither this package nor its library: both are sent to them.
 
     dask-scheduler --port 8786 &
     dask-worker tcp://127.0.0.1:8786 --nthreads 1 &               # one or more, on machines that see the folder under the same path
@@ -20,22 +20,21 @@ from prefq.parts import best
 
 
 class SendPrefq(WorkerPlugin):
-    """A worker plugin: writes the package and the program into the folder of each worker, also of those that join later."""
+    """A worker plugin: writes the package and the library into the folder of each worker, also of those that join later."""
 
     name = "prefq"
 
-    def __init__(self, package, program):
-        self.package, self.program = package, program
+    def __init__(self, package, library):
+        self.package, self.library = package, library
 
     def setup(self, worker):
-        package, program = (os.path.join(worker.local_directory, name) for name in ("prefq.zip", "prefq"))
-        for path, data, mode in [(package, self.package, 0o644), (program, self.program, 0o755)]:
+        package, library = (os.path.join(worker.local_directory, name) for name in ("prefq.zip", "libprefq.so"))
+        for path, data in [(package, self.package), (library, self.library)]:
             with open(path + ".new", "wb") as file:
                 file.write(data)
-            os.chmod(path + ".new", mode)
             os.replace(path + ".new", path)
         sys.path.insert(0, package)
-        os.environ["PREFQ_PROGRAM"] = program
+        os.environ["PREFQ_LIBRARY"] = library
 
 
 def package():
@@ -51,10 +50,9 @@ def main(scheduler, folder, question):
     files = sorted(Path(folder).resolve().glob("*.csv"))
     with Client(scheduler) as client:
         register = getattr(client, "register_plugin", None) or client.register_worker_plugin     # its name in new and in old versions
-        register(SendPrefq(package(), Path(prefq.find_program()).read_bytes()))
+        register(SendPrefq(package(), Path(prefq.find_library()).read_bytes()))
         try:
-            for row in best(files, question, map=client.map):
-                print(f"level {row.level} row {row.id}: {','.join(map(str, row.values))}")
+            print(best(files, question, map=client.map).to_csv(), end="")
         except prefq.Error as why:
             sys.exit(str(why))
 

@@ -18,8 +18,7 @@ def main(folder, question):
     files = sorted(Path(folder).glob("*.csv"))
     with MPIPoolExecutor() as pool:
         try:
-            for row in best(files, question, map=pool.map):
-                print(f"level {row.level} row {row.id}: {','.join(map(str, row.values))}")
+            print(best(files, question, map=pool.map).to_csv(), end="")
         except prefq.Error as why:
             sys.exit(str(why))
 

@@ -1,9 +1,9 @@
 #!/usr/bin/env python3
-"""Asks a question of a CSV file of whole numbers that has more rows than one table holds: the file is cut into parts, and `prefq.parts` asks them.
-Ids are the file's row numbers, from 1 on.
+"""Asks a question of a CSV file that has more rows than one table holds: `prefq.parts` cuts it into parts, and asks them. Ids are the file's row numbers, from
+1 on.
 
-    python3 examples/parts/parts.py PROGRAM FILE.csv 'best low(price) * low(dist)'
-    python3 examples/parts/parts.py PROGRAM --check [ROWS]      # over this number of random rows (200,000): compares with a plain program
+    python3 examples/parts/parts.py FILE.csv 'best low(price) * low(dist)'
+    python3 examples/parts/parts.py --check [ROWS]      # over this number of random rows (200,000): compares with a plain program
 """
 import random
 import sys
@@ -12,17 +12,16 @@ from pathlib import Path
 
 sys.path.insert(0, str(Path(__file__).resolve().parent.parent.parent / "python/src"))
 import prefq
-from prefq.partition import text_of
 from prefq.parts import Partition, best
 
 PART = 50_000
 
 
-def answer(program, columns, rows, question):
-    """The answer over all rows, part by part, on all processors: each part is asked by a process of its own."""
-    parts = [Partition(columns, rows[begin:begin + PART]) for begin in range(0, len(rows), PART)] or [Partition(columns, [])]
+def answer(columns, rows, question):
+    """The answer over all rows, part by part, on all processors: each part is asked on a thread."""
+    parts = [Partition(columns, rows[begin:begin + PART]) for begin in range(0, len(rows), PART)]
     with ThreadPoolExecutor() as pool:
-        return best(parts, question, map=pool.map, program=program)
+        return best(parts, question, map=pool.map)
 
 
 def plain(rows, over, group, levels, least):
@@ -42,7 +41,7 @@ def plain(rows, over, group, levels, least):
     return sorted(found)
 
 
-def check(program, count):
+def check(count):
     """Compares with the plain program: a skyline, levels, groups and a count."""
     chance = random.Random(1)
     rows = [(chance.randint(0, 100_000), chance.randint(0, 100_000), chance.randint(1, 5)) for _ in range(count)]
@@ -55,25 +54,23 @@ def check(program, count):
         ("best low(price) * low(dist) by city", (pareto, city, 1, no_end)),
         ("at_least 40 low(price) * low(dist)", (pareto, everyone, no_end, 40)),
     ]:
-        found = answer(program, ["price", "dist", "city"], rows, question)
+        found = answer(["price", "dist", "city"], rows, question)
         same = [(row.level, row.id) for row in found] == plain(rows, *wanted)
         wrong += not same
         print(f"{question}: {len(found)} rows of {count}, {'the same as' if same else 'OTHER THAN'} by the plain program")
     return wrong == 0
 
 
-def main(program, file, *rest):
+def main(file, *rest):
     if file == "--check":
-        sys.exit(0 if check(program, int(rest[0]) if rest else 200_000) else 1)
+        sys.exit(0 if check(int(rest[0]) if rest else 200_000) else 1)
     try:
-        columns, rows = text_of(file)
-        for row in answer(program, columns, rows, rest[0]):
-            print(f"level {row.level} row {row.id}: {','.join(map(str, row.values))}")
+        print(best([file], rest[0]).to_csv(), end="")
     except (prefq.Error, OSError, ValueError) as why:
         sys.exit(str(why))
 
 
 if __name__ == "__main__":
-    if len(sys.argv) < 4 and sys.argv[2:] != ["--check"]:
+    if len(sys.argv) < 3 and sys.argv[1:] != ["--check"]:
         sys.exit(__doc__)
     main(*sys.argv[1:])

@@ -3,7 +3,7 @@
 
     python3 examples/parts/pool.py FOLDER 'best low(price) * low(dist)' [PROCESSES]
 
-Needs the package `prefq` (`pip install ./python`). The files have the same header and whole numbers; ids are row numbers over all files, in order of name.
+Needs the package `prefq` (`pip install ./python`). The files have the same columns; ids are row numbers over all files, in order of name.
 """
 import sys
 from concurrent.futures import ProcessPoolExecutor
@@ -17,8 +17,7 @@ def main(folder, question, processes=None):
     files = sorted(Path(folder).glob("*.csv"))
     with ProcessPoolExecutor(processes and int(processes)) as pool:
         try:
-            for row in best(files, question, map=pool.map):
-                print(f"level {row.level} row {row.id}: {','.join(map(str, row.values))}")
+            print(best(files, question, map=pool.map).to_csv(), end="")
         except prefq.Error as why:
             sys.exit(str(why))
 

@@ -9,7 +9,7 @@ from prefq.kinds.forms import Form
 from prefq.loading import File
 from prefq.missing import Missing
 from prefq.reading import Dialect, read_csv
-from prefq.rows import whole_texts
+from prefq.rows import Zipped
 
 MOST = 2**63 - 1
 NUMBERS = ["", " ", "0", "-0", "00", "-00", "007", "+5", "+007", "-07", " 5", "5 ", "\t5", "\xa05", "--5", "5-", "5-3", "+-5", "-", "+", ".", "-.", "5.", ".5", "-.5", "+.25", "007.5",
@@ -101,11 +101,11 @@ def made_of(data, delimiter, null_padding, missing, form, kinds):
 
 
 def _opening(file):
-    """The columns and their numbers, as the program gets them."""
+    """The columns and their numbers, as the library gets them."""
     columns, rows = file.opening(file.cells.names, 65_536)
-    lines = b"".join(piece.text for piece in whole_texts(rows.pieces())).decode().splitlines()
-    assert len(lines) == len(rows)
-    return columns, list(zip(*([int(cell) for cell in line.split(",")] for line in lines))) or [()] * len(columns)
+    lists = rows.columns if isinstance(rows, Zipped) else list(zip(*(map(int, line.split(b",")) for line in rows.text().splitlines()))) or [()] * len(columns)
+    assert {len(numbers) for numbers in lists} == {len(rows)}
+    return columns, lists
 
 
 def _loaded(file):

@@ -9,7 +9,7 @@ from collections import Counter
 from pathlib import Path
 
 HERE = Path(__file__).resolve().parent
-SECONDS = 600
+SECONDS = 1_800
 
 
 def main(names):

@@ -1,13 +1,13 @@
 #!/usr/bin/env bash
-# Runs the tests of the Python package on the built program, or on the one that PREFQ_PROGRAM names.
+# Runs the tests of the Python package on the built library, or on the one that PREFQ_LIBRARY names.
 #
 #     python/tests/run.sh [MODULE..]
 #
 # Takes the system's Python where it has pandas, since other packages of the system are seen by that one alone, else the first python3 of the PATH.
 set -euo pipefail
 cd "$(dirname "$0")/../.."
-export PREFQ_PROGRAM=${PREFQ_PROGRAM:-$PWD/crates/prefq/out/prefq}
-[ -x "$PREFQ_PROGRAM" ] || { echo "$PREFQ_PROGRAM is not there: build it first" >&2; exit 1; }
+export PREFQ_LIBRARY=${PREFQ_LIBRARY:-$PWD/library/out/libprefq.so}
+[ -f "$PREFQ_LIBRARY" ] || { echo "$PREFQ_LIBRARY is not there: build it first" >&2; exit 1; }
 export PYTHONPATH=$PWD/python/src${PYTHONPATH:+:$PYTHONPATH}
 export PYTHONDONTWRITEBYTECODE=1
 python=python3

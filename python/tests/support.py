@@ -1,10 +1,8 @@
 """What several tests use."""
+import importlib.util
 import multiprocessing
 import os
 import signal
-import stat
-import tempfile
-import textwrap
 import time
 import unittest
 from contextlib import contextmanager
@@ -28,19 +26,6 @@ def numbers(count, **options):
 
 
 @contextmanager
-def standing_still(table):
-    """The table's program is stopped for a while."""
-    os.kill(table.pid, signal.SIGSTOP)
-    try:
-        yield
-    finally:
-        try:
-            os.kill(table.pid, signal.SIGCONT)
-        except ProcessLookupError:
-            pass
-
-
-@contextmanager
 def raised_after(seconds, exception):
     """An exception comes from a signal after so many seconds, as that of Ctrl-C does."""
     def raises(*_):
@@ -55,19 +40,35 @@ def raised_after(seconds, exception):
 
 
 @contextmanager
-def program(text):
-    """The path of a shell script that takes the place of the program."""
-    with tempfile.TemporaryDirectory() as folder:
-        path = Path(folder, "program")
-        path.write_text("#!/bin/sh\n" + textwrap.dedent(text))
-        path.chmod(path.stat().st_mode | stat.S_IXUSR)
-        yield str(path)
+def around(table, name, *, before=lambda: None, behind=lambda: None):
+    """These functions run in the block before and behind each call `name` of the library that the table makes, where an interruption or a finalizer may come."""
+    calls = table._engine._calls
+
+    class Calls:
+        def __getattr__(self, other):
+            call = getattr(calls, other)
+            if other != f"prefq_{name}":
+                return call
+
+            def made(*words):
+                before()
+                result = call(*words)
+                behind()
+                return result
+            return made
+
+    table._engine._calls = Calls()
+    try:
+        yield
+    finally:
+        table._engine._calls = calls
 
 
-def kill(table):
-    """Kills the table's program, and waits until it is dead."""
-    os.kill(table.pid, signal.SIGKILL)
-    os.waitid(os.P_PID, table.pid, os.WEXITED | os.WNOWAIT)
+def raises(exception):
+    """A function that raises this."""
+    def function():
+        raise exception
+    return function
 
 
 def in_a_fork(function):
@@ -90,12 +91,19 @@ def in_a_fork(function):
         os.waitpid(pid, 0)
 
 
-def is_running(pid):
-    try:
-        os.kill(pid, 0)
-    except ProcessLookupError:
-        return False
-    return True
+def printed(done):
+    """The levels and ids of an answer that a process printed as CSV."""
+    return [tuple(map(int, line.split(",")[:2])) for line in done.stdout.splitlines()[1:]]
+
+
+def needs(test, module):
+    if not importlib.util.find_spec(module):
+        test.skipTest(f"{module} is not installed")
+
+
+def package_path():
+    """The environment in which Python finds this package."""
+    return {**os.environ, "PYTHONPATH": str(Path(prefq.__file__).parents[1])}
 
 
 class TestCase(unittest.TestCase):

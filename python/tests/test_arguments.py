@@ -91,6 +91,29 @@ class Numpy(TestCase):
             self.assertEqual(table.insert_many(numpy.arange(10).reshape(5, 2)), range(9, 14))
             self.assertEqual(table.get(13), [8, 9])
 
+    def test_arrays_of_numpy_of_every_shape(self):
+        """A table takes the same from an array as from its list."""
+        chance = numpy.random.default_rng(1)
+        for dtype in ("int64", "int8", ">i4", "uint8", "uint64"):
+            whole = chance.integers(0, 100, (300, 6)).astype(dtype)
+            for rows in (whole[:, :2], whole[::3, 1:3], numpy.asfortranarray(whole[:, 4:]), whole[:2].T, whole[:0, :2], whole.reshape(900, 2)[::-1]):
+                with self.subTest(dtype=dtype, shape=rows.shape), prefq.Table(["a", "b"], rows) as table:
+                    self.assertEqual([values for _, values in table.rows()], rows.tolist())
+                    table.insert_many(rows)
+                    self.assertEqual([values for _, values in table.rows()], 2 * rows.tolist())
+
+    def test_other_arrays_of_numpy(self):
+        masked = numpy.ma.masked_array([[1, 2], [3, 4]], mask=[[False, False], [True, False]])
+        for rows, exception, words in [(masked, TypeError, "row 2, column a is None"), (numpy.array([[1, 2, 3]]), ValueError, "row 1, 3 values: not 2"),
+                                       (numpy.array([1, 2]), TypeError, "row 1"), (numpy.zeros((65_537, 2), int), ValueError, "more than 65536 rows"),
+                                       (numpy.array([[True, False]]), TypeError, "row 1, column a is True")]:
+            with self.subTest(words), self.refuses(exception, words):
+                prefq.Table(["a", "b"], rows)
+            with self.subTest(words), prefq.Table(["a", "b"]) as table:
+                with self.refuses(exception, words):
+                    table.insert_many(rows)
+                self.assertEqual(len(table), 0)
+
     def test_other_values_of_numpy(self):
         for row in (numpy.array([3.7, 4.2]), numpy.array([True, False]), [numpy.float64(3), 4], [numpy.bool_(True), 4], numpy.array(["3", "4"])):
             with hotels() as table:
@@ -131,23 +154,20 @@ class Options(TestCase):
             for value in (2.0, "2", True):
                 with self.refuses(TypeError, f"{name} is {value!r}"):
                     hotels(**{name: value})
-        for value in (0, -1, float("nan"), float("inf")):
-            with self.refuses(ValueError, "timeout"):
-                hotels(timeout=value)
-        for value in ("5", True):
-            with self.refuses(TypeError, "timeout"):
-                hotels(timeout=value)
+        for name in ("timeout", "program"):
+            with self.refuses(TypeError, name):
+                hotels(**{name: 5})
+            with self.refuses(TypeError, f"Frame.from_records has no option '{name}'"):
+                prefq.Frame.from_records([{"x": 1}], **{name: 5})
 
     def test_clients(self):
         with hotels(clients=3) as table:
-            for call in (lambda client: table.insert([1, 2], client=client), lambda client: table.room(client), lambda client: table.get(1, client),
-                         lambda client: table.query(QUESTION, client), lambda client: table.commit(("delete", 1), client=client)):
-                for client in (0, 4, 9, -1):
-                    with self.refuses(ValueError, f"client is {client}: not from 1 to 3"):
-                        call(client)
-                for client in ("", "1", "1 insert 5,5\nas 1", "1 abandon\nas 1", 2.0, True):
-                    with self.refuses(TypeError, f"client is {client!r}"):
-                        call(client)
+            for client in (0, 4, 9, -1):
+                with self.refuses(ValueError, f"client is {client}: not from 1 to 3"):
+                    table.query(QUESTION, client)
+            for client in ("", "1", "1 insert 5,5\nas 1", "1 abandon\nas 1", 2.0, True):
+                with self.refuses(TypeError, f"client is {client!r}"):
+                    table.query(QUESTION, client)
             self.assertEqual([table.room() for _ in range(3)], [1017] * 3)
 
     def test_ids(self):

@@ -45,6 +45,17 @@ def process(*words, **more):
     return subprocess.run([sys.executable, "-m", "prefq", *map(str, words)], capture_output=True, encoding="utf-8", timeout=120, env=ENVIRONMENT, **more)
 
 
+@contextlib.contextmanager
+def program(text):
+    """The command runs a shell script in place of the program; its path."""
+    with tempfile.TemporaryDirectory() as folder:
+        path = Path(folder, "program")
+        path.write_text(f"#!/bin/sh\n{text}\n")
+        path.chmod(0o755)
+        with unittest.mock.patch.dict(ENVIRONMENT, PREFQ_PROGRAM=str(path)):
+            yield str(path)
+
+
 class Asks(TestCase):
     def prints(self, done, status=0, errors=""):
         self.assertEqual((done.returncode, done.stderr), (status, errors))
@@ -139,6 +150,24 @@ class Asks(TestCase):
         self.assertIn("python -m prefq serve FILE.csv", self.prints(run("--help")))
         for word in ("examples:", "--plot OUT.svg", "top_level K TERM"):
             self.assertIn(word, self.prints(run("ask", "--help")))
+
+    def test_commands_of_the_program(self):
+        """The program gets the words and the script as they are; what it prints, and its status, are those of the command."""
+        with program('printf "<%s>" "$@"; cat; echo "line 3" >&2; exit 7'):
+            for words in (["play"], ["live", "--block", "1"], ["threads", "--clients", "1"], ["play", "--help"], ["live", "a b", ""]):
+                done = process(*words, input="table\nx\n3\nend\n")
+                self.assertEqual((done.returncode, done.stdout, done.stderr), (7, "".join(f"<{word}>" for word in words) + "table\nx\n3\nend\n", "line 3\n"))
+
+    def test_the_program_inherits_no_signal_that_python_ignores(self):
+        with program("grep SigIgn /proc/$$/status") as path:
+            started, done = subprocess.run([path], capture_output=True, text=True, timeout=120), process("live")
+        self.assertIn("SigIgn:", started.stdout)
+        self.assertEqual(done.stdout, started.stdout)
+
+    def test_without_the_program(self):
+        done = subprocess.run([sys.executable, "-m", "prefq", "live"], capture_output=True, text=True, env={**ENVIRONMENT, "PREFQ_PROGRAM": "/nowhere/prefq"}, timeout=120)
+        self.assertEqual((done.returncode, done.stdout), (1, ""))
+        self.assertTrue(done.stderr.startswith("prefq: /nowhere/prefq is not there. Build it"), done.stderr)
 
     def test_a_reader_that_goes_away(self):
         process = subprocess.Popen([sys.executable, "-m", "prefq", "ask", str(HOTELS), "top_level 1000 low(Stars)", "--json"], stdout=subprocess.PIPE,

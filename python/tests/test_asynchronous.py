@@ -1,13 +1,12 @@
 """The table for asyncio."""
 import asyncio
 import gc
-import os
 import random
-import signal
+import threading
 import unittest
 
 import prefq
-from support import HOTELS, QUESTION, SKYLINE, TestCase, in_a_fork, is_running, kill
+from support import HOTELS, QUESTION, SKYLINE, TestCase, around, in_a_fork
 
 SECONDS = 120
 
@@ -109,14 +108,15 @@ class Tasks(TestCase):
     def test_a_call_that_was_cancelled_before_it_began_is_not_made(self):
         async def main():
             async with await self.open() as table:
-                os.kill(table._table.pid, signal.SIGSTOP)
-                first, second = asyncio.ensure_future(table.get(1)), asyncio.ensure_future(table.insert([1, 1]))
-                await asyncio.sleep(0.1)
-                first.cancel()
-                second.cancel()
-                await asyncio.gather(first, second, return_exceptions=True)
-                os.kill(table._table.pid, signal.SIGCONT)
-                self.assertEqual((await table.get(2), len(table)), ([60, 5], 7))
+                release = threading.Event()
+                with around(table._table, "get", before=lambda: release.wait(30)):
+                    first, second = asyncio.ensure_future(table.get(1)), asyncio.ensure_future(table.insert([1, 1]))
+                    await asyncio.sleep(0.1)
+                    first.cancel()
+                    second.cancel()
+                    await asyncio.gather(first, second, return_exceptions=True)
+                    release.set()
+                    self.assertEqual((await table.get(2), len(table)), ([60, 5], 7))
         self.run_async(main)
 
     def test_dropped_queries(self):
@@ -142,24 +142,17 @@ class Tasks(TestCase):
         finally:
             gc.enable()
 
-    def test_dead_and_closed(self):
+    def test_closed(self):
         async def main():
             table = await self.open()
-            kill(table._table)
-            with self.refuses(prefq.Ended, "SIGKILL"):
-                await table.get(1)
             await table.close()
             with self.refuses(prefq.Ended, "closed"):
                 await table.get(1)
-            with self.refuses(prefq.Ended, "SIGKILL"):
+            async with await self.open() as table:
+                await table.close()
+            with self.refuses(prefq.Ended, "closed"):
                 async with await self.open() as table:
-                    kill(table._table)
-            table = await self.open(timeout=0.3)
-            os.kill(table._table.pid, signal.SIGSTOP)
-            with self.refuses(prefq.Ended, kind="timeout"):
-                await table.get(1)
-            self.assertFalse(is_running(table._table.pid))
-            await table.close()
+                    table._table.close()
         self.run_async(main)
 
     def test_a_fork_cannot_use_it(self):
@@ -181,16 +174,17 @@ class Tasks(TestCase):
         self.assertEqual(len(asyncio.run(table.best(QUESTION))), 4)
         asyncio.run(table.close())
 
-    def test_closed_while_the_program_stands_still(self):
+    def test_closed_while_a_call_is_under_way(self):
         async def main():
-            table = await self.open()
-            os.kill(table._table.pid, signal.SIGSTOP)
-            call = asyncio.ensure_future(table.get(1))
-            await asyncio.sleep(0.1)
-            with self.within(5):
-                await table.close()
-            with self.refuses(prefq.Ended, "closed"):
-                await call
+            table, release = await self.open(), threading.Event()
+            with around(table._table, "get", before=lambda: release.wait(30)):
+                call = asyncio.ensure_future(table.get(1))
+                await asyncio.sleep(0.1)
+                with self.within(30):
+                    await table.close()
+                release.set()
+                with self.refuses(prefq.Ended, "closed"):
+                    await call
         self.run_async(main)
 
     def test_the_opening_is_refused(self):

@@ -10,8 +10,10 @@ from fractions import Fraction
 
 import prefq
 from prefq.checks import LEAST, MOST
+from prefq.columns import Column
 from prefq.infer import kind_of_texts, kind_of_values
 from prefq.kinds import Floats, kind_named
+from prefq.loading import column_of_values
 from support import TestCase
 
 UTC = datetime.timezone.utc
@@ -209,3 +211,30 @@ class Refusals(TestCase):
             prefq.Frame.from_records([{"x": 1}, {"x": None}, {"x": 1.25}], kinds={"x": "decimal(1)"})
         with self.refuses(ValueError, "line 4, column 'x' (whole): 'c' is no number"):
             from_text("x\n1\n2\nc\n", kinds={"x": "whole"})
+
+
+class WholeNumbersAtOnce(TestCase):
+    """Python's own whole numbers are found without a look at each."""
+
+    def one_by_one(self, values):
+        column = Column("x", kind_of_values("x", values))
+        return str(column.kind), [column.encode(value) for value in values], column.has_gaps
+
+    def at_once(self, values):
+        column, numbers = column_of_values("x", values, None)
+        return str(column.kind), list(numbers), column.has_gaps
+
+    def said(self, call, values):
+        try:
+            return call(values)
+        except (prefq.Refused, TypeError, ValueError) as why:
+            return type(why)
+
+    def test_as_one_by_one(self):
+        chance = random.Random(20260501)
+        some = [0, 5, -7, 2**63 - 1, 1 - 2**63]
+        for others in ([None], [None] * 20, [], [True], [1.0, 2.5], ["5"], [-2**63], [2**63], [Decimal("1.5"), None]):
+            for _ in range(40):
+                values = chance.choices(some + others, k=chance.randrange(8))
+                with self.subTest(values=values):
+                    self.assertEqual(self.said(self.at_once, values), self.said(self.one_by_one, values))

@@ -5,7 +5,7 @@ import unittest
 
 import prefq
 from prefq.desk import Changed, Desk
-from support import TestCase, kill
+from support import TestCase
 from test_serve import KINDS, RECORDS, Served, ask, picture
 
 
@@ -72,14 +72,17 @@ class Conflicts(Served):
 
 
 class Versions(TestCase):
-    def test_they_outlive_the_program(self):
-        with Desk(prefq.Frame.from_records(RECORDS, kinds=KINDS)) as desk:
-            desk.update(2, {"Distance": 5})
+    def test_they_outlive_the_table(self):
+        """Which is opened anew where a column becomes wider."""
+        with Desk(prefq.Frame.from_records([{"hotel": "Quay", "price": 60}, {"hotel": "Alpine", "price": 50}])) as desk:
+            desk.update(2, {"price": 5})
             desk.delete(1)
-            kill(desk.table)
-            with self.refuses(Changed, "Distance of row 2", kind="changed"):
-                desk.update(2, {"Distance": 6}, seen=1)
-            desk.update(2, {"Distance": 6}, seen=2)
+            before = desk.table
+            desk.insert({"price": "48.5"})
+            self.assertIsNot(desk.table, before)
+            with self.refuses(Changed, "price of row 2", kind="changed"):
+                desk.update(2, {"price": 6}, seen=1)
+            desk.update(2, {"price": 6}, seen=2)
 
     def test_of_several_writers_one_at_a_time_is_told_nothing_new(self):
         """Each adds to a number that it has seen: none of the sums is lost."""

@@ -17,6 +17,7 @@ from pathlib import Path
 from xml.etree import ElementTree
 
 import prefq
+from prefq.questions import read_question
 from support import TestCase
 
 HOTELS = Path(__file__).parent / "data" / "hotels.csv"
@@ -53,7 +54,7 @@ class Hotels(TestCase):
     def test_overhead(self):
         """What a question costs beyond the time of its queries, in the best of some series."""
         with prefq.Frame.from_csv(HOTELS) as hotels:
-            below = prefq.translate.plan(QUESTION, hotels._read(hotels._opened, QUESTION), hotels._opened.below).text
+            below = prefq.translate.plan(QUESTION, read_question(QUESTION, hotels._opened.by_name.get, hotels.names), hotels._opened.below).text
 
             def seconds(call):
                 begun = time.perf_counter()

@@ -3,12 +3,13 @@ import io
 import threading
 import unittest.mock
 import warnings
+import weakref
 from decimal import Decimal
 from fractions import Fraction
 
 import prefq
 from prefq.desk import Desk
-from support import TestCase, is_running
+from support import TestCase, around, raises
 
 try:
     import pandas
@@ -176,10 +177,9 @@ class Growth(TestCase):
 
 class WhileOthersAsk(TestCase):
     def test_an_open_query_goes_on(self):
-        """It is of the table that there was, whose program ends after it."""
+        """It is of the table that there was, which ends after it."""
         with prices(60, 50, 70) as frame:
             old = frame.table
-            pid = old.pid
             with old.query("best low(c0)") as query:
                 frame.insert({"price": "0.5"})
                 frame.delete(2)
@@ -187,10 +187,11 @@ class WhileOthersAsk(TestCase):
                 self.assertEqual([row.values[0] for row in query.answer()], [50])
             del query
             self.assertIsNot(frame.table, old)
-            self.assertTrue(is_running(pid))
+            engine = weakref.ref(old._engine)
+            self.assertIsNotNone(engine())
             del old
             self.assertEqual(frame.best("best low(price)").ids, [4])
-            self.assertFalse(is_running(pid))
+            self.assertIsNone(engine())
 
     def test_a_question_between_two_tables(self):
         """The frame grows while a question is on its way: the answer is that of one table or the other, with its values."""
@@ -322,16 +323,37 @@ class Closing(TestCase):
         with self.assertRaises(prefq.Ended):
             frame.rows()
 
-    def test_the_table_before_ends_with_the_call_that_replaced_it(self):
-        """And not as garbage, where an interruption would be lost; but not while somebody uses it."""
+    def test_the_table_before_is_there_as_long_as_somebody_uses_it(self):
         with prices(60, 50) as frame:
             before = frame._opened
             frame.insert({"price": "48.5"})
-            with self.assertRaises(prefq.Ended):
-                before.table.room()
-            with frame._in_use() as used:
-                frame.insert({"price": "48.25"})
-                self.assertEqual(used.table.room(), 1024 - 3)
-            with self.assertRaises(prefq.Ended):
-                used.table.room()
-            self.assertEqual([row.price for row in frame.rows()], [60, 50, Decimal("48.5"), Decimal("48.25")])
+            self.assertEqual(before.table.room(), 1024 - 2)
+            engine = weakref.ref(before.table._engine)
+            del before
+            self.assertIsNone(engine())
+            self.assertEqual([row.price for row in frame.rows()], [60, 50, Decimal("48.5")])
+
+    def test_a_signal_handler_that_changes_a_frame_which_is_opened_anew(self):
+        """The new table would not have it."""
+        with prices(60, 50) as frame:
+            anew, said = frame._opened.anew, []
+
+            def changes_meanwhile(*words):
+                found = anew(*words)
+                with self.refuses(prefq.Refused, "under way in this thread", kind="client"):
+                    frame.insert({"price": 1})
+                said.append([row.price for row in frame.rows()])
+                return found
+
+            with unittest.mock.patch.object(frame._opened, "anew", changes_meanwhile):
+                self.assertEqual(frame.insert({"price": "48.5"}), 3)
+            self.assertEqual(said, [[60, 50]])
+            self.assertEqual(frame.insert({"price": 1}), 4)
+
+    def test_an_interruption_between_an_insert_and_the_note_of_its_id(self):
+        """No later row gets the id."""
+        with prices(60, 50) as frame:
+            with around(frame.table, "insert", behind=raises(KeyboardInterrupt)), self.assertRaises(KeyboardInterrupt):
+                frame.insert({"price": 40})
+            self.assertEqual(frame.insert({"price": "48.5"}), 4)
+            self.assertEqual([(row.id, row.price) for row in frame.rows()], [(1, 60), (2, 50), (3, 40), (4, Decimal("48.5"))])

@@ -3,6 +3,7 @@
 PREFQ_TIMES=100 makes the tests that try many moments try a hundred times as many.
 """
 import contextlib
+import dis
 import gc
 import os
 import random
@@ -13,18 +14,54 @@ import threading
 import time
 import unittest
 import weakref
+from functools import lru_cache
 from itertools import count
 from unittest import mock
 
 import prefq
-from support import QUESTION, TestCase, hotels, in_a_fork, is_running, numbers, raised_after, standing_still
+from support import QUESTION, TestCase, around, hotels, in_a_fork, numbers, raised_after, raises
 
-NEVER = 30
+NEVER = 60
+PACKAGE = os.path.dirname(prefq.__file__)
+SEED = 1
 TIMES = int(os.environ.get("PREFQ_TIMES", "1"))
 
 
 class Interruption(BaseException):
     """What a signal handler raises, as KeyboardInterrupt is raised by Ctrl-C."""
+
+
+class Interrupter:
+    """Raises an interruption at the n-th place of the package at which Python may call a signal handler: behind a call, and at the begin of a function."""
+
+    def __init__(self, place):
+        self.left, self.where = place, None
+
+    def runs(self, function):
+        before = sys.gettrace()
+        sys.settrace(self)
+        try:
+            function()
+        finally:
+            sys.settrace(before)
+
+    def __call__(self, frame, event, _):
+        if os.path.dirname(frame.f_code.co_filename) != PACKAGE:
+            return None
+        frame.f_trace_opcodes = True
+        if event == "opcode" and frame.f_lasti in places_of(frame.f_code):
+            self.left -= 1
+            if self.left == 0:
+                self.where = f"{os.path.basename(frame.f_code.co_filename)}, line {frame.f_lineno}"
+                raise Interruption
+        return self
+
+
+@lru_cache(maxsize=None)
+def places_of(code):
+    """The offsets of the instructions before which Python may call a signal handler."""
+    instructions = list(dis.get_instructions(code))
+    return {after.offset for before, after in zip(instructions, instructions[1:]) if before.opname in ("CALL", "CALL_FUNCTION_EX", "CALL_KW", "RESUME")}
 
 
 class Holder:
@@ -43,53 +80,251 @@ class Thing:
     """An object that can be referred to weakly."""
 
 
-class Closing(TestCase):
-    def closes(self, table):
-        """`close` ends, on a thread of its own, which would wait for a lock that is lost."""
-        thread = threading.Thread(target=table.close, daemon=True)
-        thread.start()
-        thread.join(NEVER)
-        self.assertFalse(thread.is_alive(), "close() waits for ever")
-        self.assertFalse(is_running(table.pid))
+class Interrupted(TestCase):
+    """An interruption leaves the table as it is; no client and no lock is lost, no answer is that of another question, and the number of rows is right."""
 
-    def test_an_interruption_that_leaves_the_lock_of_a_popen_taken(self):
-        started, popen = [], subprocess.Popen
-        with mock.patch("subprocess.Popen", side_effect=lambda *words, **options: started.append(popen(*words, **options)) or started[0]):
-            table = numbers(3)
-        with started[0]._waitpid_lock:
-            self.assertEqual(len(table), 3)
-            self.closes(table)
+    def test_between_two_pieces_of_a_question(self):
+        with numbers(20, block=1, capacity=20, clients=1) as table:
+            for name, when in [("begin", "before"), ("begin", "behind"), ("scan", "before"), ("scan", "behind"), ("finish", "before"), ("finish", "behind")]:
+                with self.subTest(f"{when} {name}"):
+                    with around(table, name, **{when: raises(Interruption())}), self.assertRaises(Interruption):
+                        table.best("best low(x)")
+                    self.assertEqual([row.id for row in table.best("best high(x)")], [20])
+
+    def test_before_and_behind_a_question_of_one_block(self):
+        with numbers(20, clients=1) as table:
+            for when in ("before", "behind"):
+                with self.subTest(when):
+                    with around(table, "ask", **{when: raises(Interruption())}), self.assertRaises(Interruption):
+                        table.best("best low(x)")
+                    self.assertEqual([row.id for row in table.best("best high(x)")], [20])
+
+    def test_a_query_that_is_interrupted_goes_on(self):
+        with numbers(20, block=1, capacity=20) as table, table.query("best high(x)") as query:
+            for when in ("before", "behind"):
+                with around(table, "scan", **{when: raises(Interruption())}), self.assertRaises(Interruption):
+                    query.answer()
+            self.assertEqual([row.id for row in query.answer()], [20])
+
+    def test_an_interruption_right_behind_the_last_scan(self):
+        with numbers(20, block=10, capacity=20) as table, table.query("best high(x)") as query:
+            for left in (1, 0):
+                with around(table, "scan", behind=raises(Interruption())), self.assertRaises(Interruption):
+                    query.scan()
+                self.assertEqual(query.left, left)
+            self.assertEqual([row.id for row in query.answer()], [20])
+
+    def test_an_answer_that_is_interrupted_is_lost(self):
+        with numbers(3) as table, table.query("best high(x)") as query:
+            with around(table, "finish", behind=raises(Interruption())), self.assertRaises(Interruption):
+                query.answer()
+            with self.refuses(prefq.Refused, number=4):
+                query.answer()
+            self.assertEqual([row.id for row in table.best("best low(x)")], [1])
+
+    def test_a_change_is_made_or_not_and_counted(self):
+        for when, rows in [("before", 3), ("behind", 5)]:
+            with numbers(3) as table:
+                with around(table, "insert_many", **{when: raises(Interruption())}), self.assertRaises(Interruption):
+                    table.insert_many([[1], [2]])
+                self.assertEqual((len(table), len(table.rows())), (rows, rows))
+                table.insert([3])
+                self.assertEqual((len(table), table.count), (rows + 1, rows + 1))
+
+    def test_a_settlement_that_is_interrupted(self):
+        with numbers(3, clients=1) as table:
+            for when in ("before", "behind"):
+                table.query("best low(x)")
+                gc.collect()
+                with around(table, "abandon", **{when: raises(Interruption())}), self.assertRaises(Interruption):
+                    table.best("best low(x)")
+                self.assertEqual([row.id for row in table.best("best high(x)")], [3])
+
+    def test_a_signal_handler_that_calls(self):
+        """Before or behind each call of C, it may make any call of its own, but for those of the query that is in the middle of one."""
+        for block, names in [(1024, ("get", "ask", "room")), (512, ("get", "begin", "scan", "finish", "room"))]:
+            with numbers(5, clients=2, block=block) as table:
+                said = []
+
+                def calls():
+                    said.append((table.get(2), [row.id for row in table.best("best low(x)")], table.insert([1000]), len(table)))
+                    table.delete(said[-1][2])
+
+                for name in names:
+                    for when in ("before", "behind"):
+                        with around(table, name, **{when: once(calls)}):
+                            table.room()
+                            self.assertEqual(table.get(3), [33])
+                            self.assertEqual([row.id for row in table.best("best high(x)")], [5])
+                self.assertEqual(len(said), 2 * len(names))
+                self.assertEqual({(*got, *best, rows) for got, best, _, rows in said}, {(22, 1, 6)})
+                self.assertEqual(len(table), 5)
+
+    def test_a_signal_handler_that_ends_the_query_of_a_call(self):
+        """Its client gets no other query before the call is over."""
+        for name in ("scan", "finish"):
+            for when in ("before", "behind"):
+                with numbers(5, clients=1) as table:
+                    query, said = table.query("best high(x)"), []
+
+                    def calls():
+                        query.abandon()
+                        with self.assertRaises(prefq.Refused) as caught:
+                            table.query("best low(x)")
+                        said.append(caught.exception.number)
+                        with self.assertRaises(prefq.Refused) as caught:
+                            query.scan()
+                        said.append(caught.exception.number)
+
+                    with around(table, name, **{when: once(calls)}):
+                        try:
+                            self.assertEqual([row.id for row in query.answer()], [5])
+                        except prefq.Refused as why:
+                            self.assertEqual((why.number, name), (4, "scan"))
+                    self.assertEqual(said, [3, 4])
+                    self.assertEqual([row.id for row in table.best("best low(x)")], [1])
 
     @unittest.skipIf(sys.version_info < (3, 10), "Python before 3.10 may lose a lock itself where the end of a with block is interrupted")
-    def test_after_an_interruption_of_len_at_any_moment(self):
-        chance = random.Random(3)
-        for _ in range(60 * TIMES):
+    def test_at_any_moment(self):
+        chance = random.Random(SEED)
+        with numbers(50, clients=2, block=16) as table:
+            for tries in range(60 * TIMES):
+                with contextlib.suppress(Interruption), raised_after(chance.uniform(0.000_05, 0.03), Interruption):
+                    while True:
+                        self.use(table)
+                said = self.in_a_thread(lambda: self.use_all_clients(table))
+                self.assertEqual(said, [1, 50])
+                if tries % 10 == 0:
+                    self.assertEqual(self.in_a_thread(lambda: len(table)), len(table.rows()))
+                    for id, _ in table.rows()[50:]:
+                        table.delete(id)
+        print(f"\n{60 * TIMES} interruptions", file=sys.stderr)
+
+    @unittest.skipIf(sys.version_info < (3, 11), "where Python calls signal handlers is known of 3.11 and later")
+    def test_at_each_place(self):
+        """Wherever Python may call a signal handler within the package, one after the other."""
+        for block in (16, 64):
+            with numbers(50, clients=2, block=block, capacity=64) as table:
+                self.interrupt_each_place(table)
+
+    def interrupt_each_place(self, table):
+        counted = Interrupter(-1)
+        counted.runs(lambda: self.use(table))
+        places = range(1, -counted.left, max(1, 10 // TIMES))
+        for place in places:
+            interrupter = Interrupter(place)
+            with contextlib.suppress(Interruption):
+                interrupter.runs(lambda: self.use(table))
+            # A call may take fewer steps than before, as where a scan took less time.
+            with self.subTest(interrupter.where):
+                self.assertEqual(self.in_a_thread(lambda: self.use_all_clients(table)), [1, 50])
+                self.assertEqual(self.in_a_thread(lambda: len(table)), len(table.rows()))
+                self.assertEqual(len(table._engine.queries), 0)
+            for id, _ in table.rows()[50:]:
+                table.delete(id)
+        print(f"\n{len(places)} places of {-counted.left - 1}", file=sys.stderr)
+
+    def use(self, table):
+        self.assertEqual(table.get(7), [77])
+        with table.query("best low(x)") as query:
+            self.assertEqual([row.id for row in query.answer()], [1])
+        table.query("best high(x)")
+        self.assertEqual([row.id for row in table.best("best pos(x, 77)")], [7])
+        table.delete(table.insert([100]))
+        table.delete(table.insert_many([[101]])[0])
+        self.assertGreaterEqual(len(table), 50)
+
+    def use_all_clients(self, table):
+        queries = [table.query("best low(x)"), table.query("best between(x, 550, 550)")]
+        return [query.answer()[0].id for query in queries]
+
+    def in_a_thread(self, function):
+        """What a function returns or raises on a thread of its own, which would wait for a lock that is lost."""
+        said = []
+
+        def runs():
+            try:
+                said.append(function())
+            except prefq.Error as why:
+                said.append(why)
+
+        thread = threading.Thread(target=runs, daemon=True)
+        thread.start()
+        thread.join(NEVER)
+        self.assertFalse(thread.is_alive(), "a lock is lost")
+        return said[0]
+
+    @unittest.skipIf(sys.version_info < (3, 10), "Python before 3.10 may lose a lock itself where the end of a with block is interrupted")
+    def test_length_and_close_at_any_moment(self):
+        chance = random.Random(SEED)
+        for _ in range(10 * TIMES):
             table = numbers(3)
-            with contextlib.suppress(Interruption), raised_after(chance.uniform(0.000_1, 0.002), Interruption):
+            with contextlib.suppress(Interruption), raised_after(chance.uniform(0.000_05, 0.002), Interruption):
                 while True:
                     self.assertEqual(len(table), 3)
-            said = []
-            thread = threading.Thread(target=lambda: said.append((len(table), table.get(2))), daemon=True)
-            thread.start()
-            thread.join(NEVER)
-            self.assertEqual(said, [(3, [22])], "a lock is lost")
-            self.closes(table)
+            self.assertEqual(self.in_a_thread(lambda: (len(table), table.get(2))), (3, [22]))
+            with contextlib.suppress(Interruption), raised_after(chance.uniform(0.000_02, 0.000_5), Interruption):
+                table.close()
+                while True:
+                    pass
+            self.assertIsNone(self.in_a_thread(table.close))
+            with self.refuses(prefq.Ended, kind="closed"):
+                table.get(1)
 
-    def test_another_waiter_that_takes_the_status(self):
-        table = numbers(3)
-        os.kill(table.pid, 9)
-        os.waitpid(table.pid, 0)
-        with self.refuses(prefq.Ended, "something else in this Python process took its status", kind="died"):
-            table.get(1)
-        table.close()
+    def test_control_c_within_a_long_question(self):
+        """It comes after a piece of the question."""
+        chance = random.Random(SEED)
+        with prefq.Table(list("abc"), [[chance.randrange(10**6) for _ in range(3)] for _ in range(1500)], block=16) as table:
+            pieces, question = [], "top_level 1000 low(a) * low(b) * low(c)"
+            with around(table, "scan", before=lambda: pieces.append(time.monotonic()), behind=lambda: pieces.append(time.monotonic())):
+                with self.assertRaises(Interruption), raised_after(0.1, Interruption):
+                    while True:
+                        table.best(question)
+            self.assertLess(sorted(end - begin for begin, end in zip(pieces[::2], pieces[1::2]))[len(pieces) // 4], 0.5)
+            self.assertEqual(len(table.best("best low(a)")), 1)
 
-    def test_close_twice_after_it_was_interrupted(self):
-        table = numbers(3)
-        with mock.patch("os.waitpid", side_effect=Interruption), self.assertRaises(Interruption):
-            table.close()
-        self.closes(table)
-        with self.refuses(prefq.Ended, kind="closed"):
-            table.get(1)
+
+class OfFrames(TestCase):
+    @unittest.skipIf(sys.version_info < (3, 11), "where Python calls signal handlers is known of 3.11 and later")
+    def test_at_each_place(self):
+        """A change is made or is not, no id is given twice, and nothing is kept from other threads, also where a column becomes wider."""
+        changes = [lambda frame: frame.insert({"x": "0.5"}), lambda frame: frame.update(2, {"x": "7.25"}), lambda frame: frame.insert_many([[8], [9]]),
+                   lambda frame: frame.commit(("insert", {"x": "0.125"}), ("delete", 1), ("update", 3, {"x": 4}))]
+        count = 0
+        for change in changes:
+            with self.frame() as frame:
+                before = self.rows(frame)
+                counted = Interrupter(-1)
+                counted.runs(lambda: change(frame))
+                behind = self.rows(frame)
+            for place in range(1, -counted.left, max(1, 20 // TIMES)):
+                interrupter = Interrupter(place)
+                with self.frame() as frame:
+                    with contextlib.suppress(Interruption):
+                        interrupter.runs(lambda: change(frame))
+                    with self.subTest(interrupter.where):
+                        found = self.rows(frame)
+                        self.assertIn(found, (before, behind))
+                        said = []
+                        thread = threading.Thread(target=lambda: said.append(frame.insert({"x": 1})), daemon=True)
+                        thread.start()
+                        thread.join(NEVER)
+                        self.assertEqual(said, [1 + max(found)], "a lock is lost, or an id is given twice")
+                        self.assertEqual(len(frame), len(found) + 1)
+                count += 1
+        print(f"\n{count} places of changes of a frame", file=sys.stderr)
+
+    def frame(self):
+        return prefq.Frame.from_records([{"x": 1}, {"x": 2}, {"x": 3}])
+
+    def rows(self, frame):
+        return {row.id: row.x for row in frame.rows()}
+
+
+def once(function):
+    """A function that runs this one, the first time."""
+    left = [function]
+    return lambda: left.pop()() if left else None
 
 
 class Garbage(TestCase):
@@ -132,18 +367,32 @@ class Garbage(TestCase):
             self.assertEqual(said, [4, 4, 4, None])
             self.assertEqual([row.id for row in table.best("best high(x)")], [9])
 
+    def test_finalizers_of_a_table_that_is_gone_itself(self):
+        """Whichever of them runs first."""
+        said = []
+
+        class Late:
+            def __del__(self):
+                for call in (self.query.scan, self.query.answer, self.table.room, lambda: self.table.get(1), lambda: self.table.insert([1]), lambda: len(self.table),
+                             lambda: self.table.update(1, [1]), lambda: self.table.query("best low(x)"), self.table.check, self.table.close, self.query.abandon):
+                    try:
+                        call()
+                    except prefq.Error as why:
+                        said.append(why.kind)
+
+        for first in (Late(), None):
+            table = numbers(9)
+            late = first or Late()
+            late.table, late.query, late.itself = table, table.query("best low(x)"), late
+            del table, late, first
+            gc.collect()
+        self.assertLessEqual(set(said), {"closed", "client"})
+
     def test_a_finalizer_in_the_middle_of_a_call(self):
-        """It abandons a query before the next command, and waits for nothing."""
+        """It abandons a query before the next call, and waits for nothing."""
         with numbers(9, clients=2) as table:
             query = table.query("best low(x)")
-            process = table._exchange._process
-            line = process.line
-
-            def abandons():
-                query.abandon()
-                return line()
-
-            with mock.patch.object(process, "line", abandons):
+            with around(table, "get", behind=query.abandon):
                 self.assertEqual(table.get(1), [11])
             queries = [table.query("best low(x)"), table.query("best high(x)")]
             self.assertEqual([query.answer()[0].id for query in queries], [1, 9])
@@ -153,19 +402,43 @@ class Garbage(TestCase):
     def test_a_finalizer_waits_for_no_call_of_another_thread(self):
         """Else two calls of two tables, each with garbage of the other one, would wait for each other."""
         with numbers(9) as table:
-            holder = Holder(table, "best low(x)")
-            with standing_still(table):
-                other = threading.Thread(target=table.get, args=(1,))
+            holder, begun, release = Holder(table, "best low(x)"), threading.Event(), threading.Event()
+
+            def stands_still():
+                begun.set()
+                release.wait(NEVER)
+
+            with around(table, "room", before=stands_still):
+                other = threading.Thread(target=table.room)
                 other.start()
-                time.sleep(0.1)
+                begun.wait(NEVER)
                 del holder
                 collects = threading.Thread(target=gc.collect)
                 collects.start()
-                collects.join(5)
+                collects.join(NEVER)
                 self.assertFalse(collects.is_alive())
                 self.assertTrue(other.is_alive())
-            other.join(NEVER)
+                release.set()
+                other.join(NEVER)
             self.assertEqual(len([table.query("best low(x)") for _ in range(8)]), 8)
+
+    def test_garbage_that_another_thread_is_collecting(self):
+        """A collection does nothing then, and all clients are of this thread: they are waited for, a moment at most."""
+        collect, calls = gc.collect, []
+
+        def collects_later():
+            calls.append(1)
+            return 0 if len(calls) < 3 else collect()
+
+        gc.disable()
+        try:
+            with numbers(3, clients=2) as table, mock.patch("gc.collect", collects_later):
+                Holder(table, "best low(x)")
+                Holder(table, "best low(x)")
+                self.assertEqual([row.id for row in table.best("best high(x)")], [3])
+                self.assertEqual(len(calls), 3)
+        finally:
+            gc.enable()
 
     def test_clients_that_garbage_has_are_waited_for_a_second_at_most(self):
         gc.disable()
@@ -255,7 +528,7 @@ class Forks(TestCase):
             locked, release = threading.Event(), threading.Event()
 
             def holds():
-                with table._exchange.lock:
+                with table._engine.lock:
                     locked.set()
                     release.wait(NEVER)
 
@@ -278,25 +551,40 @@ class EndOfPython(TestCase):
 
     def test_daemon_threads_that_call(self):
         child = self.run_to_its_end("""
-            import os, signal, threading, time, prefq
-            table = prefq.Table(["x"], [[11], [22]])
-            print(table.pid, flush=True)
-            os.kill(table.pid, signal.SIGSTOP)
+            import threading, time, prefq
+            table = prefq.Table(["x"], [[number] for number in range(300)], block=16)
 
             def calls():
-                try:
-                    table.get(1)
-                except BaseException as why:
-                    os.write(1, f"{type(why).__name__} {why}\\n".encode())
+                while True:
+                    table.best("top_level 1000 low(x)")
+                    table.update(1, [0])
 
             for _ in range(3):
                 threading.Thread(target=calls, daemon=True).start()
             time.sleep(0.2)
             """)
-        pid, *said = child.stdout.splitlines()
-        self.assertEqual((child.returncode, child.stderr), (0, ""))
-        self.assertEqual(set(said), {"Ended the table was closed"})
-        self.assertFalse(is_running(int(pid)))
+        self.assertEqual((child.returncode, child.stdout, child.stderr), (0, "", ""))
+
+    def test_a_query_in_a_generator_beside_a_daemon_thread(self):
+        """Its block ends at the end of Python, where the thread may have stopped within a call."""
+        child = self.run_to_its_end("""
+            import threading, time, prefq
+            table = prefq.Table(["x"], [[number] for number in range(300)], block=16)
+
+            def asks():
+                with table.query("best low(x)"):
+                    yield
+
+            def calls():
+                while True:
+                    table.best("top_level 1000 low(x)")
+
+            asking = asks()
+            next(asking)
+            threading.Thread(target=calls, daemon=True).start()
+            time.sleep(0.2)
+            """)
+        self.assertEqual((child.returncode, child.stdout, child.stderr), (0, "", ""))
 
     def test_no_resource_is_left(self):
         child = self.run_to_its_end("""

@@ -7,7 +7,7 @@ from urllib.parse import urlencode
 
 import test_asgi
 from browser import Browser, chromium
-from support import TestCase, kill
+from support import TestCase
 from test_serve import ask, served
 
 QUESTION = 'top_level 2 low("Price (EUR)") * low(Distance)'
@@ -176,15 +176,13 @@ class Page(Paged):
         self.assertIn("Quay", self.rows())
         self.assertEqual(sum(self.counts()), 8)
 
-    def test_two_browsers_see_the_same_and_the_program_may_end(self):
+    def test_two_browsers_see_the_same(self):
         with Browser() as other:
             other.open(self.server.url)
             other.until("document.querySelectorAll('#rows tbody tr').length === 5")
-            kill(self.server.desk.table)
             ask(self.server, "PUT", "/rows/5", {"Price (EUR)": "30"})
             for page in (self.browser, other):
                 page.until("document.getElementById('state').textContent === 'Live, version 2'")
-            kill(self.server.desk.table)
             self.ask("best low(Distance) & high(Opened)")
             self.browser.until("document.querySelectorAll('#rows tbody tr').length === 1")
             self.assertEqual(other.js("document.querySelector('#rows tbody').innerText"), "\n".join(

@@ -35,10 +35,10 @@ class Psel(TestCase):
         frame = hotels(60_000)
         seconds = []
         for _ in range(3):
-            begun = time.perf_counter()
+            begun = time.process_time()
             found = prefq.psel(frame, "low(`price eur`) * low(dist) * high(stars)")
-            seconds.append(time.perf_counter() - begun)
-        print(f"\npsel over 60,000 rows: {min(seconds):.2f} s")
+            seconds.append(time.process_time() - begun)
+        print(f"\npsel over 60,000 rows: {min(seconds):.2f} s of a processor")
         keys = numpy.column_stack([frame["price eur"], frame["dist"], -frame["stars"]])
         self.assertEqual(list(found.index), front(keys))
         self.assertEqual(list(found.columns), [".level", *frame.columns])

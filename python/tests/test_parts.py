@@ -1,18 +1,8 @@
-"""Questions over partitions: the same answers as a plain evaluation, on each engine, and what is refused."""
-import contextlib
-import importlib.util
-import io
-import json
-import os
+"""Questions over partitions: the same answers as a plain evaluation, and what is refused."""
 import pickle
 import random
-import shutil
-import socket
-import subprocess
-import sys
 import tempfile
 import unittest
-from concurrent.futures import ProcessPoolExecutor, ThreadPoolExecutor
 from functools import reduce
 from pathlib import Path
 from unittest import mock
@@ -20,9 +10,8 @@ from unittest import mock
 import prefq
 from prefq import parts
 from prefq.parts import Job, Partition, RowsLeft, best
-from support import program
+from support import needs
 
-EXAMPLES = Path(__file__).resolve().parents[2] / "examples/parts"
 COLUMNS = ["price", "dist", "city"]
 QUESTIONS = {
     "best low(price) * low(dist)": (None, 1, None),
@@ -103,7 +92,7 @@ class Exact(unittest.TestCase):
     def test_levels_are_asked_for_in_turn(self):
         for question, levels in [("at_least 100 low(price) by city", [4, 16, 64, 100]), ("at_least 3 low(price)", [3]), ("best low(price)", [None]),
                                  ("at_least 000000003 low(price)", [3]), (f"at_least {'9' * 5000} low(price)", [None])]:
-            self.assertEqual([job.levels for job in parts._jobs(Job(question))], levels)
+            self.assertEqual([job.levels for job in Job(question).tries()], levels)
 
     def test_a_chain_needs_as_many_levels_as_rows(self):
         rows = [[number, number, 1] for number in range(40)]
@@ -137,9 +126,12 @@ class Exact(unittest.TestCase):
             self.assertEqual(best(partitions, question, reduce=lambda merge, items: reduce(lambda a, b: merge(b, a), reversed(list(items)))), wanted)
 
     def test_values_are_whole_numbers_of_64_bits(self):
-        rows = [[-2**63, 2**63 - 1], [2**63 - 1, -2**63]]
+        rows = [[-2**63 + 1, 2**63 - 1], [2**63 - 1, -2**63 + 1]]
         found = best([Partition(["a", "b"], rows)], "best low(a) * low(b)")
-        self.assertEqual([row.values for row in found], rows)
+        self.assertEqual([list(row.values()) for row in found], rows)
+        with self.assertRaises(ValueError) as caught:
+            best([Partition(["a", "b"], [[1, 2], [-2**63, 1]])], "best low(a) * low(b)")
+        self.assertIn("row 2, column 'a' (whole): -9223372036854775808 does not fit", str(caught.exception))
 
     def test_frames_of_pandas(self):
         needs(self, "pandas")
@@ -149,10 +141,9 @@ class Exact(unittest.TestCase):
             partitions = [pandas.DataFrame(some, columns=COLUMNS).astype(kind) for some in (rows[:25], rows[25:])]
             question = "at_least 9 low(price) * low(dist)"
             self.assertEqual(answered(best(partitions, question)), plain(rows, *QUESTIONS[question]))
-        for wrong in ([1.0, 2.0], [True, False], ["1", "2"], [1, None]):
-            with self.assertRaises(TypeError) as caught:
-                best([pandas.DataFrame({"price": [1, 2], "dist": wrong})], "best low(price)")
-            self.assertIn("column dist", str(caught.exception))
+        for other in ([1.5, 2.0], [True, False], ["1", "2"], [1, None]):
+            [row] = best([pandas.DataFrame({"price": [1, 2], "dist": other})], "best low(price)")
+            self.assertEqual((row.price, row.dist), (1, other[0]))
 
     def test_no_rows(self):
         self.assertEqual(best([Partition(COLUMNS, []), Partition(COLUMNS, [])], "best low(price)"), [])
@@ -176,24 +167,26 @@ class Files(unittest.TestCase):
             "empty lines": b"price,dist\n\n50,8\n\n80,2\n\n", "quotes and empty lines": b'price,dist\n\n"50",8\n\n80,2\n',
         }.items():
             with self.subTest(name):
-                self.assertEqual([tuple(row) for row in best([self.file(data)], "best low(dist)")], [(1, 2, [80, 2])])
+                [row] = best([self.file(data)], "best low(dist)")
+                self.assertEqual((row.level, row.id, dict(row)), (1, 2, {"price": 80, "dist": 2}))
                 self.assertEqual([row.id for row in best([str(self.file(data))], "top_level 2 low(dist)")], [2, 1])
 
     def test_a_fault_of_a_file_names_the_file_and_the_row(self):
         for data, exception, said in [
-            (b"price,dist\n50,8\n50,x\n", prefq.Refused, "row 2, column dist is 'x'"),
-            (b"price,dist\n50,8\n50,\n", prefq.Refused, "row 2"),
-            (b"price,dist\n50,8\n50\n", prefq.Refused, "row 2"),
-            (b"price,dist\n50,8\n60,9223372036854775808\n", prefq.Refused, "row 2"),
-            (b"price,dist\n50,8.5\n", prefq.Refused, "8.5"),
-            (b"", ValueError, "0 columns"),
-            (b"price (EUR),dist\n50,8\n", ValueError, "price (EUR)"),
-            (b"price,dist\n50,\xff\n", ValueError, "decode"),
+            (b"price,dist\n50,8\nx,5\n", prefq.Refused, "column 'price' has texts"),
+            (b"price,dist\n50,8\n50\n", prefq.Refused, "line 3: it has 1 cells"),
+            (b"", prefq.Refused, "is empty"),
+            (b"price,dist\n50,\xff\n", prefq.Refused, "byte 14"),
+            (b"price,price\n50,1\n", prefq.Refused, "two columns are called 'price'"),
         ]:
             with self.subTest(data=data), self.assertRaises(exception) as caught:
                 best([self.file(data)], "best low(price)")
-            self.assertIn("rows.csv: ", str(caught.exception))
             self.assertIn(said, str(caught.exception))
+            if caught.exception.kind == "table":
+                self.assertIn("rows.csv", str(caught.exception))
+        with self.assertRaises(ValueError) as caught:
+            best([self.file(b"price,dist\n50,8\n50.5,1\n")], "best low(price)", kinds={"price": "whole"})
+        self.assertIn("rows.csv: line 3, column 'price' (whole): 50.5 is no whole number", str(caught.exception))
         with self.assertRaises(FileNotFoundError):
             best([self.folder / "none.csv"], "best low(price)")
 
@@ -213,11 +206,11 @@ class Files(unittest.TestCase):
                     raise kept[key]
                 yield kept[key]
 
-        for data, wanted in [(b"price\n5\n", [5]), (b"price\n4\n", [4]), (b"price\nx\n", None), (b"price\n3\n", [3])]:
+        for data, wanted in [(b"price\n5\n", 5), (b"price\n4\n", 4), (b"price\nx\n", None), (b"price\n3\n", 3)]:
             for question in ("best low(price)", "at_least 1 low(price)"):
                 path = self.file(data)
                 if wanted:
-                    self.assertEqual(best([path], question, map=keeps)[0].values, wanted)
+                    self.assertEqual(best([path], question, map=keeps)[0].price, wanted)
                 else:
                     with self.assertRaises(prefq.Refused):
                         best([path], question, map=keeps)
@@ -234,30 +227,37 @@ class Files(unittest.TestCase):
             return map(function, items)
 
         found = best([path], "at_least 9 low(price) * low(dist)", map=changes)
-        self.assertEqual([(row.level, row.id, row.values[0]) for row in found], [(level, level, 999 + level) for level in range(1, 10)])
+        self.assertEqual([(row.level, row.id, row.price) for row in found], [(level, level, 999 + level) for level in range(1, 10)])
 
     def test_a_file_that_is_written_to_while_it_is_read(self):
-        path = self.file(as_csv([[1, 2, 3]]))
+        """While its columns are read, or its rows that are left."""
+        from prefq.reading import Cells
+        for call in ("chunks", "rows_at"):
+            path, before = self.file(as_csv([[1, 2, 3]])), getattr(Cells, call)
 
-        class Reads(io.FileIO):
-            def read(self, *size):
-                found = super().read(*size)
+            def writes(cells, *words, before=before):
+                found = before(cells, *words)
+                found = list(found) if not isinstance(found, dict) else found
                 with open(path, "ab") as file:
                     file.write(b"4,5,6\n")
                 return found
 
-        with mock.patch("builtins.open", lambda path, mode: Reads(path) if mode == "rb" else io.FileIO(path, mode)):
-            with self.assertRaises(prefq.Refused) as caught:
+            with self.subTest(call), mock.patch.object(Cells, call, writes), self.assertRaises(prefq.Refused) as caught:
                 best([path], "best low(price)")
-        self.assertIn("rows.csv: the file was written to while it was read", str(caught.exception))
-        self.assertEqual(len(best([path], "best low(price)")), 1)
+            self.assertIn("rows.csv was written to while it was read", str(caught.exception))
+            self.assertEqual(len(best([path], "best low(price)")), 1)
 
     def test_rows_of_a_partition_that_is_cut_are_counted_in_it(self):
         rows = [f"{number},1" for number in range(90)]
         rows[77] = "5"
-        with mock.patch.object(parts, "MOST_ROWS", 40), self.assertRaises(prefq.Refused) as caught:
+        with mock.patch.object(parts, "MOST_ROWS", 40), self.assertRaises(ValueError) as caught:
             best([Partition(["price", "dist"], rows)], "best low(price)")
         self.assertIn("row 78", str(caught.exception))
+
+    def test_rows_that_can_be_had_once_are_kept_for_the_tries_of_at_least(self):
+        rows = [[number, number, 1] for number in range(40)]
+        found = best([Partition(COLUMNS, iter(rows))], "at_least 9 low(price) * low(dist)")
+        self.assertEqual(answered(found), [(level, level) for level in range(1, 10)])
 
 
 class Refusals(unittest.TestCase):
@@ -266,12 +266,19 @@ class Refusals(unittest.TestCase):
             with self.subTest(rows=rows), self.assertRaises(TypeError):
                 best([Partition(["a"], rows)], "best low(a)")
 
-    def test_rows_that_are_not_whole_numbers(self):
-        for rows in ([[1.5, 2]], [[True, 2]], [["7", 2]], [[None, 2]], [5], [{"a": 1, "b": 2}]):
+    def test_rows_that_are_none(self):
+        for rows in ([5], [{"a": 1, "b": 2}], [{1, 2}], [None]):
             with self.subTest(rows=rows), self.assertRaises(TypeError):
                 best([Partition(["a", "b"], rows)], "best low(a)")
         with self.assertRaises(ValueError):
             best([Partition(["a", "b"], [[1]])], "best low(a)")
+        for source in (5, None, b"a.csv"):
+            with self.subTest(source=source), self.assertRaises(TypeError) as caught:
+                best([source], "best low(a)")
+            self.assertIn("a partition is a path, a Partition or a DataFrame", str(caught.exception))
+        with self.assertRaises(TypeError) as caught:
+            best([Partition(["a"], [[1]])], "best low(a)", sep=";")
+        self.assertIn("it is called 'delimiter' here", str(caught.exception))
 
     def test_a_question_is_refused_at_its_own_place(self):
         for question, place in [("best low(prize)", 9), ("at_least 40 low(prize)", 16), ("at_least 1001 low(price)", 9), (f"at_least {'9' * 900} low(price)", 9), ("at_least40 low(price)", 0),
@@ -280,12 +287,11 @@ class Refusals(unittest.TestCase):
                 best([Partition(COLUMNS, [[1, 2, 3]])], question)
             self.assertEqual((caught.exception.kind, caught.exception.place), ("term", place))
             self.assertEqual(str(caught.exception).splitlines()[-1].index("^") - 4, place)
-        # The longest question: that of the parts has one byte more.
-        long = f"at_least 5 low(price{' ' * 4075})"
-        self.assertEqual(len(long), 4096)
-        for question in (long, "", "best low(price)\nas 1 room", "best low(price)\r"):
+        # The longest question; blanks are not sent.
+        self.assertEqual(len(best([Partition(COLUMNS, [[1, 2, 3]])], f"at_least 5 low(price{' ' * 5000})")), 1)
+        for question in (f"best {' * '.join(['low(price)'] * 700)}", "", "best low(price)\nas 1 room"):
             with self.subTest(question=question), self.assertRaises(prefq.Refused):
-                best([Partition(COLUMNS, [])], question)
+                best([Partition(COLUMNS, [[1, 2, 3]])], question)
         with self.assertRaises(TypeError):
             best([Partition(COLUMNS, [])], None)
 
@@ -293,8 +299,8 @@ class Refusals(unittest.TestCase):
         with self.assertRaises(ValueError):
             best([], "best low(price)")
         with self.assertRaises(prefq.Refused) as caught:
-            best([Partition(["a", "b"], [[1, 2]]), Partition(["b", "a"], [[1, 2]])], "best low(a)")
-        self.assertIn("different columns: a, b and b, a", str(caught.exception))
+            best([Partition(["a", "b"], [[1, 2]]), Partition(["a", "c"], [[1, 2]])], "best low(a)")
+        self.assertIn("different columns: a, b and a, c", str(caught.exception))
 
     def test_one_partition_in_place_of_a_list(self):
         class Frame:
@@ -312,21 +318,21 @@ class Refusals(unittest.TestCase):
                 return []
 
         for partitions, said in [("a.csv", "one path: give a list"), (Path("a.csv"), "one path"), (b"a.csv", "one path"), (Partition(["a"], [[1]]), "one partition"),
-                                 (Pandas(), "a DataFrame: give a list of DataFrames, or ask it by prefq.psel"), (Dask(), "a DataFrame of Dask"),
-                                 ([Pandas(), Dask()], "partition 2 is a DataFrame of Dask: give its partitions, client.compute(frame.to_delayed())")]:
+                                 (Pandas(), "a DataFrame: give a list of DataFrames, or ask it by prefq.psel"),
+                                 ([Pandas(), Dask()], "partition 2 is a DataFrame of Dask: give it alone, in place of the list")]:
             with self.subTest(said), self.assertRaises(TypeError) as caught:
                 best(partitions, "best low(price)")
             self.assertIn(said, str(caught.exception))
 
-    def test_a_program_that_takes_too_long(self):
-        with program("exec sleep 60") as path, self.assertRaises(prefq.Ended) as caught:
-            best([Partition(["a"], [[1]])], "best low(a)", program=path, timeout=0.2)
-        self.assertEqual((caught.exception.kind, str(caught.exception)), ("timeout", "the program has not ended within 0.2 seconds"))
-        self.assertEqual(pickle.loads(pickle.dumps(caught.exception)).kind, "timeout")
-        for timeout, exception in [(0, ValueError), (-1, ValueError), ("5", TypeError), (True, TypeError)]:
-            with self.subTest(timeout=timeout), self.assertRaises(exception):
-                best([Partition(["a"], [[1]])], "best low(a)", timeout=timeout)
-        self.assertEqual(len(best([Partition(["a"], [[1]])], "best low(a)", timeout=60)), 1)
+    def test_an_engine_for_a_dataframe_of_dask(self):
+        class Dask:
+            def to_delayed(self):
+                return []
+
+        for options in ({"map": lambda function, items: map(function, items)}, {"reduce": reduce}):
+            with self.assertRaises(TypeError) as caught:
+                best(Dask(), "best low(price)", **options)
+            self.assertIn("Dask's own scheduler: leave out map= and reduce=", str(caught.exception))
 
     def test_rows_that_nothing_dominates(self):
         rows = [f"{number},{number % 7}" for number in range(66_000)]
@@ -335,156 +341,13 @@ class Refusals(unittest.TestCase):
         self.assertEqual((caught.exception.left, caught.exception.count), (66_000, 66_000))
         self.assertIn("66000 rows of 66000 are left", str(caught.exception))
 
-    def test_no_program(self):
-        with self.assertRaises(prefq.ProgramNotFound):
-            best([Partition(["a"], [[1]])], "best low(a)", program="/no/such/program")
-        with self.assertRaises(prefq.Ended) as caught:
-            best([Partition(["a"], [[1]])], "best low(a)", program="/bin/false")
-        self.assertIn("status 1", str(caught.exception))
-        with self.assertRaises(prefq.Ended):
-            best([Partition(["a"], [[1]])], "best low(a)", program="/bin/true")
-
     def test_exceptions_jobs_and_results_can_be_pickled(self):
         left = pickle.loads(pickle.dumps(RowsLeft(70_000, 80_000)))
         self.assertEqual((left.left, left.count, left.kind), (70_000, 80_000, "parts"))
         job = Job("best low(a)")
         part = job.part(Partition(["a"], [[3], [1]]))
-        self.assertEqual(pickle.loads(pickle.dumps((job, part))), (job, part))
-
-
-class Engines(unittest.TestCase):
-    def setUp(self):
-        folder = tempfile.TemporaryDirectory()
-        self.addCleanup(folder.cleanup)
-        self.folder = folder.name
-        rows = random_rows(random.Random(9), 900, 200)
-        self.files = write(self.folder, rows, 80)
-        self.wanted = {question: plain(rows, *asked) for question, asked in QUESTIONS.items()}
-
-    def check(self, map):
-        """The answers, a refusal with its place, and that the engine goes on after it."""
-        for question, wanted in self.wanted.items():
-            self.assertEqual(answered(best(self.files, question, map=map)), wanted, question)
-        with self.assertRaises(prefq.Refused) as caught:
-            best(self.files, "best low(prize)", map=map)
-        self.assertEqual((caught.exception.kind, caught.exception.number, caught.exception.place), ("term", 2, 9))
-        question = "best low(price) * low(dist)"
-        self.assertEqual(answered(best(self.files, question, map=map)), self.wanted[question])
-
-    def test_threads(self):
-        with ThreadPoolExecutor(2) as pool:
-            self.check(pool.map)
-
-    def test_processes(self):
-        with ProcessPoolExecutor(2) as pool:
-            self.check(pool.map)
-
-    def test_dask(self):
-        """In a process of its own, since Dask leaves an event loop behind."""
-        needs(self, "distributed")
-        code = "import sys, test_parts; test_parts.on_dask(*sys.argv[1:])"
-        done = subprocess.run([sys.executable, "-c", code, *map(str, self.files)], env=package_path(), cwd=Path(__file__).parent, stdout=subprocess.PIPE,
-                              stderr=subprocess.PIPE, universal_newlines=True, timeout=120)
-        self.assertEqual(done.returncode, 0, done.stderr)
-        printed = json.loads(done.stdout)
-        self.assertEqual({question: [tuple(pair) for pair in found] for question, found in printed["answers"].items()}, self.wanted)
-        self.assertEqual(printed["refused"], ["Refused", "term", 2, 9])
-        self.assertEqual(printed["frames"], printed["answers"][next(iter(QUESTIONS))])
-        self.assertEqual(printed["changed"], [[9], [1], "refused", [3]])
-
-    def test_dask_workers_that_have_nothing(self):
-        """Separate worker processes without the package and the program, by the example."""
-        needs(self, "distributed")
-        place = f"127.0.0.1:{free_port()}"
-        bare = {name: value for name, value in os.environ.items() if name not in ("PYTHONPATH", "PREFQ_PROGRAM")}
-        words = [sys.executable, "-m", "distributed.cli.dask_worker", f"tcp://{place}", "--nthreads", "1", "--no-dashboard", "--no-nanny"]
-        with contextlib.ExitStack() as stack:
-            for command in ([sys.executable, "-m", "distributed.cli.dask_scheduler", "--host", f"tcp://{place}", "--no-dashboard"],
-                            [*words, "--local-directory", f"{self.folder}/first"], [*words, "--local-directory", f"{self.folder}/second"]):
-                process = subprocess.Popen(command, env=bare, cwd=self.folder, stdout=subprocess.DEVNULL, stderr=subprocess.DEVNULL)
-                stack.callback(end, process)
-            question = "at_least 9 low(price) * low(dist)"
-            done = self.example("dask_workers.py", f"tcp://{place}", self.folder, question)
-            refused = self.example("dask_workers.py", f"tcp://{place}", self.folder, "best low(prize)")
-        self.assertEqual([tuple(map(int, line.replace(":", "").split()[1:4:2])) for line in done.stdout.splitlines()], self.wanted[question], done.stderr)
-        self.assertEqual(refused.returncode, 1)
-        self.assertIn("unknown column", refused.stderr)
-
-    def test_mpi(self):
-        needs(self, "mpi4py")
-        if not shutil.which("mpiexec"):
-            self.skipTest("mpiexec is not installed")
-        question = "top_level 3 low(price) * low(dist) by city"
-        environment = {**package_path(), "OMPI_ALLOW_RUN_AS_ROOT": "1", "OMPI_ALLOW_RUN_AS_ROOT_CONFIRM": "1"}
-        done = subprocess.run(["mpiexec", "--oversubscribe", "-n", "3", sys.executable, "-m", "mpi4py.futures", str(EXAMPLES / "mpi.py"), self.folder, question],
-                              env=environment, stdout=subprocess.PIPE, stderr=subprocess.PIPE, universal_newlines=True, timeout=120)
-        self.assertEqual([tuple(map(int, line.replace(":", "").split()[1:4:2])) for line in done.stdout.splitlines()], self.wanted[question], done.stderr)
-
-    def test_the_examples_of_a_pool_and_a_cut_file(self):
-        question = "best low(price) * low(dist)"
-        done = self.example("pool.py", self.folder, question, "2")
-        self.assertEqual([tuple(map(int, line.replace(":", "").split()[1:4:2])) for line in done.stdout.splitlines()], self.wanted[question], done.stderr)
-        done = self.example("parts.py", prefq.find_program(), str(self.files[0]), question)
-        self.assertEqual(done.returncode, 0, done.stderr)
-        self.assertEqual(len(done.stdout.splitlines()), len(best(self.files[:1], question)))
-
-    def example(self, name, *words):
-        return subprocess.run([sys.executable, str(EXAMPLES / name), *words], env=package_path(), stdout=subprocess.PIPE, stderr=subprocess.PIPE,
-                              universal_newlines=True, timeout=120)
-
-
-def on_dask(*files):
-    """Asks the questions, and one that is refused in between, on a cluster of two workers, and prints the answers."""
-    from dask import dataframe
-    from distributed import Client, LocalCluster
-    options = {"dashboard_address": None, "memory_limit": None, "silence_logs": "ERROR", "local_directory": str(Path(files[0]).parent)}
-    with LocalCluster(n_workers=2, threads_per_worker=1, **options) as cluster, Client(cluster) as client:
-        frames = client.compute(dataframe.read_csv(list(files), blocksize=None).to_delayed())
-        try:
-            refused = best(files, "best low(prize)", map=client.map)
-        except prefq.Refused as why:
-            refused = [type(why).__name__, why.kind, why.number, why.place]
-        print(json.dumps({"refused": refused, "answers": {question: answered(best(files, question, map=client.map)) for question in QUESTIONS},
-                          "changed": list(after_changes(client, Path(files[0]).with_name("changed.csv"))),
-                          "frames": answered(best(frames, next(iter(QUESTIONS)), map=client.map))}))
-
-
-def after_changes(client, path):
-    """What is answered of a file that changes, while somebody has the part and the exception of each question before."""
-    kept = []
-    for text in ("price\n9\n", "price\n1\n", "price\nx\n", "price\n3\n"):
-        path.write_text(text)
-        kept.append(client.map(Job("best low(price)").part, [path]))
-        try:
-            yield best([path], "best low(price)", map=client.map)[0].values
-        except prefq.Refused as why:
-            kept.append(why)
-            yield "refused"
-
-
-def needs(test, module):
-    if not importlib.util.find_spec(module):
-        test.skipTest(f"{module} is not installed")
-
-
-def package_path():
-    """The environment in which Python finds this package."""
-    return {**os.environ, "PYTHONPATH": str(Path(prefq.__file__).parents[1])}
-
-
-def free_port():
-    with socket.socket() as some:
-        some.bind(("127.0.0.1", 0))
-        return some.getsockname()[1]
-
-
-def end(process):
-    process.terminate()
-    try:
-        process.wait(10)
-    except subprocess.TimeoutExpired:
-        process.kill()
-        process.wait()
+        again, left = pickle.loads(pickle.dumps((job, part)))
+        self.assertEqual((again, list(left.places), left.rows), (job, [1], part.rows))
 
 
 if __name__ == "__main__":

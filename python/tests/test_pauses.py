@@ -9,6 +9,7 @@ from types import SimpleNamespace
 from unittest import mock
 
 import prefq
+from prefq import library
 from support import TestCase
 
 COUNT = 60_000
@@ -33,21 +34,41 @@ async def longest_gap(call):
     return await task, longest
 
 
+class Library:
+    """The calls of the library, in which other threads run: each of them is a pause."""
+
+    def __init__(self):
+        self._calls = library.calls()
+        self.pieces = []
+
+    def __getattr__(self, name):
+        call = getattr(self._calls, name)
+        return lambda *words: self.pause(lambda: call(*words))
+
+    def pause(self, call):
+        """What the call returns, whose time is not counted."""
+        self.pieces.append(time.thread_time())
+        try:
+            return call()
+        finally:
+            self.pieces.append(time.thread_time())
+
+
+CALLS = Library()
+
+
 def longest_piece(call):
     """What a call on a thread of its own returns, and the most processor time that it takes from one pause to the next."""
-    pieces, returned = [], []
-
-    def pause(seconds=0.0):
-        pieces.append(time.thread_time())
-        time.sleep(seconds)
-        pieces.append(time.thread_time())
+    returned = []
+    CALLS.pieces = pieces = []
 
     def runs():
-        pause()
+        CALLS.pause(lambda: None)
         returned.append(call())
-        pause()
+        CALLS.pause(lambda: None)
 
-    with mock.patch("prefq.pauses.time", SimpleNamespace(sleep=pause, thread_time=time.thread_time)):
+    pauses = SimpleNamespace(sleep=lambda seconds: CALLS.pause(lambda: time.sleep(seconds)), thread_time=time.thread_time)
+    with mock.patch("prefq.pauses.time", pauses), mock.patch("prefq.engine.calls", lambda: CALLS):
         thread = threading.Thread(target=runs)
         thread.start()
         thread.join()

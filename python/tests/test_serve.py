@@ -23,7 +23,7 @@ from prefq import replies
 from prefq.desk import Desk
 from prefq.replies import MOST_BODY
 from prefq.server import Server
-from support import TestCase, kill, standing_still
+from support import TestCase
 
 EXAMPLES = Path(__file__).resolve().parents[2] / "examples"
 RECORDS = [
@@ -318,6 +318,7 @@ class OfADesk(TestCase):
             try:
                 versions = []
                 for _ in range(40):
+                    time.sleep(0.001)       # for the changes
                     seen = desk.picture("best around(Distance, 50)")
                     nearest = min(abs(row.numbers[2] - 50) for row in seen.rows)
                     self.assertEqual([row.id for row in seen.best], [row.id for row in seen.rows if abs(row.numbers[2] - 50) == nearest])
@@ -335,34 +336,9 @@ class OfADesk(TestCase):
                 desk.insert({"x": 10**400})
 
 
-class Restart(TestCase):
-    def test_the_program_ends(self):
-        with served() as server, Events(server) as events:
-            before = events.next()[1]
-            ask(server, "DELETE", "/rows/2")
-            ask(server, "POST", "/rows", {"Hotel": "New", "Price (EUR)": "70.01", "Distance": 5})
-            events.until(3)
-            kill(server.desk.table)
-            status, shown = picture(server)
-            self.assertEqual((status, shown["version"], shown["count"]), (200, 3, before["count"]))
-            self.assertEqual([(row["id"], row["level"]) for row in shown["best"]], [(1, 1), (5, 1), (3, 2), (4, 2)])
-            kill(server.desk.table)
-            self.assertEqual(ask(server, "PUT", "/rows/5", {"Distance": 1}), (200, {"id": 5}))
-            self.assertEqual(events.until(4)["best"][1]["cells"], ["New", "70.01", "1", ""])
-            kill(server.desk.table)
-            self.assertEqual(ask(server, "POST", "/rows", {"Hotel": "Last"}), (201, {"id": 6}))
-            kill(server.desk.table)
-            self.assertEqual(ask(server, "DELETE", "/rows/6")[0], 200)
-
-    def test_the_program_stands_still(self):
-        with Desk(prefq.Frame.from_records(RECORDS, kinds=KINDS, timeout=0.5)) as desk, standing_still(desk.table):
-            stopped = desk.table.pid
-            with self.within(20):
-                self.assertEqual(len(desk.picture(QUESTION).best), 4)
-            self.assertNotEqual(desk.table.pid, stopped)
-
+class ManyThreads(TestCase):
     def test_nothing_is_lost_or_made_twice(self):
-        """Threads change rows while the program is killed again and again."""
+        """Threads change rows while the table is opened anew again and again, as it is for a wider column, and pictures are made."""
         with served() as server:
             desk, made, stop = server.desk, {}, threading.Event()
 
@@ -375,34 +351,32 @@ class Restart(TestCase):
                         desk.delete(id)
                         del made[id]
 
-            def killer():
+            def opens_anew():
                 while not stop.is_set():
-                    with contextlib.suppress(ProcessLookupError):
-                        os.kill(desk.table.pid, signal.SIGKILL)
+                    with desk._changed:
+                        desk._open(list(desk._rows.values()))
+                    self.assertEqual(len(desk.picture("best low(Distance)").best) > 0, True)
                     stop.wait(0.1)
             with ThreadPoolExecutor(5) as pool:
-                kills = pool.submit(killer)
+                opens = pool.submit(opens_anew)
                 try:
                     for done in [pool.submit(change, seed) for seed in range(4)]:
                         done.result()
                 finally:
                     stop.set()
-                kills.result()
+                opens.result()
             rows = {row.id: desk.record(row.numbers) for row in desk.picture("best low(Distance)").rows}
             self.assertEqual({id: (row["Hotel"], row["Distance"]) for id, row in rows.items() if id > 4}, made)
             self.assertEqual(sorted(numbers[2] for _, numbers in desk.table.rows()), sorted(row["Distance"] for row in rows.values()))
 
-    def test_no_program_any_more(self):
+    def test_a_table_that_has_ended(self):
         with served() as server:
-            with mock.patch.object(server.desk, "_program", "/no/such/program"):
-                kill(server.desk.table)
-                status, shown = picture(server)
-                self.assertEqual(status, 503)
-                self.assertIn("/no/such/program", shown["error"])
-                self.assertEqual(ask(server, "POST", "/rows", {"Hotel": "x"})[0], 503)
-                with Events(server, "best high(Distance)") as events:       # and the browser will ask again
-                    self.assertEqual((events.next()[0], events.next()[0]), ("failed", "end"))
-            self.assertEqual(picture(server)[1]["count"], 4)
+            server.desk.table.close()
+            status, shown = picture(server)
+            self.assertEqual((status, shown["error"]), (503, "the table was closed"))
+            self.assertEqual(ask(server, "POST", "/rows", {"Hotel": "x"})[0], 503)
+            with Events(server, "best high(Distance)") as events:       # and the browser will ask again
+                self.assertEqual((events.next()[0], events.next()[0]), ("failed", "end"))
 
 
 class CommandLine(TestCase):

@@ -1,11 +1,10 @@
 """Many threads over one table: no request is lost, and no answer is wrong."""
-import os
 import random
-import signal
 import threading
+import time
 
 import prefq
-from support import QUESTION, TestCase, hotels
+from support import QUESTION, TestCase, around, hotels, numbers
 
 
 def all_of(count, function):
@@ -97,19 +96,24 @@ class Threads(TestCase):
             asks.join(30)
             self.assertEqual(other, [4])
 
-    def test_killed_under_many_threads(self):
-        table = hotels(block=16)
-        started = threading.Barrier(21)
+    def test_a_change_comes_between_two_pieces_of_a_long_question(self):
+        """Which has a snapshot from before."""
+        with numbers(50, block=1, capacity=60) as table:
+            pieces, answers = [], []
 
-        def work(number):
-            started.wait()
-            with self.assertRaises(prefq.Ended):
-                while True:
-                    table.best(QUESTION)
+            def takes_long():
+                pieces.append(time.monotonic())
+                time.sleep(0.02)
 
-        def kills(_):
-            started.wait()
-            os.kill(table.pid, signal.SIGKILL)
-
-        with self.within(60):
-            self.assertEqual(all_of(21, lambda number: kills(number) if number == 20 else work(number)), [])
+            with around(table, "scan", before=takes_long):
+                asks = threading.Thread(target=lambda: answers.append(table.best("best low(x)")))
+                asks.start()
+                while not pieces:
+                    time.sleep(0.001)
+                table.insert([5])
+                between = len(pieces)
+                asks.join(60)
+            self.assertLess(between, len(pieces))
+            self.assertEqual(len(pieces), 60)
+            self.assertEqual([row.id for row in answers[0]], [1])
+            self.assertEqual([row.id for row in table.best("best low(x)")], [51])

@@ -9,10 +9,14 @@
 """
 from . import parts
 from .answer import Answer
+from .async_frame import AsyncFrame
 from .asynchronous import AsyncQuery, AsyncTable
 from .columns import Column
-from .errors import Ended, Error, ProgramNotFound, Refused
-from .frame import Frame, UnknownValue
+from .errors import Ended, Error, LibraryNotFound, ProgramNotFound, Refused
+from .follow import Followed
+from .frame import Frame
+from .frame_query import FrameQuery, UnknownValue
+from .library import find_library
 from .program import find_program
 from .query import Query
 from .records import Record
@@ -21,5 +25,5 @@ from .select import psel
 from .table import Table
 
 __version__ = "0.2.0"
-__all__ = ["Answer", "AsyncQuery", "AsyncTable", "Column", "Ended", "Error", "Frame", "ProgramNotFound", "Query", "Record", "Refused", "Row", "Table",
-           "UnknownValue", "find_program", "parts", "psel"]
+__all__ = ["Answer", "AsyncFrame", "AsyncQuery", "AsyncTable", "Column", "Ended", "Error", "Followed", "Frame", "FrameQuery", "LibraryNotFound",
+           "ProgramNotFound", "Query", "Record", "Refused", "Row", "Table", "UnknownValue", "find_library", "find_program", "parts", "psel"]

@@ -24,7 +24,8 @@ LINE_END = "\r\n"
 class Answer(List[Record]):
     """The rows of an answer, by level and then by id: a list of records, each with its `level` and `id`.
 
-    `question` is what was asked, and `columns` are the columns of the rows. At a prompt and in a notebook it is shown as a table.
+    `question` is what was asked, `columns` are the columns of the rows, and `at` is the place in the database as of which a frame that follows it answered. At a
+    prompt and in a notebook it is shown as a table.
 
     >>> import prefq
     >>> with prefq.Frame.from_records([{"City": "Lyon", "Price": 60}, {"City": "Bern", "Price": 90}]) as hotels:
@@ -42,16 +43,19 @@ class Answer(List[Record]):
     """
 
     def __init__(self, question: str, columns: Iterable[Column], records: Iterable[Record], *, others: Optional[Callable[[], Iterable[Record]]] = None,
-                 index: Optional[Callable[[Sequence[Record]], Any]] = None) -> None:
+                 index: Optional[Callable[[Sequence[Record]], Any]] = None, at: Optional[int] = None, notes: Iterable[str] = ()) -> None:
         super().__init__(records)
         self.question = question
         self.columns = tuple(columns)
+        self.at = at
+        # What is to be known of how the data were read, where they were read for this answer.
+        self.notes = list(notes)
         self._others = others
         self._index = index
 
     def __reduce__(self) -> Any:
         """An answer is copied and pickled without the frame that it came from."""
-        return Answer, (self.question, self.columns, list(self))
+        return Answer, (self.question, self.columns, list(self)), {"at": self.at}
 
     @property
     def names(self) -> List[str]:

@@ -8,17 +8,20 @@ import warnings
 from typing import Dict, Iterable, List, Optional, Sequence, Tuple
 
 from .answer import Answer
+from .ask_files import asked_of_files, files_like
 from .columns import Column
 from .errors import Ended, Error
-from .frame import UnknownValue
+from .frame_query import UnknownValue
 from .infer import kind_of_texts, oddity
 from .kinds import Texts
 from .kinds.forms import Form
 from .loading import Encoded, File, decoded
 from .missing import Missing
+from .partition import Reading
 from .reading import Dialect, is_blank, read_csv
 from .records import Record
-from .select import names_in, selected
+from .questions import names_in
+from .select import selected
 from .streams import FULL, NotWritten, complain, give_up_output, standard_input, write
 from .visible import in_xml, visible
 
@@ -29,6 +32,7 @@ EXAMPLES = """examples:
   python -m prefq ask hotels.csv "best pos(City, 'Lyon') & low(\\"Price (EUR)\\")" --csv > best.csv
   python -m prefq ask hotels.csv "top_level 3 low(Price) * low(Distance) by City" --plot best.svg
   python -m prefq ask hotels.csv          prints the columns of the file
+  python -m prefq ask 'data/*.csv' "best low(Price)"      asks all of these files, on all processors
 
 A question: best TERM, top_level K TERM, at_least K TERM, each with `by COLUMN, ..` behind it or without, or skyline of COLUMN min, COLUMN max, COLUMN diff.
 A term: low(x), high(x), around(x, 5), between(x, 1, 5), pos(x, 'a', 'b'), layered(x, {'a'}, {'b'}), -t, t * u (both at once), t & u (t decides first).
@@ -40,7 +44,7 @@ def parser() -> argparse.ArgumentParser:
     found = argparse.ArgumentParser(prog="python -m prefq ask", epilog=EXAMPLES,
                                     description="Prints the best rows of a CSV file: level, id (the number of the row), and the row as it stands there.",
                                     formatter_class=argparse.RawDescriptionHelpFormatter)
-    found.add_argument("file", metavar="FILE.csv", help="comma-separated values with names in the first line; - is standard input")
+    found.add_argument("file", metavar="FILE.csv", help="comma-separated values with names in the first line; - is standard input; in quotes, 'data/*.csv' is all of these files")
     found.add_argument("question", metavar="QUESTION", nargs="?", help="in the names and values of the file; without one, the columns are printed")
     form = found.add_mutually_exclusive_group()
     form.add_argument("--csv", dest="form", action="store_const", const="csv", help="print CSV")
@@ -65,11 +69,18 @@ def add_file_options(found: argparse.ArgumentParser) -> None:
     found.add_argument("--null-padding", action="store_true", help="a row that is too short ends in missing values, and is not refused")
 
 
+def reading_of(options: argparse.Namespace) -> Reading:
+    """How files are read by these options."""
+    missing = None if options.missing is None else tuple(options.missing)
+    dialect = Dialect(options.encoding, options.delimiter, options.skip, options.null_padding)
+    return Reading(kinds_of(options.kind), missing, dialect, Form(options.decimal, options.thousands))
+
+
 def file_of(options: argparse.Namespace, progress: Optional["Progress"] = None) -> File:
     """The file of these options."""
-    dialect = Dialect(options.encoding, options.delimiter, options.skip, options.null_padding)
-    cells = read_csv(standard_input(), dialect, progress, "standard input") if options.file == "-" else read_csv(options.file, dialect, progress)
-    return File(cells, kinds_of(options.kind), Missing(options.missing), Form(options.decimal, options.thousands))
+    reading = reading_of(options)
+    cells = read_csv(standard_input(), reading.dialect, progress, "standard input") if options.file == "-" else read_csv(options.file, reading.dialect, progress)
+    return File(cells, reading.kinds, Missing(reading.missing), reading.form)
 
 
 # What is said of arguments of a function, and of options.
@@ -109,8 +120,14 @@ def in_options(text: str) -> str:
 
 
 def run(options: argparse.Namespace) -> None:
-    """Reads the file, asks, and prints."""
+    """Reads the file, or the files of a pattern, asks, and prints."""
     progress = Progress()
+    files = files_like(options.file)
+    if files:
+        answer = asked_of_files(files, options.question, reading_of(options), progress)
+        progress.end()
+        show(answer, options, answer.notes)
+        return
     file = file_of(options, progress)
     if options.question is None:
         file.load(dict.fromkeys(file.cells.names))
@@ -122,7 +139,12 @@ def run(options: argparse.Namespace) -> None:
         file.load(file.cells.names)         # Their values are wanted, not only their cells.
     answer = asked(file, options.question, progress)
     progress.end()
-    say(file.notes[name] for name in names_in(options.question, None, file.cells.names) if name in file.notes)
+    show(answer, options, [file.notes[name] for name in names_in(options.question, None, file.cells.names) if name in file.notes])
+
+
+def show(answer: Answer, options: argparse.Namespace, notes: Iterable[str]) -> None:
+    """Says what is to be known of an answer, draws it, and prints it."""
+    say(notes)
     if options.plot:
         draw(answer, options.plot)
     write(written(answer, options.form))

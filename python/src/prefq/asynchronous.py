@@ -3,18 +3,80 @@ import asyncio
 import weakref
 from concurrent.futures import Future, ThreadPoolExecutor
 from functools import partial
-from typing import Any, Callable, Generator, Iterable, List, Optional, Sequence, Tuple, Type, TypeVar
+from typing import Any, Callable, Generator, Iterable, List, Optional, Sequence, Tuple, Type, TypeVar, Union
 
 from .clients import SECONDS_TO_COLLECTION
 from .errors import Ended, Refused
+from .frame import Frame
 from .query import Query
 from .rows import Row
 from .table import Table, Values
 
 Result = TypeVar("Result")
+Opened = TypeVar("Opened", Table, Frame)
 
 
-class AsyncTable:
+class Awaited:
+    """Calls that are awaited: they are made one after the other, in the order in which they were asked for, on a thread of their own."""
+
+    def __init__(self, executor: ThreadPoolExecutor, called: Union[Table, Frame], clients: int) -> None:
+        self._executor, self._called = executor, called
+        self._closed = False
+        self._free: "asyncio.Queue[int]" = asyncio.Queue()
+        for client in range(1, clients + 1):
+            self._free.put_nowait(client)
+
+    @property
+    def _table(self) -> Table:
+        return self._called.table if isinstance(self._called, Frame) else self._called
+
+    async def __aexit__(self, failed: Optional[Type[BaseException]], *_: object) -> None:
+        try:
+            if failed is None and not self._closed:
+                await self._call(self._table.check)
+        finally:
+            await self.close()
+
+    def __len__(self) -> int:
+        """The number of rows, without a wait."""
+        return self._table.count
+
+    def __bool__(self) -> bool:
+        return True
+
+    async def close(self) -> None:
+        """Ends the table; a call that waits raises `Ended`."""
+        self._closed = True
+        if not self._table._engine.is_ours():
+            return
+        await asyncio.get_running_loop().run_in_executor(None, self._called.close)
+        self._executor.shutdown(wait=False)
+
+    def _submit(self, function: Callable[..., Result], *words: Any) -> "Future[Result]":
+        self._usable()
+        return self._executor.submit(function, *words)
+
+    def _usable(self) -> None:
+        """A fork has no thread that would make a call, nor has a table that was closed."""
+        self._table._engine.ours()
+        if self._closed:
+            raise Ended("the table was closed", "closed")
+
+    async def _call(self, function: Callable[..., Result], *words: Any) -> Result:
+        return await asyncio.wrap_future(self._submit(function, *words))
+
+
+async def on_a_thread(make: Callable[[], Opened]) -> Tuple[ThreadPoolExecutor, Opened]:
+    """A thread, and what is made there."""
+    executor = ThreadPoolExecutor(1, "prefq")
+    try:
+        return executor, await asyncio.wrap_future(executor.submit(make))
+    except BaseException:
+        executor.shutdown(wait=False)
+        raise
+
+
+class AsyncTable(Awaited):
     """A live table whose calls are awaited. They are made one after the other, in the order in which they were asked for, on a thread of the table's own, so the
     event loop goes on.
 
@@ -31,50 +93,20 @@ class AsyncTable:
 
     def __init__(self, table: Table, executor: ThreadPoolExecutor) -> None:
         """Use `open`."""
+        super().__init__(executor, table, table.clients)
         self.columns = table.columns
-        self._table, self._executor = table, executor
-        self._closed = False
-        self._free: "asyncio.Queue[int]" = asyncio.Queue()
-        for client in range(1, table.clients + 1):
-            self._free.put_nowait(client)
 
     @classmethod
     async def open(cls, columns: Iterable[str], rows: Iterable[Values] = (), **options: Any) -> "AsyncTable":
         """Opens a table as `prefq.Table(columns, rows, **options)` does."""
-        executor = ThreadPoolExecutor(1, "prefq")
-        try:
-            return cls(await asyncio.wrap_future(executor.submit(partial(Table, columns, rows, **options))), executor)
-        except BaseException:
-            executor.shutdown(wait=False)
-            raise
+        executor, table = await on_a_thread(partial(Table, columns, rows, **options))
+        return cls(table, executor)
 
     async def __aenter__(self) -> "AsyncTable":
         return self
 
-    async def __aexit__(self, failed: Optional[Type[BaseException]], *_: object) -> None:
-        try:
-            if failed is None and not self._closed:
-                await self._call(self._table.check)
-        finally:
-            await self.close()
-
     def __repr__(self) -> str:
         return f"<prefq.AsyncTable of {', '.join(self.columns)}>"
-
-    def __len__(self) -> int:
-        """The number of rows, without a wait."""
-        return self._table.count
-
-    def __bool__(self) -> bool:
-        return True
-
-    async def close(self) -> None:
-        """Ends the table; a call that is under way raises `Ended`."""
-        self._closed = True
-        if not self._table._exchange.is_ours():
-            return
-        await asyncio.get_running_loop().run_in_executor(None, self._table.close)
-        self._executor.shutdown(wait=False)
 
     async def insert(self, values: Values) -> int:
         """See `Table.insert`."""
@@ -110,7 +142,7 @@ class AsyncTable:
             return await query.pairs()
 
     async def best(self, question: str) -> List[Row]:
-        """See `Table.best`. Other tasks' calls may come between the blocks that it scans."""
+        """See `Table.best`. Other tasks' calls may come between the pieces that it scans."""
         async with self.query(question) as query:
             return await query.answer()
 
@@ -120,19 +152,6 @@ class AsyncTable:
         It waits until one of the clients has no open query.
         """
         return AsyncQuery(self, question)
-
-    def _submit(self, function: Callable[..., Result], *words: Any) -> "Future[Result]":
-        self._usable()
-        return self._executor.submit(function, *words)
-
-    def _usable(self) -> None:
-        """A fork has no thread that would make a call, nor has a table that was closed."""
-        self._table._exchange.ours()
-        if self._closed:
-            raise Ended("the table was closed", "closed")
-
-    async def _call(self, function: Callable[..., Result], *words: Any) -> Result:
-        return await asyncio.wrap_future(self._submit(function, *words))
 
 
 class AsyncQuery:
@@ -186,10 +205,10 @@ class AsyncQuery:
         return await self._finish(self._begun().pairs)
 
     async def _finish(self, answer: Callable[[], Result]) -> Result:
-        """Scans block by block, so that other tasks' calls come in between, and finishes."""
+        """Scans piece by piece, so that other tasks' calls come in between, and finishes."""
         query = self._begun()
         while query.left:
-            await self._table._call(query.scan)
+            await self._table._call(query.scan_piece)
         result = await self._table._call(answer)
         self._give_back()
         return result

@@ -1,10 +1,8 @@
 """Tests of arguments, with the limits in what is said."""
-import csv
-import io
 import operator
 import re
 from collections.abc import Iterable
-from typing import Any, Optional, Sequence, Tuple
+from typing import Any, Tuple
 
 from .errors import Refused
 
@@ -31,16 +29,6 @@ def whole(value: Any, what: str, least: int, most: int) -> int:
     return number
 
 
-def seconds(timeout: Any) -> Optional[float]:
-    if timeout is None:
-        return None
-    if isinstance(timeout, bool) or not isinstance(timeout, (int, float)):
-        raise TypeError(f"timeout is {timeout!r}: not a number of seconds, or None")
-    if not 0 < timeout <= 1_000_000:
-        raise ValueError(f"timeout is {timeout}: not more than 0 and at most 1000000 seconds")
-    return timeout
-
-
 def names(columns: Any) -> Tuple[str, ...]:
     """The names of the columns, each of which the program accepts."""
     if isinstance(columns, (str, bytes)) or not isinstance(columns, Iterable):
@@ -56,12 +44,6 @@ def names(columns: Any) -> Tuple[str, ...]:
         if name in found[:place - 1]:
             raise ValueError(f"the name of column {place} is {name!r}, as is that of column {found.index(name) + 1}")
     return found
-
-
-def header(columns: Sequence[str]) -> str:
-    text = io.StringIO()
-    csv.writer(text, quoting=csv.QUOTE_ALL, lineterminator="\n").writerow(columns)
-    return text.getvalue()
 
 
 def text_of_question(question: Any) -> str:

@@ -1,7 +1,7 @@
 """Rows that several people change and ask at once: what the page of `python -m prefq serve` shows.
 
 A desk keeps its rows in Python too. Each change is made there and in the table under one lock, and a query is begun under the same lock, so the rows and the
-answer of a picture are those of one version. Where the table's program ends, it is started again with these rows.
+answer of a picture are those of one version.
 """
 import threading
 from types import MappingProxyType
@@ -9,7 +9,8 @@ from typing import Any, Callable, Dict, Iterable, List, Mapping, NamedTuple, Opt
 
 from .columns import Column, listed
 from .errors import Ended, Refused
-from .frame import Frame, without_twins
+from .frame import Frame
+from .frame_query import without_twins
 from .hints import unknown_column
 from .kinds import Kind, Texts
 from .opened import is_outgrown, moved_columns, size_of_code_books, wider_kinds
@@ -17,8 +18,6 @@ from .questions import Question, read_question
 from .table import Table
 from .translate import columns_in, plan
 
-SECONDS = 60.0      # that the program may stand still before it is started again
-TRIES = 3           # how often a call starts it again
 Numbers = Tuple[int, ...]
 Result = TypeVar("Result")
 
@@ -66,7 +65,7 @@ class Picture(NamedTuple):
 
 
 class Desk:
-    """The rows of a frame, which any thread may change and ask here, and nobody elsewhere. They keep their ids, also where the program was started again.
+    """The rows of a frame, which any thread may change and ask here, and nobody elsewhere. They keep their ids, also where a column becomes wider.
 
     >>> import prefq
     >>> hotels = prefq.Frame.from_records([{"Hotel": "Quay", "Price (EUR)": 60}])
@@ -77,11 +76,10 @@ class Desk:
     [{'Hotel': 'Alpine', 'Price (EUR)': 49}]
     """
 
-    def __init__(self, frame: Frame, *, program: Optional[str] = None) -> None:
+    def __init__(self, frame: Frame) -> None:
         self.version = 1
         self.table = frame.table                # that is asked now
         self._take_columns(frame.columns)
-        self._program = program
         self._changed = threading.Condition()
         self._closed = False
         # By their ids in the table, and the ids in the table by those of the desk.
@@ -173,22 +171,11 @@ class Desk:
 
     def picture(self, text: str) -> Picture:
         """The rows and the answer to a question at one version."""
-        for last in [False] * TRIES + [True]:
-            try:
-                return self._picture(text)
-            except Ended:
-                if last:
-                    raise
-                with self._changed:
-                    self._surviving(Table.room)
-        raise AssertionError
-
-    def _picture(self, text: str) -> Picture:
         with self._changed:
             question, columns = self.read(text), self.columns
             planned = plan(text, question, self._names)
             try:
-                query = self._surviving(lambda table: table.query(planned.text))
+                query = self.table.query(planned.text)
             except Refused as why:
                 raise planned.refusal(why) from None
             version, rows = self.version, dict(self._rows)
@@ -259,7 +246,7 @@ class Desk:
     def _change(self, change: Callable[[Table], Result], values: Mapping[str, Any] = MappingProxyType({})) -> Result:
         with self._changed:
             self._fit(values)
-            result = self._surviving(change)
+            result = change(self.table)
             self.version += 1
             self._wake()
             return result
@@ -269,23 +256,8 @@ class Desk:
         for call in list(self._subscribed):
             call()
 
-    def _surviving(self, call: Callable[[Table], Result]) -> Result:
-        """A call of the table; where its program has ended, it is started again with the rows as they are, and called once more, a few times at most."""
-        broken = False
-        for last in [False] * TRIES + [True]:
-            try:
-                if broken:
-                    self._open(list(self._rows.values()))
-                return call(self.table)
-            except Ended:
-                if self._closed or last:
-                    raise
-                broken = True
-        raise AssertionError
-
     def _open(self, rows: List[Held]) -> None:
-        """Opens a table with these rows, in their order."""
-        self.table.close()
-        self.table = Table(self.table.columns, [row.numbers for row in rows], timeout=SECONDS, program=self._program)
+        """Opens a table with these rows, in their order. Queries of the one before go on."""
+        self.table = Table(self.table.columns, [row.numbers for row in rows])
         self._rows = dict(enumerate(rows, 1))
         self._at = {row.id: at for at, row in self._rows.items()}

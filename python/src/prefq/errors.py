@@ -1,12 +1,7 @@
 """What goes wrong, as exceptions with one base class."""
-import re
 from typing import Optional
 
 from .visible import UNSEEN, visible, width
-
-FORM = re.compile(r"(?:(?P<line>line) \d+ )?(?:(?P<who>\d+|table|opening|script|arguments) )?refused:?(?: |$)"
-                  r"(?:(?P<what>table|term|commit) )?(?:(?P<number>\d+): )?(?P<text>.*)")
-PLACE = re.compile(r" (?:at|col|place) (\d+)$")
 
 ROUND = 80
 # What to do about a refusal, by its kind and number.
@@ -51,8 +46,8 @@ class Error(Exception):
 class Refused(Error):
     """The table refuses a call, and is as it was before.
 
-    `kind` is "term" (a question), "client" (what a client wants cannot be done now), "commit" (its changes), "table" (names or rows), "opening", "script",
-    "command" or "arguments". `question` is the question, where there is one.
+    `kind` is "term" (a question), "client" (what a client wants cannot be done now), "commit" (its changes), "table" (names or rows), "opening",
+    "arguments", "saved" (a file of a frame) or "follow" (a table of a database). `question` is the question, where there is one.
 
     >>> why = Refused("unknown column at 9", "term", 2, 9, "best low(prise)")
     >>> print(why)
@@ -74,13 +69,22 @@ class Refused(Error):
 
 
 class Ended(Error):
-    """The table has ended: it was closed, its program died, a call was interrupted, a reply did not come in time, or this is another process.
+    """The table has ended: it was closed, it was refused memory in the middle of a call, or this is another process.
 
     No call on it will succeed; open a new one.
 
     >>> raise Ended("the table was closed", "closed")
     Traceback (most recent call last):
     prefq.errors.Ended: the table was closed
+    """
+
+
+class LibraryNotFound(Error):
+    """The library `libprefq.so` is not there, or another one; the message says how to build it.
+
+    >>> raise LibraryNotFound("the library libprefq.so is not there")
+    Traceback (most recent call last):
+    prefq.errors.LibraryNotFound: the library libprefq.so is not there
     """
 
 
@@ -91,24 +95,6 @@ class ProgramNotFound(Error):
     Traceback (most recent call last):
     prefq.errors.ProgramNotFound: the program prefq is not there
     """
-
-
-def refused(line: str, question: Optional[str] = None) -> Refused:
-    """A line of the program that refuses, as an exception. A question belongs to what is wrong with its text alone."""
-    found = FORM.fullmatch(line)
-    if not found:
-        return Refused(line, "script")
-    who = found["who"] or ""
-    kind = found["what"] or ("command" if found["line"] else "client" if who.isdigit() else who)
-    number = int(found["number"]) if found["number"] else None
-    place = PLACE.search(line)
-    at = int(place[1]) if place else None
-    if kind != "term" or question is None:
-        return Refused(found["text"] or line, kind, number, at)
-    # The program counts from the first byte that is not blank.
-    blanks = len(question) - len(question.lstrip(" \t"))
-    text = found["text"] if at is None else PLACE.sub(f" at {at + blanks}", found["text"])
-    return Refused(text, kind, number, None if at is None else at + blanks, question)
 
 
 def pointed(question: str, place: Optional[int]) -> str:

@@ -1,50 +1,40 @@
 """Frames: live tables of columns of every kind."""
-import sys
+import os
 import threading
-import warnings
-from contextlib import contextmanager
-from typing import Any, Callable, Dict, Iterable, Iterator, List, Mapping, Optional, Sequence, Tuple, TypeVar
+from functools import partial
+from typing import Any, Callable, Dict, Iterable, Iterator, List, Mapping, Optional, Sequence, Tuple, TypeVar, Union
 
 from .answer import Answer
 from .checks import MOST_ROWS
 from .columns import Column, listed
-from .errors import Ended, Refused
+from .errors import Refused
+from .follow import Followed, source_of
 from .kinds import Kind
 from .kinds.forms import Form
 from .loading import Encoded, File, check_known, chosen, column_of_values, decoded, encoded
 from .missing import Missing
-from .opened import Opened
+from .opened import Ids, Opened
 from .options import check_options
-from .questions import Mode, Question, read_question
+from .frame_query import FrameQuery
+from .questions import Mode, read_question
 from .reading import Dialect, Progress, Source, read_csv
 from .records import Record, mapping_of, values_of
-from .rows import WholeRows, Zipped
-from .table import Table
-from .translate import Plan, plan
+from .rows import Row, WholeRows, Zipped
+from .table import Table, check_changes
+from .translate import plan
 from .why import Rivals
 
 Result = TypeVar("Result")
-TABLE_OPTIONS = ("capacity", "clients", "block", "window", "timeout", "program")
+TABLE_OPTIONS = ("capacity", "clients", "block", "window")
+Path = Union[str, "os.PathLike[str]"]
 CSV_OPTIONS = ("columns", "kinds", "missing", "encoding", "delimiter", "decimal", "thousands", "skip", "null_padding")
-
-
-class UnknownValue(UserWarning):
-    """A warning: a question names a value that no row has, so that it prefers nothing.
-
-    >>> import prefq
-    >>> import warnings
-    >>> with prefq.Frame.from_records([{"City": "Lyon"}]) as hotels, warnings.catch_warnings(record=True) as caught:
-    ...     answer = hotels.best("best pos(City, 'Lion')")
-    >>> print(caught[0].category.__name__, caught[0].message, sep=": ")
-    UnknownValue: no row of 'City' has 'Lion'; did you mean 'Lyon'?
-    """
 
 
 class Frame:
     """A live table of records, whose columns are whole numbers, decimals, floats, true and false, dates, times or texts, with gaps or without.
 
     It is made from a CSV file, from records, or from a DataFrame of pandas; every value comes back exactly. Its rows have the ids 1, 2, 3 and so on. Any
-    thread may call it. Beside its columns it takes what `Table` takes by name: capacity, clients, block, window, timeout, program.
+    thread may call it. Beside its columns it takes what `Table` takes by name: capacity, clients, block, window.
 
     >>> import prefq
     >>> with prefq.Frame.from_records([{"City": "Lyon", "Price (EUR)": 60}, {"City": "Bern", "Price (EUR)": 90}, {"City": "Köln"}]) as hotels:
@@ -55,20 +45,21 @@ class Frame:
 
     def __init__(self, columns: Iterable[Column], rows: Iterable[Sequence[Any]] = (), **options: Any) -> None:
         columns = tuple(columns)
-        self._open(columns, Zipped([encoded(column, values) for column, values in zip(columns, zip(*(values_of(row, columns) for row in rows)))]), options)
+        values = zip(*(values_of(row, columns) for row in fitting(rows, "rows")))
+        self._open(columns, Zipped([encoded(column, some) for column, some in zip(columns, values)]), options)
 
-    def _open(self, columns: Sequence[Column], rows: WholeRows, options: Dict[str, Any], index: Any = None, notes: Iterable[str] = ()) -> None:
+    def _open(self, columns: Sequence[Column], rows: WholeRows, options: Dict[str, Any], index: Any = None, notes: Iterable[str] = (), ids: Ids = Ids()) -> None:
         check_options(options, TABLE_OPTIONS, "Frame")
-        self._opened = Opened(columns, rows, options)
+        self._opened = Opened(columns, rows, options, ids)
         self._index = index
         # What is to be known of how the data were read: which words of a file were taken for missing.
         self.notes = list(notes)
         # Held while the rows change, by the thread that changes them; and the last id that was given.
         self._changing = threading.RLock()
+        self._subscribed: List[Callable[[], None]] = []
         self._is_opening = False
         self._is_closed = False
-        self._last = len(rows)
-        self._options = {name: options[name] for name in ("program", "timeout") if name in options}
+        self._last = max(len(rows), ids.last)
 
     @classmethod
     def from_csv(cls, source: Source, *, columns: Optional[Sequence[str]] = None, kinds: Optional[Mapping[str, str]] = None, missing: Optional[Iterable[str]] = None,
@@ -103,11 +94,29 @@ class Frame:
         (Column('x', 'whole'), Column('y', 'float'))
         """
         check_options(options, ["columns", "kinds", *TABLE_OPTIONS], "Frame.from_records")
-        rows = [_mapping(record, row) for row, record in enumerate(records, 1)]
+        rows = list(mappings(fitting(records, "records")))
         there = list(dict.fromkeys(name for row in rows for name in row))
         names = chosen(there, columns)
         check_known(list(kinds or ()), there)
         return cls._of_numbers([column_of_values(name, [row.get(name) for row in rows], kinds) for name in names], options)
+
+    @classmethod
+    def from_sql(cls, cursor: Any, *, columns: Optional[Sequence[str]] = None, kinds: Optional[Mapping[str, str]] = None, **options: Any) -> "Frame":
+        """The frame of the rows that a cursor of Python's DB-API has, behind a query that was executed. NULL is missing.
+
+        >>> import prefq, sqlite3
+        >>> offers = sqlite3.connect(":memory:").execute("SELECT 'Lyon' AS city, 57.5 AS price UNION SELECT 'Bern', NULL ORDER BY city")
+        >>> with prefq.Frame.from_sql(offers) as frame:
+        ...     frame.rows()
+        [<id 1: {'city': 'Bern', 'price': None}>, <id 2: {'city': 'Lyon', 'price': 57.5}>]
+        """
+        from .cursors import fetched, names_of
+        check_options(options, ["columns", "kinds", *TABLE_OPTIONS], "Frame.from_sql")
+        there = names_of(cursor)
+        names = chosen(list(there), columns)
+        check_known(list(kinds or ()), there)
+        rows = list(fitting((row for some in fetched(cursor, there) for row in some), "rows of the query"))
+        return cls._of_numbers([column_of_values(name, [row[there.index(name)] for row in rows], kinds) for name in names], options)
 
     @classmethod
     def from_dataframe(cls, dataframe: Any, *, columns: Optional[Sequence[str]] = None, kinds: Optional[Mapping[str, str]] = None,
@@ -142,15 +151,50 @@ class Frame:
         return cls([Column(name, kinds[name]) for name in names], **options)
 
     @classmethod
+    def open(cls, path: Path, **options: Any) -> "Frame":
+        """The frame that was saved at this path: the same rows under the same ids, the same columns, and the next row has the id that it would have had.
+
+        What pandas had beside them, the types of columns and the index, is not saved. A file that is no saved frame, or of another version, or damaged is
+        `Refused`, of the kind "saved".
+        """
+        from .saved import columns_of, read
+        check_options(options, TABLE_OPTIONS, "Frame.open")
+        contents = read(path)
+        return cls._made(columns_of(contents), Zipped(contents.numbers), options, notes=contents.notes, ids=Ids(contents.ids, contents.last))
+
+    @classmethod
+    def follow(cls, connection: Any, table: str, *, key: str = "id", columns: Optional[Sequence[str]] = None, kinds: Optional[Mapping[str, str]] = None,
+               **options: Any) -> Followed:
+        """A frame that follows a table of a database: one of SQLite (a connection of sqlite3), or of PostgreSQL 13 or later (one of psycopg2 or psycopg).
+
+        Each call sees what is committed by then. The ids of the rows are the values of the column `key`, which are whole numbers or texts; `columns` are all
+        others, where none are given. There may be any number of rows. The frame opens a connection of its own. What cannot be followed is `Refused`, of the kind
+        "follow"; what the database refuses is the database's own exception.
+
+        >>> import os, prefq, sqlite3, tempfile
+        >>> with tempfile.TemporaryDirectory() as folder:
+        ...     db = sqlite3.connect(os.path.join(folder, "hotels.db"), isolation_level=None)
+        ...     created = db.execute("create table hotels (id integer primary key, city text, price real)")
+        ...     with prefq.Frame.follow(db, "hotels", kinds={"price": "decimal(2)"}) as hotels:
+        ...         inserted = db.execute("insert into hotels values (7, 'Lyon', 60.5), (8, 'Bern', 90)")
+        ...         hotels.best("best low(price)")
+        ...     db.close()
+        level  id  city  price
+            1   7  Lyon  60.50
+        """
+        check_options(options, ["key", "columns", "kinds", *TABLE_OPTIONS], "Frame.follow")
+        return Followed(source_of(connection, table, key, columns, kinds or {}), kinds or {}, options)
+
+    @classmethod
     def _of_numbers(cls, columns: Sequence[Encoded], options: Dict[str, Any], index: Any = None) -> "Frame":
         """The frame of columns with their numbers."""
         return cls._made([column for column, _ in columns], Zipped([numbers for _, numbers in columns]), options, index)
 
     @classmethod
-    def _made(cls, columns: Sequence[Column], rows: WholeRows, options: Dict[str, Any], index: Any = None, notes: Iterable[str] = ()) -> "Frame":
+    def _made(cls, columns: Sequence[Column], rows: WholeRows, options: Dict[str, Any], index: Any = None, notes: Iterable[str] = (), ids: Ids = Ids()) -> "Frame":
         """The frame of columns and rows of their numbers."""
         frame = cls.__new__(cls)
-        frame._open(columns, rows, options, index, notes)
+        frame._open(columns, rows, options, index, notes, ids)
         return frame
 
     def __enter__(self) -> "Frame":
@@ -162,8 +206,7 @@ class Frame:
 
     def __len__(self) -> int:
         """The number of rows."""
-        with self._in_use() as opened:
-            return len(opened.table)
+        return len(self.table)
 
     def __iter__(self) -> Iterator[Record]:
         return iter(self.rows())
@@ -202,10 +245,11 @@ class Frame:
         ...     frame.insert({"x": 5})
         2
         """
-        with self._change():
+        def insert() -> int:
             [numbers] = self._numbers([record])
             self._last = self._opened.ids.outside(self.table.insert(numbers))
             return self._last
+        return self._change(insert)
 
     def insert_many(self, records: Iterable[Any]) -> Sequence[int]:
         """Adds records at one moment, and returns their ids; all of them or, where there is no room, none.
@@ -215,7 +259,7 @@ class Frame:
         ...     frame.insert_many([{"x": 5}, [6, 7]])
         range(2, 4)
         """
-        with self._change():
+        def insert_many() -> range:
             numbers = self._numbers(list(records))      # By this the table may become another one.
             inside = self.table.insert_many(numbers)
             if not inside:
@@ -223,6 +267,7 @@ class Frame:
             first = self._opened.ids.outside(inside[0])
             self._last = first + len(inside) - 1
             return range(first, self._last + 1)
+        return self._change(insert_many)
 
     def update(self, id: int, record: Any) -> None:
         """Gives a row the values of a record; where that is a mapping, what it does not name stays as it is. Kinds grow as by `insert`.
@@ -233,33 +278,81 @@ class Frame:
         ...     frame.get(1)
         <id 1: {'x': 1, 'y': None}>
         """
-        found = mapping_of(record)
-        with self._change():
-            [numbers] = self._numbers([record], id)
-            if found is not None and not set(self.names) <= set(found):
-                before = self._of_row(id, self.table.get)
-                numbers = [number if name in found else old for name, number, old in zip(self.names, numbers, before)]
-            self._of_row(id, lambda row: self.table.update(row, numbers))
+        def update() -> None:
+            [numbers] = self._numbers([record], [id])
+            whole = self._whole(id, record, numbers)
+            self._of_row(id, lambda row: self.table.update(row, whole))
+        self._change(update)
 
     def delete(self, id: int) -> None:
         """Deletes a row; its id is never used again."""
-        with self._change():
-            self._of_row(id, self.table.delete)
+        self._change(lambda: self._of_row(id, self.table.delete))
+
+    def commit(self, *changes: Sequence[Any]) -> int:
+        """Makes one to eight changes at one moment, or none: each is ("insert", record), ("update", id, record) or ("delete", id). Kinds grow as by `insert`.
+
+        Returns the id of the first new row, 0 where none is new; the others have the next ones.
+
+        >>> import prefq
+        >>> with prefq.Frame.from_records([{"x": 1, "y": 2}]) as frame:
+        ...     frame.commit(("update", 1, {"y": 3}), ("insert", {"x": 5}))
+        ...     frame.rows()
+        2
+        [<id 1: {'x': 1, 'y': 3}>, <id 2: {'x': 5, 'y': None}>]
+        """
+        return self._change(lambda: self._commit(check_changes(changes)))
+
+    def subscribe(self, call: Callable[[], None]) -> Callable[[], None]:
+        """Has this called after each change, by the thread that made it, so it must be quick. Returns what ends it.
+
+        >>> import prefq
+        >>> with prefq.Frame.from_records([{"x": 1}]) as frame:
+        ...     end = frame.subscribe(lambda: print(frame.best("best low(x)").ids))
+        ...     frame.update(1, {"x": 2})
+        ...     end()
+        ...     frame.delete(1)
+        [1]
+        """
+        self._subscribed.append(call)
+        return lambda: self._subscribed.remove(call)
 
     def get(self, id: int) -> Record:
         """The row with this id."""
-        with self._in_use() as opened:
-            return self._records(opened, [(None, id, self._of_row(id, opened.table.get, opened))])[0]
+        opened = self._opened
+        return self._records(opened, [(None, id, self._of_row(id, opened.table.get, opened))])[0]
 
     def rows(self) -> List[Record]:
         """All rows, in order of id."""
-        with self._in_use() as opened:
-            return self._records(opened, [(None, opened.ids.outside(id), numbers) for id, numbers in opened.table.rows()])
+        opened = self._opened
+        return self._records(opened, [(None, opened.ids.outside(id), numbers) for id, numbers in opened.table.rows()])
+
+    def save(self, path: Path) -> None:
+        """Saves the frame as it is now in one file, in place of one that is there: whoever opens that finds the frame before or this one, whole.
+
+        >>> import os, prefq, tempfile
+        >>> with tempfile.TemporaryDirectory() as folder, prefq.Frame.from_records([{"x": 1}, {"x": 2}]) as frame:
+        ...     frame.delete(1)
+        ...     frame.save(os.path.join(folder, "rows.prefq"))
+        ...     with prefq.Frame.open(os.path.join(folder, "rows.prefq")) as opened:
+        ...         opened.rows(), opened.insert({"x": 3})
+        ([<id 2: {'x': 2}>], 3)
+        """
+        from .saved import Contents, Description, write
+
+        def contents() -> Contents:
+            opened = self._opened
+            pairs = opened.table.rows()
+            columns = tuple(map(Description.of, opened.columns))
+            ids = [opened.ids.outside(inside) for inside, _ in pairs]
+            # An interruption may have come between an insert and the note of its id.
+            last = max([self._last, *ids[-1:]])
+            return Contents(columns, ids, list(zip(*(numbers for _, numbers in pairs))) or [()] * len(columns), last, tuple(self.notes))
+
+        write(path, self._alone(contents))
 
     def room(self) -> int:
         """How many more versions of rows there is room for."""
-        with self._in_use() as opened:
-            return opened.table.room()
+        return self.table.room()
 
     def best(self, question: str, *, progress: Optional[Progress] = None) -> Answer:
         """The answer to a question in the names and values of the columns.
@@ -271,17 +364,36 @@ class Frame:
 
     def answer(self, question: str, mode: Optional[Mode], progress: Optional[Progress] = None) -> Answer:
         """The same of a question that has this mode, if it has none itself."""
-        with self._in_use() as opened:
-            read = self._read(opened, question, mode)
-            while True:
-                asked = plan(question, read, opened.below)
-                rows = self._run(opened, asked, progress)
-                # A row that came in the meantime may have a new text, or the first gap of a column.
-                if plan(question, read, opened.below).text == asked.text:
-                    break
-        warn_of(asked)
-        found = [(row.level, opened.ids.outside(row.id), row.values) for row in without_twins(rows, asked)]
-        return Answer(question, opened.columns, self._records(opened, found), others=self.rows, index=self._index)
+        with self._query(question, mode) as query:
+            return query.answer(partial(progress, "scanning") if progress else None)
+
+    def query(self, question: str) -> FrameQuery:
+        """Begins a query, which asks the frame as it is now; see `Table.query`.
+
+        >>> import prefq
+        >>> with prefq.Frame.from_records([{"x": 1}, {"x": 2}]) as frame, frame.query("best low(x)") as query:
+        ...     frame.delete(1)         # after the begin, so the answer still has the row
+        ...     query.answer().ids
+        [1]
+        """
+        return self._query(question, None)
+
+    def _query(self, question: str, mode: Optional[Mode]) -> FrameQuery:
+        opened = self._opened
+        read = read_question(question, opened.by_name.get, opened.names, mode)
+        while True:
+            asked = plan(question, read, opened.below)
+            try:
+                query = opened.table.query(asked.text)
+            except Refused as why:
+                raise asked.refusal(why) from None
+            # A row that came in the meantime may have a new text, or the first gap of a column.
+            if plan(question, read, opened.below).text == asked.text:
+                return FrameQuery(query, asked, partial(self._answer, question, opened))
+
+    def _answer(self, question: str, opened: Opened, rows: Sequence[Row]) -> Answer:
+        records = self._records(opened, [(row.level, opened.ids.outside(row.id), row.values) for row in rows])
+        return Answer(question, opened.columns, records, others=self.rows, index=self._index)
 
     def why(self, id: int, question: str) -> Answer:
         """The rows that dominate this one in a question: those because of which it is not in the answer. Each has its own level.
@@ -291,32 +403,17 @@ class Frame:
         ...     frame.why(2, "best low(x) * low(y)").ids
         [1]
         """
-        with self._in_use() as opened:
-            read = self._read(opened, question)
-            rows = {opened.ids.outside(number): numbers for number, numbers in opened.table.rows()}
+        opened = self._opened
+        read = read_question(question, opened.by_name.get, opened.names)
+        rows = {opened.ids.outside(number): numbers for number, numbers in opened.table.rows()}
         if id not in rows:
             raise opened.missing_row(id)
-        rivals = Rivals(question, read, opened.below, rows, id, self._options)
+        rivals = Rivals(question, read, opened.below, rows, id)
         records = self._records(opened, [(level, other, rows[other]) for other, level in rivals.dominators()])
         return Answer(question, opened.columns, records, others=self.rows, index=self._index)
 
-    def _read(self, opened: Opened, question: str, mode: Optional[Mode] = None) -> Question:
-        return read_question(question, opened.by_name.get, opened.names, mode)
-
-    def _run(self, opened: Opened, asked: Plan, progress: Optional[Progress]) -> List[Any]:
-        try:
-            with opened.table.query(asked.text) as query:
-                blocks = query.left
-                while query.left:
-                    query.scan()
-                    if progress:
-                        progress("scanning", blocks - query.left, blocks)
-                return query.answer()
-        except Refused as why:
-            raise asked.refusal(why) from None
-
-    def _numbers(self, records: Sequence[Any], id: Optional[int] = None) -> List[List[int]]:
-        """The numbers of some records, for which columns that are too narrow become wider; of a row with this id, if it is there."""
+    def _numbers(self, records: Sequence[Any], ids: Iterable[int] = ()) -> List[List[int]]:
+        """The numbers of some records, for which columns that are too narrow become wider, if the rows with these ids are there."""
         if self._opened.is_outgrown():
             self._open_anew({})
         while True:
@@ -328,37 +425,58 @@ class Frame:
                     raise
             for record in records:
                 self._opened.numbers(record, wider)     # What is refused then, too, changes nothing.
-            if id is not None:
+            for id in ids:
                 self._of_row(id, self.table.get)
             self._open_anew(wider)
 
-    @contextmanager
-    def _in_use(self) -> Iterator[Opened]:
-        """The table as it is now, which stays open in the block although another one takes its place."""
-        user = object()
-        while not (opened := self._opened).enter(user):
-            pass
-        try:
-            yield opened
-        finally:
-            opened.leave(user)
+    def _whole(self, id: int, record: Any, numbers: List[int]) -> List[int]:
+        """The numbers of a record for a row, with those that the row has where the record is a mapping that does not name them."""
+        found = mapping_of(record)
+        if found is None or set(self.names) <= set(found):
+            return numbers
+        return [number if name in found else old for name, number, old in zip(self.names, numbers, self._of_row(id, self.table.get))]
 
-    @contextmanager
-    def _change(self) -> Iterator[None]:
-        """One change after the other. A signal handler of this thread makes none while the table is opened anew, which would not have it."""
+    def _commit(self, changes: Sequence[Tuple[str, int, Any]]) -> int:
+        """Makes changes, each of which is a verb, an id and a record."""
+        ids = [id for verb, id, _ in changes if verb != "insert"]
+        twice = next((place for place, (verb, id, _) in enumerate(changes) if verb != "insert" and id in [other for _, other, _ in changes[:place]]), None)
+        if twice is not None:       # which the table says as well, but only after a column became wider
+            raise Refused(f"twice place {twice + 1}", "commit", 12, twice + 1)
+        numbers = iter(self._numbers([record for verb, _, record in changes if verb != "delete"], ids))
+        inside = self._opened.ids.inside
+        made: List[Tuple[Any, ...]] = []
+        for verb, id, record in changes:
+            row = () if verb == "insert" else (inside(id),)
+            made.append((verb, *row) if verb == "delete" else (verb, *row, next(numbers) if verb == "insert" else self._whole(id, record, next(numbers))))
+        for id in ids:
+            self._of_row(id, self.table.get)
+        first = self.table.commit(*made)
+        if first == 0:
+            return 0
+        first = self._opened.ids.outside(first)
+        self._last = first + sum(verb == "insert" for verb, _, _ in changes) - 1
+        return first
+
+    def _change(self, change: Callable[[], Result]) -> Result:
+        """A change, of which those who subscribed are told."""
+        result = self._alone(change)
+        for call in list(self._subscribed):
+            call()
+        return result
+
+    def _alone(self, call: Callable[[], Result]) -> Result:
+        """One call after the other. A signal handler of this thread makes none while the table is opened anew, which would not have it."""
         with self._changing:
             if self._is_opening:
-                raise Ended("a call that opens the table anew is under way in this thread", "interrupted")
-            yield
+                raise Refused("a change that opens the table anew is under way in this thread", "client")
+            return call()
 
     def _open_anew(self, kinds: Mapping[str, Kind]) -> None:
         self._is_opening = True
         try:
-            before = self._opened
-            self._opened = before.anew(kinds, self._last)
+            self._opened = self._opened.anew(kinds, self._last)
             if self._is_closed:         # meanwhile, which ended the table before
                 self.table.close()
-            before.give_way()
         finally:
             self._is_opening = False
 
@@ -376,28 +494,18 @@ class Frame:
         return [Record(zip(opened.names, row), id=id, level=level) for (level, id, _), row in zip(found, values)]
 
 
-def without_twins(rows: List[Any], asked: Plan) -> List[Any]:
-    """The rows of an answer; of those that are equal in the columns of a distinct clause, the first."""
-    if asked.twins is None:
-        return rows
-    places = [int(name[1:]) for name in asked.twins]
-    first: Dict[Tuple[int, ...], Any] = {}
-    for row in rows:
-        first.setdefault(tuple(row.values[place] for place in places), row)
-    return list(first.values())
+def fitting(some: Iterable[Any], what: str) -> Iterator[Any]:
+    """The same, of which there may be as many as a table holds: one more is `Refused`, without a look at those behind it."""
+    for number, one in enumerate(some, 1):
+        if number > MOST_ROWS:
+            raise Refused(f"there are more than {MOST_ROWS} {what}, which no table holds: prefq.psel and prefq.parts ask more", "table")
+        yield one
 
 
-def warn_of(asked: Plan) -> None:
-    """Warns of the values of a question that no row has, at the caller's line."""
-    level = 2
-    while sys._getframe(level - 1).f_globals.get("__package__") == __package__ and sys._getframe(level - 1).f_back:
-        level += 1
-    for message in asked.unknown:
-        warnings.warn(message, UnknownValue, stacklevel=level)
-
-
-def _mapping(record: Any, row: int) -> Dict[str, Any]:
-    found = mapping_of(record)
-    if found is None:
-        raise TypeError(f"row {row} is no mapping, but {record!r}")
-    return found
+def mappings(records: Iterable[Any]) -> Iterator[Dict[str, Any]]:
+    """Records as mappings. One that is none is named with its row."""
+    for row, record in enumerate(records, 1):
+        found = mapping_of(record)
+        if found is None:
+            raise TypeError(f"row {row} is no mapping, but {record!r}")
+        yield found

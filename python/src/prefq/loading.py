@@ -11,7 +11,7 @@ from .hints import unknown_column
 from .infer import kind_of_texts, kind_of_values, plain_column
 from .kinds import Kind, Texts, Whole, kind_named
 from .kinds.forms import PLAIN, Form
-from .kinds.numbers import Number
+from .kinds.numbers import Number, are_in_range
 from .missing import Missing, folded, note_of
 from .reading import Cells, Chunk, check_names, is_blank
 from .rows import WholeRows, Zipped
@@ -24,16 +24,22 @@ MOST_KNOWN = 65_536
 
 
 class File:
-    """The columns of a file, of which one is only understood once it is needed. `notes` say, by column, which words were taken for missing."""
+    """The columns of a file, of which one is only understood once it is needed."""
 
     def __init__(self, cells: Cells, kinds: Kinds = None, missing: Missing = Missing(None), form: Form = PLAIN) -> None:
         self.cells = cells
-        self.notes: Dict[str, str] = {}
+        # The words that were taken for missing, each with the number of its rows, by column.
+        self.words: Dict[str, Dict[str, int]] = {}
         self.rows = 0
         self._kinds = dict(kinds or {})
         self._missing, self._form = missing, form
         self._columns: Dict[str, Encoded] = {}
         check_known(list(self._kinds), cells.names)
+
+    @property
+    def notes(self) -> Dict[str, str]:
+        """What is to be known of each column in which words were taken for missing."""
+        return {name: note_of(name, counts) for name, counts in self.words.items()}
 
     def load(self, names: Iterable[str]) -> None:
         """Reads these columns, all in one pass through the file."""
@@ -88,7 +94,7 @@ class File:
             self._columns[reader.name] = reader.encoded()
             counts = reader.words_taken()
             if counts:
-                self.notes[reader.name] = note_of(reader.name, counts)
+                self.words[reader.name] = counts
 
     def _pass(self, readers: Sequence["ColumnReader"], chunks: Iterable[Chunk]) -> None:
         place_of = {name: place for place, name in enumerate(self.cells.names)}
@@ -313,6 +319,17 @@ class ColumnReader:
                 raise CellRefused(texts.index(text), why) from None
 
 
+def column_of_texts(name: str, texts: List[str], kind: Optional[str], missing: Missing, form: Form) -> Encoded:
+    """A column of the texts of a file, and its numbers."""
+    reader = ColumnReader(name, kind, missing, form)
+    reader.add(texts)
+    reader.end()
+    if reader.is_mixed:
+        reader.add(texts)
+        reader.end()
+    return reader.encoded()
+
+
 def joined_kind(parts: Sequence[Part]) -> Optional[Kind]:
     """The kind of a column of these parts: that of all of them, or the one with most decimals; None where they do not go together."""
     kinds = [part.kind for part in parts if part.kind is not None]
@@ -348,9 +365,24 @@ def rescaled(part: Part, kind: Kind) -> Iterable[int]:
 def column_of_values(name: str, values: Sequence[Any], kinds: Kinds) -> Encoded:
     """A column of Python's values, and its numbers."""
     given = kinds[name] if kinds and name in kinds else None
-    column = Column(name, kind_of_values(name, values) if given is None else given)
+    whole = plain_whole_numbers(values) if given is None else None
+    column = Column(name, Whole() if whole is not None else kind_of_values(name, values) if given is None else given)
     column.grows = given is None
-    return column, encoded(column, values)
+    if whole is None:
+        return column, encoded(column, values)
+    column.has_gaps = LEAST in whole
+    return column, whole
+
+
+def plain_whole_numbers(values: Sequence[Any]) -> Optional[List[int]]:
+    """The numbers of values that are nothing but Python's own whole numbers, and None, found without a look at each; None where there are others, or no number."""
+    types = set(map(type, values))
+    if int not in types or not types <= {int, type(None)}:
+        return None
+    present = [value for value in values if value is not None] if len(types) == 2 else values
+    if not are_in_range(present):
+        return None
+    return [LEAST if value is None else value for value in values]
 
 
 def encoded(column: Column, values: Sequence[Any]) -> List[int]:

@@ -1,42 +1,15 @@
 """One question over rows that nobody asks again."""
-import os
-from concurrent.futures import ThreadPoolExecutor
-from typing import Any, Callable, Dict, Iterable, List, Optional, Sequence
+from functools import partial
+from typing import Any, Dict, List, Optional, Sequence
 
-from . import parts
-from .checks import MOST_ROWS
-from .partition import Partition
 from .reading import Progress
 from .rows import Row, Zipped
 from .table import Table
 
 
 def ask_once(columns: Sequence[str], rows: Zipped, question: str, *, progress: Optional[Progress] = None, **options: Any) -> List[Row]:
-    """The answer to a question over these rows of whole numbers, whose ids are 1, 2, 3 and so on. More of them than one table holds are asked in parts."""
-    if len(rows) > MOST_ROWS:
-        return _in_parts(columns, rows, question, progress, **{name: options[name] for name in ("program", "timeout") if name in options})
-    settings: Dict[str, Any] = {"clients": 1, "capacity": max(1, len(rows)), "block": 1024 if progress else MOST_ROWS, **options}
+    """The answer to a question over these rows of whole numbers, as many as one table holds, whose ids are 1, 2, 3 and so on."""
+    settings: Dict[str, Any] = {"clients": 1, "capacity": max(1, len(rows)), **options}
     with Table(columns, rows, **settings) as table:
         with table.query(question) as query:
-            blocks = query.left
-            while query.left:
-                query.scan()
-                if progress:
-                    progress("comparing", blocks - query.left, blocks)
-            return query.answer()
-
-
-def _in_parts(columns: Sequence[str], rows: Zipped, question: str, progress: Optional[Progress], **options: Any) -> List[Row]:
-    partitions = [Partition(columns, rows[begin:begin + MOST_ROWS]) for begin in range(0, len(rows), MOST_ROWS)]
-    with ThreadPoolExecutor(os.cpu_count()) as pool:
-
-        def mapped(function: Callable[[Any], Any], items: Iterable[Any]) -> List[Any]:
-            asked = list(items)
-            found = []
-            for result in pool.map(function, asked):
-                found.append(result)
-                if progress:
-                    progress("comparing", len(found), len(asked))
-            return found
-
-        return parts.best(partitions, question, map=mapped, **options)
+            return query.answer(partial(progress, "comparing") if progress else None)

@@ -1,7 +1,7 @@
 """A table as it is open below a frame, and how it is opened anew with wider columns under the same ids."""
 from bisect import bisect_left
 from dataclasses import dataclass
-from typing import Any, Dict, List, Mapping, Sequence, Set, Tuple
+from typing import Any, Dict, List, Mapping, Sequence, Tuple
 
 from .checks import LEAST, MOST_IDS, whole
 from .columns import Column
@@ -51,35 +51,8 @@ class Opened:
         self.ids = ids
         self._options = options
         self._code_books = size_of_code_books(self.columns)
-        # Texts last, so that a record that another column refuses adds none to a code book.
-        self._order = sorted(range(len(self.columns)), key=lambda place: isinstance(self.columns[place].kind, Texts))
+        self._order = texts_last(self.columns)
         self.table = Table(list(self.below.values()), rows, **options)
-        # Whether another one has taken its place, and who is using it.
-        self._is_replaced = False
-        self._users: Set[object] = set()
-
-    def enter(self, user: object) -> bool:
-        """Has a user, unless another table has taken its place."""
-        self._users.add(user)
-        if not self._is_replaced:
-            return True
-        self.leave(user)
-        return False
-
-    def leave(self, user: object) -> None:
-        """Has this user no more."""
-        self._users.discard(user)
-        self._end_where_left()
-
-    def give_way(self) -> None:
-        """Another table has taken its place."""
-        self._is_replaced = True
-        self._end_where_left()
-
-    def _end_where_left(self) -> None:
-        """Ends a table that another one has replaced and nobody uses: in the course of a call, and not as garbage, since finalizers swallow interruptions."""
-        if self._is_replaced and not self._users and not self.table.has_queries:
-            self.table.close()
 
     @property
     def names(self) -> List[str]:
@@ -111,11 +84,18 @@ class Opened:
         rows and opening a table. No change may come meanwhile; open queries go on, and keep the table that they are of."""
         pairs = self.table.rows()
         columns, lists = moved_columns(self.columns, kinds, [list(numbers) for numbers in zip(*(numbers for _, numbers in pairs))])
-        return Opened(columns, Zipped(lists), {**self._options, "capacity": self.table.capacity}, Ids([self.ids.outside(id) for id, _ in pairs], last))
+        kept = [self.ids.outside(id) for id, _ in pairs]
+        # An interruption may have come between an insert and the note of its id.
+        return Opened(columns, Zipped(lists), {**self._options, "capacity": self.table.capacity}, Ids(kept, max([last, *kept[-1:]])))
 
     def missing_row(self, id: int) -> Refused:
         """What is said of a row that is not there."""
         return Refused(f"no such row {id}", "client", 7)
+
+
+def texts_last(columns: Sequence[Column]) -> List[int]:
+    """The places of columns, those of texts last, so that a record that another column refuses adds none to a code book."""
+    return sorted(range(len(columns)), key=lambda place: isinstance(columns[place].kind, Texts))
 
 
 def size_of_code_books(columns: Sequence[Column]) -> int:

@@ -23,4 +23,6 @@ def meant(name: str, names: List[str]) -> str:
     if OTHER_NAMES.get(name) in names:
         return f": it is called {OTHER_NAMES[name]!r} here"
     near = nearest(name, names)
-    return f": there are {', '.join(names)}" if near is None else f"; did you mean {near!r}?"
+    if near is not None:
+        return f"; did you mean {near!r}?"
+    return f": there are {', '.join(names)}" if names else ""

@@ -1,30 +1,48 @@
-"""A partition of a large table: a header and rows of whole numbers, in memory, in a CSV file or in a DataFrame of pandas."""
-import csv
-import io
+"""A partition of a large table: rows in memory, a CSV or a Parquet file, or a DataFrame of pandas; and how it is read."""
 import os
 import re
-import stat
-from dataclasses import dataclass
-from typing import Any, Iterable, List, Sequence, Tuple, Union
+from dataclasses import dataclass, field
+from typing import Any, Callable, Iterable, Iterator, List, Mapping, Optional, Sequence, Tuple, Union
 
-from .checks import names
-from .errors import Refused
-from .rows import WholeRows, line, whole_texts
+from .kinds.forms import PLAIN, Form
+from .missing import Missing
+from .options import check_options
+from .reading import Dialect
 
-PLAIN = b"0123456789,+- \t"
-NUMBER = re.compile(r"[ \t]*[-+]?[0-9]+[ \t]*")
+CELLS = re.compile(r"[ \t]*[-+]?[0-9]+[ \t]*(?:,[ \t]*[-+]?[0-9]+[ \t]*)*")
+OPTIONS = ("kinds", "missing", "encoding", "delimiter", "decimal", "thousands", "skip", "null_padding")
 
 
 @dataclass(frozen=True)
 class Partition:
-    """A header and rows of whole numbers in memory. Each row is a sequence of numbers, or a line of text with commas between them.
+    """Names of columns and rows of values in memory. Each row is a sequence of values, or a line of text with whole numbers and commas between them.
 
-    >>> Partition(["price", "dist"], [[50, 8], "80,2"]).columns
+    >>> Partition(["price", "dist"], [[49.5, 8], [None, 2], "80,2"]).columns
     ['price', 'dist']
     """
 
     columns: Sequence[str]
-    rows: Union[Iterable[Any], WholeRows]
+    rows: Iterable[Any]
+
+
+@dataclass(frozen=True)
+class Reading:
+    """How partitions are read: the kinds that are given for columns, and how files are written, as `Frame.from_csv` takes them."""
+
+    kinds: Mapping[str, str] = field(default_factory=dict)
+    missing: Optional[Tuple[str, ...]] = None
+    dialect: Dialect = Dialect()
+    form: Form = PLAIN
+
+    @staticmethod
+    def of(options: Mapping[str, Any], what: str) -> "Reading":
+        """That of the options of a function, which is called so in what is said of a wrong one."""
+        check_options(options, OPTIONS, what)
+        given = {name: options[name] for name in ("encoding", "delimiter", "skip", "null_padding") if name in options}
+        form = Form(options.get("decimal", "."), options.get("thousands", ""))
+        Missing(options.get("missing"))         # which says what is wrong with it
+        missing = None if options.get("missing") is None else tuple(options["missing"])
+        return Reading(dict(options.get("kinds") or {}), missing, Dialect(**given), form)
 
 
 # Any is a DataFrame of pandas.
@@ -32,79 +50,65 @@ Source = Union[Partition, str, "os.PathLike[str]", Any]
 
 
 def partitions_of(partitions: Iterable[Source]) -> List[Source]:
-    """The partitions, where they are a list of some: a single one would be taken for a list of its letters or columns, and all rows of a DataFrame of Dask be
-    pulled through one process."""
-    for what, is_one, instead in [("a DataFrame of Dask", _is_of_dask, "give its partitions, client.compute(frame.to_delayed())"),
-                                  ("a DataFrame", _is_frame, "give a list of DataFrames, or ask it by prefq.psel"),
+    """The partitions, where they are a list of some: a single one would be taken for a list of its letters or columns."""
+    for what, is_one, instead in [("a DataFrame", is_frame, "give a list of DataFrames, or ask it by prefq.psel"),
                                   ("one path", lambda some: isinstance(some, (str, bytes, os.PathLike)), "give a list of partitions"),
                                   ("one partition", lambda some: isinstance(some, Partition), "give a list of partitions")]:
         if is_one(partitions):
             raise TypeError(f"partitions is {what}: {instead}")
     found = list(partitions)
     for number, source in enumerate(found, 1):
-        if _is_of_dask(source):
-            raise TypeError(f"partition {number} is a DataFrame of Dask: give its partitions, client.compute(frame.to_delayed())")
-    return found
+        if is_of_dask(source):
+            raise TypeError(f"partition {number} is a DataFrame of Dask: give it alone, in place of the list")
+    return [_readable_again(source) for source in found]
 
 
-def _is_frame(source: Any) -> bool:
-    return hasattr(source, "itertuples")
+def is_frame(source: Any) -> bool:
+    """Whether this is a DataFrame of pandas."""
+    return hasattr(source, "itertuples") and not is_of_dask(source)
 
 
-def _is_of_dask(source: Any) -> bool:
+def is_of_dask(source: Any) -> bool:
+    """Whether this is a DataFrame of Dask."""
     return hasattr(source, "to_delayed")
 
 
-def text_of(source: Source) -> Tuple[Tuple[str, ...], List[bytes]]:
-    """The names of the columns of a partition and its rows as lines of text; a path is that of a CSV file, which is read now.
-
-    >>> text_of(Partition(["price", "dist"], [[50, 8], "80,2"]))
-    (('price', 'dist'), [b'50,8', b'80,2'])
-    >>> text_of(Partition(["price", "dist"], [[50, 8], [80, 2.5]]))
-    Traceback (most recent call last):
-    TypeError: row 2, column dist is 2.5, of type float: not a whole number
-    """
-    if _is_frame(source):
-        frame: Any = source
-        source = Partition(list(frame.columns), frame.itertuples(index=False, name=None))
-    if not isinstance(source, Partition):
-        return _read(source)
-    columns = names(source.columns)
-    if isinstance(source.rows, WholeRows):
-        return columns, b"".join(piece.text for piece in whole_texts(source.rows.pieces())).splitlines()
-    return columns, [_line(columns, number, row) for number, row in enumerate(source.rows, 1)]
+def called(source: Source) -> str:
+    """What a partition is called in what is said."""
+    if isinstance(source, (str, os.PathLike)):
+        return os.fspath(source)
+    return "a partition" if isinstance(source, Partition) else "a DataFrame"
 
 
-def _line(columns: Sequence[str], number: int, row: Any) -> bytes:
-    """A row as a line. What a line of text says is read by the program; it must be a line of numbers, and no command."""
-    if not isinstance(row, (str, bytes)):
-        return line(row, columns, f"row {number}, ").encode()
-    text = row.encode() if isinstance(row, str) else row
-    if not text or text.translate(None, PLAIN):
+def values_of_rows(partition: Partition) -> Iterator[Sequence[Any]]:
+    """The rows of a partition in memory, each with a value for each column."""
+    width = len(partition.columns)
+    for number, row in enumerate(partition.rows, 1):
+        values = _numbers(number, row) if isinstance(row, (str, bytes)) else row
+        if not isinstance(values, Sequence):
+            values = _as_sequence(number, values)
+        if len(values) != width:
+            raise ValueError(f"row {number}, {len(values)} values: not {width}, those of {', '.join(partition.columns)}")
+        yield values
+
+
+def _as_sequence(number: int, row: Any) -> Sequence[Any]:
+    as_list: Optional[Callable[[], List[Any]]] = getattr(row, "tolist", None)
+    if as_list is None:
+        raise TypeError(f"row {number} is {row!r}, of type {type(row).__name__}: not a list of values")
+    return as_list()
+
+
+def _numbers(number: int, row: Union[str, bytes]) -> List[int]:
+    """The whole numbers of a line of text."""
+    text = row.decode(errors="replace") if isinstance(row, bytes) else row
+    if not CELLS.fullmatch(text):
         raise TypeError(f"row {number} is {row!r}: not whole numbers with commas between them")
-    return text
+    return list(map(int, text.split(",")))
 
 
-def _read(path: Union[str, "os.PathLike[str]"]) -> Tuple[Tuple[str, ...], List[bytes]]:
-    """A CSV file whose first line is the header. Empty lines are no rows."""
-    with open(path, "rb") as file:
-        before = os.fstat(file.fileno())
-        head, _, body = file.read().partition(b"\n")
-        after = os.fstat(file.fileno())
-    if stat.S_ISREG(before.st_mode) and (before.st_size, before.st_mtime_ns) != (after.st_size, after.st_mtime_ns):
-        raise Refused("the file was written to while it was read: ask again", "table")
-    columns = names(next(csv.reader([head.decode("utf-8-sig").rstrip("\r")]), []))
-    body = body.replace(b"\r\n", b"\n")
-    if not body.translate(None, PLAIN + b"\n"):
-        return columns, [text for text in body.split(b"\n") if text]
-    records = [record for record in csv.reader(io.StringIO(body.decode(), newline="")) if record]
-    return columns, [_cells(columns, number, record) for number, record in enumerate(records, 1)]
-
-
-def _cells(columns: Sequence[str], number: int, record: Sequence[str]) -> bytes:
-    """A record of a file with quotes as a line without them."""
-    for place, cell in enumerate(record, 1):
-        if not NUMBER.fullmatch(cell):
-            name = columns[place - 1] if place <= len(columns) else place
-            raise Refused(f"row {number}, column {name} is {cell!r}: not a whole number", "table", 6, place)
-    return ",".join(record).encode()
+def _readable_again(source: Source) -> Source:
+    """The same, whose rows can be read as often as one likes."""
+    if isinstance(source, Partition) and iter(source.rows) is source.rows:
+        return Partition(source.columns, list(source.rows))
+    return source

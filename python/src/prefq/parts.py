@@ -2,44 +2,55 @@
 
 >>> from concurrent.futures import ThreadPoolExecutor
 >>> from prefq import parts
->>> january = parts.Partition(["price", "dist"], [[50, 8], [80, 2]])
->>> february = parts.Partition(["price", "dist"], [[60, 5], [90, 2]])
+>>> january = parts.Partition(["hotel", "price", "dist"], [["Ritz", 49.5, 8], ["Anna", 80, 2]])
+>>> february = parts.Partition(["hotel", "price", "dist"], [["Post", 60, 5], ["Park", None, 2]])
 >>> with ThreadPoolExecutor() as pool:
 ...     parts.best([january, february], "best low(price)", map=pool.map)
-[Row(level=1, id=1, values=[50, 8])]
+level  id  hotel  price  dist
+    1   1  Ritz    49.5     8
 
-Each partition is asked by a `prefq` of its own where the engine runs the function, and the question is asked again of what the partitions have left, eight
-of them at a time, until one table holds it.
+Each partition is asked in a table of its own where the engine runs the function, and the question is asked again of what the partitions have left, eight of them
+at a time, until one table holds it. A partition's result is its columns that the question names as whole numbers with their kinds, and its rows: parts may have a
+column in different kinds, which are brought together in the one that has the values of all (`prefq.widening`).
 
 Why that is exact: the level of a row is the length of the longest chain of rows, each of which dominates the next, that ends in it. In a part there are no
 longer chains than in the whole, so a row of the levels 1 to n of the whole is in the levels 1 to n of each part that has it. And such a chain up to its n-th row
 lies in the levels 1 to n, so it is among what the parts' levels 1 to n put together are: there each of these rows has its level of the whole, and every other
-one a level behind n. Rows of different groups are never compared, so a group may lie in many parts. Of equal rows, of which `skyline of distinct` keeps one,
-the one with the smallest id dominates the others here, and ids follow the order of the partitions in every part and every merge.
+one a level behind n. So what parts have left may be a part in turn, to any depth (`pref_sky::laws::levels_of_parts`). Rows of different groups are never
+compared, so a group may lie in many parts. Of equal rows, of which `skyline of distinct` keeps one, the one with the smallest id dominates the others here, and
+ids follow the order of the partitions in every part and every merge.
 """
+import builtins
 import csv
 import os
-import re
-import subprocess
 from dataclasses import dataclass, field, replace
-from functools import reduce as fold
 from typing import Any, Callable, Dict, Iterable, Iterator, List, Optional, Sequence, Tuple
 from uuid import uuid4
 
-from .checks import MOST_ROWS, header, seconds, text_of_question
-from .errors import Ended, Error, Refused, refused
-from .partition import Partition, Source, partitions_of, text_of
-from .program import find_program
-from .rows import Row
+from .answer import Answer
+from .carried import column_of
+from .checks import MOST_IDS, MOST_ROWS, whole
+from .columns import Column
+from .errors import Refused
+from .frame_query import warn, without_twins
+from .kinds import Texts
+from .loading import decoded
+from .missing import note_of
+from .once import ask_once
+from .partial import Partial, together
+from .partition import Partition, Reading, Source, called, is_of_dask, partitions_of
+from .questions import Mode, Question, names_in, read_question
+from .reading import check_names
+from .records import Record
+from .rows import Zipped
+from .sources import Opened, opened
+from .translate import Plan, columns_in, plan
+from .widening import Nothing, Segment, as_in_a_frame
 
-MOST_BYTES = 16_000_000    # of the rows of one table as text; a script may have 16,777,216 bytes
-BLOCK = 1024               # rows of one scan
 MERGED = 8                 # partial results that one merge takes
 SHRINKS = 15 / 16          # rows that may be left of all rows where asking piece by piece goes on
-MOST_LEVELS = 1000         # that a question can ask for
-AT_LEAST = re.compile(r"[ \t]*at_least[ \t]+([0-9]+)")
 
-__all__ = ["Job", "Partial", "Partition", "RowsLeft", "best"]
+__all__ = ["Found", "Job", "Partial", "Partition", "RowsLeft", "best", "why"]
 
 
 class RowsLeft(Refused):
@@ -59,85 +70,149 @@ class RowsLeft(Refused):
 
 
 @dataclass(frozen=True)
-class Partial:
-    """What is left of the rows of some partitions that follow each other: those that may be in the answer, in their order."""
+class Found:
+    """The rows of an answer, in order of their ids, each with its level; and whether it is that of the question: where it is not, too few levels were asked for."""
 
-    columns: Tuple[str, ...]
-    count: int               # of all rows of these partitions
-    places: Sequence[int]    # of the rows that are left among all these, from 0, ascending
-    lines: List[bytes]       # the rows that are left
+    rows: Partial
+    levels: Sequence[int]
+    is_whole: bool
 
-    def kept(self, at: Iterable[int]) -> "Partial":
-        """The same with only the rows at these indices of `lines`, ascending."""
-        at = list(at)
-        return replace(self, places=[self.places[index] for index in at], lines=[self.lines[index] for index in at])
+
+@dataclass(frozen=True)
+class Asked:
+    """A question over the columns of some rows, and what the table below is asked."""
+
+    question: Question
+    plan: Plan
+    columns: Tuple[str, ...]        # as the table below calls them
 
 
 @dataclass(frozen=True)
 class Job:
     """A question over partitions as three functions that an engine can run anywhere; a job can be pickled, and so can what its methods return.
 
-    `levels` is how many levels the parts are asked for, where the question itself does not say it (`at_least`); `program` is the path of the program where
-    the job runs, found there by `prefq.find_program` if it is None; `timeout` is how many seconds one run of it may take, None for ever.
+    `levels` is how many levels the parts are asked for, where the question itself does not say it (`at_least`); `mode` is that of a question without one;
+    `reading` is how the partitions are read. The library is found where the job runs, by `prefq.find_library`.
 
     No two jobs are the same to an engine that keeps results by what they were made of, as Dask does: each job reads its files anew.
 
     >>> job = Job("best low(price)")
-    >>> job.answer([job.part(Partition(["price"], [[7], [5]])), job.part(Partition(["price"], [[6], [5]]))])
-    ([Row(level=1, id=2, values=[5]), Row(level=1, id=4, values=[5])], True)
+    >>> found = job.answer([job.part(Partition(["price"], [[7], [5]])), job.part(Partition(["price"], [[6], ["5"]]))])
+    Traceback (most recent call last):
+    prefq.errors.Refused: column 'price' has values of int and str: ...
+    >>> found = job.answer([job.part(Partition(["price"], [[7], [5]])), job.part(Partition(["price"], [[6], [5]]))])
+    >>> list(found.rows.places), found.levels, found.is_whole
+    ([1, 3], [1, 1], True)
     """
 
     question: str
     levels: Optional[int] = None
-    program: Optional[str] = None
-    timeout: Optional[float] = None
+    mode: Optional[Mode] = None
+    reading: Reading = Reading()
     call: str = field(default_factory=lambda: uuid4().hex, compare=False, repr=False)
 
     def of_levels(self, levels: int) -> "Job":
         """Another job, which asks the parts for so many levels."""
-        return Job(self.question, levels, self.program, self.timeout)
+        return replace(self, levels=levels, call=uuid4().hex)
 
     def part(self, partition: Source) -> Partial:
         """What is left of one partition: the first function, to be mapped over all of them."""
         try:
-            columns, lines = text_of(partition)
-            return self._narrowed(Partial(columns, len(lines), range(len(lines)), lines))
+            source = opened(partition, self.reading)
+            left = self._narrowed(self.loaded(source, called(partition)))
+            return replace(left, asked=tuple(segment.alone() for segment in left.asked), rows=(source.rows_at(left.places),))
         except (Refused, TypeError, ValueError, csv.Error) as why:
-            raise _in_partition(why, partition) from None
+            raise in_partition(why, partition) from None
 
     def merge(self, partials: Sequence[Partial]) -> Partial:
         """What is left of the partitions of these partial results, which follow each other: associative, but their order counts."""
-        return self._narrowed(_joined(partials))
+        return self._narrowed(together(partials))
 
     def merge_two(self, first: Partial, second: Partial) -> Partial:
         """`merge` of two, as engines with a reduction of their own want it."""
         return self.merge([first, second])
 
-    def answer(self, partials: Sequence[Partial]) -> Tuple[List[Row], bool]:
-        """The answer over all partitions, and whether it is that of the question: where it is not, `levels` were too few of them."""
-        left = _joined(partials)
-        if len(_pieces(left.lines)) > 1:
+    def answer(self, partials: Sequence[Partial]) -> Found:
+        """The answer over all partitions."""
+        left = together(partials)
+        if len(left) > MOST_ROWS:
             left = self._narrowed(left)
-        pieces = _pieces(left.lines)
-        if len(pieces) > 1:
-            raise RowsLeft(len(left.lines), left.count)
-        rows = [Row(level, left.places[at] + 1, [int(cell) for cell in left.lines[at].split(b",")]) for level, at in self._asked(left, pieces[0], self.question)]
-        return rows, self._is_whole(rows, left.columns)
+        if len(left) > MOST_ROWS:
+            raise RowsLeft(len(left), left.count)
+        left = replace(left, asked=tuple(map(as_in_a_frame, left.asked)))
+        if not left.count:
+            return Found(left, [], True)
+        asked = self.asked(left)
+        found = sorted((at, level) for level, at in self._ask(asked, left, range(len(left))))
+        rows = left.kept([at for at, _ in found])
+        levels = [level for _, level in found]
+        return Found(rows, levels, self._is_whole(asked.question, rows, levels))
+
+    def loaded(self, source: Opened, what: str) -> Partial:
+        """All rows of a source, with the columns that the question names."""
+        source.load(names_in(self.question, self.mode, source.names))
+        segments: Dict[str, Segment] = {}
+
+        def column(name: str) -> Optional[Column]:
+            if name in source.names and name not in segments:
+                segments[name] = Segment.of(*source.column(name), what, is_given=name in self.reading.kinds, has_words=source.has_words)
+            return segments[name].column if name in segments else None
+
+        question = read_question(self.question, column, [name for name in source.names if isinstance(name, str)], self.mode)
+        asked = tuple(segments[found.name] for found in columns_in(question))
+        words = {**source.words, **{segment.column.name: segment.words() for segment in asked if segment.words()}}
+        left = Partial(source.names, asked, source.count, range(source.count), words=words)
+        try:
+            planned = self.views(left)[0][0].plan
+        except Refused as why:      # by the values of a column, so it says in which file
+            raise Refused(f"{what}: {why.args[0]}", why.kind, why.number, why.place, why.question) from None
+        return replace(left, absent={(found.name, text): said for (found, text), said in zip(planned.absent, planned.unknown)})
+
+    def views(self, partial: Partial) -> List[Tuple[Asked, Partial]]:
+        """What the parts are asked of each way in which these rows may turn out, of which one at least has to take the question. `at_least` counts rows of the
+        whole, so parts are asked for levels."""
+        found, refused = [], None
+        for view in partial.views():
+            try:
+                found.append((self.asked(view, levels=self.levels), view))
+            except Refused as why:
+                refused = why
+        if refused is not None and not found:
+            raise refused
+        return found
+
+    def asked(self, partial: Partial, *, levels: Optional[int] = None) -> Asked:
+        """The question over these rows, or the one that asks for so many levels in its place."""
+        by_name = {segment.column.name: segment.column for segment in partial.asked}
+        question = read_question(self.question, by_name.get, list(by_name), self.mode)
+        if levels is not None:
+            question = replace(question, mode="top_level", count=levels)
+        below = {id(segment.column): f"c{place}" for place, segment in enumerate(partial.asked)}
+        return Asked(question, plan(self.question, question, below), tuple(below.values()))
 
     def _narrowed(self, partial: Partial) -> Partial:
-        """Asks for the levels, one table after the other, and again of what is left, while that is more than one table holds and clearly shrinks."""
-        question = self._of_parts()
+        """Asks for the levels, one table after the other, and again of what is left, while that is more than one table holds and clearly shrinks. What may be left
+        by any view stays: a row too many lies behind the levels that are asked for, there as in the whole, and changes none of them."""
+        views = self.views(partial)
         while True:
-            pieces, before = _pieces(partial.lines), len(partial.lines)
-            partial = partial.kept(sorted(at for piece in pieces for _, at in self._asked(partial, piece, question)))
-            if len(pieces) == 1 or len(partial.lines) > SHRINKS * before:
+            pieces, before = _pieces(len(partial)), len(partial)
+            at = sorted({at for piece in pieces for asked, view in views for _, at in self._ask(asked, view, piece)})
+            partial, views = partial.kept(at), [(asked, view.kept(at)) for asked, view in views]
+            if len(pieces) == 1 or len(partial) > SHRINKS * before:
                 return partial
 
-    def _of_parts(self) -> str:
-        """The question that parts are asked: `at_least` counts rows of the whole, so parts are asked for levels."""
-        return self.question if self.levels is None else AT_LEAST.sub(f"top_level {self.levels}", self.question, count=1)
+    def _ask(self, asked: Asked, partial: Partial, piece: range) -> List[Tuple[int, int]]:
+        """The level and the number of each row of a piece that answers a question."""
+        if not piece:
+            return []
+        rows = Zipped([segment.numbers[piece.start::piece.step] for segment in partial.asked])
+        try:
+            found = ask_once(asked.columns, rows, asked.plan.text)
+        except Refused as why:
+            raise asked.plan.refusal(why) from None
+        return [(row.level, piece[row.id - 1]) for row in without_twins(found, asked.plan)]
 
-    def _is_whole(self, rows: Sequence[Row], columns: Sequence[str]) -> bool:
+    def _is_whole(self, question: Question, rows: Partial, levels: Sequence[int]) -> bool:
         """Whether an answer of `at_least k` over the rows that are left is that over all rows.
 
         Let j be `levels`. What is left contains the levels 1 to j of each group of the whole, and these are its own levels 1 to j too. `at_least k` takes the
@@ -151,126 +226,151 @@ class Job:
         """
         if self.levels is None:
             return True
-        wanted = int(AT_LEAST.match(self.question)[1])  # type: ignore[index]
-        cells = [columns.index(name) for name in _groups(self.question)]
         counts: Dict[Tuple[int, ...], int] = {}
         deepest: Dict[Tuple[int, ...], int] = {}
-        for row in rows:
-            group = tuple(row.values[cell] for cell in cells)
+        for group, level in zip(rows.groups(column.name for column in question.by), levels):
             counts[group] = counts.get(group, 0) + 1
-            deepest[group] = row.level      # rows come by level
-        return all(deepest[group] < self.levels or deepest[group] == self.levels and counts[group] >= wanted for group in counts)
+            deepest[group] = max(deepest.get(group, 0), level)
+        return all(deepest[group] < self.levels or deepest[group] == self.levels and counts[group] >= question.count for group in counts)
 
-    def _asked(self, partial: Partial, piece: range, question: str) -> List[Tuple[int, int]]:
-        """The level and the index of each row of a piece that answers a question of levels. The job's own question is begun first, so that what is wrong
-        with it is said of its text."""
-        lines = partial.lines[piece.start::piece.step]
-        begins = "\nas 1 abandon\n".join(f"as 1 begin {asked}" for asked in dict.fromkeys([self.question, question]))
-        blocks = max(1, -(-len(lines) // BLOCK))
-        script = [b"table", header(partial.columns).strip().encode(), *lines, b"end", begins.encode(errors="replace"), *[b"as 1 scan"] * blocks, b"as 1 finish", b""]
-        done = self._run(["play", "--clients", "1", "--cap", str(blocks * BLOCK), "--block", str(BLOCK)], b"\n".join(script))
-        replies = done.stdout.splitlines()
-        answer = next((number for number, line in enumerate(replies) if line.startswith(b"1 answer ")), 0)
-        if done.returncode != 0 or not answer or not replies[0].startswith(b"1 begun "):
-            raise _refusal(done, partial, piece, self.question)
-        return [(int(words[1]), piece[int(words[3][:-1]) - 1]) for words in (row.split(None, 4) for row in replies[answer + 1:])]
+    def tries(self) -> Iterator["Job"]:
+        """The jobs to try, in turn: `at_least k` asks for 4, 16, 64 levels and so on, at most k, since k levels hold k rows and mostly a few do."""
+        wanted = self.rows_wanted()
+        if wanted is None:
+            yield self
+            return
+        levels = 4
+        while levels < wanted:
+            yield self.of_levels(levels)
+            levels *= 4
+        yield self.of_levels(wanted)
 
-    def _run(self, words: Sequence[str], script: bytes) -> "subprocess.CompletedProcess[bytes]":
+    def rows_wanted(self) -> Optional[int]:
+        """The count of `at_least`; None where the question is another one, or is refused."""
         try:
-            return subprocess.run([find_program(self.program), *words], input=script, stdout=subprocess.PIPE, timeout=self.timeout)
-        except subprocess.TimeoutExpired:
-            raise Ended(f"the program has not ended within {self.timeout} seconds", "timeout") from None
+            question = read_question(self.question, lambda name: Column(name, Nothing()), [], self.mode)
+        except Refused:
+            return None
+        return question.count if question.mode == "at_least" else None
 
 
 def best(partitions: Iterable[Source], question: str, *, map: Callable[..., Any] = map, reduce: Optional[Callable[..., Partial]] = None,
-         program: Optional[str] = None, timeout: Optional[float] = None) -> List[Row]:
+         **options: Any) -> Answer:
     """The answer over the rows of all partitions, whose ids are their numbers in the order of the partitions, from 1.
 
-    A partition is the path of a CSV file, read where it is asked, a `Partition` with rows or a DataFrame of pandas; each has the same columns.
-    `map(function, items)` returns the results in the order of the items, or Dask's futures of them: `map` of a `concurrent.futures` or `mpi4py.futures`
-    executor and of a `dask.distributed` client are such functions. Partial results are merged by a tree of further maps, or by
-    `reduce(function of two, results)`, if it is given. `timeout` is how many seconds one run of the program may take, None for ever.
+    A partition is the path of a CSV file, read where it is asked, a `Partition` with rows or a DataFrame of pandas; each has the same columns. Only those that
+    the question names are understood, each in the kind that this partition's values have, or the one of `kinds`; a DataFrame of Dask takes the place of the list,
+    and is asked by Dask's own scheduler. `map(function, items)` returns the results in the order of the items, or Dask's futures of them: `map` of a
+    `concurrent.futures` or `mpi4py.futures` executor and of a `dask.distributed` client are such functions. Partial results are merged by a tree of further maps,
+    or by `reduce(function of two, results)`, if it is given. `kinds`, `missing`, `encoding`, `delimiter`, `decimal`, `thousands`, `skip` and
+    `null_padding` are those of `Frame.from_csv`.
 
-    A question is one of whole numbers, as of a `prefq.Table`; what is wrong with it is `Refused`. `RowsLeft` says that the answer, or what has to be compared
-    for it, is larger than one table. A file counts as it was at one moment of the call, each at its own: `at_least` may read all of them several times, and
-    answers by the last reading alone. A file that is written to while it is read is refused.
+    What is wrong with a question, a value or a kind is `Refused`, or a `TypeError` or `ValueError` that names the file. `RowsLeft` says that the answer, or what
+    has to be compared for it, is larger than one table. A file counts as it was at one moment of the call, each at its own: `at_least` may read all of them
+    several times, and answers by the last reading alone. A file that is written to while it is read is refused.
 
-    >>> january = Partition(["price", "dist"], [[50, 8], [80, 2]])
-    >>> february = Partition(["price", "dist"], ["60,5", "90,2"])
-    >>> [row.id for row in best([january, february], "best low(price) * low(dist)")]
-    [1, 2, 3]
+    >>> january = Partition(["hotel", "price", "dist"], [["Ritz", 50, 8], ["Anna", 80, 2]])
+    >>> february = Partition(["hotel", "price", "dist"], [["Post", 60.5, 5], ["Park", None, 2]])
+    >>> best([january, february], "best low(price) * low(dist)")
+    level  id  hotel  price  dist
+        1   1  Ritz    50.0     8
+        1   2  Anna    80.0     2
+        1   3  Post    60.5     5
     """
-    partitions = partitions_of(partitions)
-    if not partitions:
+    job = Job(question, reading=Reading.of(options, "prefq.parts.best"))
+    sources, engine = _sources(partitions, map, reduce)
+    return answer_of(found_in(job, sources, engine, reduce), job)
+
+
+def why(partitions: Iterable[Source], id: int, question: str, *, map: Callable[..., Any] = map, **options: Any) -> Answer:
+    """The rows that dominate the one with this id in a question, each with its own level (None behind level 1000), as `Frame.why` has them. What it takes is as
+    with `best`, and so is what is refused; 65,536 rows at most may dominate it. The partitions are read three times: one that is another meanwhile is refused.
+
+    >>> january = Partition(["hotel", "price", "dist"], [["Ritz", 50, 8], ["Anna", 80, 9]])
+    >>> february = Partition(["hotel", "price", "dist"], [["Post", 60.5, 5], ["Park", None, 2]])
+    >>> why([january, february], 2, "best low(price) * low(dist)")
+    level  id  hotel  price  dist
+        1   1  Ritz    50.0     8
+        1   3  Post    60.5     5
+    """
+    from .why_parts import Rivalry, dominators
+    job = Rivalry(question, reading=Reading.of(options, "prefq.parts.why"))
+    return dominators(job, *_sources(partitions, map), whole(id, "id", 0, MOST_IDS))
+
+
+def _sources(partitions: Any, map: Callable[..., Any], reduce: Any = None) -> Tuple[List[Any], Callable[..., Any]]:
+    """The partitions, and the engine that asks them: of a DataFrame of Dask its own scheduler."""
+    if is_of_dask(partitions):
+        if map is not builtins.map or reduce is not None:
+            raise TypeError("a DataFrame of Dask is asked by Dask's own scheduler: leave out map= and reduce=")
+        from .dask_frames import mapped, partitions_in
+        return partitions_in(partitions), mapped
+    sources = partitions_of(partitions)
+    if not sources:
         raise ValueError("there is no partition")
-    rows: List[Row] = []
-    for job in _jobs(Job(text_of_question(question).strip(" \t"), None, program, seconds(timeout))):     # places are counted from the first word
-        partials = list(map(job.part, partitions))
-        if reduce is not None:
-            partials = [reduce(job.merge_two, partials)]
-        while len(partials) > MERGED:
-            partials = list(map(job.merge, [partials[begin:begin + MERGED] for begin in range(0, len(partials), MERGED)]))
-        [found] = map(job.answer, [partials])
-        rows, is_whole = found.result() if hasattr(found, "result") else found
-        if is_whole:
+    return sources, map
+
+
+def found_in(job: Job, items: Sequence[Any], map: Callable[..., Any], reduce: Optional[Callable[..., Partial]] = None, *,
+             first: Callable[[Job], Callable[[Any], Partial]] = lambda job: job.part) -> Found:
+    """The rows of the answer over these partitions, or over other things of which the `first` function of a job makes partial results."""
+    for tried in job.tries():
+        found = merged(tried, list(map(first(tried), items)), map, reduce)
+        if found.is_whole:
             break
-    return rows
+    return found
 
 
-def _jobs(job: Job) -> Iterator[Job]:
-    """The jobs to try, in turn: `at_least k` asks for 4, 16, 64 levels and so on, at most k, since k levels hold k rows and mostly a few do."""
-    found = AT_LEAST.match(job.question)
-    digits = found[1].lstrip("0") if found else ""
-    wanted = int(digits) if 0 < len(digits) <= len(str(MOST_LEVELS)) else 0
-    if not 1 <= wanted <= MOST_LEVELS:
-        yield job       # the count is refused, or there is none
-        return
-    levels = 4
-    while levels < wanted:
-        yield job.of_levels(levels)
-        levels *= 4
-    yield job.of_levels(wanted)
+def merged(job: Job, partials: List[Any], map: Callable[..., Any], reduce: Optional[Callable[..., Partial]] = None) -> Found:
+    """The answer over what partitions have left, by a tree of maps or by a reduction of one's own."""
+    if reduce is not None:
+        partials = [reduce(job.merge_two, partials)]
+    while len(partials) > MERGED:
+        partials = list(map(job.merge, [partials[begin:begin + MERGED] for begin in range(0, len(partials), MERGED)]))
+    [found] = map(job.answer, [partials])
+    return waited_for(found)    # type: ignore[no-any-return]
 
 
-def _joined(partials: Sequence[Partial]) -> Partial:
-    """The rows that are left of partitions that follow each other, before they are compared."""
-    return fold(_joined_two, partials)
+def waited_for(found: Any) -> Any:
+    """What an engine has computed: Dask gives something that is still to be done, or a future."""
+    if hasattr(found, "compute"):
+        return found.compute()
+    return found.result() if hasattr(found, "result") else found
 
 
-def _joined_two(first: Partial, second: Partial) -> Partial:
-    if first.columns != second.columns:
-        raise Refused(f"partitions have different columns: {', '.join(first.columns)} and {', '.join(second.columns)}", "table")
-    return Partial(first.columns, first.count + second.count, [*first.places, *(first.count + place for place in second.places)], first.lines + second.lines)
+def answer_of(found: Found, job: Job) -> Answer:
+    """The rows of an answer as records, by level and then by id."""
+    warn(found.rows.absent.values())
+    columns, rows = records_of(found.rows, found.levels, job.reading)
+    return Answer(job.question, columns, sorted(rows, key=lambda row: (row.level, row.id)), notes=notes_of(found.rows, job.reading))
 
 
-def _pieces(lines: Sequence[bytes]) -> List[range]:
-    """Indices of rows as one table holds them: the rows are dealt out in turn, so that rows of all partitions meet in each piece."""
-    longest = max((len(line) for line in lines), default=0) + 1
-    fit = max(1, min(MOST_ROWS, MOST_BYTES // longest))
-    count = max(1, -(-len(lines) // fit))
-    return [range(number, len(lines), count) for number in range(count)]
+def notes_of(rows: Partial, reading: Reading) -> List[str]:
+    """What is to be known of how these rows were read: words are texts in a column of texts, unless they were given."""
+    texts = [segment.column.name for segment in rows.asked if isinstance(segment.column.kind, Texts)]
+    return [note_of(name, counts) for name, counts in rows.words.items() if name not in texts or reading.missing is not None]
 
 
-def _groups(question: str) -> List[str]:
-    """The columns behind `by`, which is the end of the question: each base term before it ends with a parenthesis."""
-    return re.findall(r"[A-Za-z][\w.]*", question.rpartition(")")[2])[1:]
+def records_of(left: Partial, levels: Sequence[Optional[int]], reading: Reading) -> Tuple[List[Column], List[Record]]:
+    """The columns and the records of these rows, which have these levels."""
+    by_name = {segment.column.name: segment for segment in left.asked}
+    segments = [by_name.get(name) or column_of(left.rows, name, reading) for name in check_names(left.names)]
+    columns = [segment.column for segment in segments]
+    values = decoded(columns, list(zip(*(segment.numbers for segment in segments))))
+    return columns, [Record(zip(left.names, row), id=place + 1, level=level) for level, place, row in zip(levels, left.places, values)]
 
 
-def _in_partition(why: Exception, partition: Source) -> Exception:
+def _pieces(count: int) -> List[range]:
+    """So many rows as tables hold them: they are dealt out in turn, so that rows of all partitions meet in each piece."""
+    tables = max(1, -(-count // MOST_ROWS))
+    return [range(number, count, tables) for number in range(tables)]
+
+
+def in_partition(why: Exception, partition: Source) -> Exception:
     """What is wrong with the rows of a file, with its path."""
-    if not isinstance(partition, (str, os.PathLike)) or isinstance(why, Refused) and why.kind != "table":
+    if not isinstance(partition, (str, os.PathLike)) or isinstance(why, Refused) and why.kind != "table" or called(partition) in str(why):
         return why
-    message = f"{os.fspath(partition)}: {why}"
+    message = f"{called(partition)}: {why}"
     if isinstance(why, Refused):
         return Refused(message, why.kind, why.number, why.place)
     return TypeError(message) if isinstance(why, TypeError) else ValueError(message)
-
-
-def _refusal(done: "subprocess.CompletedProcess[bytes]", partial: Partial, piece: range, question: str) -> Error:
-    """Why a run has no answer. A row is named by its number among the rows of its partition."""
-    said = next((line for line in done.stdout.decode(errors="replace").splitlines() if " refused" in line or "fault" in line), "nothing")
-    if done.returncode not in (0, 2) or said == "nothing":
-        return Ended(f"the program ended with status {done.returncode} and said {said}", "died")
-    if said.startswith("table refused"):
-        return refused(re.sub(r" row (\d+)", lambda found: f" row {partial.places[piece[int(found[1]) - 1]] + 1}", said))
-    return refused(said, question)

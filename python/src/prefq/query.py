@@ -1,16 +1,24 @@
 """A query: a question that is asked of the table as it was when the query began."""
+import time
+from ctypes import c_uint32
 from typing import Callable, List, Optional, Tuple, Type
 
 from .clients import Clients
-from .errors import Ended, Refused
-from .exchange import Exchange, has_ended
-from .rows import Made, Row, pair, rows_of
+from .engine import Engine
+from .errors import Ended
+from .rows import Made, Numbers, Row, as_pairs, as_rows, rows_of
+
+Progress = Callable[[int, int], None]
+# A piece of a scan: an interruption comes behind it, and so do other threads' calls.
+SECONDS_OF_A_PIECE = 0.01
+SECONDS_FOR_OTHERS = 0.000_05
 
 
 class Query:
     """An open query, which `Table.query` begins. `left` is how many blocks are still to be scanned.
 
-    It is abandoned where its `with` block ends without an answer, or where nobody has it any more.
+    It is abandoned where its `with` block ends without an answer, or where nobody has it any more. An interruption, as by Ctrl-C, comes between two of its
+    scans; the query is as it is then, and may go on.
 
     >>> with Table(["price"], [[50], [80]]) as hotels:
     ...     with hotels.query("best low(price)") as query:
@@ -19,20 +27,18 @@ class Query:
     [Row(level=1, id=1, values=[50])]
     """
 
-    def __init__(self, exchange: Exchange, clients: Clients, question: str, client: Optional[int], width: int) -> None:
+    def __init__(self, engine: Engine, clients: Clients, question: str, client: Optional[int]) -> None:
         self.question = question
-        self._exchange, self._width = exchange, width
-        self._open = True
+        self._left = c_uint32()
+        self._together = 1
+        self._engine = engine
         self._holder = clients.take(self, client)
         self.client = self._holder.client
-        try:
-            self.left = int(self._ask(f"begin {question}", "begun ", question)[0])
-        except Refused:
-            self._ended()
-            raise
+        engine.begin(self._holder, question, self._left)
+        self._blocks = self.left
 
     def __repr__(self) -> str:
-        return f"<prefq.Query {self.question!r}, {f'{self.left} blocks left' if self._open else 'ended'}>"
+        return f"<prefq.Query {self.question!r}, {f'{self.left} blocks left' if self._is_open else 'ended'}>"
 
     def __enter__(self) -> "Query":
         return self
@@ -44,49 +50,53 @@ class Query:
             if failed is None:
                 raise
 
+    @property
+    def left(self) -> int:
+        """How many blocks are still to be scanned."""
+        return self._left.value
+
     def scan(self) -> int:
         """Scans the next block, and returns how many are left."""
-        self._exchange.ours()
-        with self._exchange.lock:
-            self._check()
-            self.left = int(self._ask("scan", "left ")[0])
-            return self.left
+        self._engine.scan(self._holder, 1, self._left)
+        return self.left
 
-    def answer(self) -> List[Row]:
-        """The rows of the answer, by level and then by id; scans the blocks that are left first. The query has ended then."""
-        return self._finish(Row)
+    def answer(self, progress: Optional[Progress] = None) -> List[Row]:
+        """The rows of the answer, by level and then by id; scans the blocks that are left first. The query has ended then. `progress` is called with the
+        number of blocks that are scanned, and how many there are."""
+        self._scan_all(progress)
+        return self._finish(as_rows)
 
     def pairs(self) -> List[Tuple[int, List[int]]]:
         """The answer as pairs of an id and its values."""
-        return self._finish(pair)
+        self._scan_all(None)
+        return self._finish(as_pairs)
 
     def abandon(self) -> None:
-        """Ends the query without an answer; nothing is done where it has ended."""
-        if self._open:
-            self._exchange.abandon(self._holder)
-            self._open = False
+        """Ends the query without an answer; nothing is done where it has ended. Waits for nothing: the table does it before its next call."""
+        if self._is_open:
+            self._holder.is_wanted = False
+            self._engine.check()
 
-    def _finish(self, make: Callable[[int, int, List[int]], Made]) -> List[Made]:
-        self._exchange.ours()
-        while True:
-            # The table's lock alone: with one more, a finalizer in the middle of an exchange could wait for a thread that waits for the exchange.
-            with self._exchange.lock:
-                self._check()
-                if not self.left:
-                    _, below = self._ask("finish", "answer ")
-                    self._ended()
-                    break
-                self.scan()
-        return rows_of(below, self._width, make)
+    @property
+    def _is_open(self) -> bool:
+        return self._engine.is_open(self._holder)
 
-    def _ask(self, command: str, reply: str, question: Optional[str] = None) -> Tuple[str, bytearray]:
-        """Sends a command, which is refused where the client has no longer this query."""
-        return self._exchange.ask_for_rows(f"as {self.client} {command}", f"{self.client} {reply}", question=question, holder=self._holder)
+    def _finish(self, make: Callable[[Numbers], List[Made]]) -> List[Made]:
+        numbers = self._engine.finish(self._holder)
+        return rows_of(numbers, self._engine.width, make)
 
-    def _check(self) -> None:
-        if not self._open:
-            raise has_ended()
+    def scan_piece(self) -> None:
+        """Scans as many blocks of those that are left as a piece has time for."""
+        begun = time.monotonic()
+        self._engine.scan(self._holder, self._together, self._left)
+        taken = time.monotonic() - begun
+        if 4 * taken > SECONDS_OF_A_PIECE:
+            # Whoever waits for the table gets it now.
+            time.sleep(SECONDS_FOR_OTHERS)
+        self._together = max(1, min(2 * self._together, int(self._together * SECONDS_OF_A_PIECE / max(taken, 1e-9))))
 
-    def _ended(self) -> None:
-        self._open = False
-        self._exchange.give_back(self._holder)
+    def _scan_all(self, progress: Optional[Progress]) -> None:
+        while self.left:
+            self.scan_piece()
+            if progress:
+                progress(self._blocks - self.left, self._blocks)

@@ -5,7 +5,7 @@ false, or a text in quotes. Whatever is wrong is refused at its place, with what
 """
 import re
 from dataclasses import dataclass
-from typing import Callable, List, NamedTuple, NoReturn, Optional, Sequence, Tuple, Union
+from typing import Callable, Dict, List, NamedTuple, NoReturn, Optional, Sequence, Tuple, Union
 
 from .columns import Column, quoted
 from .errors import Refused
@@ -110,6 +110,23 @@ def read_question(question: str, column: Callable[[str], Optional[Column]], name
     if not isinstance(question, str):
         raise TypeError(f"a question is a text, not {question!r}")
     return Reader(question, column, names).question(mode)
+
+
+def names_in(text: str, mode: Optional[Mode], names: Sequence[str]) -> List[str]:
+    """The names of columns that a question has, as far as it can be read without their kinds."""
+    found: Dict[str, None] = {}
+
+    def column(name: str) -> Optional[Column]:
+        if name not in names:
+            return None
+        found[name] = None
+        return Column(name, "whole")
+
+    try:
+        read_question(text, column, names, mode)
+    except Refused:
+        pass        # It is refused where it is read with its columns.
+    return list(found)
 
 
 def explained(why: Refused, columns: Sequence[str]) -> Refused:
@@ -319,7 +336,7 @@ class Reader:
         sign = "-" if self._takes("-") else ""
         token = self._next
         good = token.kind == "number" if sign else token.kind in ("number", "date", "text", "name")
-        if not good and not (token.kind == "word" and column.kind.name == "bool" and not sign):
+        if not good and not (token.kind == "word" and column.kind.takes_words and not sign):
             self._unexpected(value_of(column), hint_for_value(token.kind, token.text, self._is_called()))
         self._at += 1
         return Value(sign + token.text, place)

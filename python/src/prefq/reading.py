@@ -166,6 +166,10 @@ class Cells:
             found = list(self._squared(found, first))
         return Chunk(first, len(found), width, list(chain.from_iterable(found))), reader.line_num
 
+    def check_unchanged(self) -> None:
+        """Refuses a file that was written to since it was opened."""
+        self._content.open().close()
+
     def line(self, row: int) -> int:
         """The line in which a row ends, for what is said of it."""
         with self._stream() as stream, self._reader(stream) as reader:

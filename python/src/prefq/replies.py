@@ -3,7 +3,7 @@
     GET /about                   the columns, and questions to begin with
     GET /picture?question=..     the answer and the other rows at one version, as JSON; &x=..&y=.. choose the axes
     GET /events?question=..      the same as server-sent events, at once and after each change; the last one is `event: refused` where the question is, and
-                                 `event: failed` where no table can be started
+                                 `event: failed` where the table has ended
     POST /rows                   {"Price": 59.9, ..}, a new row; replies its id
     PUT /rows/7                  {"Price": 64.9}, other values for a row
     DELETE /rows/7               replies the values that it had
@@ -12,7 +12,7 @@ With `?seen=12` a row is changed as it was seen in the picture of version 12: wh
 409. In the values null is missing, and so is an empty text but in a column of texts.
 
 What is wrong is replied as JSON with an `error`, and of a question with its `place`, a character: 400 for what cannot be read, 403 for a page of another site, 404 for
-rows that are not there, 409 for what the table refuses, 413 for what is too large, 503 where no table can be started.
+rows that are not there, 409 for what the table refuses, 413 for what is too large, 503 where the table has ended.
 """
 import json
 import re

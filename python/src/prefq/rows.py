@@ -1,22 +1,22 @@
-"""Rows as the program reads and writes them."""
+"""Rows as the library takes and gives them: whole numbers of 64 bits, one row after the other."""
 import gc
+import struct
 from array import array
 from collections.abc import Iterable, Mapping, Set
-from functools import lru_cache
 from itertools import chain, islice
 from typing import Any, Callable, Iterator, List, NamedTuple, Optional, Sequence, Tuple, TypeVar
 
 from .checks import LEAST, MOST, MOST_ROWS, whole
+from .engine import BYTES, Engine
+from .library import Setup
 from .pauses import let_others_run
 
 Made = TypeVar("Made")
-Shape = Callable[[Sequence[str]], str]
+Numbers = Iterator[Tuple[int, ...]]
 TOGETHER = 256
-IN_COMMIT = 8
-ANSWER_PIECE = 16_384
-LOOKED_THROUGH = 262_144
-# What stands round the numbers in the line of a row, `level 1 id 3: 45,9`, is blank here.
-BLANKS = bytes.maketrans(b"levid:,\n", b" " * 8)
+ANSWER_PIECE = 4_096        # numbers of an answer
+LOOKED_THROUGH = 16_384
+LISTS = (list, tuple)
 
 
 class Row(NamedTuple):
@@ -32,68 +32,93 @@ class Row(NamedTuple):
     values: List[int]
 
 
-class Written(NamedTuple):
-    """Some rows as the program reads them."""
-
-    rows: int
-    text: bytes
-
-
 class WholeRows:
-    """Rows of whole numbers that a table can have for sure, so that they are written out without a look at each."""
+    """Rows of whole numbers that a table can have for sure, so that they are handed over without a look at each."""
 
     def __len__(self) -> int:
         raise NotImplementedError
 
-    def pieces(self) -> "Iterator[WholeRows]":
-        """The rows, some at a time."""
+    def opened(self, columns: Sequence[str], setup: Setup) -> Engine:
+        """A table of these columns and rows."""
         raise NotImplementedError
+
+
+class TextRows(WholeRows):
+    """Rows as lines of text, which the library reads."""
+
+    def __init__(self, lines: Sequence[bytes]) -> None:
+        self._lines = lines
+
+    def __len__(self) -> int:
+        return len(self._lines)
 
     def text(self) -> bytes:
         """The rows one to a line."""
-        raise NotImplementedError
+        return b"".join([line + b"\n" for line in self._lines])
+
+    def opened(self, columns: Sequence[str], setup: Setup) -> Engine:
+        return Engine.opened_text(columns, self.text(), len(self), setup)
+
+
+class Packed(WholeRows):
+    """Rows one after the other."""
+
+    def __init__(self, values: bytes, width: int) -> None:
+        self.values = values
+        self._width = width
+
+    def __len__(self) -> int:
+        return len(self.values) // (BYTES * self._width)
+
+    def opened(self, columns: Sequence[str], setup: Setup) -> Engine:
+        return Engine.opened(columns, self.values, len(self), setup)
 
 
 class Zipped(WholeRows):
-    """The rows of columns of numbers, or a range of them. The columns are arrays, which take nothing but whole numbers of 64 bits."""
+    """The rows of columns of numbers, which are arrays: these take nothing but whole numbers of 64 bits."""
 
-    def __init__(self, columns: Sequence[Sequence[int]], rows: Optional[range] = None) -> None:
-        self._columns = [column if isinstance(column, array) else array("q", column) for column in columns]
-        self._rows = range(len(self._columns[0]) if self._columns else 0) if rows is None else rows
+    def __init__(self, columns: Sequence[Sequence[int]]) -> None:
+        self.columns = [column if isinstance(column, array) else array("q", column) for column in columns]
 
     def __len__(self) -> int:
-        return len(self._rows)
+        return len(self.columns[0]) if self.columns else 0
 
     def __getitem__(self, some: slice) -> "Zipped":
-        return Zipped(self._columns, self._rows[some])
+        return Zipped([column[some] for column in self.columns])
 
-    def pieces(self) -> "Iterator[Zipped]":
-        return (self[at:at + TOGETHER] for at in range(0, len(self), TOGETHER))
-
-    def text(self) -> bytes:
-        rows = zip(*(column[self._rows.start:self._rows.stop] for column in self._columns))
-        return (template(len(self), len(self._columns), as_lines) % tuple(chain.from_iterable(rows))).encode()
-
-
-def pair(level: int, id: int, values: List[int]) -> Tuple[int, List[int]]:
-    """A row without its level."""
-    return id, values
+    def opened(self, columns: Sequence[str], setup: Setup) -> Engine:
+        found = array("q", bytes(BYTES * len(columns) * len(self)))
+        for place, column in enumerate(self.columns):
+            found[place::len(columns)] = column
+            let_others_run()
+        return Engine.opened(columns, found.tobytes(), len(self), setup)
 
 
-def rows_of(text: bytearray, width: int, make: Callable[[int, int, List[int]], Made]) -> List[Made]:
-    """What is made of the level, the id and the values in each line of an answer."""
-    if len(text) <= ANSWER_PIECE:
-        return _made(text, width, make)
+def as_rows(numbers: Numbers) -> List[Row]:
+    """The rows of an answer."""
+    new = tuple.__new__         # that of a named tuple is written in Python, and takes longer
+    return [new(Row, (level, id, values)) for level, id, *values in numbers]
+
+
+def as_pairs(numbers: Numbers) -> List[Tuple[int, List[int]]]:
+    """The same as pairs of an id and its values."""
+    return [(id, values) for _, id, *values in numbers]
+
+
+def rows_of(answer: bytes, width: int, make: Callable[[Numbers], List[Made]]) -> List[Made]:
+    """What is made of the level, the id and the values of each row of an answer."""
+    size = BYTES * (2 + width)
+    piece = size * max(1, ANSWER_PIECE // (2 + width))
+    if len(answer) <= piece:
+        return make(struct.iter_unpack(f"{2 + width}q", answer))
     rows: List[Made] = []
-    begin, looked, collects = 0, 0, gc.isenabled()
+    looked, collects = 0, gc.isenabled()
     try:
         # Rows are no garbage. Left to itself, the collector looks through all of them again and again while every thread waits; this looks at the new ones.
         gc.disable()
-        while begin < len(text):
-            end = text.find(b"\n", begin + ANSWER_PIECE) + 1 or len(text)
-            rows += _made(text[begin:end], width, make)
-            begin = end
-            if collects and (begin - looked >= LOOKED_THROUGH or begin == len(text)):
+        for begin in range(0, len(answer), piece):
+            rows += make(struct.iter_unpack(f"{2 + width}q", answer[begin:begin + piece]))
+            if collects and (begin - looked >= BYTES * LOOKED_THROUGH or begin + piece >= len(answer)):
                 looked = begin
                 gc.collect(0)
             let_others_run()
@@ -103,14 +128,9 @@ def rows_of(text: bytearray, width: int, make: Callable[[int, int, List[int]], M
     return rows
 
 
-def _made(text: bytearray, width: int, make: Callable[[int, int, List[int]], Made]) -> List[Made]:
-    numbers = list(map(int, bytes(text).translate(BLANKS).split()))
-    return [make(numbers[at], numbers[at + 1], numbers[at + 2:at + 2 + width]) for at in range(0, len(numbers), 2 + width)]
-
-
 def in_pieces(rows: Any) -> Iterator[Any]:
     """The rows, which may come one by one, some at a time."""
-    if isinstance(rows, (str, bytes, Mapping)) or not isinstance(rows, (Iterable, WholeRows)):
+    if isinstance(rows, (str, bytes, Mapping)) or not isinstance(rows, Iterable):
         raise TypeError(f"rows is of type {type(rows).__name__}: not a list of rows")
     count = 0
     for piece in _sliced(rows):
@@ -122,92 +142,78 @@ def in_pieces(rows: Any) -> Iterator[Any]:
 
 
 def _sliced(rows: Any) -> Iterator[Any]:
-    if isinstance(rows, WholeRows):
-        return rows.pieces()
     # Arrays of numpy are taken apart in pieces. A slice of another thing with tolist, such as a series of pandas, may count by its labels.
     if hasattr(rows, "__array_interface__"):
         return (rows[at:at + TOGETHER].tolist() for at in range(0, len(rows), TOGETHER))
     if hasattr(rows, "tolist"):
         rows = rows.tolist()
-    if isinstance(rows, (list, tuple)):
+    if isinstance(rows, LISTS):
         return (rows[at:at + TOGETHER] for at in range(0, len(rows), TOGETHER))
     one_by_one = iter(rows)
     return iter(lambda: list(islice(one_by_one, TOGETHER)), [])
 
 
-def let_go(pieces: List[Any]) -> None:
-    """Drops the pieces one after the other, since rows that nobody else has are freed with them."""
-    while pieces:
-        pieces.pop()
-        let_others_run()
+def packed(rows: Any, columns: Sequence[str]) -> Packed:
+    """Rows of whole numbers, looked at. What is wrong names its row, from 1, and its column."""
+    if _is_plain_array(rows, len(columns)):
+        return Packed(rows.astype("int64").tobytes(), len(columns))
+    found, begin = array("q"), 1
+    for piece in in_pieces(rows):
+        values = _at_once(piece, len(columns))
+        if values is None:
+            values = array("q", chain.from_iterable(checked(row, columns, f"row {number}, ") for number, row in enumerate(piece, begin)))
+        found.extend(values)
+        begin += len(piece)
+    return Packed(found.tobytes(), len(columns))
 
 
-def as_lines(rows: Sequence[str]) -> str:
-    """Rows one to a line, as in a table."""
-    return "\n".join(rows) + "\n"
+def _is_plain_array(rows: Any, width: int) -> bool:
+    """Whether this is an array of numpy that a table takes as it is: of whole numbers with a sign, in so many columns. One with a mask is another type."""
+    kind = type(rows)
+    return ((kind.__module__, kind.__name__) == ("numpy", "ndarray") and rows.dtype.kind == "i" and rows.ndim == 2 and rows.shape[1] == width
+            and len(rows) <= MOST_ROWS)
 
 
-def as_commits(client: int) -> Shape:
-    """Rows as commits of a client that insert them, eight at a time."""
-    def commits(rows: Sequence[str]) -> str:
-        return "".join(f"as {client} commit insert {'; insert '.join(rows[at:at + IN_COMMIT])}\n" for at in range(0, len(rows), IN_COMMIT))
-    return commits
+def _at_once(rows: Sequence[Any], width: int) -> "Optional[array[int]]":
+    """Rows that are lists or tuples of Python's own whole numbers, without a look at each; None where they are not, or where something is wrong."""
+    if not {*LISTS}.issuperset(map(type, rows)) or set(map(len, rows)) != {width}:
+        return None
+    cells = list(chain.from_iterable(rows))
+    if set(map(type, cells)) != {int}:
+        return None
+    try:
+        return array("q", cells)
+    except OverflowError:
+        return None
 
 
-def texts(pieces: Iterable[Sequence[Any]], columns: Sequence[str], client: int) -> Iterator[Written]:
-    """Rows as commits of a client. Rows are counted from 1 in what is wrong."""
-    return _texts(pieces, columns, as_commits(client), _are_in_range)
+class Packing:
+    """Packs a row of a table with these columns."""
+
+    def __init__(self, columns: Sequence[str]) -> None:
+        self._columns = columns
+        self._width = len(columns)
+        self._pack = struct.Struct(f"{self._width}q").pack
+
+    def __call__(self, row: Any, where: str = "") -> bytes:
+        """Its values one after the other. What is wrong names its column, behind `where`."""
+        if type(row) in LISTS and len(row) == self._width:
+            for cell in row:
+                if type(cell) is not int:
+                    break
+            else:
+                try:
+                    return self._pack(*row)
+                except struct.error:
+                    pass        # A number is out of range, which is said with its column.
+        return self._pack(*checked(row, self._columns, where))
 
 
-def texts_of_opening(pieces: Sequence[Any], columns: Sequence[str]) -> Iterator[Written]:
-    """Rows one to a line, without a test of the range, which takes time, and which the program tests when it opens a table."""
-    return whole_texts(pieces) if pieces and isinstance(pieces[0], WholeRows) else _texts(pieces, columns, as_lines, _are_whole)
-
-
-def whole_texts(pieces: Iterable[WholeRows]) -> Iterator[Written]:
-    """Rows of whole numbers one to a line."""
-    for piece in pieces:
-        yield Written(len(piece), piece.text())
-        let_others_run()
-
-
-def _texts(pieces: Iterable[Sequence[Any]], columns: Sequence[str], shape: Shape, are_fine: Callable[[Sequence[Any]], bool]) -> Iterator[Written]:
-    begin = 1
-    for rows in pieces:
-        text = _at_once(rows, columns, shape, are_fine)
-        yield Written(len(rows), text or shape([line(row, columns, f"row {number}, ") for number, row in enumerate(rows, begin)]).encode())
-        begin += len(rows)
-        let_others_run()
-
-
-@lru_cache(maxsize=16)
-def template(count: int, width: int, shape: Shape) -> str:
-    """So many rows with a sign for each number."""
-    return shape([",".join(["%d"] * width)] * count)
-
-
-def line(row: Any, columns: Sequence[str], where: str = "") -> str:
-    """The values of a row as the program reads them."""
+def checked(row: Any, columns: Sequence[str], where: str) -> List[int]:
+    """The values of a row, if they are whole numbers that a table has."""
     if isinstance(row, (str, bytes, Mapping, Set)) or not isinstance(row, Iterable):
         raise TypeError(f"{where}{row!r} is of type {type(row).__name__}: not a list of the values of {', '.join(columns)}")
     cells = tuple(row)
     if len(cells) != len(columns):
         raise ValueError(f"{where}{len(cells)} values: not {len(columns)}, those of {', '.join(columns)}")
-    return ",".join(str(whole(cell, f"{where}column {name}", LEAST, MOST)) for name, cell in zip(columns, cells))
-
-
-def _at_once(rows: Sequence[Any], columns: Sequence[str], shape: Shape, are_fine: Callable[[Sequence[Any]], bool]) -> Optional[bytes]:
-    """Rows that are lists or tuples of Python's own whole numbers, without a look at each; None where they are not, or where something is wrong."""
-    if not {list, tuple}.issuperset(map(type, rows)) or set(map(len, rows)) != {len(columns)}:
-        return None
-    cells = tuple(chain.from_iterable(rows))
-    # Python writes numbers into a text in half the time that it takes to write them into bytes.
-    return (template(len(rows), len(columns), shape) % cells).encode() if are_fine(cells) else None
-
-
-def _are_whole(cells: Sequence[Any]) -> bool:
-    return set(map(type, cells)) == {int}
-
-
-def _are_in_range(cells: Sequence[Any]) -> bool:
-    return _are_whole(cells) and min(cells) >= LEAST and max(cells) <= MOST
+    return [whole(cell, f"{where}column {name}", LEAST, MOST) for name, cell in zip(columns, cells)]

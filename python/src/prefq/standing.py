@@ -1,13 +1,13 @@
-"""Rows of a file that go to the program as they stand: lines of nothing but plain whole numbers, and empty cells for what is missing.
+"""Rows of a file that go to the library as they stand: lines of nothing but plain whole numbers, and empty cells for what is missing.
 
 No cell of such lines is looked at by itself; what that saves is in docs/PERFORMANCE.md.
 """
 import re
-from typing import Iterable, Iterator, List, NamedTuple, Optional, Sequence, Tuple
+from typing import Iterable, List, NamedTuple, Optional, Sequence, Tuple
 
 from .checks import LEAST
 from .reading import Chunk
-from .rows import WholeRows
+from .rows import TextRows
 
 # A number has 18 digits at most, so that each fits, and one spelling. (An empty cell takes another pattern, since most files have none.)
 NUMBER = r"-?[1-9][0-9]{0,17}|0"
@@ -40,7 +40,7 @@ def filled(text: str) -> str:
     return between.replace("\n,", f"\n{GAP},").replace(",\n", f",{GAP}\n")[1:]
 
 
-class Standing(WholeRows):
+class Standing(TextRows):
     """The rows of chunks as they stand."""
 
     def __init__(self, chunks: Sequence[Lines]) -> None:
@@ -61,9 +61,6 @@ class Standing(WholeRows):
 
     def __len__(self) -> int:
         return sum(chunk.rows for chunk in self._chunks)
-
-    def pieces(self) -> "Iterator[Standing]":
-        return (Standing([chunk]) for chunk in self._chunks)
 
     def text(self) -> bytes:
         return "".join(chunk.text for chunk in self._chunks).encode()

@@ -1,5 +1,5 @@
 """Which rows dominate a row: pairs of rows as groups of one question."""
-from typing import Any, Dict, Iterable, List, Mapping, Optional, Sequence, Set, Tuple
+from typing import Dict, Iterable, List, Mapping, Optional, Sequence, Set, Tuple
 
 from .checks import MOST_COLUMNS, MOST_ROWS
 from .once import ask_once
@@ -16,10 +16,9 @@ Values = Tuple[int, ...]
 class Rivals:
     """The rows of a table that may dominate one of them, the target, in a question: those of its group."""
 
-    def __init__(self, text: str, question: Question, names: Dict[int, str], rows: Mapping[int, Sequence[int]], target: int, options: Dict[str, Any]) -> None:
+    def __init__(self, text: str, question: Question, names: Dict[int, str], rows: Mapping[int, Sequence[int]], target: int) -> None:
         self._plan = plan(text, question, names, pair=PAIR)
         self._columns = [names[id(column)] for column in terms_columns(question.term)]
-        self._options = options
         self._target = target
         group = places(self._plan.by)
         twins = None if self._plan.twins is None else places(self._plan.twins)
@@ -37,10 +36,14 @@ class Rivals:
 
         What dominates a row that dominates the target is among them too, so their levels are those that they have among all rows.
         """
-        over = self._over(self._values[self._target], {*self._values.values()} - {self._values[self._target]})
-        found = sorted({*(id for id, values in self._values.items() if values in over), *self._twins})
+        found = self.ids()
         levels = self._levels(found)
         return sorted(((id, levels.get(id)) for id in found), key=lambda pair: (pair[1] or LEVELS + 1, pair[0]))
+
+    def ids(self) -> List[int]:
+        """The ids of the rows that dominate the target, in order."""
+        over = self._over(self._values[self._target], {*self._values.values()} - {self._values[self._target]})
+        return sorted({*(id for id, values in self._values.items() if values in over), *self._twins})
 
     def _over(self, target: Values, others: Iterable[Values]) -> Set[Values]:
         """Those of the values that dominate those of the target. Each of them and the target are a group of their own, of which the target is not among
@@ -52,7 +55,7 @@ class Rivals:
         for begin in range(0, len(candidates), MOST_ROWS // 2):
             some = candidates[begin:begin + MOST_ROWS // 2]
             rows = [(*values, pair) for pair, other in enumerate(some) for values in (target, other)]
-            best = {row.id for row in ask_once([*self._columns, PAIR], Zipped(list(zip(*rows))), self._plan.text, **self._options)}
+            best = {row.id for row in ask_once([*self._columns, PAIR], Zipped(list(zip(*rows))), self._plan.text)}
             over.update(other for pair, other in enumerate(some) if 2 * pair + 1 not in best)
         return over
 
@@ -60,7 +63,7 @@ class Rivals:
         """The same in a table of two rows, where no column is left for the number of a pair."""
         question = self._plan.text[:-len(f" by {PAIR}")]
         over = set()
-        with Table(self._columns, [target, target], capacity=2, clients=1, **self._options) as table:
+        with Table(self._columns, [target, target], capacity=2, clients=1) as table:
             for other in candidates:
                 table.update(2, other)
                 if table.best(question)[0].id == 2:
@@ -72,7 +75,7 @@ class Rivals:
         if not ids:
             return {}
         question = f"top_level {LEVELS} " + self._plan.text[len("best "):-len(f" by {PAIR}")]
-        return {ids[row.id - 1]: row.level for row in ask_once(self._columns, Zipped(list(zip(*(self._values[id] for id in ids)))), question, **self._options)}
+        return {ids[row.id - 1]: row.level for row in ask_once(self._columns, Zipped(list(zip(*(self._values[id] for id in ids)))), question)}
 
 
 def places(names: Iterable[str]) -> List[int]:

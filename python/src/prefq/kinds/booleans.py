@@ -12,6 +12,7 @@ class Booleans(Kind):
     name = "bool"
     example = "true"
     measured = False
+    takes_words = True
 
     def __init__(self, true: Optional[str] = None, false: Optional[str] = None) -> None:
         self._own = None if true is None or false is None else (true.strip(), false.strip())

@@ -14,6 +14,8 @@ class Kind:
     example = ""
     ordered = True
     measured = True
+    # Whether a question may have a value of it as a word without quotes.
+    takes_words = False
 
     def __repr__(self) -> str:
         """The kind as `kind_named` reads it."""

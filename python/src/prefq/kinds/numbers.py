@@ -66,6 +66,8 @@ class Whole(Number):
     def encode(self, value: Any) -> int:
         if isinstance(value, str):
             return self.read(value)
+        if type(value) is int and LEAST < value * self.scale <= MOST:
+            return value * self.scale       # exact arithmetic takes several times as long
         return self._scaled(exact(value), value)
 
     def _scaled(self, exactly: Fraction, value: Any) -> int:

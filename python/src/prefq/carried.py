@@ -1,0 +1,109 @@
+"""Whole rows as they came from a source: they go with the columns that are asked, and are understood once they are in an answer."""
+from itertools import chain, groupby
+from typing import Any, Iterable, List, Sequence, Tuple, Type
+
+from .loading import CellRefused, Encoded, column_of_texts, column_of_values
+from .missing import Missing
+from .partition import Reading
+from .widening import Segment, as_in_a_frame, joined
+
+
+class Rows:
+    """Some rows of one source, by the names of its columns."""
+
+    names: Tuple[Any, ...]
+
+    def __len__(self) -> int:
+        raise NotImplementedError
+
+    def at(self, places: Iterable[int]) -> "Rows":
+        """The rows with these numbers, counted from 0."""
+        raise NotImplementedError
+
+    @staticmethod
+    def column(some: Sequence[Any], name: str, reading: Reading) -> Encoded:
+        """A column of several such rows, and its numbers."""
+        raise NotImplementedError
+
+
+class Listed(Rows):
+    """Rows that are lists of what stands in their columns."""
+
+    def __init__(self, names: Sequence[str], rows: Sequence[Sequence[Any]]) -> None:
+        self.names, self.rows = tuple(names), list(rows)
+
+    def __eq__(self, other: Any) -> bool:
+        return type(self) is type(other) and (self.names, self.rows) == (other.names, other.rows)
+
+    def __len__(self) -> int:
+        return len(self.rows)
+
+    def at(self, places: Iterable[int]) -> "Listed":
+        return type(self)(self.names, [self.rows[place] for place in places])
+
+    def values(self, name: str) -> List[Any]:
+        """What stands in a column."""
+        place = self.names.index(name)
+        return [row[place] for row in self.rows]
+
+
+class CellRows(Listed):
+    """Rows of a file, as the texts of their cells."""
+
+    @staticmethod
+    def column(some: Sequence["CellRows"], name: str, reading: Reading) -> Encoded:
+        texts = list(chain.from_iterable(rows.values(name) for rows in some))
+        try:
+            return column_of_texts(name, texts, reading.kinds.get(name), Missing(reading.missing), reading.form)
+        except CellRefused as why:
+            raise type(why.why)(str(why)) from None
+
+
+class ValueRows(Listed):
+    """Rows of Python's values."""
+
+    @staticmethod
+    def column(some: Sequence["ValueRows"], name: str, reading: Reading) -> Encoded:
+        return column_of_values(name, list(chain.from_iterable(rows.values(name) for rows in some)), reading.kinds)
+
+
+class FrameRows(Rows):
+    """Rows of a DataFrame of pandas."""
+
+    def __init__(self, frame: Any) -> None:
+        self.frame = frame
+        self.names = tuple(frame.columns)
+
+    def __eq__(self, other: Any) -> bool:
+        return isinstance(other, FrameRows) and bool(self.frame.equals(other.frame))
+
+    def __len__(self) -> int:
+        return len(self.frame)
+
+    def at(self, places: Iterable[int]) -> "FrameRows":
+        return FrameRows(self.frame.iloc[list(places)])
+
+    @staticmethod
+    def column(some: Sequence["FrameRows"], name: str, reading: Reading) -> Encoded:
+        import pandas
+        from .pandas_frames import encoded_series
+        series = [rows.frame[name] for rows in some if len(rows)] or [some[0].frame[name]]
+        return encoded_series(pandas.concat(series, ignore_index=True), name, reading.kinds)
+
+
+def column_of(rows: Sequence[Rows], name: str, reading: Reading) -> Segment:
+    """A column of rows of several sources, in their order: of each kind of source it is read at once, and these are brought together."""
+    runs = [list(run) for _, run in groupby(rows, type)]
+    return as_in_a_frame(joined([_segment(type(run[0]), run, name, reading) for run in runs]))
+
+
+def _segment(source: Type[Rows], run: Sequence[Rows], name: str, reading: Reading) -> Segment:
+    what = "the files" if source is CellRows else "the rows in memory" if source is ValueRows else "the DataFrames"
+    has_words = source is CellRows and reading.missing is None
+    return Segment.of(*source.column(run, name, reading), what, is_given=name in reading.kinds, has_words=has_words)
+
+
+def frame_of(rows: Sequence[Any]) -> Any:
+    """One DataFrame of rows of several."""
+    import pandas
+    return pandas.concat([some.frame for some in rows if len(some)] or [rows[0].frame])

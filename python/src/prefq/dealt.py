@@ -1,0 +1,313 @@
+"""Rows under keys of their own, dealt to as many tables as they need, and questions that see all of these tables at one moment.
+
+Whoever changes the rows or begins a question holds one lock meanwhile (that of `Followed`), so a question begins on all tables between two changes. What the
+tables answer is merged as parts are: the levels 1 to n of all rows are those of the rows that have the levels 1 to n in their tables (`prefq.parts` says why).
+"""
+import os
+from collections import deque
+from concurrent.futures import ThreadPoolExecutor
+from contextlib import ExitStack
+from dataclasses import replace
+from typing import Any, Deque, Dict, Iterator, List, Mapping, NamedTuple, Optional, Sequence, Tuple, Union
+
+from .checks import MOST_ROWS
+from .columns import Column
+from .errors import Refused
+from .loading import check_width
+from .once import ask_once
+from .opened import is_outgrown, size_of_code_books, texts_last
+from .query import Query
+from .questions import Question
+from .reading import check_names
+from .rows import Zipped
+from .table import IN_COMMIT, Table
+from .translate import clause_of, plan
+
+Key = Union[int, str]
+Numbers = Sequence[int]
+FULL = ("client", 8)
+# How much of a table rows may fill, which leaves room for their next versions.
+FILLED = 7 / 8
+
+
+class Found(NamedTuple):
+    """A row of an answer."""
+
+    level: int
+    key: Key
+    numbers: Numbers
+
+
+class Shard:
+    """One of the tables, and the keys of its rows by their ids there. A key stays for a while after its row has gone, for questions that began before."""
+
+    def __init__(self, columns: Sequence[str], keys: Sequence[Key], rows: Zipped, options: Mapping[str, Any]) -> None:
+        self.table = Table(columns, rows, **options)
+        self.keys: Dict[int, Key] = dict(enumerate(keys, 1))
+
+    def room(self) -> int:
+        """How many rows may still be added."""
+        return min(self.table.room(), int(self.table.capacity * FILLED) - self.table.count)
+
+    def insert(self, keys: Sequence[Key], rows: Sequence[Numbers]) -> Sequence[int]:
+        """Adds rows, and returns their ids."""
+        inside = self.table.insert_many(rows)
+        self.keys.update(zip(inside, keys))
+        return inside
+
+    def change(self, changes: Sequence[Tuple[Any, ...]]) -> List[int]:
+        """Updates and deletes rows. Returns the ids of those that had to be deleted in place of an update, since the table has no room for their new versions."""
+        moved: List[int] = []
+        for begin in range(0, len(changes), IN_COMMIT):
+            some = changes[begin:begin + IN_COMMIT]
+            try:
+                self.table.commit(*some)
+            except Refused as why:
+                if (why.kind, why.number) != FULL:
+                    raise
+                moved += self._change_one_by_one(some)
+        return moved
+
+    def _change_one_by_one(self, changes: Sequence[Tuple[Any, ...]]) -> List[int]:
+        moved = []
+        for change in changes:
+            try:
+                self.table.commit(change)
+            except Refused as why:
+                if (why.kind, why.number) != FULL:
+                    raise
+                self.table.delete(change[1])
+                moved.append(change[1])
+        return moved
+
+
+class Dealt:
+    """The rows in their tables, with the columns that their numbers stand for. Whoever has a question of them keeps them, when a frame has others already."""
+
+    def __init__(self, columns: Sequence[Column], keys: Sequence[Key], rows: Zipped, options: Mapping[str, Any]) -> None:
+        check_names(column.name for column in columns)
+        check_width(columns)
+        self.columns = tuple(columns)
+        self.by_name = {column.name: column for column in columns}
+        self.below = {id(column): f"c{place}" for place, column in enumerate(columns)}
+        self.order = texts_last(columns)
+        self._options = dict(options)
+        self._code_books = size_of_code_books(self.columns)
+        self._shards: List[Shard] = []
+        self._places: Dict[Key, Tuple[Shard, int]] = {}
+        # Questions that are under way, each with the number of changes before its begin; and rows that have gone, with the number of changes before that.
+        self._asking: Dict[object, int] = {}
+        self._gone: Deque[Tuple[int, Shard, int]] = deque()
+        self._changes = 0
+        try:
+            self._open(keys, rows)
+        except BaseException:
+            self.close()
+            raise
+
+    def __len__(self) -> int:
+        return len(self._places)
+
+    def close(self) -> None:
+        """Ends the tables."""
+        for shard in self._shards:
+            shard.table.close()
+
+    @property
+    def tables(self) -> List[Table]:
+        """The tables that have the rows now."""
+        return [shard.table for shard in self._shards]
+
+    @property
+    def names(self) -> List[str]:
+        """The names of the columns."""
+        return list(self.by_name)
+
+    def is_outgrown(self) -> bool:
+        """Whether the code books may be mostly texts that no row has any more."""
+        return is_outgrown(self.columns, self._code_books, len(self))
+
+    def has(self, key: Key) -> bool:
+        """Whether there is a row with this key."""
+        return key in self._places
+
+    def get(self, key: Key) -> Optional[Numbers]:
+        """The numbers of a row, None where there is none."""
+        if key not in self._places:
+            return None
+        shard, inside = self._places[key]
+        return shard.table.get(inside)
+
+    def change(self, rows: Mapping[Key, Optional[Numbers]]) -> None:
+        """Gives the rows with these keys these numbers, adds those that are not there, and deletes those that have none."""
+        self._changes += 1
+        self._forget()
+        changes: Dict[Shard, List[Tuple[Any, ...]]] = {}
+        for key in filter(self.has, rows):
+            shard, inside = self._places[key]
+            numbers = rows[key]
+            changes.setdefault(shard, []).append(("delete", inside) if numbers is None else ("update", inside, numbers))
+            if numbers is None:
+                self._has_gone(key)
+        for shard, some in changes.items():
+            for inside in shard.change(some):
+                self._has_gone(shard.keys[inside])
+        self._insert({key: numbers for key, numbers in rows.items() if numbers is not None and not self.has(key)})
+
+    def clear(self) -> None:
+        """Deletes all rows."""
+        self.change(dict.fromkeys(self._places))
+
+    def begin(self, text: str, question: Question) -> "Asked":
+        """Begins a question on all tables. No row may change meanwhile."""
+        return Asked(self, text, question)
+
+    def begin_all(self) -> "Begun":
+        """Begins a question on all tables whose answer has all rows. No row may change meanwhile."""
+        return Begun(self, self._shards[0].table.all_rows)
+
+    def began(self, begun: "Begun") -> List[Shard]:
+        """The tables that a question begins on; what they have is kept for it."""
+        self._asking[begun] = self._changes
+        return list(self._shards)
+
+    def ended(self, begun: "Begun") -> None:
+        """A question has its answer, or has none."""
+        self._asking.pop(begun, None)
+
+    def _open(self, keys: Sequence[Key], rows: Zipped) -> None:
+        """Opens as many tables as these rows need, of which each has the same number, and one where there is none."""
+        most = max(1, int(self._options.get("capacity", MOST_ROWS) * FILLED))
+        count = max(1, -(-len(keys) // most))
+        ends = [len(keys) * number // count for number in range(count + 1)]
+        for begin, end in zip(ends, ends[1:]):
+            self._add(keys[begin:end], rows[begin:end])
+
+    def _add(self, keys: Sequence[Key], rows: Zipped) -> None:
+        capacity = min(MOST_ROWS, max(1024, 2 * len(keys), 2 * len(self)))
+        shard = Shard(list(self.below.values()), keys, rows, {"capacity": capacity, **self._options})
+        self._shards.append(shard)
+        self._places.update((key, (shard, inside)) for inside, key in shard.keys.items())
+
+    def _insert(self, rows: Mapping[Key, Numbers]) -> None:
+        """Adds rows where there is room, and opens further tables for the rest."""
+        keys = list(rows)
+        for shard in self._shards:
+            some = keys[:max(0, shard.room())] if keys else []
+            if some:
+                inside = shard.insert(some, [rows[key] for key in some])
+                self._places.update(zip(some, ((shard, number) for number in inside)))
+                keys = keys[len(some):]
+        if keys:
+            self._open(keys, Zipped(list(zip(*(rows[key] for key in keys)))))
+
+    def _has_gone(self, key: Key) -> None:
+        shard, inside = self._places.pop(key)
+        self._gone.append((self._changes, shard, inside))
+
+    def _forget(self) -> None:
+        """Forgets the keys of rows that had gone before each question that is under way began."""
+        first = min(list(self._asking.values()), default=self._changes)
+        while self._gone and self._gone[0][0] <= first:
+            _, shard, inside = self._gone.popleft()
+            del shard.keys[inside]
+
+
+class Begun:
+    """A question that has begun on all tables at one moment."""
+
+    def __init__(self, dealt: Dealt, text: str) -> None:
+        self._dealt = dealt
+        self._queries: List[Tuple[Shard, Query]] = []
+        try:
+            for shard in dealt.began(self):
+                self._queries.append((shard, shard.table.query(text)))
+        except BaseException:
+            self._end()
+            raise
+
+    def answers(self) -> List[List[Found]]:
+        """What each table answers; the question has ended then."""
+        try:
+            if len(self._queries) == 1:
+                return [self._answer(*self._queries[0])]
+            with ThreadPoolExecutor(min(len(self._queries), os.cpu_count() or 1)) as pool:
+                return list(pool.map(self._answer, *zip(*self._queries)))
+        finally:
+            self._end()
+
+    def pairs(self) -> Dict[Key, Numbers]:
+        """The rows that the tables answer by their keys, in the order of these."""
+        return dict(sorted(((row.key, row.numbers) for rows in self.answers() for row in rows), key=lambda pair: ordered(pair[0])))
+
+    @staticmethod
+    def _answer(shard: Shard, query: Query) -> List[Found]:
+        return [Found(row.level, shard.keys[row.id], row.values) for row in query.answer()]
+
+    def _end(self) -> None:
+        """Abandons what has no answer."""
+        with ExitStack() as left:
+            left.callback(self._dealt.ended, self)
+            for _, query in self._queries:
+                left.callback(query.abandon)
+
+
+class Asked:
+    """A question in the names and values of the columns that has begun. Of rows that are equal in the columns of a distinct clause, the one with the smallest key
+    is in the answer: a table would take the one that came first."""
+
+    def __init__(self, dealt: Dealt, text: str, question: Question) -> None:
+        self.columns = dealt.columns
+        self._twins = [dealt.columns.index(column) for column in [*(base.column for base in clause_of(question.term)), *question.by]] if question.distinct else None
+        plain = replace(question, distinct=False)
+        self.plan = plan(text, plain, dealt.below)
+        self._names = list(dealt.below.values())
+        # Each level has a row, so the first k levels hold what `at_least k` wants of all rows.
+        of_parts = replace(plain, mode="top_level") if question.mode == "at_least" and len(dealt.tables) > 1 else plain
+        self._text_of_parts = plan(text, of_parts, dealt.below).text
+        try:
+            self._begun = Begun(dealt, self._text_of_parts)
+        except Refused as why:
+            raise self.plan.refusal(why) from None
+
+    def answer(self) -> List[Found]:
+        """The answer, by level and then by key."""
+        parts = self._begun.answers()
+        rows = parts[0] if len(parts) == 1 else self._merged([row for part in parts for row in part])
+        rows.sort(key=lambda row: (row.level, ordered(row.key)))
+        return rows if self._twins is None else list(_first_of_twins(rows, self._twins))
+
+    def _merged(self, rows: List[Found]) -> List[Found]:
+        """The answer over the rows that the tables' answers have together. Refused where more of them are left than one table holds."""
+        while len(rows) > MOST_ROWS:
+            pieces = [rows[begin:begin + MOST_ROWS] for begin in range(0, len(rows), MOST_ROWS)]
+            fewer = [row for piece in pieces for row in self._asked_of(piece, self._text_of_parts)]
+            if len(fewer) == len(rows):
+                raise Refused(f"{len(rows)} rows are left after each table was asked, and one table holds {MOST_ROWS}: too few rows dominate others. Put what matters "
+                              "most before an &, leave out columns or groups, or ask for fewer levels", "parts")
+            rows = fewer
+        return self._asked_of(rows, self.plan.text)
+
+    def _asked_of(self, rows: List[Found], text: str) -> List[Found]:
+        """The answer over these rows, as many as one table holds."""
+        if not rows:
+            return []
+        try:
+            found = ask_once(self._names, Zipped(list(zip(*(row.numbers for row in rows)))), text)
+        except Refused as why:
+            raise self.plan.refusal(why) from None
+        return [rows[row.id - 1]._replace(level=row.level) for row in found]
+
+
+def _first_of_twins(rows: Sequence[Found], places: Sequence[int]) -> Iterator[Found]:
+    seen = set()
+    for row in rows:
+        values = tuple(row.numbers[place] for place in places)
+        if values not in seen:
+            seen.add(values)
+            yield row
+
+
+def ordered(key: Key) -> Tuple[bool, Key]:
+    """What keys are sorted by: numbers come before texts."""
+    return isinstance(key, str), key

@@ -1,0 +1,309 @@
+"""A table of the library in this process: the calls of prefq.h over Python's numbers and texts.
+
+A call of C is made whole: what interrupts Python comes before it or after it. What Python itself keeps of a table is the number of its rows and who has which
+client; both are right whatever comes between two steps.
+"""
+import ctypes
+import os
+import threading
+from ctypes import byref, c_size_t, c_uint32, c_uint64, c_void_p
+from typing import Any, Callable, Dict, List, Optional, Sequence, Tuple, TypeVar
+from weakref import ref
+
+from .errors import Ended, Error, Refused
+from .library import Change, Refusal, Setup, calls
+
+Result = TypeVar("Result")
+OK, REFUSED, OUT_OF_MEMORY = 0, -1, -2
+KINDS = ("", "client", "table", "term", "commit", "opening", "arguments", "")
+VERBS = {"insert": 1, "update": 2, "delete": 3}
+BYTES = 8                   # of a number
+CLOSED = ("the table was closed", "closed")
+OUT_OF_MEMORY_SAID = ("the table was refused memory: open it again", "memory")
+
+
+# How many forks led to this process, which is told at once by this number.
+_forks = 0
+
+
+def _count_fork() -> None:
+    global _forks
+    _forks += 1
+
+
+os.register_at_fork(after_in_child=_count_fork)
+
+
+class Holder(ref):  # type: ignore[type-arg]
+    """Who has an open query: the client, the thread, and a weak reference to the query. `is_wanted` until the query is abandoned, `is_used` within its calls."""
+
+    __slots__ = ("client", "thread", "is_wanted", "is_used")
+    client: int
+    thread: int
+    is_wanted: bool
+    is_used: bool
+
+    def __new__(cls, query: Any, client: int) -> "Holder":
+        holder = super().__new__(cls, query)
+        holder.client, holder.thread, holder.is_wanted, holder.is_used = client, threading.get_ident(), True, False
+        return holder
+
+    def __init__(self, query: Any, client: int) -> None:
+        super().__init__(query)  # type: ignore[call-arg]
+
+    @property
+    def is_dropped(self) -> bool:
+        """Whether nobody uses the query any more."""
+        return self() is None or not self.is_wanted and not self.is_used
+
+
+class Engine:
+    """A table of the library, which belongs to the Python process that opened it.
+
+    `lock` is held where what Python keeps changes with the table, and by queries; a signal handler or a finalizer of the same thread may take it once more.
+    """
+
+    _pointer: Optional[c_void_p] = None
+
+    def __init__(self, columns: Sequence[str]) -> None:
+        """Use `opened` or `opened_text`."""
+        self._pointer = c_void_p()
+        self._calls = calls()
+        self._owner, self._forks = os.getpid(), _forks
+        self._ended: Optional[Tuple[str, str]] = None
+        self.width = len(columns)
+        self._row = ctypes.c_int64 * self.width
+        self._rows: Optional[int] = 0           # None where it has to be counted
+        self.lock = threading.RLock()
+        self.queries: Dict[int, Holder] = {}
+
+    def __del__(self) -> None:
+        # Here alone its memory is given back: whoever is in the middle of a call still has the engine. Other finalizers of the same garbage may still use it.
+        pointer, self._pointer = self._pointer, c_void_p()
+        if not pointer or not self.is_ours():       # a fork may have copied it in the middle of a call
+            return
+        self._ended = self._ended or CLOSED
+        self._calls.prefq_close(pointer)
+
+    @staticmethod
+    def opened(columns: Sequence[str], values: bytes, rows: int, setup: Setup) -> "Engine":
+        """The table of these rows, which are one after the other."""
+        engine, header = Engine(columns), ",".join(columns).encode()
+        engine._open(engine._calls.prefq_open, rows, header, len(header), values, rows, len(columns), byref(setup))
+        return engine
+
+    @staticmethod
+    def opened_text(columns: Sequence[str], text: bytes, rows: int, setup: Setup) -> "Engine":
+        """The table of rows one to a line."""
+        engine, whole = Engine(columns), f"{','.join(columns)}\n".encode() + text
+        engine._open(engine._calls.prefq_open_text, rows, whole, len(whole), byref(setup))
+        return engine
+
+    def _open(self, call: Any, rows: int, *words: Any) -> None:
+        result = call(*words, byref(self._pointer))
+        self._rows = rows
+        if result:
+            raise self._wrong(result)
+
+    # ---- the end ----
+
+    def is_ours(self) -> bool:
+        """Whether this is the process that opened the table."""
+        return self._forks == _forks
+
+    def ours(self) -> None:
+        """Raises `Ended` in another process than the owner: without the lock, which a fork may have copied while it was held."""
+        if not self.is_ours():
+            raise Ended(f"this table belongs to process {self._owner}: open another one in each process", "process")
+
+    def check(self) -> None:
+        """Raises `Ended` where the table has ended."""
+        self.ours()
+        if self._ended is not None:
+            raise Ended(*self._ended)
+
+    def end(self) -> None:
+        """Ends the table, and gives back its rows; the call that another thread makes is waited for, and its later ones raise `Ended`."""
+        if self.is_ours():
+            self._ended = self._ended or CLOSED
+            self._calls.prefq_end(self._pointer)
+
+    def _wrong(self, result: int, question: Optional[str] = None) -> Error:
+        """Why the last call of this thread has done nothing."""
+        if result == REFUSED and self._ended is None:
+            why: Refusal = self._calls.prefq_last_refusal()[0]
+            kind = KINDS[why.kind]
+            return Refused(why.text.decode(errors="replace"), kind, why.number or None, None if why.place < 0 else why.place, question if kind == "term" else None)
+        if result == OUT_OF_MEMORY:
+            # What it has done is not known.
+            self._ended = self._ended or OUT_OF_MEMORY_SAID
+            self._calls.prefq_end(self._pointer)
+        self.check()
+        return Ended(self._calls.prefq_last_refusal()[0].text.decode(errors="replace"), "closed")
+
+    # ---- rows ----
+
+    def insert(self, values: bytes) -> int:
+        """Adds a row, and returns its id."""
+        id = c_uint64()
+        self._change(1, self._calls.prefq_insert, values, self.width, byref(id))
+        return id.value
+
+    def insert_many(self, values: bytes, rows: int) -> int:
+        """Adds rows, and returns the id of the first."""
+        first = c_uint64()
+        self._change(rows, self._calls.prefq_insert_many, values, rows, self.width, byref(first))
+        return first.value
+
+    def update(self, id: int, values: bytes) -> None:
+        """Gives a row these values."""
+        if self.queries:
+            self.settle()
+        result = self._calls.prefq_update(self._pointer, id, values, self.width)
+        if result:
+            raise self._wrong(result)
+
+    def delete(self, id: int) -> None:
+        """Deletes a row."""
+        self._change(-1, self._calls.prefq_delete, id)
+
+    def commit(self, changes: Sequence[Tuple[str, int, Optional[bytes]]]) -> int:
+        """Makes changes at one moment, and returns the id of the first new row, or 0. Each is a verb, an id and values."""
+        made, first = (Change * len(changes))(), c_uint64()
+        kept = [ctypes.c_char_p(values) for _, _, values in changes]
+        for place, (verb, id, _) in enumerate(changes):
+            made[place] = Change(VERBS[verb], id, ctypes.cast(kept[place], c_void_p))
+        more = sum({"insert": 1, "delete": -1}.get(verb, 0) for verb, _, _ in changes)
+        self._change(more, self._calls.prefq_commit, made, len(changes), self.width, byref(first))
+        return first.value
+
+    def get(self, id: int) -> List[int]:
+        """The values of a row."""
+        values = self._row()
+        result = self._calls.prefq_get(self._pointer, id, values, self.width)
+        if result:
+            raise self._wrong(result)
+        return values[:]
+
+    def room(self) -> int:
+        """How many more versions there is room for, after what is no longer read is given up."""
+        room = c_uint32()
+        if self.queries:
+            self.settle()
+        result = self._calls.prefq_room(self._pointer, byref(room))
+        if result:
+            raise self._wrong(result)
+        return room.value
+
+    @property
+    def rows(self) -> Optional[int]:
+        """The number of rows, None where an interruption came between a change and its count."""
+        return self._rows
+
+    def count(self, rows: int) -> None:
+        """They were counted."""
+        self._rows = rows
+
+    def _change(self, more: int, call: Any, *words: Any) -> None:
+        """A call behind which there are so many rows more."""
+        if self._forks != _forks:
+            self.ours()
+        with self.lock:
+            if self.queries:
+                self.settle()
+            try:
+                result = call(self._pointer, *words)
+                if result == OK and self._rows is not None:
+                    self._rows += more
+            except BaseException:
+                self._rows = None
+                raise
+        if result:
+            raise self._wrong(result)
+
+    # ---- queries; each is of a client ----
+
+    def settle(self) -> None:
+        """Abandons the queries that nobody uses any more."""
+        self.ours()
+        with self.lock:
+            for holder in list(self.queries.values()):
+                if holder.is_dropped:
+                    # One that has ended before is refused, which does no harm.
+                    self._calls.prefq_abandon(self._pointer, holder.client)
+                    self.give_back(holder)
+
+    def give_back(self, holder: Holder) -> None:
+        """Its query has ended."""
+        if self.queries.get(holder.client) is holder:
+            del self.queries[holder.client]
+
+    def is_open(self, holder: Holder) -> bool:
+        """Whether a query may be used: nobody has abandoned it, and its client has no other one. The collector says that a query is gone before it runs the
+        finalizers that may still use it."""
+        return holder.is_wanted and holder() is not None and self.queries.get(holder.client) is holder
+
+    def begin(self, holder: Holder, question: str, left: c_uint32) -> None:
+        """Begins a query, of which so many blocks are left then."""
+        self._call_as(holder, self._begin, question, left)
+
+    def scan(self, holder: Holder, blocks: int, left: c_uint32) -> None:
+        """Scans some blocks. How many are left is told by the call itself, so that no interruption can come in between."""
+        self._call_as(holder, self._scan, blocks, left)
+
+    def finish(self, holder: Holder) -> bytes:
+        """The rows of the answer one after the other: each is its level, its id and its values. The query has ended then."""
+        return self._call_as(holder, self._finish)
+
+    def _call_as(self, holder: Holder, call: Callable[..., Result], *words: Any) -> Result:
+        """A call of a query, which has its client as long as that takes."""
+        if self._forks != _forks:
+            self.ours()
+        with self.lock:
+            if not self.is_open(holder):
+                self.check()
+                raise Refused("this query has ended", "client", 4)
+            if holder.is_used:
+                raise Refused("a call of this query is under way in this thread", "client", 3)
+            try:
+                holder.is_used = True
+                return call(holder, *words)
+            finally:
+                holder.is_used = False
+
+    def ask(self, holder: Holder, question: str) -> bytes:
+        """The answer to a question, as `finish` has it, by one call: only where that cannot take long."""
+        return self._call_as(holder, self._ask, question)
+
+    def _ask(self, holder: Holder, question: str) -> bytes:
+        text, numbers, count = question.encode(), c_void_p(), c_size_t()
+        result = self._calls.prefq_ask(self._pointer, holder.client, text, len(text), byref(numbers), byref(count))
+        if result:
+            self.give_back(holder)
+            raise self._wrong(result, question)
+        return self._answer(holder, numbers, count)
+
+    def _begin(self, holder: Holder, question: str, left: c_uint32) -> None:
+        text = question.encode()
+        result = self._calls.prefq_begin(self._pointer, holder.client, text, len(text), byref(left))
+        if result:
+            self.give_back(holder)
+            raise self._wrong(result, question)
+
+    def _scan(self, holder: Holder, blocks: int, left: c_uint32) -> None:
+        result = self._calls.prefq_scan(self._pointer, holder.client, blocks, byref(left))
+        if result:
+            raise self._wrong(result)
+
+    def _finish(self, holder: Holder) -> bytes:
+        numbers, count = c_void_p(), c_size_t()
+        result = self._calls.prefq_finish(self._pointer, holder.client, byref(numbers), byref(count))
+        if result:
+            raise self._wrong(result)
+        return self._answer(holder, numbers, count)
+
+    def _answer(self, holder: Holder, numbers: c_void_p, count: c_size_t) -> bytes:
+        """A copy of an answer. Until it is made, the client gets no other query."""
+        found = ctypes.string_at(numbers, BYTES * count.value * (2 + self.width)) if count.value else b""
+        self.give_back(holder)
+        return found

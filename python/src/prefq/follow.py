@@ -1,0 +1,427 @@
+"""A frame that follows a table of a database: the database keeps the rows, and the frame answers questions about them.
+
+A source (`follow_sqlite`, `follow_postgres`) reads the table as of a place in the order of the database's commits, and then what has changed up to another
+place. The frame makes these changes at one moment, so that a question sees whole transactions, and all of those up to a place that is known.
+"""
+import os
+import threading
+import time
+from contextlib import contextmanager
+from typing import Any, Collection, Dict, Iterator, List, Mapping, NamedTuple, Optional, Sequence, Tuple
+
+from .answer import Answer
+from .checks import MOST, whole
+from .columns import Column
+from .dealt import Asked, Begun, Dealt, Found, Key, Numbers, ordered
+from .errors import Ended, Refused
+from .frame_query import warn_of
+from .kinds import Floats, Whole
+from .loading import check_known, column_of_values, decoded, encoded
+from .questions import Mode, read_question
+from .records import Record
+from .rows import Zipped
+from .translate import Plan, columns_in
+from .why import Rivals
+
+Cells = Sequence[Any]
+TRIES = 3           # how often a call reads the table anew where its own were refused memory
+PAUSE = 0.002       # seconds between two looks at a place that is waited for
+# Of which values a kind was taken; another one was taken of texts.
+TYPES: Dict[Any, Any] = {Whole: int, Floats: (int, float)}
+
+
+class Unchanged:
+    """What stands for a value that is what it was."""
+
+
+UNCHANGED = Unchanged()
+
+
+class Everything(NamedTuple):
+    """A table as of a place: the kinds that its columns have by themselves, where they have, and the values of its rows by their keys."""
+
+    place: int
+    kinds: Mapping[str, Column]
+    rows: Mapping[Key, Cells]
+
+
+class Changes(NamedTuple):
+    """What has changed up to a place: whether all rows were deleted at first; the values of rows that are new or others, and None for those that have gone; and
+    how many rows there are then, where the source cannot say for sure which ones have gone."""
+
+    place: int
+    is_cleared: bool
+    rows: Mapping[Key, Optional[Cells]]
+    total: Optional[int] = None
+
+
+class Snapshot(NamedTuple):
+    """All rows and the answer to a question at one moment; `version` counts how often the rows have changed."""
+
+    version: int
+    columns: Sequence[Column]
+    rows: Mapping[Key, Numbers]
+    best: Sequence[Found]
+    plan: Plan
+    asked: Sequence[Column]
+
+
+class Source:
+    """A table of a database. Its calls are made one after the other."""
+
+    name = ""
+    columns: Tuple[str, ...] = ()
+
+    def everything(self) -> Everything:
+        """The table as it is now. What cannot be followed is refused."""
+        raise NotImplementedError
+
+    def changes(self, since: int) -> Optional[Changes]:
+        """What has changed since this place; None where everything has to be read."""
+        raise NotImplementedError
+
+    def now(self) -> int:
+        """The place behind all that is committed."""
+        raise NotImplementedError
+
+    def place(self, given: Any) -> int:
+        """A place as it was given."""
+        return whole(given, "at_least", 0, MOST)
+
+    def close(self) -> None:
+        """Ends the connection."""
+        raise NotImplementedError
+
+
+class Followed:
+    """A frame that follows a table of a database, which `Frame.follow` makes. Any thread may call it.
+
+    The ids of its rows are the keys of the table. Each call first takes in what the database has committed by then, whole transactions in their order; `at` is
+    the place up to which it has, and `answer.at` that of an answer. It has no limit of 65,536 rows: they are dealt to as many tables as they need, which
+    questions see at one moment.
+
+    >>> import os, prefq, sqlite3, tempfile
+    >>> with tempfile.TemporaryDirectory() as folder:
+    ...     db = sqlite3.connect(os.path.join(folder, "hotels.db"), isolation_level=None)
+    ...     created = db.execute("create table hotels (id integer primary key, price int)")
+    ...     with prefq.Frame.follow(db, "hotels") as hotels:
+    ...         inserted = db.execute("insert into hotels values (7, 60), (8, 90)")
+    ...         hotels.best("best low(price)", at_least=hotels.now()).ids, hotels.at
+    ...     db.close()
+    ([7], 2)
+    """
+
+    def __init__(self, source: Source, kinds: Mapping[str, str], options: Mapping[str, Any]) -> None:
+        check_known(list(kinds), source.columns)
+        self.at = 0
+        self.version = 0        # how often the rows have changed
+        self._source, self._kinds, self._options = source, dict(kinds), dict(options)
+        self._owner = os.getpid()
+        self._lock = threading.RLock()
+        self._is_called = False         # by the thread that has the lock
+        self._is_closed = False
+        # Whether the rows are those of the table at that place. They are not while they change, nor where that was interrupted.
+        self._is_whole = False
+        self._dealt: Optional[Dealt] = None
+        try:
+            with self._alone():
+                self._read_everything()
+        except BaseException:
+            source.close()
+            raise
+
+    def __enter__(self) -> "Followed":
+        return self
+
+    def __exit__(self, *_: object) -> None:
+        self.close()
+
+    def __len__(self) -> int:
+        """The number of rows."""
+        count: int = self._surviving(len)
+        return count
+
+    def __bool__(self) -> bool:
+        return True
+
+    def __iter__(self) -> Iterator[Record]:
+        return iter(self.rows())
+
+    def __repr__(self) -> str:
+        return f"<prefq.Followed {self._source.name}: {'closed' if self._is_closed else f'{len(self._tables)} rows at {self.at}'}>"
+
+    def close(self) -> None:
+        """Ends the frame and its connection; the same again does nothing. What the database has for it there stays (docs/PYTHON.md)."""
+        if not self._is_ours():
+            return
+        with self._lock:
+            if not self._is_closed:
+                self._is_closed = True
+                if self._dealt is not None:
+                    self._dealt.close()
+                self._source.close()
+
+    @property
+    def columns(self) -> Tuple[Column, ...]:
+        """The columns, with their kinds as they are now."""
+        return self._tables.columns
+
+    @property
+    def names(self) -> List[str]:
+        """The names of the columns."""
+        return self._tables.names
+
+    @property
+    def tables(self) -> int:
+        """How many tables have the rows."""
+        return len(self._tables.tables)
+
+    def now(self) -> int:
+        """The place behind all that the database has committed: with `at_least=frame.now()` a question sees what was committed before."""
+        with self._alone():
+            return self._source.now()
+
+    def refresh(self) -> int:
+        """Takes in what the database has committed, and returns the place."""
+        place: int = self._surviving(lambda _: self.at)
+        return place
+
+    def get(self, id: Key) -> Record:
+        """The row with this key."""
+        def found(dealt: Dealt) -> Record:
+            numbers = dealt.get(id)
+            if numbers is None:
+                raise missing_row(id)
+            return _records(dealt.columns, [(None, id, numbers)])[0]
+
+        row: Record = self._surviving(found)
+        return row
+
+    def rows(self) -> List[Record]:
+        """All rows, in order of key: numbers, then texts."""
+        def begun(dealt: Dealt) -> Tuple[Sequence[Column], Begun]:
+            return dealt.columns, dealt.begin_all()
+
+        columns, pairs = self._answered(begun, lambda begun: (begun[0], begun[1].pairs()))
+        return _records(columns, [(None, key, numbers) for key, numbers in pairs.items()])
+
+    def best(self, question: str, *, at_least: Any = None, wait: float = 60.0) -> Answer:
+        """The answer to a question, as of the place that its `at` has.
+
+        With `at_least` it sees what was committed up to this place, and is not before it: a place that is there already is answered at once, without a look at
+        the database, and another one is waited for, so many seconds at most.
+        """
+        return self.answer(question, None, at_least=at_least, wait=wait)
+
+    def answer(self, question: str, mode: Optional[Mode], *, at_least: Any = None, wait: float = 60.0) -> Answer:
+        """The same of a question that has this mode, if it has none itself."""
+        place = None if at_least is None else self._source.place(at_least)
+        if place is not None:
+            self._wait(place, wait)
+
+        def begun(dealt: Dealt) -> Tuple[Asked, int]:
+            return dealt.begin(question, read_question(question, dealt.by_name.get, dealt.names, mode)), self.at
+
+        asked, at, rows = self._answered(begun, lambda begun: (*begun, begun[0].answer()), is_there=place is not None)
+        warn_of(asked.plan)
+        return Answer(question, asked.columns, _records(asked.columns, rows), others=self.rows, at=at)
+
+    def snapshot(self, question: str) -> Snapshot:
+        """All rows and the answer to a question at one moment, as numbers."""
+        def begun(dealt: Dealt) -> Tuple[int, Sequence[Column], Asked, Begun]:
+            read = read_question(question, dealt.by_name.get, dealt.names, None)
+            return self.version, columns_in(read), dealt.begin(question, read), dealt.begin_all()
+
+        def answered(begun: Tuple[int, Sequence[Column], Asked, Begun]) -> Snapshot:
+            version, columns, asked, everything = begun
+            return Snapshot(version, asked.columns, everything.pairs(), asked.answer(), asked.plan, columns)
+
+        found: Snapshot = self._answered(begun, answered)
+        return found
+
+    def why(self, id: Key, question: str) -> Answer:
+        """The rows that dominate this one in a question: those because of which it is not in the answer."""
+        def begun(dealt: Dealt) -> Tuple[Dealt, Begun, int]:
+            return dealt, dealt.begin_all(), self.at
+
+        dealt, at, pairs = self._answered(begun, lambda begun: (begun[0], begun[2], begun[1].pairs()))
+        if id not in pairs:
+            raise missing_row(id)
+        keys = list(pairs)
+        read = read_question(question, dealt.by_name.get, dealt.names, None)
+        rivals = Rivals(question, read, dealt.below, dict(enumerate(pairs.values())), keys.index(id))
+        rows = [(level, keys[place], pairs[keys[place]]) for place, level in rivals.dominators()]
+        return Answer(question, dealt.columns, _records(dealt.columns, rows), others=self.rows, at=at)
+
+    def _is_ours(self) -> bool:
+        return os.getpid() == self._owner
+
+    @property
+    def _tables(self) -> Dealt:
+        assert self._dealt is not None
+        return self._dealt
+
+    @contextmanager
+    def _alone(self) -> Iterator[None]:
+        """One call after the other. A signal handler in the middle of one makes none."""
+        if not self._is_ours():
+            raise Ended(f"this frame belongs to process {self._owner}: follow the table again in each process", "process")
+        with self._lock:
+            if self._is_closed:
+                raise Ended("the frame was closed", "closed")
+            if self._is_called:
+                raise Refused("a call is under way in this thread", "client")
+            self._is_called = True
+            try:
+                yield
+            finally:
+                self._is_called = False
+
+    def _surviving(self, call: Any, is_there: bool = False) -> Any:
+        """A call of the tables once they have what is committed, or as they are where that `is_there`. Where one has ended, as for want of memory, everything
+        is read anew."""
+        for last in [False] * TRIES + [True]:
+            with self._alone():
+                try:
+                    if not is_there or not self._is_whole:
+                        self._catch_up()
+                    return call(self._tables)
+                except Ended:
+                    self._is_whole = False
+                    if last:
+                        raise
+        raise AssertionError
+
+    def _answered(self, begin: Any, answer: Any, is_there: bool = False) -> Any:
+        """What is begun by one call, and answered while others go on."""
+        for last in [False] * TRIES + [True]:
+            begun = self._surviving(begin, is_there)
+            try:
+                return answer(begun)
+            except Ended:
+                if last or self._is_closed:
+                    raise
+                self._is_whole = False
+        raise AssertionError
+
+    def _wait(self, place: int, seconds: float) -> None:
+        """Waits until the rows are those of this place or a later one."""
+        end = time.monotonic() + seconds
+        while not (self._is_whole and self.at >= place):
+            if self.refresh() >= place:
+                return
+            if time.monotonic() >= end:
+                raise Refused(f"{self._source.name} is at {self.at}, and not at {place} after {seconds:g} seconds", "follow")
+            time.sleep(PAUSE)
+
+    def _catch_up(self) -> None:
+        """Takes in what has changed, or everything."""
+        changes = self._source.changes(self.at) if self._is_whole and not self._tables.is_outgrown() else None
+        if changes is None or not self._take(changes):
+            self._read_everything()
+
+    def _take(self, changes: Changes) -> bool:
+        """Makes these changes; False where everything has to be read: a kind that was taken from the values has to be another one, or rows have gone unseen."""
+        dealt = self._tables
+        try:
+            rows = {key: None if cells is None else self._numbers(dealt, key, cells) for key, cells in changes.rows.items()}
+        except (TypeError, ValueError):
+            return False        # where it is refused, if need be
+        before = 0 if changes.is_cleared else len(dealt)
+        had = {key for key in rows if not changes.is_cleared and dealt.has(key)}
+        if changes.total not in (None, before - len(had) + sum(numbers is not None for numbers in rows.values())):
+            return False
+        self._is_whole = False
+        if changes.is_cleared:
+            dealt.clear()
+        if rows:
+            dealt.change(rows)
+        if rows or changes.is_cleared:
+            self.version += 1
+        self.at, self._is_whole = changes.place, True
+        return True
+
+    def _numbers(self, dealt: Dealt, key: Key, cells: Cells) -> Numbers:
+        """The numbers of a row."""
+        numbers = [0] * len(cells)
+        before = dealt.get(key) if UNCHANGED in cells else None
+        for place in dealt.order:
+            if cells[place] is UNCHANGED:
+                if before is None:
+                    raise ValueError(f"key {key!r} has a value that was never seen")
+                numbers[place] = before[place]
+            elif keeps_its_kind(dealt.columns[place], cells[place]):
+                numbers[place] = dealt.columns[place].encode(cells[place])
+            else:
+                raise TypeError(f"key {key!r} has {cells[place]!r}, for which the column has another kind")
+        return numbers
+
+    def _read_everything(self) -> None:
+        """Reads the table, and opens tables with its rows in place of those before. Until then these stay as they are."""
+        found = self._source.everything()
+        keys = sorted(found.rows, key=ordered)
+        values = list(zip(*(found.rows[key] for key in keys))) or [()] * len(self._source.columns)
+        columns = [self._column(name, values[place], found.kinds.get(name), keys) for place, name in enumerate(self._source.columns)]
+        dealt = Dealt([column for column, _ in columns], keys, Zipped([numbers for _, numbers in columns]), self._options)
+        self._dealt = dealt
+        self.version += 1
+        self.at, self._is_whole = found.place, True
+
+    def _column(self, name: str, values: Sequence[Any], own: Optional[Column], keys: Sequence[Key]) -> Tuple[Column, Sequence[int]]:
+        """A column of these values: of the kind that is given for it, or that it has by itself, or else of the kind of its values."""
+        column = Column(name, self._kinds[name]) if name in self._kinds else own
+        try:
+            return column_of_values(name, values, None) if column is None else (column, encoded(column, values))
+        except (TypeError, ValueError) as why:
+            raise Refused(f"{self._source.name}: {_at_its_key(column, values, keys) or why}", "follow") from None
+        except Refused as why:
+            raise Refused(f"{self._source.name}: {why}", "follow") from None
+
+
+def source_of(connection: Any, table: str, key: str, columns: Optional[Sequence[str]], kinds: Collection[str]) -> Source:
+    """The table of the database that a connection is of; some of its columns are given kinds."""
+    for what, name in ((table, "table"), (key, "key")):
+        if not isinstance(what, str):
+            raise TypeError(f"{name} is {what!r}: not a name")
+    client = client_of(connection)
+    if client == "sqlite3":
+        from .follow_sqlite import SqliteSource
+        return SqliteSource(connection, table, key, columns)
+    if client in ("psycopg2", "psycopg"):
+        from .follow_postgres import PostgresSource
+        return PostgresSource(connection, table, key, columns, kinds)
+    raise TypeError(f"connection is of type {type(connection).__name__}: not a connection of sqlite3, psycopg2 or psycopg")
+
+
+def missing_row(key: Key) -> Refused:
+    """What is said of a row that is not there."""
+    return Refused(f"no such row {key!r}", "client", 7)
+
+
+def client_of(connection: Any) -> str:
+    """The name of the module that a connection, or its class of the caller's own, comes from; an empty one where it is no connection that is known."""
+    modules = [base.__module__.partition(".")[0] for base in type(connection).__mro__]
+    return next((name for name in ("sqlite3", "psycopg2", "psycopg") if name in modules), "")
+
+
+def keeps_its_kind(column: Column, cell: Any) -> bool:
+    """Whether a column whose kind was taken from its values has the same one with this value."""
+    return cell is None or not column.grows or isinstance(cell, TYPES.get(type(column.kind), str))
+
+
+def _at_its_key(column: Optional[Column], values: Sequence[Any], keys: Sequence[Key]) -> str:
+    """What is wrong with the first of these values that a column does not take, with the key of its row."""
+    for key, value in zip(keys, values):
+        try:
+            if column is not None:
+                column.encode(value)
+        except (TypeError, ValueError) as why:
+            return f"key {key!r}, {why}"
+    return ""
+
+
+def _records(columns: Sequence[Column], rows: Sequence[Tuple[Optional[int], Any, Numbers]]) -> List[Record]:
+    """The records of rows, each with its level and key."""
+    names = [column.name for column in columns]
+    values = decoded(columns, [numbers for _, _, numbers in rows])
+    return [Record(zip(names, row), id=key, level=level) for (level, key, _), row in zip(rows, values)]

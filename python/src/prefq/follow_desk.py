@@ -1,0 +1,93 @@
+"""The rows of a table of a database on a page: what `prefq.server` and `prefq.asgi` show, while other programs change the rows there."""
+import threading
+from typing import Any, Callable, Dict, List, Mapping, Optional, Sequence
+
+from .columns import Column
+from .desk import Desk, Found, Held, Picture
+from .errors import Ended, Refused
+from .follow import Followed
+
+PAUSE = 0.1     # seconds between two looks at the database
+
+
+class FollowedDesk(Desk):
+    """The rows of a frame that follows a table, whose keys are whole numbers. They are changed in the database, and nowhere here: a page of it is not editable.
+
+    >>> import os, prefq, sqlite3, tempfile
+    >>> with tempfile.TemporaryDirectory() as folder:
+    ...     db = sqlite3.connect(os.path.join(folder, "hotels.db"), isolation_level=None)
+    ...     created = db.execute("create table hotels (id integer primary key, price int)")
+    ...     with FollowedDesk(prefq.Frame.follow(db, "hotels")) as desk:
+    ...         inserted = db.execute("insert into hotels values (7, 60), (8, 90)")
+    ...         [row.id for row in desk.picture("best low(price)").best]
+    ...     db.close()
+    [7]
+    """
+
+    def __init__(self, frame: Followed) -> None:
+        self._frame = frame
+        self._changed = threading.Condition()
+        self._closed = False
+        self._subscribed: List[Callable[[], None]] = []
+        self._end = threading.Event()
+        self._show(frame.version, frame.columns)
+        threading.Thread(target=self._follow, daemon=True).start()
+
+    def close(self) -> None:
+        """Ends the frame, and wakes who waits for a change."""
+        with self._changed:
+            self._closed = True
+            self._wake()
+        self._end.set()
+        self._frame.close()
+
+    def __len__(self) -> int:
+        return len(self._frame)
+
+    def insert(self, values: Mapping[str, Any]) -> int:
+        raise changed_elsewhere()
+
+    def update(self, id: int, values: Mapping[str, Any], *, seen: Optional[int] = None) -> None:
+        raise changed_elsewhere()
+
+    def delete(self, id: int, *, seen: Optional[int] = None) -> Dict[str, Any]:
+        raise changed_elsewhere()
+
+    def picture(self, text: str) -> Picture:
+        """The rows and the answer to a question at one version."""
+        found = self._frame.snapshot(text)
+        wrong = next((key for key in found.rows if not isinstance(key, int)), None)
+        if wrong is not None:
+            raise Refused(f"there is a row with the key {wrong!r}: a page shows rows whose keys are whole numbers", "follow")
+        self._see(found.version, found.columns)
+        rows = [Held(int(key), tuple(numbers)) for key, numbers in found.rows.items()]
+        best = [Found(row.level, int(row.key), tuple(row.numbers)) for row in found.best]
+        return Picture(found.version, list(found.columns), rows, best, list(found.asked), found.plan.unknown)
+
+    def _follow(self) -> None:
+        """Wakes those who watch where the rows have changed. What cannot be read is said to who asks for a picture."""
+        while not self._end.wait(PAUSE):
+            try:
+                self._frame.refresh()
+            except Ended:
+                if self._closed:
+                    return
+            except Exception:
+                continue
+            self._see(self._frame.version, self._frame.columns)
+
+    def _see(self, version: int, columns: Sequence[Column]) -> None:
+        with self._changed:
+            if version > self.version:
+                self._show(version, columns)
+                self._wake()
+
+    def _show(self, version: int, columns: Sequence[Column]) -> None:
+        self.version = version
+        self.columns = list(columns)
+        self._named = {column.name: column for column in self.columns}
+
+
+def changed_elsewhere() -> Refused:
+    """What is said of a change that is made here."""
+    return Refused("the rows are those of a database: they are changed there", "follow")

@@ -1,0 +1,82 @@
+"""Which rows of many partitions dominate a row of one of them."""
+import csv
+from dataclasses import dataclass, replace
+from functools import partial as with_words
+from typing import Any, Callable, Dict, List, Sequence, Tuple
+
+from .answer import Answer
+from .checks import MOST_ROWS
+from .errors import Refused
+from .parts import Asked, Job, Partial, in_partition, records_of, together, waited_for
+from .partition import Source, called
+from .sources import Opened, opened
+from .why import LEVELS, Rivals
+
+CHANGED = "a partition is another one than it was when the row was looked for: ask again"
+
+
+@dataclass(frozen=True)
+class Rivalry(Job):
+    """A job that looks for the rows that dominate one, the target."""
+
+    def count(self, partition: Source) -> int:
+        """How many rows a partition has."""
+        return self._rows(partition)[1].count
+
+    def target(self, partition: Source, place: int) -> Partial:
+        """The row of a partition that has this number, from 0."""
+        source, rows = self._rows(partition)
+        if place >= rows.count:
+            raise Refused(CHANGED, "table")
+        return replace(rows.kept([place]), rows=(source.rows_at([place]),))
+
+    def rivals(self, item: Tuple[Source, Partial, int]) -> Partial:
+        """The rows of a partition that dominate the target, which has this number among its rows: less than 0, or more than there are, where it is in another."""
+        partition, target, place = item
+        source, rows = self._rows(partition)
+        rivals = self.among(target, replace(rows, places=range(1, rows.count + 1)), place + 1)
+        found = sorted({id for some in rivals for id in some.ids()})
+        left = rows.kept([id - 1 for id in found])
+        return replace(left, asked=tuple(segment.alone() for segment in left.asked), rows=(source.rows_at(left.places),))
+
+    def among(self, target: Partial, rows: Partial, number: int) -> List[Rivals]:
+        """The rivals of the target, which has this number, among rows whose numbers are their places; for each way in which they may turn out."""
+        both = together([replace(target, rows=()), replace(rows, rows=())])
+        return [self._rivals(asked, view, rows.places, number) for asked, view in self.views(both)]
+
+    def _rivals(self, asked: Asked, view: Partial, places: Sequence[int], number: int) -> Rivals:
+        first, *others = zip(*(segment.numbers for segment in view.asked))
+        numbers: Dict[int, Tuple[int, ...]] = dict(zip(places, others))
+        if numbers.get(number, first) != first:
+            raise Refused(CHANGED, "table")
+        names = {id(segment.column): name for segment, name in zip(view.asked, asked.columns)}
+        return Rivals(self.question, asked.question, names, {**numbers, number: first}, number)
+
+    def _rows(self, partition: Source) -> Tuple[Opened, Partial]:
+        try:
+            source = opened(partition, self.reading)
+            return source, self.loaded(source, called(partition))
+        except (Refused, TypeError, ValueError, csv.Error) as why:
+            raise in_partition(why, partition) from None
+
+
+def dominators(job: Rivalry, sources: Sequence[Any], map: Callable[..., Any], id: int) -> Answer:
+    """The rows that dominate the one with this id, by level and then by id."""
+    [found] = map(list, [list(map(job.count, sources))])
+    counts = waited_for(found)
+    firsts = [sum(counts[:number]) for number in range(len(counts))]
+    home = next((number for number, first in enumerate(firsts) if first < id <= first + counts[number]), None)
+    if home is None:
+        raise Refused(f"no such row {id}", "client", 7)
+    [found] = map(with_words(job.target, place=id - 1 - firsts[home]), [sources[home]])
+    target = waited_for(found)
+    items: List[Any] = [(source, target, id - 1 - first) for source, first in zip(sources, firsts)]
+    [found] = map(together, [list(map(job.rivals, items))])
+    left = waited_for(found)
+    if len(left) > MOST_ROWS:
+        raise Refused(f"{len(left)} rows dominate row {id}, and {MOST_ROWS} are compared at most", "parts")
+    rivals, *_ = job.among(target, replace(left, places=[place + 1 for place in left.places]), id)
+    levels = dict(rivals.dominators())
+    left = left.kept([at for at, place in enumerate(left.places) if place + 1 in levels])
+    columns, rows = records_of(left, [levels[place + 1] for place in left.places], job.reading)
+    return Answer(job.question, columns, sorted(rows, key=lambda row: (row.level or LEVELS + 1, row.id)))

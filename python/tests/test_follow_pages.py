@@ -1,0 +1,106 @@
+"""Pages and programs that show a table of SQLite while others change it."""
+import json
+import re
+import sqlite3
+import subprocess
+import sys
+import threading
+import time
+import urllib.request
+from contextlib import closing
+from pathlib import Path
+
+import prefq
+import test_follow
+from prefq.follow_desk import FollowedDesk
+
+EXAMPLES = Path(__file__).resolve().parent.parent.parent / "examples/booking"
+
+
+class Pages(test_follow.OfSqlite):
+    def desk(self, *rows, **options):
+        desk = FollowedDesk(self.offers(*rows, **options))
+        self.addCleanup(desk.close)
+        return desk
+
+    def test_rows_and_answer_are_of_one_version(self):
+        desk = self.desk(*((number, "x", number, 40 - number) for number in range(40)), capacity=16)
+        seen = desk.picture("top_level 2 low(price)")
+        self.assertEqual(([row.id for row in seen.rows], seen.version), (list(range(40)), desk.version))
+        self.assertEqual([(row.level, row.id) for row in seen.best], [(1, 0), (2, 1)])
+        self.assertEqual(desk.record(seen.best[0].numbers), {"hotel": "x", "price": 0, "dist": 40})
+        self.db.execute("delete from offers where id = 0")
+        again = desk.picture("top_level 2 low(price)")
+        self.assertEqual((len(again.rows), again.best[0].id, again.version), (39, 1, seen.version + 1))
+
+    def test_who_watches_is_woken_by_a_change_in_the_file(self):
+        desk, woken = self.desk((1, "x", 1, 1)), threading.Event()
+        desk.subscribe(woken.set)
+        self.db.execute("update offers set price = 5")
+        self.assertTrue(woken.wait(60))
+        self.assertEqual(desk.wait(1, 60), 2)
+
+    def test_nothing_is_changed_here(self):
+        desk = self.desk((1, "x", 1, 1))
+        for change in (lambda: desk.insert({"price": 1}), lambda: desk.update(1, {"price": 2}), lambda: desk.delete(1)):
+            with self.refuses(prefq.Refused, "they are changed there", kind="follow"):
+                change()
+        with self.refuses(prefq.Refused, "no column 'prise'", kind="term", place=9):
+            desk.picture("best low(prise)")
+        self.db.execute("create table rooms (code text primary key, price int)")
+        self.db.execute("insert into rooms values ('a', 1)")
+        with FollowedDesk(self.followed("rooms", key="code")) as rooms, self.refuses(prefq.Refused, "there is a row with the key 'a'", kind="follow"):
+            rooms.picture("best low(price)")
+
+    def test_a_page_that_is_closed(self):
+        desk = self.desk((1, "x", 1, 1))
+        desk.close()
+        with self.refuses(prefq.Ended, kind="closed"):
+            desk.wait(desk.version, 60)
+        with self.refuses(prefq.Ended, kind="closed"):
+            desk.picture("best low(price)")
+
+
+class Examples(test_follow.OfSqlite):
+    def setUp(self):
+        super().setUp()
+        self.offers_path = self.path.with_name("offers.db")
+
+    def running(self, *words, **pipes):
+        """An example, which is killed at the end of the test."""
+        example = subprocess.Popen([sys.executable, *words], text=True, **pipes)
+        self.addCleanup(lambda: (example.kill(), example.communicate()))
+        return example
+
+    def change(self, statement):
+        with closing(sqlite3.connect(self.offers_path)) as db, db:
+            db.execute(statement)
+
+    def test_the_booking_file(self):
+        words = [str(EXAMPLES / "follow.py"), str(self.offers_path), "--question", 'best low("Price (EUR)") & low("Distance (m)") & high(Rating)']
+        first = subprocess.run([sys.executable, *words, "--once"], capture_output=True, text=True, check=True).stdout
+        self.assertIn("at 0\nlevel  id  Hotel", first)
+        self.change("insert into offers values (99, 'Cellar', 9.5, 10, 1)")
+        following = self.running(*words, stdout=subprocess.PIPE)
+        self.assertIn("at 1", self.shown(following))
+        self.change("delete from offers where id = 99")
+        self.assertEqual(self.shown(following), first.replace("at 0", "at 2"))
+
+    def shown(self, following):
+        """The next answer, of one row."""
+        return "".join(following.stdout.readline() for _ in range(4))
+
+    def test_the_page_of_the_booking_file(self):
+        page = self.running(str(EXAMPLES / "booking.py"), "--file", str(self.offers_path), "--still", "--port", "0", stderr=subprocess.PIPE)
+        url = re.search(r"http://\S+/", page.stderr.readline())[0]
+        first = self.get(f"{url}picture")
+        self.assertEqual((first["count"], self.get(f"{url}about")["editable"]), (60, False))
+        self.change("insert into offers values (99, 'Cellar', 9.5, 10, 5)")
+        end = time.monotonic() + 60
+        while (second := self.get(f"{url}picture"))["version"] == first["version"]:     # which it sees within a tenth of a second, or so
+            self.assertLess(time.monotonic(), end)
+        self.assertEqual([row["id"] for row in second["best"] if row["level"] == 1], [99])
+
+    def get(self, url):
+        with urllib.request.urlopen(url, timeout=60) as reply:
+            return json.load(reply)
