@@ -24,14 +24,18 @@ import tempfile
 import threading
 import time
 import traceback
+import zipfile
 from concurrent.futures import ThreadPoolExecutor
 from dataclasses import dataclass, field
+from itertools import chain
 from pathlib import Path
 from typing import Callable, Optional
 
 TOP = Path(__file__).resolve().parent.parent
 PROGRAM = "crates/prefq/out/prefq"
 LIBRARY = "library/out/libprefq.so"
+# What it is made of.
+MADE_OF = ["crates", "library", "crates.txt", "HANDLES"]
 CHECKS_AT_ONCE = 2
 # More than any check takes. (`rt ci` by itself reckons with twice as much or more.)
 KILOBYTES_A_PROOF = 3_000_000
@@ -216,6 +220,32 @@ def quick(count):
 
 # ---- all ----
 
+
+def wheel_of_the_same_library():
+    """The wheel of dist/, where nothing that the library is made of has changed since its commit; else None."""
+    commit, made_of = TOP / "dist/COMMIT", ["--", *MADE_OF]
+    wheel = next((TOP / "dist").glob("*.whl"), None)
+    if not wheel or not commit.is_file():
+        return None
+    changed = subprocess.run(["git", "diff", "--quiet", commit.read_text().strip(), *made_of], cwd=TOP, stderr=subprocess.DEVNULL)
+    new = subprocess.run(["git", "status", "--porcelain", *made_of], cwd=TOP, stdout=subprocess.PIPE, stderr=subprocess.DEVNULL)
+    return None if changed.returncode or new.returncode or new.stdout else wheel
+
+
+def library(room, log):
+    """The library of the wheel, where it is the same, with the tests that need no more; else one that is built, with all its tests. Building one proves the
+    crates once more."""
+    wheel = wheel_of_the_same_library()
+    if not wheel:
+        return run(log, "library/tests/run.sh")
+    print(f"skipped: the tests of the library in C, since nothing that it is made of has changed since {wheel.name} was", file=log, flush=True)
+    (TOP / LIBRARY).parent.mkdir(exist_ok=True)
+    (TOP / LIBRARY).write_bytes(zipfile.ZipFile(wheel).read("prefq/lib/libprefq.so"))
+    return run(log, "python3", "library/tests/python_ends.py", LIBRARY) and run(log, "python3", "library/tests/campaign.py", LIBRARY, PROGRAM, "--count", "400")
+
+
+# The checks that come after it ask the library.
+FIRST = [Check("library", library)]
 BUILT = [
     command("python3", "tests/reads_take_no_lock.py"),
     command(*DEFINITIONS),
@@ -224,7 +254,6 @@ BUILT = [
     command("python3", "tests/scripts.py"),
     command("python3", "tests/model/compare.py"),
     command("python3", "tests/model/threads.py"),
-    command("library/tests/run.sh"),
     command("python3", "tests/live.py"),
     command("python/tests/run.sh"),
     command("python3", "tests/wheel.py"),
@@ -291,7 +320,7 @@ def whole(count, *words):
     begun = time.monotonic()
     gate(count, words)
     say(f"== rt ci took {minutes_since(begun)} minutes")
-    for found in results(BUILT):
+    for found in chain(results(FIRST), results(BUILT)):
         say(f"== {found.name}", f"{found.said}== {found.seconds} seconds")
         count.add(found)
 
@@ -306,7 +335,7 @@ def minutes_since(begun):
 def release(count):
     """All, with nothing taken from earlier runs; then what takes hours, shown as it comes."""
     whole(count, "--anew")
-    for words in (["python3", "dist/release.py", "--check"], ["tests/wrong_edits.sh"], ["python3", "tests/edits_turn_answers.py"]):
+    for words in (["library/tests/run.sh"], ["python3", "dist/release.py", "--check"], ["tests/wrong_edits.sh"], ["python3", "tests/edits_turn_answers.py"]):
         say(f"== {' '.join(words)}")
         lines, is_passed = run_and_show(*words)
         fail_empty_edits(count, lines)

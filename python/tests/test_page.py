@@ -159,7 +159,7 @@ class Page(Paged):
         page.fill('#fields [name="Distance"]', "900")
         page.click("#save")
         page.until("document.getElementById('state').textContent === 'Live, version 2'")
-        self.assertFalse(page.js("document.getElementById('editor').open"))
+        page.until("!document.getElementById('editor').open")
         self.assertEqual(self.rows(), ["Alpine", "Garden", "Bargain", "Quay", "River"])
         page.click('tr[data-id="9"] button')
         self.assertEqual(page.js("document.querySelector('#fields [name=\"Price (EUR)\"]').value"), "35.50")
