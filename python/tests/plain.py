@@ -46,6 +46,7 @@ class Between(Scored):
 
     def __init__(self, name, text, low, high):
         super().__init__(name, text)
+        self.first, self.last = low, high
         self.low, self.high = on_a_scale(low), on_a_scale(high)
 
     def score(self, value):
@@ -144,3 +145,21 @@ class Ask:
 
     def dominators(self, rows, id):
         return [other for other, row in rows.items() if other != id and self.dominates((other, row), (id, rows[id]))]
+
+
+def first(ask, rows, top, ties=None):
+    """Pairs of a level and an id, in order, of the first `top` rows of each group: by level, of the last one by the levels that the term `ties` makes of it, and by id."""
+    goes_on = ask.text.startswith(("best", "skyline")) and not ask.equal_in
+    levels = ask.levels_of(rows)
+    answer = sorted((level, id) for id, level in levels.items()) if goes_on else ask.answer(rows)
+    groups = {}
+    for level, id in answer:
+        groups.setdefault(tuple(rows[id][name] for name in ask.by), []).append((level, id))
+    taken = []
+    for group in groups.values():
+        last = group[:top][-1][0]
+        better = [pair for pair in group if pair[0] < last]
+        tied = {id: rows[id] for level, id in group if level == last}
+        liked = Ask("", ties).levels_of(tied) if ties else dict.fromkeys(tied, 1)
+        taken += better + [(last, id) for id in sorted(tied, key=lambda id: (liked[id], id))[:top - len(better)]]
+    return sorted(taken)

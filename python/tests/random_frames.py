@@ -241,6 +241,11 @@ def record(random, columns, gaps):
     return {name: None if random.random() < gaps.get(name, 0) else kind.draw(random) for name, kind in columns.items()}
 
 
+def in_quotes(name):
+    """A name in either kind of quotes."""
+    return ['"' + name.replace('"', '""') + '"', "`" + name.replace("`", "``") + "`"]
+
+
 class Questions:
     """Random questions about columns."""
 
@@ -249,10 +254,11 @@ class Questions:
 
     def name(self, name):
         """A name as a question has it."""
-        forms = ['"' + name.replace('"', '""') + '"', "`" + name.replace("`", "``") + "`"]
-        if name.isidentifier():
-            forms += [name] * 3
-        return self.random.choice(forms)
+        return self.random.choice(in_quotes(name) + [name] * 3 * name.isidentifier())
+
+    def quoted(self, name):
+        """A name in quotes, as it may stand anywhere."""
+        return self.random.choice(in_quotes(name))
 
     def base(self):
         name = self.random.choice(list(self.columns))

@@ -27,6 +27,52 @@ class Answers(TestCase):
         records = [Record([(name, text), ("x", number)], id=number, level=1) for number, text in enumerate(texts, 1)]
         return Answer(question, [Column(name, "text"), Column("x", "whole")], records)
 
+    def test_a_slice_is_an_answer(self):
+        answer = self.answer(["a", "b", "c"])
+        part = answer[1:]
+        self.assertIsInstance(part, Answer)
+        self.assertEqual((part.ids, part.question, part.names, part.to_csv()), ([2, 3], answer.question, answer.names, "level,id,text,x\n1,2,b,2\n1,3,c,3\n"))
+        self.assertEqual((answer[::-1].ids, answer[:0].ids, answer[0].id, answer[-1].id, len(answer)), ([3, 2, 1], [], 1, 3, 3))
+        with prefq.Frame.from_records([{"x": 1, "y": 1}, {"x": 1, "y": 2}, {"x": 2, "y": 3}]) as frame:
+            picture = frame.best("best low(x)")[:1].to_svg()
+        self.assertIn("other rows (2)", picture)
+
+    def test_a_slice_of_an_answer_over_a_file(self):
+        from prefq.ask import asked, file_of, parser
+        from prefq.selection import Selection
+        self.path.write_text("name,price\nRitz,59.0\nAnna,50\nPost,50\n")
+        options = parser().parse_args([str(self.path), "best low(price)"])
+        self.assertEqual(asked(file_of(options), options.question, Selection(), None)[1:].to_csv(), "level,id,name,price\n1,3,Post,50\n")
+
+    def test_numbers_stand_on_the_right(self):
+        self.assertIn('<tr><td style="text-align: right">1</td><td style="text-align: right">1</td><td>a</td><td style="text-align: right">1</td></tr>', self.answer(["a"]).to_html())
+
+    def test_a_prompt_completes_the_columns_of_a_record(self):
+        record = Record({"City": "Lyon", "Price (EUR)": 60})
+        self.assertIn("City", dir(record))
+        self.assertNotIn("Price (EUR)", dir(record))
+        self.assertIn("items", dir(record))
+        self.assertEqual(record._ipython_key_completions_(), ["City", "Price (EUR)"])
+
+    def test_a_frame_in_a_notebook(self):
+        with prefq.Frame.from_records([{"x": number} for number in range(300)]) as frame:
+            page = frame._repr_html_()
+        self.assertIn("<caption>300 rows</caption>", page)
+        self.assertIn(".. and 100 rows more", page)
+        ElementTree.fromstring(f"<div>{page}</div>")
+
+    def test_of_many_other_rows_some_are_drawn(self):
+        with prefq.Frame.from_records([{"x": number, "y": -number % 100} for number in range(5000)]) as frame:
+            picture = frame.best("best low(x)").to_svg()
+        self.assertIn("1,667 of 4,999 other rows", picture)
+        self.assertEqual(picture.count('r="2"'), 1667)
+
+    def test_a_picture_of_an_expression(self):
+        with prefq.Frame.from_records([{"x": 1, "y": 2}, {"x": 2, "y": 3}]) as frame:
+            picture = ElementTree.fromstring(frame.best("best low(x / y) * high(y)").to_svg())
+        texts = ["".join(element.itertext()) for element in picture.iter("{http://www.w3.org/2000/svg}text")]
+        self.assertIn("y (more is better)", texts)
+
     def test_csv_comes_back_as_it_was(self):
         answer = self.answer(TEXTS)
         answer.to_csv(self.path)

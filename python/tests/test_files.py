@@ -193,8 +193,8 @@ class Columns(TestCase):
         for word, name in [("sep", "delimiter"), ("na_values", "missing"), ("skiprows", "skip"), ("dtype", "kinds"), ("usecols", "columns"), ("encodin", "encoding")]:
             with self.refuses(TypeError, f"Frame.from_csv has no option '{word}'", repr(name)):
                 from_text("x\n1\n", **{word: ";"})
-        with self.refuses(TypeError, "psel has no option 'top'", "top_level"):
-            prefq.psel([{"x": 1}], "low(x)", top=10)
+        with self.refuses(TypeError, "psel has no option 'levels'", "top_level"):
+            prefq.psel([{"x": 1}], "low(x)", levels=10)
 
     def test_many_columns(self):
         names = ",".join(f"x{place}" for place in range(20_000))

@@ -246,6 +246,22 @@ class Refusals(OfSqlite):
             prefq.Frame.follow(self.db, table, **options)
         self.assertEqual(self.db.execute("select name, sql from sqlite_master").fetchall(), before)
 
+    def test_what_is_asked_beside_a_question_is_refused_by_name(self):
+        frame = self.offers((1, "a", 60, 5), (2, "b", 50, 8), (3, "c", 70, 9))
+        for name, value in [("where", "price > 55"), ("top", 1), ("by", "hotel")]:
+            calls = [lambda: frame.best("best low(price)", **{name: value}), lambda: prefq.psel(frame, "low(price)", **{name: value})]
+            calls += [] if name == "top" else [lambda: frame.why(1, "best low(price)", **{name: value})]
+            for call in calls:
+                with self.subTest(name), self.refuses(prefq.Refused, f"{name}= is not there for a frame that follows a table of a database", kind="arguments"):
+                    call()
+
+    def test_a_preference_is_asked_by_its_value(self):
+        frame = self.offers((1, "a", 60, 5), (2, "b", 50, 8), (3, "c", 70, 9))
+        preference = prefq.low("price") * prefq.low("dist")
+        self.assertEqual(frame.best(preference).ids, [1, 2])
+        self.assertEqual(prefq.psel(frame, preference, top_level=2).ids, [1, 2, 3])
+        self.assertEqual(frame.why(3, preference).ids, [1, 2])
+
     def test_what_cannot_be_followed(self):
         self.db.execute("create table offers (id int, code text unique, price int, primary key (id, price))")
         self.db.execute("create view cheap as select * from offers")

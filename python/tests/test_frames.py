@@ -232,7 +232,7 @@ class Forms(TestCase):
 
     def test_html_and_text(self):
         answer = self.answer()
-        self.assertIn("<th>.level</th>", answer._repr_html_())
+        self.assertIn('<th style="text-align: right">.level</th>', answer._repr_html_())
         self.assertIn("<td>say &quot;&lt;x&gt;&quot;, ok\nyes</td>", answer._repr_html_())
         self.assertEqual(repr(answer).splitlines()[0].split(), [".level", "id", "level", "price", "f", "day", "pool", "name"])
         self.assertEqual(len(repr(answer).splitlines()), 3)
@@ -293,6 +293,6 @@ class ByMatplotlib(TestCase):
         with prefq.Frame.from_csv(HOTELS) as hotels:
             axes = hotels.best('top_level 2 low("Price (EUR)") * low("Distance km")').plot()
         self.assertEqual((axes.get_xlabel(), axes.get_ylabel()), ("Price (EUR) (less is better)", "Distance km (less is better)"))
-        self.assertEqual([text.get_text() for text in axes.get_legend().get_texts()], ["other rows", "level 1", "level 2"])
+        self.assertEqual([text.get_text() for text in axes.get_legend().get_texts()], ["other rows (1458)", "level 1", "level 2"])
         self.assertEqual(len(axes.lines), 1)
         matplotlib.pyplot.close("all")

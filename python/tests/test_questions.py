@@ -8,6 +8,7 @@ from decimal import Decimal
 
 import prefq
 from prefq.hints import nearest
+from prefq.questions import read_question
 from support import TestCase
 
 RECORDS = [{"City": "Lyon", "Price (EUR)": Decimal("57.40"), "Stars": Decimal("4.5"), "Opened": datetime.date(2002, 4, 14), "Pool": True, "x": 0.5},
@@ -38,17 +39,7 @@ REFUSED = [
     ("best low(Stars) and high(x)", "write * where both count", 1, "and"),
     ("best low(Stars) limit 5", "at_least 5", 1, "limit"),
     ("best low(Stars) group by City", "write by and the column", 1, "group"),
-    ("best low(Stars) | high(x)", "there is no |", 1, "|"),
-    ("best low(Stars) | high(x)", "there is no |, rPref's intersection: write * where both count at once", 1, "|"),
     ("best low(Stars) + high(x)", "there is no +, rPref's disjoint union: write * where both count at once", 1, "+ high"),
-    ("best low(Stars/x)", "no arithmetic: add a column with the quotient", 1, "/x"),
-    ("best low(Stars+x)", "no arithmetic: add a column with the sum", 1, "+x"),
-    ("best low(Stars - x)", "no arithmetic: add a column with the difference", 1, "- x"),
-    ("best low(Stars * x)", "no arithmetic: add a column with the product", 1, "* x"),
-    ("best high(abs(x))", "a question has no functions: add a column with abs(..)", 2, "abs"),
-    ("best high(x(1))", "a question has no functions", 1, "(1"),
-    ("best empty()", "there is no empty preference: leave it out", 1, "empty"),
-    ("best true(x > 5)", "there are no conditions: pos(x, 'value') prefers a value", 1, "true"),
     ("best pos(x, c(4, 6))", "values stand one after the other, as in pos(x, 4, 6). Here could stand a value of 'x', written like 59.9", 1, "c(4"),
     ("best around(Stars, mean(x))", "a question has no functions: write the value in place of mean(..)", 1, "mean"),
     ("best pos(City, )", "Here could stand a value of 'City', such as 'Lyon'", 1, ")"),
@@ -82,6 +73,60 @@ REFUSED = [
     ("best layered(City, {'Lyon' 'Bern'})", "Here could stand a , or a }", 1, "'Bern'"),
 ]
 
+# What a table of whole numbers does not have, and a frame has.
+REFUSED_BY_A_TABLE = [
+    ("best low(Stars) | high(x)", "there is no |", 1, "|"),
+    ("best low(Stars) | high(x)", "there is no |, rPref's intersection: write * where both count at once", 1, "|"),
+    ("best low(Stars/x)", "no arithmetic: add a column with the quotient", 1, "/x"),
+    ("best low(Stars+x)", "no arithmetic: add a column with the sum", 1, "+x"),
+    ("best low(Stars - x)", "no arithmetic: add a column with the difference", 1, "- x"),
+    ("best low(Stars * x)", "no arithmetic: add a column with the product", 1, "* x"),
+    ("best high(abs(x))", "a question has no functions: add a column with abs(..)", 2, "abs"),
+    ("best high(x(1))", "a question has no functions", 1, "(1"),
+    ("best empty()", "there is no empty preference: leave it out", 1, "empty"),
+    ("best true(x > 5)", "there are no conditions: pos(x, 'value') prefers a value", 1, "true"),
+]
+# What a frame reads beside the program's language, and refuses.
+REFUSED_IN_EXPRESSIONS = [
+    ("best low(City + 1)", "column 'City' has the kind text, and numbers are computed with", 1, "City"),
+    ("best low(Stars + 'a')", "'a' is a text, and numbers are computed with", 1, "'a'"),
+    ("best low(Stars + Pool)", "column 'Pool' is true or false, and numbers are computed with", 1, "Pool"),
+    ("best low(Stars + (x > 1))", "this is true or false, and numbers are computed with", 1, "> 1"),
+    ("best low(5)", "an expression names a column", 1, "5)"),
+    ("best high(mean(x))", "there is no function 'mean'; there are abs, min, max", 2, "mean"),
+    ("best high(abs(x, 1))", "Here could stand a )", 1, ", 1"),
+    ("best high(max(x))", "Here could stand a , and another number", 1, "))"),
+    ("best low(Stars / )", "Here could stand a column, a number, abs(..)", 1, ")"),
+    ("best low((Stars + x)", "the question breaks off. Here could stand a )", 1, ""),
+    ("best low((Stars + x", "the question breaks off. Here could stand an operator or a )", 1, ""),
+    ("best low(Stars / (x - 0.5))", "row 1 has 0 behind the /, by which nothing is divided", 1, "/ ("),
+    ("best low(Stars + Zzz)", "no column 'Zzz'; there are City", 2, "Zzz"),
+    ("best low(Stars + stars)", "did you mean Stars?", 2, "stars"),
+    ("best true(City = Lyonn)", "A text stands in single quotes, 'Lyonn'", 2, "Lyonn"),
+    ("best true(City < 'Lyon')", "column 'City' has texts, which have no order: write =, <> or in (..)", 1, "'Lyon'"),
+    ("best true(City = 5)", "column 'City' (text) is compared with a value in quotes, such as 'Lyon'", 1, "5)"),
+    ("best true(Opened > '1.1.2000')", "column 'Opened' (date): '1.1.2000' is no date", 1, "'1.1.2000'"),
+    ("best true(Opened > Stars)", "column 'Opened' has the kind date, and numbers are computed with", 1, "Opened"),
+    ("best true(Opened > City)", "columns 'Opened' (date) and 'City' (text) are not compared", 1, "> City"),
+    ("best true(Pool < true)", "< compares numbers, dates and so on", 1, "< true"),
+    ("best true(1 < 2)", "an expression names a column", 1, "1 < 2"),
+    ("best true(x > 1 and 1 < 2)", "two values that are written are compared", 1, "< 2"),
+    ("best true(5 is missing or Pool)", "a value that is written is never missing", 1, "5 is"),
+    ("best true(x is)", "Here could stand missing or not missing", 1, ")"),
+    ("best true(not Stars)", "column 'Stars' is a number, and a condition is true or false", 1, "Stars)"),
+    ("best true(x in 5)", "Here could stand a (", 1, "5)"),
+    ("best true(Stars)", "column 'Stars' (decimal(1)): 'true' is no number", 1, "true"),
+    ("best empty(x)", "Here could stand a )", 1, "x)"),
+    ("best (low(Stars) * low(x)) | high(Stars)", "| stands between terms by which any two rows can be compared", 1, "low(Stars)"),
+    ("best low(Stars) |", "the question breaks off. Here could stand low(..)", 1, ""),
+    ("best low(x + " + "(" * 25 + "x", "more than 24 nestings in an expression", 4, "(x"),
+    ("best low(x + " + "-" * 25 + "x", "more than 24 nestings in an expression", 4, "-x"),
+    ("best low(" + "abs(" * 10_000, "more than 24 nestings in an expression", 4, "abs(" * (10_000 - 24)),
+    ("best low(x" + " + x" * 65 + ")", "more than 64 operations on one another", 4, "+ x)"),
+    ("best low(x + 1e99999)", "'1e99999' is no number", 1, "1e99999"),
+    ("best around(x / 3 * 9999999999999999999, 5)", "has the kind numbers too fine for 64 bits, which has no distances for around(..)", 1, "around"),
+]
+
 
 class Refusals(TestCase):
     @classmethod
@@ -93,12 +138,12 @@ class Refusals(TestCase):
         cls.frame.close()
 
     def test_each_at_its_place(self):
-        for question, says, number, behind in REFUSED:
+        for question, says, number, behind in REFUSED + REFUSED_IN_EXPRESSIONS:
             with self.subTest(question=question[:60]), self.refuses(prefq.Refused, says, kind="term", number=number) as caught:
                 self.frame.best(question)
 
     def test_the_caret(self):
-        for question, _, _, behind in REFUSED:
+        for question, _, _, behind in REFUSED + REFUSED_IN_EXPRESSIONS:
             with self.subTest(question=question[:60]):
                 with self.assertRaises(prefq.Refused) as caught:
                     self.frame.best(question)
@@ -110,6 +155,12 @@ class Refusals(TestCase):
                     self.assertEqual((shown, caret), ("    " + question, " " * (4 + len(question.encode()[:why.place].decode())) + "^"))
                 else:
                     self.assertLess(len(shown), 180)
+
+    def test_what_a_table_has_not(self):
+        with prefq.Table(["Stars", "x"], [[1, 2]]) as table:
+            for question, says, number, behind in REFUSED_BY_A_TABLE:
+                with self.subTest(question=question), self.refuses(prefq.Refused, says, kind="term", number=number, place=question.index(behind)):
+                    table.best(question)
 
     def test_what_the_table_refuses_stands_at_its_place_in_the_question_that_was_written(self):
         part = 'pos(City, "Köln") & ' * 60
@@ -148,7 +199,8 @@ class Refusals(TestCase):
 
 
 class AsTheProgram(TestCase):
-    """Over whole numbers, the program reads a question as this package does: it refuses the same ones, at the same place, and has the same answers."""
+    """Over whole numbers, the program reads a question as this package does, but for expressions, `|` and so on: it refuses the same ones, at the same place, and has
+    the same answers."""
 
     NAMES = ["x", "y", "by", "low", "distinct", "min"]
     PIECES = ["best", "top_level", "at_least", "skyline", "of", "distinct", "min", "max", "diff", "by", "low", "high", "around", "between", "pos", "layered", "reverse",
@@ -178,7 +230,10 @@ class AsTheProgram(TestCase):
         rows = [[chance.randrange(5) for _ in self.NAMES] for _ in range(20)]
         refusals = 0
         with prefq.Frame.from_records([dict(zip(self.NAMES, row)) for row in rows]) as frame, prefq.Table(self.NAMES, rows) as table:
-            with unittest.mock.patch("prefq.table.explained", lambda why, columns: why):
+            def without_expressions(text, column, names, mode, make):
+                return read_question(text, column, names, mode)
+
+            with unittest.mock.patch("prefq.table.explained", lambda why, columns: why), unittest.mock.patch("prefq.selection.read_frames_question", without_expressions):
                 for _ in range(2000):
                     question = self.changed(chance)
                     by_table = self.outcome(lambda: table.best(question))

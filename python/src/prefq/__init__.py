@@ -15,15 +15,19 @@ from .columns import Column
 from .errors import Ended, Error, LibraryNotFound, ProgramNotFound, Refused
 from .follow import Followed
 from .frame import Frame
-from .frame_query import FrameQuery, UnknownValue
+from .frame_query import FrameQuery
+from .hasse import Hasse
 from .library import find_library
+from .preferences import Expression, Preference, around, between, empty, expr, high, layered, low, pos, reverse, true
 from .program import find_program
 from .query import Query
 from .records import Record
 from .rows import Row
 from .select import psel
 from .table import Table
+from .warned import UnknownValue
 
 __version__ = "0.2.0"
-__all__ = ["Answer", "AsyncFrame", "AsyncQuery", "AsyncTable", "Column", "Ended", "Error", "Followed", "Frame", "FrameQuery", "LibraryNotFound",
-           "ProgramNotFound", "Query", "Record", "Refused", "Row", "Table", "UnknownValue", "find_library", "find_program", "parts", "psel"]
+__all__ = ["Answer", "AsyncFrame", "AsyncQuery", "AsyncTable", "Column", "Ended", "Error", "Expression", "Followed", "Frame", "FrameQuery", "Hasse", "LibraryNotFound",
+           "Preference", "ProgramNotFound", "Query", "Record", "Refused", "Row", "Table", "UnknownValue", "around", "between", "empty", "expr", "find_library",
+           "find_program", "high", "layered", "low", "parts", "pos", "psel", "reverse", "true"]

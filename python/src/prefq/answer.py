@@ -6,23 +6,25 @@ import json
 import math
 import os
 from decimal import Decimal
-from typing import Any, Callable, Iterable, List, Optional, Sequence, TextIO, Union
+from typing import Any, Callable, Iterable, List, Optional, Sequence, SupportsIndex, TextIO, Union, cast, overload
 
 from .columns import Column
 from .errors import Ended
 from .records import Record
 from .visible import SURROGATE, in_xml, visible, width
 
-Target = Union[str, "os.PathLike[str]", TextIO, None]
+File = Union[str, "os.PathLike[str]", TextIO]
+Target = Optional[File]
 ROWS_SHOWN = 20
 UTF_8 = "UTF-8"
 ROWS_IN_A_NOTEBOOK = 200
 WIDEST = 40
 LINE_END = "\r\n"
+ON_THE_RIGHT = ' style="text-align: right"'
 
 
 class Answer(List[Record]):
-    """The rows of an answer, by level and then by id: a list of records, each with its `level` and `id`.
+    """The rows of an answer, by level and then by id: a list of records, each with its `level` and `id`. A slice of it is an answer too.
 
     `question` is what was asked, `columns` are the columns of the rows, and `at` is the place in the database as of which a frame that follows it answered. At a
     prompt and in a notebook it is shown as a table.
@@ -57,15 +59,29 @@ class Answer(List[Record]):
         """An answer is copied and pickled without the frame that it came from."""
         return Answer, (self.question, self.columns, list(self)), {"at": self.at}
 
+    @overload
+    def __getitem__(self, place: SupportsIndex) -> Record: ...
+
+    @overload
+    def __getitem__(self, place: slice) -> "Answer": ...
+
+    def __getitem__(self, place: Union[SupportsIndex, slice]) -> Union[Record, "Answer"]:
+        if not isinstance(place, slice):
+            return super().__getitem__(place)
+        part = type(self).__new__(type(self))
+        part.extend(super().__getitem__(place))
+        part.__dict__.update(self.__dict__)
+        return part
+
     @property
     def names(self) -> List[str]:
         """The names of the columns."""
         return [column.name for column in self.columns]
 
     @property
-    def ids(self) -> List[Optional[int]]:
+    def ids(self) -> List[int]:
         """The id of each row."""
-        return [record.id for record in self]
+        return cast(List[int], [record.id for record in self])      # Each row of an answer has one.
 
     @property
     def levels(self) -> List[Optional[int]]:
@@ -96,8 +112,11 @@ class Answer(List[Record]):
     def _lines(self, records: Sequence[Record]) -> str:
         shown = [[_short(cell) for cell in row] for row in [self.heading, *map(self.cells, records)]]
         widths = [max(map(width, cells)) for cells in zip(*shown)]
-        right = [True, True, *(column.kind.name in ("whole", "decimal", "float") for column in self.columns)]
-        return "\n".join("  ".join(map(_padded, row, widths, right)).rstrip() for row in shown)
+        return "\n".join("  ".join(map(_padded, row, widths, self._are_numbers())).rstrip() for row in shown)
+
+    def _are_numbers(self) -> List[bool]:
+        """Whether each column of a table, level and id among them, has numbers, which stand on the right."""
+        return [True, True, *(column.kind.name in ("whole", "decimal", "float") for column in self.columns)]
 
     def _repr_html_(self) -> str:
         more = len(self) - ROWS_IN_A_NOTEBOOK
@@ -108,11 +127,19 @@ class Answer(List[Record]):
         return self._table(self)
 
     def _table(self, records: Sequence[Record]) -> str:
+        begins = [ON_THE_RIGHT if is_number else "" for is_number in self._are_numbers()]
+
         def row(cells: Iterable[str], tag: str) -> str:
-            return "<tr>" + "".join(f"<{tag}>{html.escape(in_xml(cell))}</{tag}>" for cell in cells) + "</tr>\n"
+            return "<tr>" + "".join(f"<{tag}{begin}>{html.escape(in_xml(cell))}</{tag}>" for begin, cell in zip(begins, cells)) + "</tr>\n"
 
         head, body = row(self.heading, "th"), "".join(row(self.cells(record), "td") for record in records)
         return f'<table class="prefq">\n<caption>{html.escape(in_xml(self.question))}</caption>\n<thead>\n{head}</thead>\n<tbody>\n{body}</tbody>\n</table>'
+
+    @overload
+    def to_csv(self, target: None = None) -> str: ...
+
+    @overload
+    def to_csv(self, target: File) -> None: ...
 
     def to_csv(self, target: Target = None) -> Optional[str]:
         """Comma-separated values, with the names in front: into a file, or as a text where none is given. A text that the file's encoding does not have, as UTF-8
@@ -146,6 +173,12 @@ class Answer(List[Record]):
         lost = (f"row {record.id}, column {name!r} is {cell!r}" for record in self for name, cell in zip(self.heading, self.cells(record)) if is_lost(cell))
         raise ValueError(f"{next(lost, 'the answer has a sign')}, which {encoding} does not have")
 
+    @overload
+    def to_json(self, target: None = None, *, indent: Optional[int] = None) -> str: ...
+
+    @overload
+    def to_json(self, target: File, *, indent: Optional[int] = None) -> None: ...
+
     def to_json(self, target: Target = None, *, indent: Optional[int] = None) -> Optional[str]:
         """A list of objects: into a file, or as a text where none is given. Decimals keep all their digits, dates are texts, and what is missing is null.
         Lone surrogates, which UTF-8 does not have, are written as \\ud800 and so on, as JSON has them."""
@@ -173,6 +206,12 @@ class Answer(List[Record]):
         installed as a picture with `save(path)`, which a notebook shows."""
         from .plot import plotted
         return plotted(self, x, y, ax)
+
+    @overload
+    def to_svg(self, target: None = None, *, x: Optional[str] = None, y: Optional[str] = None) -> str: ...
+
+    @overload
+    def to_svg(self, target: File, *, x: Optional[str] = None, y: Optional[str] = None) -> None: ...
 
     def to_svg(self, target: Target = None, *, x: Optional[str] = None, y: Optional[str] = None) -> Optional[str]:
         """The same picture as SVG, without matplotlib: into a file, or as a text where none is given."""

@@ -11,19 +11,19 @@ from .answer import Answer
 from .ask_files import asked_of_files, files_like
 from .columns import Column
 from .errors import Ended, Error
-from .frame_query import UnknownValue
 from .infer import kind_of_texts, oddity
 from .kinds import Texts
 from .kinds.forms import Form
 from .loading import Encoded, File, decoded
 from .missing import Missing
+from .moment import Moment
 from .partition import Reading
 from .reading import Dialect, is_blank, read_csv
 from .records import Record
-from .questions import names_in
-from .select import selected
+from .selection import Selection, selected
 from .streams import FULL, NotWritten, complain, give_up_output, standard_input, write
 from .visible import in_xml, visible
+from .warned import UnknownValue
 
 # Names of columns and the parentheses of a kind may both have =.
 KIND_GIVEN = re.compile(r"(?P<column>.*?)=(?P<kind>[^=]*|[^=(]*\(.*\)\s*)", re.DOTALL)
@@ -50,6 +50,9 @@ def parser() -> argparse.ArgumentParser:
     form.add_argument("--csv", dest="form", action="store_const", const="csv", help="print CSV")
     form.add_argument("--json", dest="form", action="store_const", const="json", help="print JSON")
     form.add_argument("--html", dest="form", action="store_const", const="html", help="print a page of HTML")
+    found.add_argument("--where", metavar="CONDITION", help="only rows that meet it count, as --where \"Stars >= 4 and City = 'Lyon'\"")
+    found.add_argument("--top", type=int, metavar="K", help="print K rows, in each group: those of whole levels, and of the last one those that stand first in the file")
+    found.add_argument("--ties", metavar="TERM", help="of the last level, print those that this term likes best")
     found.add_argument("--plot", metavar="OUT.svg", help="draw the answer by its first two criteria into this file")
     add_file_options(found)
     return found
@@ -84,7 +87,7 @@ def file_of(options: argparse.Namespace, progress: Optional["Progress"] = None) 
 
 
 # What is said of arguments of a function, and of options.
-IN_OPTIONS = {r"missing=\[\.\.\]": "--missing", r"null_padding=True": "--null-padding", r"encoding='([^']*)'": r"--encoding \1",
+IN_OPTIONS = {r"^(where|top|ties)= ": r"--\1 ", r"it needs top=": "it needs --top", r"by where=": "by --where", r"missing=\[\.\.\]": "--missing", r"null_padding=True": "--null-padding", r"encoding='([^']*)'": r"--encoding \1",
               r"give it the kind '([^']*)'": r"give it a kind, as --kind 'COLUMN=\1'", r"kinds=\{'([^']*)': '([^']*)'\}": r"--kind '\1=\2'"}
 
 
@@ -123,7 +126,9 @@ def run(options: argparse.Namespace) -> None:
     """Reads the file, or the files of a pattern, asks, and prints."""
     progress = Progress()
     files = files_like(options.file)
+    selection = Selection.of(where=options.where, top=options.top, ties=options.ties)
     if files:
+        selection.mode_alone("several files")
         answer = asked_of_files(files, options.question, reading_of(options), progress)
         progress.end()
         show(answer, options, answer.notes)
@@ -137,9 +142,11 @@ def run(options: argparse.Namespace) -> None:
         return
     if options.plot or options.form == "json":
         file.load(file.cells.names)         # Their values are wanted, not only their cells.
-    answer = asked(file, options.question, progress)
+    named = selection.names(options.question, file.cells.names)
+    file.load(named)
+    answer = asked(file, options.question, selection, progress)
     progress.end()
-    show(answer, options, [file.notes[name] for name in names_in(options.question, None, file.cells.names) if name in file.notes])
+    show(answer, options, [file.notes[name] for name in named if name in file.notes])
 
 
 def show(answer: Answer, options: argparse.Namespace, notes: Iterable[str]) -> None:
@@ -176,11 +183,9 @@ def columns_of(file: File) -> List[str]:
     return lines
 
 
-def asked(file: File, question: str, progress: "Progress") -> Answer:
-    """The answer, whose rows are those of the file. Only the columns that the question names are understood."""
-    names = file.cells.names
-    file.load(names_in(question, None, names))
-    best = selected(question, None, names, file.column, progress=progress)
+def asked(file: File, question: str, selection: Selection, progress: "Progress") -> Answer:
+    """The answer, whose rows are those of the file. Only the columns that are named are understood."""
+    best = selected(question, selection, Moment(file.cells.names, file.column, progress), progress=progress)
     return FileAnswer(question, file, [(row.level, row.id) for row in best])
 
 
@@ -241,9 +246,9 @@ def kinds_of(words: Sequence[str]) -> Dict[str, str]:
 def written(answer: Answer, form: Optional[str]) -> str:
     """The answer in a form."""
     if form == "csv":
-        return answer.to_csv() or ""
+        return answer.to_csv()
     if form == "json":
-        return answer.to_json(indent=1) or ""
+        return answer.to_json(indent=1)
     if form == "html":
         title = html.escape(in_xml(answer.question))
         return f'<!doctype html>\n<html lang="en">\n<head><meta charset="utf-8"><title>{title}</title></head>\n<body>\n{answer.to_html()}\n</body>\n</html>\n'

@@ -9,11 +9,11 @@ from typing import Iterable, List, Optional, Sequence
 from .answer import Answer
 from .engines import watched
 from .errors import Ended, Refused
-from .frame_query import warn
 from .partition import Reading
 from .parts import Found, Job, found_in, notes_of, records_of
 from .reading import Progress
 from .records import Record
+from .warned import warn_of
 
 
 def files_like(pattern: str) -> List[str]:
@@ -36,7 +36,7 @@ def asked_of_files(files: Sequence[str], question: Optional[str], reading: Readi
             found = found_in(job, files, watched(pool.map, progress))
     except BrokenProcessPool:
         raise Ended("a process that read a file has ended", "process") from None
-    warn(found.rows.absent.values())
+    warn_of(found.rows.absent.values())
     return FilesAnswer(job, found)
 
 

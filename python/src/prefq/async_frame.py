@@ -1,14 +1,17 @@
 """The frame for asyncio: the same calls, awaited."""
 from concurrent.futures import ThreadPoolExecutor
 from functools import partial
-from typing import Any, Callable, Iterable, List, Sequence, Tuple
+from typing import Any, Callable, Iterable, List, Optional, Sequence, Tuple
 
 from .answer import Answer
 from .asynchronous import Awaited, on_a_thread
 from .columns import Column
 from .follow import Followed
 from .frame import Frame, Path
+from .hasse import Hasse
+from .preferences import Asked, Operand
 from .records import Record
+from .selection import Names
 
 
 class AsyncFrame(Awaited):
@@ -82,16 +85,20 @@ class AsyncFrame(Awaited):
         """See `Frame.save`."""
         await self._call(self._frame.save, path)
 
-    async def why(self, id: int, question: str) -> Answer:
+    async def why(self, id: int, question: Asked, *, where: Optional[Operand] = None, by: Names = None) -> Answer:
         """See `Frame.why`."""
-        return await self._call(self._frame.why, id, question)
+        return await self._call(partial(self._frame.why, id, question, where=where, by=by))
 
-    async def best(self, question: str) -> Answer:
+    async def hasse(self, question: Asked, *, where: Optional[Operand] = None, by: Names = None) -> Hasse:
+        """See `Frame.hasse`."""
+        return await self._call(partial(self._frame.hasse, question, where=where, by=by))
+
+    async def best(self, question: Asked, *, where: Optional[Operand] = None, top: Optional[int] = None, ties: Optional[Asked] = None, by: Names = None) -> Answer:
         """See `Frame.best`. Other tasks' calls may come between the pieces that it scans."""
         self._usable()
         client = await self._free.get()
         try:
-            with await self._call(self._frame.query, question) as query:
+            with await self._call(partial(self._frame.query, question, where=where, top=top, ties=ties, by=by)) as query:
                 while query.left:
                     await self._call(query.scan_piece)
                 return await self._call(query.answer)

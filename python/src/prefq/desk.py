@@ -10,11 +10,11 @@ from typing import Any, Callable, Dict, Iterable, List, Mapping, NamedTuple, Opt
 from .columns import Column, listed
 from .errors import Ended, Refused
 from .frame import Frame
-from .frame_query import without_twins
 from .hints import unknown_column
 from .kinds import Kind, Texts
 from .opened import is_outgrown, moved_columns, size_of_code_books, wider_kinds
 from .questions import Question, read_question
+from .selection import without_twins
 from .table import Table
 from .translate import columns_in, plan
 

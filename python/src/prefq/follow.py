@@ -14,14 +14,16 @@ from .checks import MOST, whole
 from .columns import Column
 from .dealt import Asked, Begun, Dealt, Found, Key, Numbers, ordered
 from .errors import Ended, Refused
-from .frame_query import warn_of
 from .kinds import Floats, Whole
 from .loading import check_known, column_of_values, decoded, encoded
-from .questions import Mode, read_question
+from .preferences import Asked as AskedFor, Operand, text_asked
+from .questions import read_question
 from .records import Record
 from .rows import Zipped
+from .selection import Names, Reading, Selection
 from .translate import Plan, columns_in
-from .why import Rivals
+from .warned import warn_of
+from .why import dominators
 
 Cells = Sequence[Any]
 TRIES = 3           # how often a call reads the table anew where its own were refused memory
@@ -35,6 +37,7 @@ class Unchanged:
 
 
 UNCHANGED = Unchanged()
+FOLLOWED = "a frame that follows a table of a database"
 
 
 class Everything(NamedTuple):
@@ -205,16 +208,18 @@ class Followed:
         columns, pairs = self._answered(begun, lambda begun: (begun[0], begun[1].pairs()))
         return _records(columns, [(None, key, numbers) for key, numbers in pairs.items()])
 
-    def best(self, question: str, *, at_least: Any = None, wait: float = 60.0) -> Answer:
+    def best(self, question: AskedFor, *, at_least: Any = None, wait: float = 60.0, where: Optional[Operand] = None, top: Optional[int] = None,
+             ties: Optional[AskedFor] = None, by: Names = None) -> Answer:
         """The answer to a question, as of the place that its `at` has.
 
         With `at_least` it sees what was committed up to this place, and is not before it: a place that is there already is answered at once, without a look at
-        the database, and another one is waited for, so many seconds at most.
+        the database, and another one is waited for, so many seconds at most. `where`, `top`, `ties` and `by` are `Refused`: only other frames have them.
         """
-        return self.answer(question, None, at_least=at_least, wait=wait)
+        return self.answer(text_asked(question), Selection.of(where=where, top=top, ties=ties, by=by), at_least=at_least, wait=wait)
 
-    def answer(self, question: str, mode: Optional[Mode], *, at_least: Any = None, wait: float = 60.0) -> Answer:
-        """The same of a question that has this mode, if it has none itself."""
+    def answer(self, question: str, selection: Selection, *, at_least: Any = None, wait: float = 60.0) -> Answer:
+        """The same of a question that has the mode of this selection, if it has none itself."""
+        mode = selection.mode_alone(FOLLOWED)
         place = None if at_least is None else self._source.place(at_least)
         if place is not None:
             self._wait(place, wait)
@@ -223,7 +228,7 @@ class Followed:
             return dealt.begin(question, read_question(question, dealt.by_name.get, dealt.names, mode)), self.at
 
         asked, at, rows = self._answered(begun, lambda begun: (*begun, begun[0].answer()), is_there=place is not None)
-        warn_of(asked.plan)
+        warn_of(asked.plan.unknown)
         return Answer(question, asked.columns, _records(asked.columns, rows), others=self.rows, at=at)
 
     def snapshot(self, question: str) -> Snapshot:
@@ -239,8 +244,11 @@ class Followed:
         found: Snapshot = self._answered(begun, answered)
         return found
 
-    def why(self, id: Key, question: str) -> Answer:
-        """The rows that dominate this one in a question: those because of which it is not in the answer."""
+    def why(self, id: Key, question: AskedFor, *, where: Optional[Operand] = None, by: Names = None) -> Answer:
+        """The rows that dominate this one in a question: those because of which it is not in the answer. `where` and `by` are `Refused`, as with `best`."""
+        text = text_asked(question)
+        Selection.of(where=where, by=by).mode_alone(FOLLOWED)
+
         def begun(dealt: Dealt) -> Tuple[Dealt, Begun, int]:
             return dealt, dealt.begin_all(), self.at
 
@@ -248,10 +256,10 @@ class Followed:
         if id not in pairs:
             raise missing_row(id)
         keys = list(pairs)
-        read = read_question(question, dealt.by_name.get, dealt.names, None)
-        rivals = Rivals(question, read, dealt.below, dict(enumerate(pairs.values())), keys.index(id))
-        rows = [(level, keys[place], pairs[keys[place]]) for place, level in rivals.dominators()]
-        return Answer(question, dealt.columns, _records(dealt.columns, rows), others=self.rows, at=at)
+        lists = dict(zip((column.name for column in dealt.columns), zip(*pairs.values())))
+        read = Reading.of(text, read_question(text, dealt.by_name.get, dealt.names, None), lambda column: lists[column.name])
+        rows = [(level, keys[place], pairs[keys[place]]) for place, level in dominators(read, keys.index(id))]
+        return Answer(text, dealt.columns, _records(dealt.columns, rows), others=self.rows, at=at)
 
     def _is_ours(self) -> bool:
         return os.getpid() == self._owner

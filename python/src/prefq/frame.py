@@ -9,22 +9,28 @@ from .checks import MOST_ROWS
 from .columns import Column, listed
 from .errors import Refused
 from .follow import Followed, source_of
+from .frame_query import FrameQuery
+from .hasse import Hasse, ranked
 from .kinds import Kind
 from .kinds.forms import Form
 from .loading import Encoded, File, check_known, chosen, column_of_values, decoded, encoded
 from .missing import Missing
 from .opened import Ids, Opened
 from .options import check_options
-from .frame_query import FrameQuery
-from .questions import Mode, read_question
+from .preferences import Asked, Operand, text_asked, text_preferred
+from .questions import Question
 from .reading import Dialect, Progress, Source, read_csv
 from .records import Record, mapping_of, values_of
 from .rows import Row, WholeRows, Zipped
+from .selection import Names, Selection, first_rows, picked, query_of, reading, without_twins
 from .table import Table, check_changes
 from .translate import plan
-from .why import Rivals
+from .warned import warn_of
+from .why import dominators
 
 Result = TypeVar("Result")
+# A row by its level, its id and its numbers.
+Found = Tuple[Optional[int], int, Sequence[int]]
 TABLE_OPTIONS = ("capacity", "clients", "block", "window")
 Path = Union[str, "os.PathLike[str]"]
 CSV_OPTIONS = ("columns", "kinds", "missing", "encoding", "delimiter", "decimal", "thousands", "skip", "null_padding")
@@ -214,6 +220,11 @@ class Frame:
     def __repr__(self) -> str:
         return f"<prefq.Frame of {listed(self.names)}: {repr(self.table).rpartition(': ')[2]}"
 
+    def _repr_html_(self) -> str:
+        """The first rows as a table, as a notebook shows them."""
+        rows = self.rows()
+        return Answer(f"{len(rows)} rows" if len(rows) != 1 else "1 row", self.columns, rows)._repr_html_()
+
     def close(self) -> None:
         """Ends the frame; the same again does nothing."""
         self._is_closed = True
@@ -354,21 +365,31 @@ class Frame:
         """How many more versions of rows there is room for."""
         return self.table.room()
 
-    def best(self, question: str, *, progress: Optional[Progress] = None) -> Answer:
-        """The answer to a question in the names and values of the columns.
+    def best(self, question: Asked, *, where: Optional[Operand] = None, top: Optional[int] = None, ties: Optional[Asked] = None, by: Names = None,
+             progress: Optional[Progress] = None) -> Answer:
+        """The answer to a question in the names and values of the columns; of a preference made by `prefq.low` and so on, its best rows.
+
+        Only rows that meet the condition `where` count, such as "Stars >= 4 and City = 'Lyon'". With `top` the answer has so many rows (1 to 1000), in each group:
+        those of whole levels, and of the last one those that `ties`, a preference, likes best, then those with the smallest ids. `best` then goes on behind level 1.
+        `by` are the columns of groups, where the question has none.
 
         A question is refused at its place, with what could stand there; a value that no row has is warned of (`UnknownValue`). `progress` is called with
         "scanning", the blocks that are scanned, and how many there are.
-        """
-        return self.answer(question, None, progress)
 
-    def answer(self, question: str, mode: Optional[Mode], progress: Optional[Progress] = None) -> Answer:
-        """The same of a question that has this mode, if it has none itself."""
-        with self._query(question, mode) as query:
+        >>> import prefq
+        >>> with prefq.Frame.from_records([{"x": 1, "y": 2}, {"x": 2, "y": 1}, {"x": 3, "y": 3}, {"x": 4, "y": 3}]) as frame:
+        ...     frame.best("best low(x) * low(y)", top=3).ids, frame.best("best low(x) * low(y)", top=1, ties="low(y)").ids
+        ([1, 2, 3], [2])
+        """
+        return self.answer(text_asked(question), Selection.of(where=where, top=top, ties=ties, by=by), progress)
+
+    def answer(self, question: str, selection: Selection, progress: Optional[Progress] = None) -> Answer:
+        """The same with what is asked beside the question."""
+        with self._query(question, selection) as query:
             return query.answer(partial(progress, "scanning") if progress else None)
 
-    def query(self, question: str) -> FrameQuery:
-        """Begins a query, which asks the frame as it is now; see `Table.query`.
+    def query(self, question: Asked, *, where: Optional[Operand] = None, top: Optional[int] = None, ties: Optional[Asked] = None, by: Names = None) -> FrameQuery:
+        """Begins a query, which asks the frame as it is now, as `best` asks it; see `Table.query`.
 
         >>> import prefq
         >>> with prefq.Frame.from_records([{"x": 1}, {"x": 2}]) as frame, frame.query("best low(x)") as query:
@@ -376,26 +397,48 @@ class Frame:
         ...     query.answer().ids
         [1]
         """
-        return self._query(question, None)
+        return self._query(text_asked(question), Selection.of(where=where, top=top, ties=ties, by=by))
 
-    def _query(self, question: str, mode: Optional[Mode]) -> FrameQuery:
+    def _query(self, question: str, selection: Selection) -> FrameQuery:
         opened = self._opened
-        read = read_question(question, opened.by_name.get, opened.names, mode)
+        read = selection.read(question, opened.by_name.get, opened.names)
+        if selection.is_answered_by(read, opened.columns):
+            return self._of_table(opened, question, read, selection)
+        return self._of_moment(opened, question, selection)
+
+    def _of_table(self, opened: Opened, question: str, read: Question, selection: Selection) -> FrameQuery:
+        """A query of the table below."""
         while True:
             asked = plan(question, read, opened.below)
-            try:
+            with asked.refusing():
                 query = opened.table.query(asked.text)
-            except Refused as why:
-                raise asked.refusal(why) from None
             # A row that came in the meantime may have a new text, or the first gap of a column.
             if plan(question, read, opened.below).text == asked.text:
-                return FrameQuery(query, asked, partial(self._answer, question, opened))
+                break
+            query.abandon()         # It may have the only client.
 
-    def _answer(self, question: str, opened: Opened, rows: Sequence[Row]) -> Answer:
-        records = self._records(opened, [(row.level, opened.ids.outside(row.id), row.values) for row in rows])
-        return Answer(question, opened.columns, records, others=self.rows, index=self._index)
+        def answered(rows: List[Row]) -> Answer:
+            some = first_rows(without_twins(rows, asked), asked, selection.top)
+            return self._answer(question, opened, [(row.level, opened.ids.outside(row.id), row.values) for row in some])
 
-    def why(self, id: int, question: str) -> Answer:
+        return FrameQuery(query, asked.unknown, answered)
+
+    def _of_moment(self, opened: Opened, question: str, selection: Selection) -> FrameQuery:
+        """A query of a table of what is computed over the rows as they are now."""
+        pairs = opened.table.rows()
+        moment = opened.moment(pairs)
+        read = reading(question, selection, moment)
+
+        def answered(rows: List[Row]) -> Answer:
+            some = [(row.level, pairs[row.id - 1]) for row in picked(rows, read, selection, moment)]
+            return self._answer(question, opened, [(level, opened.ids.outside(number), numbers) for level, (number, numbers) in some])
+
+        return FrameQuery(query_of(read), read.unknown, answered)
+
+    def _answer(self, question: str, opened: Opened, found: Sequence[Found]) -> Answer:
+        return Answer(question, opened.columns, self._records(opened, found), others=self.rows, index=self._index)
+
+    def why(self, id: int, question: Asked, *, where: Optional[Operand] = None, by: Names = None) -> Answer:
         """The rows that dominate this one in a question: those because of which it is not in the answer. Each has its own level.
 
         >>> import prefq
@@ -403,14 +446,35 @@ class Frame:
         ...     frame.why(2, "best low(x) * low(y)").ids
         [1]
         """
-        opened = self._opened
-        read = read_question(question, opened.by_name.get, opened.names)
-        rows = {opened.ids.outside(number): numbers for number, numbers in opened.table.rows()}
-        if id not in rows:
-            raise opened.missing_row(id)
-        rivals = Rivals(question, read, opened.below, rows, id)
-        records = self._records(opened, [(level, other, rows[other]) for other, level in rivals.dominators()])
-        return Answer(question, opened.columns, records, others=self.rows, index=self._index)
+        text, opened = text_asked(question), self._opened
+        pairs = opened.table.rows()
+        moment = opened.moment(pairs)
+        read = reading(text, Selection.of(where=where, by=by), moment)
+        inside = opened.ids.inside(id)
+        number = next((number for number, (other, _) in enumerate(pairs, 1) if other == inside), None)
+        place = None if number is None else moment.place(number)
+        if place is None:
+            raise opened.missing_row(id) if number is None else Refused(f"row {id} does not meet the condition", "arguments")
+        found = [(level, pairs[moment.id(other + 1) - 1]) for other, level in dominators(read, place)]
+        warn_of(read.unknown)
+        return self._answer(text, opened, [(level, opened.ids.outside(number), numbers) for level, (number, numbers) in found])
+
+    def hasse(self, question: Asked, *, where: Optional[Operand] = None, by: Names = None) -> Hasse:
+        """The better-than graph of a question or a preference: which rows dominate which with none in between. There may be 10,000 rows.
+
+        >>> import prefq
+        >>> with prefq.Frame.from_records([{"x": 1, "y": 2}, {"x": 2, "y": 1}, {"x": 2, "y": 3}]) as frame:
+        ...     frame.hasse("low(x) * low(y)")
+        [(1, 3), (2, 3)]
+        """
+        text, opened = text_preferred(question), self._opened
+        pairs = opened.table.rows()
+        moment = opened.moment(pairs)
+        read = reading(text, Selection.of(("best", 1), where=where, by=by), moment)
+        order, worse = ranked(read)
+        there = [pairs[moment.id(place + 1) - 1] for place in order]
+        warn_of(read.unknown)
+        return Hasse(text, opened.columns, self._records(opened, [(None, opened.ids.outside(number), numbers) for number, numbers in there]), worse)
 
     def _numbers(self, records: Sequence[Any], ids: Iterable[int] = ()) -> List[List[int]]:
         """The numbers of some records, for which columns that are too narrow become wider, if the rows with these ids are there."""
@@ -488,7 +552,7 @@ class Frame:
         except Refused as why:
             raise (self._opened.missing_row(id) if why.kind == "client" and why.number == 7 else why) from None
 
-    def _records(self, opened: Opened, found: Sequence[Tuple[Optional[int], int, Sequence[int]]]) -> List[Record]:
+    def _records(self, opened: Opened, found: Sequence[Found]) -> List[Record]:
         """The records of rows, each with its level and id."""
         values = decoded(opened.columns, [numbers for _, _, numbers in found])
         return [Record(zip(opened.names, row), id=id, level=level) for (level, id, _), row in zip(found, values)]

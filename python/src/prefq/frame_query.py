@@ -1,24 +1,10 @@
 """A query of a frame, and what is to be done about what its question says."""
-import sys
-import warnings
-from typing import Any, Callable, Dict, Iterable, List, Optional, Sequence, Tuple
+from typing import Any, Callable, List, Optional, Sequence
 
 from .answer import Answer
 from .query import Progress, Query
 from .rows import Row
-from .translate import Plan
-
-
-class UnknownValue(UserWarning):
-    """A warning: a question names a value that no row has, so that it prefers nothing.
-
-    >>> import prefq
-    >>> import warnings
-    >>> with prefq.Frame.from_records([{"City": "Lyon"}]) as hotels, warnings.catch_warnings(record=True) as caught:
-    ...     answer = hotels.best("best pos(City, 'Lion')")
-    >>> print(caught[0].category.__name__, caught[0].message, sep=": ")
-    UnknownValue: no row of 'City' has 'Lion'; did you mean 'Lyon'?
-    """
+from .warned import warn_of
 
 
 class FrameQuery:
@@ -30,8 +16,9 @@ class FrameQuery:
     (0, [1])
     """
 
-    def __init__(self, query: Query, asked: Plan, answered: Callable[[Sequence[Row]], Answer]) -> None:
-        self._query, self._asked, self._answered = query, asked, answered
+    def __init__(self, query: Query, unknown: Sequence[str], answered: Callable[[List[Row]], Answer]) -> None:
+        """`unknown` is what is said of values that no row has, and `answered` makes the answer of the rows of the query."""
+        self._query, self._unknown, self._answered = query, unknown, answered
 
     def __repr__(self) -> str:
         return f"<prefq.FrameQuery {self._query!r}>"
@@ -58,34 +45,9 @@ class FrameQuery:
     def answer(self, progress: Optional[Progress] = None) -> Answer:
         """See `Query.answer`. A value that no row has is warned of (`UnknownValue`)."""
         rows = self._query.answer(progress)
-        warn_of(self._asked)
-        return self._answered(without_twins(rows, self._asked))
+        warn_of(self._unknown)
+        return self._answered(rows)
 
     def abandon(self) -> None:
         """See `Query.abandon`."""
         self._query.abandon()
-
-
-def without_twins(rows: List[Row], asked: Plan) -> List[Row]:
-    """The rows of an answer; of those that are equal in the columns of a distinct clause, the first."""
-    if asked.twins is None:
-        return rows
-    places = [int(name[1:]) for name in asked.twins]
-    first: Dict[Tuple[int, ...], Row] = {}
-    for row in rows:
-        first.setdefault(tuple(row.values[place] for place in places), row)
-    return list(first.values())
-
-
-def warn_of(asked: Plan) -> None:
-    """Warns of the values of a question that no row has, at the caller's line."""
-    warn(asked.unknown)
-
-
-def warn(messages: Iterable[str]) -> None:
-    """Warns of values that no row has, at the caller's line."""
-    level = 2
-    while sys._getframe(level - 1).f_globals.get("__package__") == __package__ and sys._getframe(level - 1).f_back:
-        level += 1
-    for message in messages:
-        warnings.warn(message, UnknownValue, stacklevel=level)

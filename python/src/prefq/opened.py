@@ -7,7 +7,8 @@ from .checks import LEAST, MOST_IDS, whole
 from .columns import Column
 from .errors import Refused
 from .kinds import Decimals, Kind, Texts, Whole
-from .loading import check_width
+from .loading import Encoded, check_width
+from .moment import Moment
 from .reading import check_names
 from .records import values_of
 from .rows import WholeRows, Zipped
@@ -58,6 +59,14 @@ class Opened:
     def names(self) -> List[str]:
         """The names of the columns."""
         return list(self.by_name)
+
+    def moment(self, rows: Sequence[Tuple[int, Sequence[int]]]) -> Moment:
+        """Rows of the table as they are at one moment, counted from 1."""
+        def load(name: str) -> Encoded:
+            place = self.columns.index(self.by_name[name])
+            return self.by_name[name], [numbers[place] for _, numbers in rows]
+
+        return Moment(self.names, load, called=lambda number: self.ids.outside(rows[number - 1][0]))
 
     def numbers(self, record: Any, kinds: Mapping[str, Kind] = {}) -> List[int]:
         """The numbers of a record, where these columns have other kinds."""

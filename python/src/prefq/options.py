@@ -7,7 +7,8 @@ from .hints import nearest
 OTHER_NAMES = {
     "sep": "delimiter", "delim": "delimiter", "na_values": "missing", "nullstr": "missing", "keep_default_na": "missing", "usecols": "columns", "dtype": "kinds",
     "dtypes": "kinds", "types": "kinds", "converters": "kinds", "parse_dates": "kinds", "dateformat": "kinds", "timestampformat": "kinds", "date_format": "kinds",
-    "skiprows": "skip", "header": "skip", "decimal_separator": "decimal", "thousand": "thousands", "on_bad_lines": "null_padding"}
+    "skiprows": "skip", "header": "skip", "decimal_separator": "decimal", "thousand": "thousands", "on_bad_lines": "null_padding", "limit": "top", "head": "top", "nlargest": "top",
+    "filter": "where", "query": "where", "condition": "where", "groupby": "by", "group_by": "by", "levels": "top_level"}
 
 
 def check_options(options: Mapping[str, Any], known: Iterable[str], what: str) -> None:

@@ -123,6 +123,15 @@ def _codes(values: Sequence[Any], kind: Texts) -> List[int]:
     return [codes.get(value, LEAST) for value in values]
 
 
+def ungrouped(groups: Any) -> Tuple[Any, List[str]]:
+    """The DataFrame of a groupby, and the names of the columns that it is grouped by. Rows without a group are left out, as pandas leaves them out."""
+    names = [groups.keys] if isinstance(groups.keys, str) else groups.keys
+    there = list(getattr(groups.obj, "columns", ()))
+    if not isinstance(names, list) or not all(isinstance(name, str) and name in there for name in names):
+        raise TypeError("a groupby is one of a DataFrame by names of columns, as frame.groupby('cyl')")
+    return groups.obj.dropna(subset=names) if groups.dropna else groups.obj, names
+
+
 def index_of(index: Any) -> Callable[[Sequence[Record]], Any]:
     """What gives the index of some rows: its own label for each row of a DataFrame with this index, and the id for a row that came later."""
     def labelled(records: Sequence[Record]) -> Any:

@@ -32,19 +32,21 @@ from .carried import column_of
 from .checks import MOST_IDS, MOST_ROWS, whole
 from .columns import Column
 from .errors import Refused
-from .frame_query import warn, without_twins
 from .kinds import Texts
 from .loading import decoded
 from .missing import note_of
 from .once import ask_once
 from .partial import Partial, together
 from .partition import Partition, Reading, Source, called, is_of_dask, partitions_of
+from .preferences import Asked as AskedFor, text_asked
 from .questions import Mode, Question, names_in, read_question
 from .reading import check_names
 from .records import Record
 from .rows import Zipped
+from .selection import without_twins
 from .sources import Opened, opened
 from .translate import Plan, columns_in, plan
+from .warned import warn_of
 from .widening import Nothing, Segment, as_in_a_frame
 
 MERGED = 8                 # partial results that one merge takes
@@ -206,10 +208,8 @@ class Job:
         if not piece:
             return []
         rows = Zipped([segment.numbers[piece.start::piece.step] for segment in partial.asked])
-        try:
+        with asked.plan.refusing():
             found = ask_once(asked.columns, rows, asked.plan.text)
-        except Refused as why:
-            raise asked.plan.refusal(why) from None
         return [(row.level, piece[row.id - 1]) for row in without_twins(found, asked.plan)]
 
     def _is_whole(self, question: Question, rows: Partial, levels: Sequence[int]) -> bool:
@@ -254,7 +254,7 @@ class Job:
         return question.count if question.mode == "at_least" else None
 
 
-def best(partitions: Iterable[Source], question: str, *, map: Callable[..., Any] = map, reduce: Optional[Callable[..., Partial]] = None,
+def best(partitions: Iterable[Source], question: AskedFor, *, map: Callable[..., Any] = map, reduce: Optional[Callable[..., Partial]] = None,
          **options: Any) -> Answer:
     """The answer over the rows of all partitions, whose ids are their numbers in the order of the partitions, from 1.
 
@@ -277,12 +277,12 @@ def best(partitions: Iterable[Source], question: str, *, map: Callable[..., Any]
         1   2  Anna    80.0     2
         1   3  Post    60.5     5
     """
-    job = Job(question, reading=Reading.of(options, "prefq.parts.best"))
+    job = Job(text_asked(question), reading=Reading.of(options, "prefq.parts.best"))
     sources, engine = _sources(partitions, map, reduce)
     return answer_of(found_in(job, sources, engine, reduce), job)
 
 
-def why(partitions: Iterable[Source], id: int, question: str, *, map: Callable[..., Any] = map, **options: Any) -> Answer:
+def why(partitions: Iterable[Source], id: int, question: AskedFor, *, map: Callable[..., Any] = map, **options: Any) -> Answer:
     """The rows that dominate the one with this id in a question, each with its own level (None behind level 1000), as `Frame.why` has them. What it takes is as
     with `best`, and so is what is refused; 65,536 rows at most may dominate it. The partitions are read three times: one that is another meanwhile is refused.
 
@@ -294,7 +294,7 @@ def why(partitions: Iterable[Source], id: int, question: str, *, map: Callable[.
         1   3  Post    60.5     5
     """
     from .why_parts import Rivalry, dominators
-    job = Rivalry(question, reading=Reading.of(options, "prefq.parts.why"))
+    job = Rivalry(text_asked(question), reading=Reading.of(options, "prefq.parts.why"))
     return dominators(job, *_sources(partitions, map), whole(id, "id", 0, MOST_IDS))
 
 
@@ -340,7 +340,7 @@ def waited_for(found: Any) -> Any:
 
 def answer_of(found: Found, job: Job) -> Answer:
     """The rows of an answer as records, by level and then by id."""
-    warn(found.rows.absent.values())
+    warn_of(found.rows.absent.values())
     columns, rows = records_of(found.rows, found.levels, job.reading)
     return Answer(job.question, columns, sorted(rows, key=lambda row: (row.level, row.id)), notes=notes_of(found.rows, job.reading))
 

@@ -8,15 +8,17 @@ from typing import Any, Dict, Iterable, List, NamedTuple, Optional, Sequence, Tu
 from .answer import Answer
 from .columns import Column
 from .errors import Refused
+from .expressions import read_frames_question
 from .hints import unknown_column
 from .kinds import Booleans, Choices, Clock, Texts
-from .questions import Base, Converse, Product, Question, Term, read_question
+from .questions import Base, Converse, Product, Question, Term
 from .visible import in_xml
 
 WIDTH, HEIGHT = 720, 480
 LEFT, RIGHT, TOP, BOTTOM = 96, 150, 44, 56
 COLOURS = ("#1f6fb4", "#e07b1a", "#3a9a4b", "#b03a7a", "#7a5bb0", "#8a6d3b")
 GREY = "#b8bec6"
+MOST_OTHERS = 2000
 MICROSECONDS_OF_AN_HOUR = 3_600_000_000
 EPOCH = datetime.datetime(1970, 1, 1)
 
@@ -44,7 +46,8 @@ class Drawing(NamedTuple):
     title: str
     x: Axis
     y: Axis
-    others: List[Point]
+    others: List[Point]     # at most MOST_OTHERS of so many
+    all_others: int
     points: List[Point]
     fronts: List[List[Tuple[float, float]]]
 
@@ -74,7 +77,7 @@ class Picture:
 def drawing(answer: Answer, x: Optional[str], y: Optional[str]) -> Drawing:
     """What is drawn of an answer."""
     question = _question(answer)
-    ways = ways_of(question.term) if question else {}
+    ways = {name: way for name, way in ways_of(question.term).items() if name in answer.names} if question else {}
     across, along = (_axis(answer, name, ways) for name in _names(answer, x, y, ways))
     groups = [column.name for column in question.by] if question else []
     shown = [_point(record, across, along, groups) for record in answer]
@@ -82,13 +85,14 @@ def drawing(answer: Answer, x: Optional[str], y: Optional[str]) -> Drawing:
     ids = {record.id for record in answer}
     behind = [_point(record, across, along, groups) for record in answer.all_records() if record.id not in ids]
     fronts = _fronts(points, across, along) if question and is_of_two(question.term, across, along) else []
-    return Drawing(answer.question, across, along, [point for point in behind if point is not None], points, fronts)
+    others = [point for point in behind if point is not None]
+    return Drawing(answer.question, across, along, others[::max(1, -(-len(others) // MOST_OTHERS))], len(others), points, fronts)
 
 
 def _question(answer: Answer) -> Optional[Question]:
     columns = {column.name: column for column in answer.columns}
     try:
-        return read_question(answer.question, columns.get, answer.names, ("best", 1))
+        return read_frames_question(answer.question, columns.get, answer.names, ("best", 1))
     except Refused:
         return None
 
@@ -180,7 +184,7 @@ def plotted(answer: Answer, x: Optional[str], y: Optional[str], ax: Any) -> Any:
     what = drawing(answer, x, y)
     if ax is None:
         ax = pyplot.subplots()[1]
-    ax.scatter([point.x for point in what.others], [point.y for point in what.others], s=9, color=GREY, label="other rows" if what.others else None)
+    ax.scatter([point.x for point in what.others], [point.y for point in what.others], s=9, color=GREY, label=name_of_others(what) if what.others else None)
     for level in _levels(what):
         some = [point for point in what.points if point.level == level]
         ax.scatter([point.x for point in some], [point.y for point in some], s=30, color=_colour(level), label=_name_of(level), zorder=3)
@@ -212,6 +216,11 @@ def svg_of(answer: Answer, x: Optional[str], y: Optional[str]) -> str:
     return "\n".join([*parts, *_svg_legend(what), "</svg>\n"])
 
 
+def name_of_others(what: Drawing) -> str:
+    """What the other rows are called, of which some may be drawn."""
+    return f"other rows ({len(what.others)})" if len(what.others) == what.all_others else f"{len(what.others):,} of {what.all_others:,} other rows"
+
+
 class Scale:
     """From places of values to places of a picture."""
 
@@ -240,7 +249,7 @@ def _svg_axes(what: Drawing, xs: Scale, ys: Scale) -> List[str]:
 
 def _svg_legend(what: Drawing) -> List[str]:
     rows = [(_colour(level), f"{_name_of(level)} ({sum(point.level == level for point in what.points)})") for level in _levels(what)]
-    rows += [(GREY, f"other rows ({len(what.others)})")] if what.others else []
+    rows += [(GREY, name_of_others(what))] if what.others else []
     parts = []
     for place, (colour, text) in enumerate(rows[:20]):
         y = TOP + 8 + 18 * place

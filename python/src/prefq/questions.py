@@ -59,7 +59,7 @@ class Base:
 
 @dataclass(frozen=True)
 class Product:
-    """Terms of which all count (`*`), or of which the first that sees a difference decides (`&`)."""
+    """Terms of which all count (`*`), of which the first that sees a difference decides (`&`), or by all of which a row is to be better (`|`, in questions of frames)."""
 
     sign: str
     parts: Tuple["Term", ...]
@@ -299,7 +299,7 @@ class Reader:
             self._unexpected(TERMS)
         self._at += 1
         self._need("(")
-        column = self._name()
+        column = self._operand()
         sets: Tuple[Tuple[Value, ...], ...] = ()
         if token.text in ("around", "between"):
             values = []
@@ -314,6 +314,10 @@ class Reader:
             sets = self._sets(column)
         self._need(")")
         return Base(token.text, column, sets, token.place)
+
+    def _operand(self) -> Column:
+        """What a base term is about."""
+        return self._name()
 
     def _sets(self, column: Column) -> Tuple[Tuple[Value, ...], ...]:
         sets = []

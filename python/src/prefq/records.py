@@ -32,6 +32,13 @@ class Record(Dict[str, Any]):
         except KeyError:
             raise AttributeError(unknown_column(name, list(self))) from None
 
+    def __dir__(self) -> List[str]:
+        """The names of columns that are words come first, so that a prompt completes them."""
+        return [*(name for name in self if isinstance(name, str) and name.isidentifier()), *super().__dir__()]
+
+    def _ipython_key_completions_(self) -> List[str]:
+        return list(self)
+
     def __repr__(self) -> str:
         level = "" if self.level is None else f"level {self.level} "
         return f"<{level}id {self.id}: {dict(self)!r}>"

@@ -11,9 +11,10 @@ A value stands in the table as a whole number, and a missing one as `LEAST`. It 
 Numbers of around and between may lie between two numbers of the table (`around(Stars, 3.5)`): the distances are then compared as they are.
 """
 import math
+from contextlib import contextmanager
 from dataclasses import dataclass
 from fractions import Fraction
-from typing import Dict, Iterable, List, NamedTuple, Optional, Sequence, Tuple
+from typing import Dict, Iterable, Iterator, List, NamedTuple, Optional, Sequence, Tuple
 
 from .checks import LEAST, MOST
 from .columns import Column, quoted
@@ -55,6 +56,14 @@ class Plan:
         """What is said of each value of the question that no row has."""
         return tuple(unknown_value(column, text) for column, text in self.absent)
 
+    @contextmanager
+    def refusing(self) -> Iterator[None]:
+        """Has what the table refuses refused at its place in the user's question."""
+        try:
+            yield
+        except Refused as why:
+            raise self.refusal(why) from None
+
     def refusal(self, why: Refused) -> Refused:
         """The table's refusal of the text below, at its place in the user's question."""
         if why.kind != "term":
@@ -87,9 +96,14 @@ def different(columns: Iterable[Column]) -> List[Column]:
     return list({id(column): column for column in columns}.values())
 
 
-def plan(text: str, question: Question, names: Dict[int, str], pair: Optional[str] = None) -> Plan:
-    """The plan of a question whose columns have these names in the table below, by their identity. With a `pair`, its groups are the rows of a pair."""
-    return Translator(text, names).plan(question, pair)
+def plan(text: str, question: Question, names: Dict[int, str]) -> Plan:
+    """The plan of a question whose columns have these names in the table below, by their identity."""
+    return Translator(text, names).plan(question)
+
+
+def term_below(text: str, term: Term, names: Dict[int, str]) -> str:
+    """A term of a question as the table below reads it."""
+    return Translator(text, names).term(term)
 
 
 class Translator:
@@ -100,18 +114,22 @@ class Translator:
         self._pieces: List[Piece] = []
         self._absent: List[Tuple[Column, str]] = []
 
-    def plan(self, question: Question, pair: Optional[str]) -> Plan:
+    def term(self, term: Term) -> str:
+        """A term alone."""
+        self._write(term, False)
+        return "".join(piece.text for piece in self._pieces)
+
+    def plan(self, question: Question) -> Plan:
         by = tuple(self._name(column) for column in question.by)
         twins = tuple(self._name(base.column) for base in clause_of(question.term)) + by if question.distinct else None
-        if question.distinct and pair is None and self._is_said_by_a_clause(question.term):
+        if question.distinct and self._is_said_by_a_clause(question.term):
             self._clause(clause_of(question.term), by)
             twins = None
         else:
-            self._put(f"{question.mode} {question.count} " if question.mode != "best" and pair is None else "best ", 0)
+            self._put("best " if question.mode == "best" else f"{question.mode} {question.count} ", 0)
             self._write(question.term, False)
-            groups = by if pair is None else (pair,)
-            if groups:
-                self._put(" by " + ", ".join(groups), len(self._text))
+            if by:
+                self._put(" by " + ", ".join(by), len(self._text))
         return Plan(self._text, tuple(self._pieces), by, twins, tuple(self._absent))
 
     def _is_said_by_a_clause(self, term: Term) -> bool:

@@ -1,83 +1,48 @@
-"""Which rows dominate a row: pairs of rows as groups of one question."""
-from typing import Dict, Iterable, List, Mapping, Optional, Sequence, Set, Tuple
+"""Which rows dominate a row: by one comparison with each row of its group."""
+from typing import Dict, List, Optional, Sequence, Tuple
 
-from .checks import MOST_COLUMNS, MOST_ROWS
+from .better_than import Order, bits, places_in
 from .once import ask_once
-from .questions import Question
 from .rows import Zipped
-from .table import Table
-from .translate import plan, terms_columns
+from .selection import Reading
+from .translate import terms_columns
 
 LEVELS = 1000
-PAIR = "pair"
-Values = Tuple[int, ...]
 
 
-class Rivals:
-    """The rows of a table that may dominate one of them, the target, in a question: those of its group."""
+def dominators(read: Reading, target: int) -> List[Tuple[int, Optional[int]]]:
+    """The places, from 0, of the rows that dominate the one at this place, each with its level (None behind level 1000), in order of level, then place.
 
-    def __init__(self, text: str, question: Question, names: Dict[int, str], rows: Mapping[int, Sequence[int]], target: int) -> None:
-        self._plan = plan(text, question, names, pair=PAIR)
-        self._columns = [names[id(column)] for column in terms_columns(question.term)]
-        self._target = target
-        group = places(self._plan.by)
-        twins = None if self._plan.twins is None else places(self._plan.twins)
-        used = places(self._columns)
-        self._values: Dict[int, Values] = {}
-        self._twins: List[int] = []
-        for id_, values in rows.items():
-            if id_ == target or all(values[place] == rows[target][place] for place in group):
-                self._values[id_] = tuple(values[place] for place in used)
-                if twins is not None and id_ < target and all(values[place] == rows[target][place] for place in twins):
-                    self._twins.append(id_)
-
-    def dominators(self) -> List[Tuple[int, Optional[int]]]:
-        """The ids of the rows that dominate the target, each with its level (None behind level 1000), in order of level, then id.
-
-        What dominates a row that dominates the target is among them too, so their levels are those that they have among all rows.
-        """
-        found = self.ids()
-        levels = self._levels(found)
-        return sorted(((id, levels.get(id)) for id in found), key=lambda pair: (pair[1] or LEVELS + 1, pair[0]))
-
-    def ids(self) -> List[int]:
-        """The ids of the rows that dominate the target, in order."""
-        over = self._over(self._values[self._target], {*self._values.values()} - {self._values[self._target]})
-        return sorted({*(id for id, values in self._values.items() if values in over), *self._twins})
-
-    def _over(self, target: Values, others: Iterable[Values]) -> Set[Values]:
-        """Those of the values that dominate those of the target. Each of them and the target are a group of their own, of which the target is not among
-        the best where it is dominated."""
-        candidates = list(others)
-        if len(self._columns) == MOST_COLUMNS:
-            return self._over_one_by_one(target, candidates)
-        over: Set[Values] = set()
-        for begin in range(0, len(candidates), MOST_ROWS // 2):
-            some = candidates[begin:begin + MOST_ROWS // 2]
-            rows = [(*values, pair) for pair, other in enumerate(some) for values in (target, other)]
-            best = {row.id for row in ask_once([*self._columns, PAIR], Zipped(list(zip(*rows))), self._plan.text)}
-            over.update(other for pair, other in enumerate(some) if 2 * pair + 1 not in best)
-        return over
-
-    def _over_one_by_one(self, target: Values, candidates: List[Values]) -> Set[Values]:
-        """The same in a table of two rows, where no column is left for the number of a pair."""
-        question = self._plan.text[:-len(f" by {PAIR}")]
-        over = set()
-        with Table(self._columns, [target, target], capacity=2, clients=1) as table:
-            for other in candidates:
-                table.update(2, other)
-                if table.best(question)[0].id == 2:
-                    over.add(other)
-        return over
-
-    def _levels(self, ids: List[int]) -> Dict[int, int]:
-        """The levels of these rows among themselves."""
-        if not ids:
-            return {}
-        question = f"top_level {LEVELS} " + self._plan.text[len("best "):-len(f" by {PAIR}")]
-        return {ids[row.id - 1]: row.level for row in ask_once(self._columns, Zipped(list(zip(*(self._values[id] for id in ids)))), question)}
+    What dominates a row that dominates the target is among them too, so their levels are those that they have among all rows.
+    """
+    found = better(read, target)
+    levels = levels_of(found, *terms_lists(read), read.term)
+    return sorted(((place, levels.get(place)) for place in found), key=lambda pair: (pair[1] or LEVELS + 1, pair[0]))
 
 
-def places(names: Iterable[str]) -> List[int]:
-    """The places of the columns c0, c1 and so on."""
-    return [int(name[1:]) for name in names]
+def better(read: Reading, target: int) -> List[int]:
+    """The places, ascending, of the rows that dominate the one at this place."""
+    over = Order(read.term, *terms_lists(read)).better(target) & alike(read.lists_of(read.plan.by), target, len(read.lists[0]))
+    if read.question.distinct:      # of rows that are equal in all of its columns the first dominates the others
+        over |= alike(read.lists, target, len(read.lists[0])) & ((1 << target) - 1)
+    return list(places_in(over))
+
+
+def terms_lists(read: Reading) -> Tuple[List[str], List[Sequence[int]]]:
+    """The names and the numbers of the columns of the term."""
+    count = len(terms_columns(read.question.term))
+    return read.names[:count], read.lists[:count]
+
+
+def alike(lists: Sequence[Sequence[int]], target: int, count: int) -> int:
+    """The rows that are equal to the one at this place in these columns, of so many rows."""
+    own = tuple(numbers[target] for numbers in lists)
+    return bits(row == own for row in zip(*lists)) if lists else (1 << count) - 1
+
+
+def levels_of(found: List[int], names: Sequence[str], lists: Sequence[Sequence[int]], term: str) -> Dict[int, int]:
+    """The levels of the rows at these places among themselves."""
+    if not found:
+        return {}
+    rows = Zipped([[numbers[place] for place in found] for numbers in lists])
+    return {found[row.id - 1]: row.level for row in ask_once(names, rows, f"top_level {LEVELS} {term}")}

@@ -2,17 +2,35 @@
 import csv
 from dataclasses import dataclass, replace
 from functools import partial as with_words
-from typing import Any, Callable, Dict, List, Sequence, Tuple
+from typing import Any, Callable, Dict, List, NamedTuple, Optional, Sequence, Tuple
 
 from .answer import Answer
 from .checks import MOST_ROWS
 from .errors import Refused
 from .parts import Asked, Job, Partial, in_partition, records_of, together, waited_for
 from .partition import Source, called
+from .selection import Reading
 from .sources import Opened, opened
-from .why import LEVELS, Rivals
+from .why import LEVELS, better
+from .why import dominators as dominators_in
 
 CHANGED = "a partition is another one than it was when the row was looked for: ask again"
+
+
+class Rivals(NamedTuple):
+    """Rows by their numbers, ascending, one of which, at the place of the target, may be dominated by others."""
+
+    read: Reading
+    numbers: List[int]
+    target: int
+
+    def ids(self) -> List[int]:
+        """The numbers of the rows that dominate the target."""
+        return [self.numbers[place] for place in better(self.read, self.target)]
+
+    def dominators(self) -> List[Tuple[int, Optional[int]]]:
+        """The same with their levels, None behind level 1000."""
+        return [(self.numbers[place], level) for place, level in dominators_in(self.read, self.target)]
 
 
 @dataclass(frozen=True)
@@ -49,8 +67,10 @@ class Rivalry(Job):
         numbers: Dict[int, Tuple[int, ...]] = dict(zip(places, others))
         if numbers.get(number, first) != first:
             raise Refused(CHANGED, "table")
-        names = {id(segment.column): name for segment, name in zip(view.asked, asked.columns)}
-        return Rivals(self.question, asked.question, names, {**numbers, number: first}, number)
+        rows = sorted({**numbers, number: first}.items())
+        lists = dict(zip((id(segment.column) for segment in view.asked), zip(*(values for _, values in rows))))
+        read = Reading.of(self.question, asked.question, lambda column: lists[id(column)])
+        return Rivals(read, [other for other, _ in rows], [other for other, _ in rows].index(number))
 
     def _rows(self, partition: Source) -> Tuple[Opened, Partial]:
         try:

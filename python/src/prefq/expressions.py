@@ -1,0 +1,314 @@
+"""Questions of frames, in which an expression may stand in the place of a column: `low(Price / Stars)`, `true(Stars >= 4 and City = 'Lyon')`.
+
+An expression is read by the reader of the question, so that what is wrong in it is refused at its place too. Beside it a question of a frame may have `|`, by which a
+row is better where it is better in both, and `empty()`, by which all rows are equally good. What an expression means is said in `computed`.
+
+    or   and   not   = == <> != < <= > >= in is   + -   * /   -   abs(x) min(x, y) max(x, y)
+"""
+from contextlib import contextmanager
+from dataclasses import dataclass
+from typing import Callable, Dict, Iterator, List, Optional, Sequence, Tuple, Union
+
+from .columns import Column, quoted
+from .hints import nearest, unknown_column
+from .kinds.booleans import WORDS
+from .questions import TOO_DEEP, UNKNOWN_COLUMN, Base, Mode, Product, Question, Reader, Term, Token, Value, refuse
+
+FUNCTIONS = {"abs": 1, "min": 2, "max": 2}      # with the fewest arguments
+COMPARISONS = ("<=", ">=", "<>", "!=", "==", "<", ">", "=")
+# Signs that begin what stands behind a column in an expression, and nowhere else behind a column.
+BEHIND_A_COLUMN = ("+", "-", "*", "/", "<", ">", "=", "!")
+WORDS_BEHIND_A_COLUMN = ("and", "or", "in", "is", "not")
+WORDS_OF_MISSING = ("missing", "null", "none")
+# What is read and computed by functions that call themselves stays far from the depth that Python has.
+DEEPEST_IN_AN_EXPRESSION = 24
+MOST_IN_A_ROW = 64
+AN_OPERAND = "a column, a number, abs(..), min(..), max(..), - or ("
+
+
+@dataclass(frozen=True)
+class Literal:
+    """A value that is written in an expression: a "number", a "text" or a "truth"."""
+
+    kind: str
+    text: str
+    place: int
+
+
+@dataclass(frozen=True)
+class Named:
+    """A column."""
+
+    column: Column
+    place: int
+
+
+@dataclass(frozen=True)
+class Operation:
+    """What is made of some parts: by + - * / of numbers, by a function, by "and", "or", "not", or by "missing" of one."""
+
+    name: str
+    parts: Tuple["Node", ...]
+    place: int
+
+
+@dataclass(frozen=True)
+class Comparison:
+    """Whether a part is =, <>, <, <=, > or >= another one."""
+
+    sign: str
+    left: "Node"
+    right: "Node"
+    place: int
+
+
+Node = Union[Literal, Named, Operation, Comparison]
+# What makes a column of an expression, of its text and of its place in the question.
+Make = Callable[[Node, str, int], Column]
+
+
+def unmade(node: Node, text: str, place: int) -> Column:
+    """The column of an expression, of which nothing is computed yet."""
+    is_truth = isinstance(node, Comparison) or isinstance(node, Operation) and node.name in ("and", "or", "not", "missing")
+    return Column(text, "bool" if is_truth else "whole")
+
+
+def read_frames_question(question: str, column: Callable[[str], Optional[Column]], names: Sequence[str], mode: Optional[Mode] = None, make: Make = unmade) -> Question:
+    """The tree of a question of a frame. Where a mode is given, the question may do without one."""
+    if not isinstance(question, str):
+        raise TypeError(f"a question is a text, not {question!r}")
+    return FrameReader(question, column, names, make).question(mode)
+
+
+def read_condition(text: str, column: Callable[[str], Optional[Column]], names: Sequence[str]) -> Node:
+    """The tree of a condition that stands alone."""
+    if not isinstance(text, str):
+        raise TypeError(f"a condition is a text, not {text!r}")
+    return FrameReader(text, column, names, unmade).condition()
+
+
+def names_a_column(node: Node) -> bool:
+    """Whether an expression depends on the row."""
+    parts = node.parts if isinstance(node, Operation) else (node.left, node.right) if isinstance(node, Comparison) else ()
+    return isinstance(node, Named) or any(map(names_a_column, parts))
+
+
+class FrameReader(Reader):
+    """Reads a question of a frame from the left."""
+
+    def __init__(self, question: str, column: Callable[[str], Optional[Column]], names: Sequence[str], make: Make) -> None:
+        super().__init__(question, column, names)
+        self._make = make
+        self._nested = 0
+        # How many operations stand in one another, by the identity of the outermost.
+        self._heights: Dict[int, int] = {}
+
+    def condition(self) -> Node:
+        """The text as a whole as one condition."""
+        node = self._or()
+        if self._next.kind != "end":
+            self._unexpected("and, or, a comparison or the end")
+        self._check_named(node, 0)
+        return node
+
+    def _prior(self) -> Term:
+        parts = [super()._prior()]
+        while self._takes_strange("|"):
+            parts.append(super()._prior())
+        return parts[0] if len(parts) == 1 else Product("|", tuple(parts))
+
+    def _base(self) -> Base:
+        token = self._next
+        if token.kind == "word" and self._is_called() and token.text in ("true", "empty"):
+            self._at += 1
+            return self._true(token) if token.text == "true" else self._empty(token)
+        return super()._base()
+
+    def _true(self, token: Token) -> Base:
+        self._need("(")
+        column = self._expression()
+        self._need(")")
+        return Base("pos", column, ((Value("true", token.place),),), token.place)
+
+    def _empty(self, token: Token) -> Base:
+        """By a set without values all rows are the same, whatever the column is."""
+        self._need("(")
+        self._need(")")
+        column = self._column(self._names[0]) if self._names else None
+        if column is None:
+            refuse(self._question, token.place, "empty() needs a frame with a column")
+        return Base("pos", column, ((),), token.place)
+
+    def _operand(self) -> Column:
+        return self._expression() if self._is_expression() else self._name()
+
+    def _is_expression(self) -> bool:
+        """Whether more than the name of a column stands here."""
+        token, after = self._next, self._ahead(1)
+        if token.is_name():
+            is_operator = after.kind in ("sign", "strange") and after.text in BEHIND_A_COLUMN
+            return is_operator or after.kind == "word" and after.text.lower() in WORDS_BEHIND_A_COLUMN or (after.kind, after.text) == ("sign", "(")
+        return token.kind in ("number", "date") or token.kind == "sign" and token.text in ("-", "(")
+
+    def _expression(self) -> Column:
+        first = self._next
+        node = self._or()
+        last = self._tokens[self._at - 1]
+        self._check_named(node, first.place)
+        return node.column if isinstance(node, Named) else self._make(node, self._question[first.place:last.place + last.length], first.place)
+
+    def _check_named(self, node: Node, place: int) -> None:
+        if not names_a_column(node):
+            refuse(self._question, place, "an expression names a column")
+
+    def _or(self) -> Node:
+        return self._joined("or", lambda: self._joined("and", self._not))
+
+    def _joined(self, word: str, part: Callable[[], Node]) -> Node:
+        place = self._next.place
+        parts = [part()]
+        while self._takes_word(word):
+            parts.append(part())
+        return parts[0] if len(parts) == 1 else self._operation(word, parts, place)
+
+    def _not(self) -> Node:
+        token = self._next
+        if not self._takes_word("not"):
+            return self._comparison()
+        with self._inside_of(token):
+            return self._operation("not", [self._not()], token.place)
+
+    def _comparison(self) -> Node:
+        """Comparisons in a chain, as 3 <= Stars < 5, hold where each of them does."""
+        left = self._sum()
+        found: List[Node] = []
+        while True:
+            token = self._next
+            sign = next((sign for sign in COMPARISONS if self._takes_strange(sign)), None)
+            if sign is None:
+                break
+            right = self._sum()
+            found.append(self._compared(sign, left, right, token.place))
+            left = right
+        if found:
+            return found[0] if len(found) == 1 else self._operation("and", found, found[0].place)
+        return self._member(left)
+
+    def _member(self, node: Node) -> Node:
+        token = self._next
+        if self._takes_word("is"):
+            is_not = self._takes_word("not") is not None
+            if not self._takes_word(*WORDS_OF_MISSING):
+                self._unexpected("missing or not missing")
+            found: Node = self._operation("missing", [node], token.place)
+        else:
+            is_not = (token.kind, token.text.lower()) == ("word", "not") and self._ahead(1).text.lower() == "in"
+            self._at += is_not
+            if not self._takes_word("in"):
+                return node
+            found = self._values_in(node, token.place)
+        return self._operation("not", [found], token.place) if is_not else found
+
+    def _values_in(self, node: Node, place: int) -> Node:
+        self._need("(")
+        values = [self._sum()]
+        while self._takes(","):
+            values.append(self._sum())
+        self._need(")")
+        return self._operation("or", [self._compared("=", node, value, place) for value in values], place)
+
+    def _sum(self) -> Node:
+        return self._operations(("+", "-"), lambda: self._operations(("*", "/"), self._signed))
+
+    def _operations(self, signs: Tuple[str, ...], part: Callable[[], Node]) -> Node:
+        node = part()
+        while True:
+            token = self._next
+            sign = next((sign for sign in signs if self._takes_sign(sign)), None)
+            if sign is None:
+                return node
+            node = self._operation(sign, [node, part()], token.place)
+
+    def _signed(self) -> Node:
+        token = self._next
+        if not self._takes("-"):
+            return self._primary()
+        with self._inside_of(token):
+            return self._operation("-", [Literal("number", "0", token.place), self._signed()], token.place)
+
+    def _primary(self) -> Node:
+        token = self._next
+        if (token.kind, token.text) == ("sign", "("):
+            return self._in_parentheses()
+        if token.kind == "number":
+            return Literal("number", self._take().text, token.place)
+        if token.kind in ("text", "date"):
+            return Literal("text", self._take().text, token.place)
+        if token.kind == "word" and self._is_called():
+            return self._call()
+        if token.kind == "word" and token.text.lower() in WORDS and self._column(token.text) is None:
+            return Literal("truth", self._take().text, token.place)
+        if not token.is_name():
+            self._unexpected(AN_OPERAND)
+        if self._column(token.text) is None and nearest(token.text, self._names) is None:
+            refuse(self._question, token.place, f"{unknown_column(token.text, self._names)}. A text stands in single quotes, {quoted(token.text)}", UNKNOWN_COLUMN)
+        return Named(self._name(), token.place)
+
+    def _in_parentheses(self) -> Node:
+        with self._inside_of(self._take()):
+            node = self._or()
+        if not self._takes(")"):
+            self._unexpected("an operator or a )")
+        return node
+
+    def _call(self) -> Node:
+        token = self._next
+        fewest = FUNCTIONS.get(token.text)
+        if fewest is None:
+            there = ", ".join(FUNCTIONS)
+            refuse(self._question, token.place, f"there is no function {token.text!r}; there are {there}: add a column with {token.text}(..)", UNKNOWN_COLUMN)
+        self._at += 1
+        self._need("(")
+        with self._inside_of(token):
+            parts = [self._sum()]
+            while fewest > 1 and self._takes(","):
+                parts.append(self._sum())
+        if len(parts) < fewest:
+            self._unexpected("a , and another number")
+        self._need(")")
+        return self._operation(token.text, parts, token.place)
+
+    def _operation(self, name: str, parts: Sequence[Node], place: int) -> Operation:
+        node = Operation(name, tuple(parts), place)
+        self._measure(node, parts, place)
+        return node
+
+    def _compared(self, sign: str, left: Node, right: Node, place: int) -> Comparison:
+        node = Comparison({"==": "=", "!=": "<>"}.get(sign, sign), left, right, place)
+        self._measure(node, (left, right), place)
+        return node
+
+    def _measure(self, node: Node, parts: Sequence[Node], place: int) -> None:
+        height = 1 + max(self._heights.get(id(part), 0) for part in parts)
+        if height > MOST_IN_A_ROW:
+            refuse(self._question, place, f"more than {MOST_IN_A_ROW} operations on one another", TOO_DEEP)
+        self._heights[id(node)] = height
+
+    @contextmanager
+    def _inside_of(self, token: Token) -> Iterator[None]:
+        """What stands behind a sign, or in the parentheses that a token opens."""
+        self._nested += 1
+        if self._nested > DEEPEST_IN_AN_EXPRESSION:
+            refuse(self._question, token.place, f"more than {DEEPEST_IN_AN_EXPRESSION} nestings in an expression", TOO_DEEP)
+        yield
+        self._nested -= 1
+
+    def _takes_sign(self, sign: str) -> bool:
+        return self._takes(sign) or self._takes_strange(sign)
+
+    def _takes_strange(self, sign: str) -> bool:
+        """Takes a sign that the program's language does not have, of one character or two, if it is next."""
+        tokens = [self._ahead(step) for step in range(len(sign))]
+        is_next = all((token.kind, token.text, token.place) == ("strange", letter, tokens[0].place + step) for step, (token, letter) in enumerate(zip(tokens, sign)))
+        self._at += len(sign) * is_next
+        return is_next

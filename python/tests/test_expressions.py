@@ -1,0 +1,205 @@
+"""Expressions and conditions: what they compute, exactly, and that random ones are as by a plain evaluation."""
+import datetime
+import os
+import random
+import unittest
+import warnings
+from decimal import Decimal
+from fractions import Fraction
+
+import plain
+import plain_expressions
+import prefq
+import random_frames
+from support import TestCase
+
+try:
+    import pandas
+except ImportError:
+    pandas = None
+
+QUESTIONS = int(os.environ.get("PREFQ_TEST_COUNT", 1000)) // 3
+SEED = int(os.environ.get("PREFQ_TEST_SEED", 20260501))
+QUESTIONS_OF_A_FRAME = 5
+HOTELS = [{"City": "Lyon", "Price": Decimal("57.40"), "Stars": 5, "x": 0.1, "Opened": datetime.date(2002, 4, 14), "Left": datetime.date(2002, 5, 1), "Pool": True},
+          {"City": "Bern", "Price": Decimal("60.00"), "Stars": 3, "x": 0.3, "Opened": datetime.date(1955, 4, 14), "Left": datetime.date(1955, 4, 20), "Pool": False},
+          {"City": "Lyon", "Price": Decimal("90.00"), "Stars": 9, "x": 0.2, "Opened": datetime.date(2012, 4, 14), "Left": None, "Pool": True},
+          {"City": None, "Price": None, "Stars": 4, "x": 0.5, "Opened": None, "Left": datetime.date(2012, 4, 14), "Pool": None}]
+
+
+def pairs(answer):
+    return list(zip(answer.levels, answer.ids))
+
+
+class Expressions(TestCase):
+    @classmethod
+    def setUpClass(cls):
+        cls.frame = prefq.Frame.from_records(HOTELS)
+
+    @classmethod
+    def tearDownClass(cls):
+        cls.frame.close()
+
+    def test_answers(self):
+        for question, ids in [
+                ("best low(Price / Stars)", [3]), ("best high(abs(Stars - 4))", [3]), ("best around(Price / Stars, 20)", [2]), ("best low(Price + 2 * Stars)", [2]),
+                ("best true(Price < 60 or Stars > 8)", [1, 3]), ("best pos(Price > 58, true)", [2, 3]), ("best -true(Stars >= 4)", [2]), ("best low(-Stars)", [3]),
+                ("best low((Stars))", [2]), ("best low(min(Stars, 4, Price))", [2]), ("best true(City is missing)", [4]), ("best true(not Pool) & low(Stars)", [2]),
+                ("best true(Opened > 1990-01-01 and City in ('Lyon', 'Bern'))", [1, 3]), ("best low(Left - Opened)", [2]), ("best between(Left - Opened, 10, 20)", [1]),
+                ("best true(x + x + x = 0.3)", [1]), ("best true(0.1 + 0.2 = x)", [2]), ("best pos(Price / 3, 20)", [2]), ("best true(Left = Opened)", [1, 2, 3, 4]),
+                ("best high(Price * 1e2 / 7) by Pool", [2, 3, 4]), ("best low(Price / Stars) * high(Stars)", [3]), ("best true(Pool = true) & low(Price)", [1])]:
+            with self.subTest(question):
+                self.assertEqual(self.frame.best(question).ids, ids)
+
+    def test_conditions(self):
+        for where, ids in [
+                ("Price < 60", [1]), ("not Price < 60", [2, 3]), ("City = 'Lyon' and Price > 60", [3]), ("Pool", [1, 3]), ("not Pool", [2]), ("City is not missing", [1, 2, 3]),
+                ("City is null or Stars = 5", [1, 4]), ("Opened < '2000-01-01'", [2]), ("'2000-01-01' > Opened", [2]), ("3 < Stars <= 5", [1, 4]), ("Stars in (3, 9)", [2, 3]),
+                ("Stars not in (3, 9)", [1, 4]), ("x = 0.1", [1]), ("Pool = true", [1, 3]), ("Pool <> yes", [2]), ("Stars > 100", []), ("City <> 'Lyon'", [2]),
+                ("Price > 0 OR Price <= 0", [1, 2, 3]), ('"Price" >= 60', [2, 3]), ("`Price` >= 6e1", [2, 3]), ("Left > Opened", [1, 2]), ("Stars * 2 == 10", [1])]:
+            with self.subTest(where):
+                self.assertEqual(sorted(self.frame.best("top_level 9 low(Stars)", where=where).ids), ids)
+
+    def test_a_row_of_which_an_expression_has_no_value_is_named_and_can_be_left_out(self):
+        with self.refuses(prefq.Refused, "row 4 has 0 behind the /", kind="term"):
+            self.frame.best("best low(x / (Stars - 4))")
+        self.assertEqual(self.frame.best("best low(x / (Stars - 4))", where="Stars <> 4").ids, [2])
+        with prefq.Frame.from_records([{"x": 1.5}, {"x": float("inf")}, {"x": 2.0}]) as frame:
+            frame.delete(1)
+            with self.refuses(prefq.Refused, "row 2 has inf, with which nothing is computed", "best low(x + 1)\n             ^"):
+                frame.best("best low(x + 1)")
+            self.assertEqual(frame.best("best high(x)", where="x > 1e308").ids, [2])
+
+    def test_what_is_missing_comes_last(self):
+        with prefq.Frame.from_records([{"x": 1, "y": 2}, {"x": None, "y": 1}, {"x": 3, "y": 3}]) as frame:
+            self.assertEqual(pairs(frame.best("top_level 3 low(x + y)")), [(1, 1), (2, 3), (3, 2)])
+            self.assertEqual(pairs(frame.best("top_level 3 -low(x + y)")), [(1, 3), (2, 1), (3, 2)])
+
+    def test_thirds_and_numbers_that_no_64_bits_have(self):
+        with prefq.Frame.from_records([{"x": 1, "y": 3}, {"x": 2, "y": 6}, {"x": 2**62, "y": 7}, {"x": -2**62, "y": 7}]) as frame:
+            self.assertEqual(pairs(frame.best("top_level 3 high(x / y)")), [(1, 3), (2, 1), (2, 2), (3, 4)])
+            self.assertEqual(frame.best("best pos(x * x, 4)").ids, [2])
+            self.assertEqual(frame.best("best low(x * x * x / y)").ids, [4])
+            with self.refuses(prefq.Refused, "numbers too fine for 64 bits"):
+                frame.best("best around(x * x / y, 0)")
+
+    def test_numbers_that_no_float_tells_apart(self):
+        with prefq.Frame.from_records([{"x": 10**17, "y": 3}, {"x": 10**17 + 1, "y": 3}, {"x": 10**17 - 1, "y": 3}, {"x": 0, "y": 1}]) as frame:
+            self.assertEqual(pairs(frame.best("top_level 3 high(x * x / y)")), [(1, 2), (2, 1), (3, 3)])
+            self.assertEqual(frame.best(f"best high(x * x / y * {10**300})").ids, [2])
+            self.assertEqual(frame.best(f"best low(0 - x * x / y * {10**300})").ids, [2])
+
+    def test_a_value_that_no_row_has(self):
+        with self.assertWarnsRegex(prefq.UnknownValue, "no row of 'City' has 'Lion'; did you mean 'Lyon'?") as caught:
+            self.assertEqual(self.frame.best("best low(Price)", where="City = 'Lion'"), [])
+        self.assertEqual(caught.filename, __file__)
+
+    def test_it_follows_each_change(self):
+        with prefq.Frame.from_records([{"price": 50, "stars": 2}, {"price": 90, "stars": 3}]) as frame:
+            self.assertEqual(frame.best("best low(price / stars)").ids, [1])
+            frame.update(2, {"price": 60})
+            self.assertEqual(frame.best("best low(price / stars)").ids, [2])
+            new = frame.insert({"price": 40, "stars": 4})
+            self.assertEqual(frame.best("best low(price / stars)").ids, [new])
+            frame.delete(new)
+            frame.insert({"price": Decimal("1.25"), "stars": 1})
+            self.assertEqual(frame.best("best low(price / stars)", where="price < 70").ids, [4])
+            self.assertEqual(frame.rows()[0], {"price": 50, "stars": 2})
+
+    def test_names_of_any_spelling(self):
+        with prefq.Frame.from_records([{"Price (EUR)": 5, "and": 1, "wt.hp": 2}, {"Price (EUR)": 3, "and": 3, "wt.hp": 2}]) as frame:
+            self.assertEqual(frame.best('best low("Price (EUR)" * `and`)').ids, [1])
+            self.assertEqual(frame.best("best low(wt.hp / `and`)").ids, [2])
+            self.assertEqual(frame.best("best low(and)").ids, [1])
+            self.assertEqual(frame.best("best low(`Price (EUR)`)", where="wt.hp >= 2").ids, [2])
+
+    def test_psel(self):
+        self.assertEqual(pairs(prefq.psel(HOTELS, "low(Price / Stars)", where="Stars > 3", top=2)), [(1, 3), (2, 1)])
+        self.assertEqual(prefq.psel(HOTELS, prefq.low(prefq.expr("Price / Stars")) & prefq.true("Pool")).ids, [3])
+
+    @unittest.skipIf(pandas is None, "pandas is not installed")
+    def test_dataframes(self):
+        frame = pandas.DataFrame({"wt": [2.62, 2.32, 3.215], "hp": [110, 93, 110], 7: [1, 2, 3]}, index=["Mazda", "Datsun", "Hornet"])
+        self.assertEqual(list(prefq.psel(frame, "low(wt / hp)").index), ["Mazda"])
+        self.assertEqual(list(prefq.psel(frame, "true(wt > 3)").index), ["Hornet"])
+        self.assertEqual(list(prefq.psel(frame, "low(hp)", where="wt > 2.5").index), ["Mazda", "Hornet"])
+        self.assertEqual(list(prefq.psel(frame, "low(hp)", where="wt > 100").index), [])
+        with self.refuses(prefq.Refused, "row 2 has 0 behind the /"):
+            prefq.psel(frame, "low(wt / (hp - 93))")
+
+
+class Random(TestCase):
+    def refused(self, rows, *parts):
+        """Whether one of these has no value in a row."""
+        try:
+            for row in rows.values():
+                for part in parts:
+                    part.of(row)
+        except plain_expressions.Nothing:
+            return True
+        return False
+
+    def asked(self, chance, expressions):
+        """A question about an expression: its text, and its term over rows that have the values of the expression under its text."""
+        if chance.random() < 0.3 or not expressions.numbers:
+            part = expressions.condition()
+            return part, f"true({part.text})", plain.Layered(part.text, "", [[True]])
+        part = expressions.number(2)
+        first, last = sorted(chance.choice([Fraction(0), Fraction(7, 2), Fraction(-100), Fraction(10**6), Fraction(1, 4)]) for _ in range(2))
+        values = [f"{float(value)!r}" for value in (first, last)]
+        return chance.choice([(part, f"low({part.text})", plain.Low(part.text, "")), (part, f"high({part.text})", plain.High(part.text, "")),
+                              (part, f"between({part.text}, {', '.join(values)})", plain.Between(part.text, "", first, last)),
+                              (part, f"pos({part.text}, {values[0]}, 1)", plain.Layered(part.text, "", [[first, 1]]))])
+
+    def one(self, chance):
+        columns, records = random_frames.frame(chance)
+        given = {name: kind.spelling for name, kind in columns.items() if kind.is_given}
+        expressions = plain_expressions.Expressions(chance, columns)
+        with prefq.Frame.from_records(records, kinds=given) as frame:
+            for _ in range(QUESTIONS_OF_A_FRAME):
+                self.question(chance, frame, dict(enumerate(records, 1)), expressions, random_frames.Questions(chance, columns))
+
+    def question(self, chance, frame, rows, expressions, questions):
+        part, text, term = self.asked(chance, expressions)
+        if part.is_column:
+            return
+        where = chance.choice([None, expressions.condition()])
+        if where and self.refused(rows, where):
+            with self.assertRaises(prefq.Refused):
+                frame.best(f"best {text}", where=where.text)
+            return
+        rows = {id: row for id, row in rows.items() if where is None or where.of(row)}
+        other = questions.term(1)
+        sign, product = chance.choice([("*", plain.Pareto), ("&", plain.Prior)])
+        asked = f"top_level 2 -{text} {sign} ({other.text})"
+        try:
+            if self.refused(rows, part):
+                with self.assertRaises(prefq.Refused):
+                    frame.best(asked, where=where and where.text)
+                return
+            answer = frame.best(asked, where=where and where.text)
+        except prefq.Refused as why:
+            self.assertTrue("too fine" in str(why) or "names a column" in str(why) or "that are written are compared" in str(why), (asked, where and where.text, str(why)))
+            return
+        valued = {id: {**row, part.text: part.of(row)} for id, row in rows.items()}
+        self.assertEqual(pairs(answer), plain.Ask("", product("", [plain.Converse("", term), other]), levels=2).answer(valued), (asked, where and where.text))
+        if pandas is not None and chance.random() < 0.2:
+            found = self.selected(frame, asked, where)
+            self.assertEqual(list(zip(found[".level"], found.index)), pairs(answer), (asked, where and where.text))
+
+    def selected(self, frame, asked, where):
+        """The same by psel of a DataFrame, whose index are the ids."""
+        rows = frame.rows()
+        table = pandas.DataFrame([dict(row) for row in rows], index=[row.id for row in rows], columns=frame.names, dtype=object)
+        return prefq.psel(table, asked, where=where and where.text, kinds={column.name: str(column.kind) for column in frame.columns})
+
+    def test_as_by_a_plain_evaluation(self):
+        with warnings.catch_warnings():
+            warnings.simplefilter("ignore", prefq.UnknownValue)
+            for number in range(QUESTIONS // QUESTIONS_OF_A_FRAME):
+                with self.subTest(frame=number):
+                    self.one(random.Random(SEED + number))
+
+
+if __name__ == "__main__":
+    unittest.main()

@@ -1,0 +1,109 @@
+"""Preferences as values: their text is what is asked, and reads as they were made."""
+import datetime
+import os
+import random
+import unittest
+import warnings
+from decimal import Decimal
+from fractions import Fraction
+
+import plain
+import prefq
+import random_frames
+from prefq import around, between, empty, expr, high, layered, low, pos, reverse, true
+from support import TestCase
+
+COUNT = int(os.environ.get("PREFQ_TEST_COUNT", 1000)) // 10
+SEED = int(os.environ.get("PREFQ_TEST_SEED", 20260501))
+x, y, z = low("x"), high("y"), pos("z", 1)
+TEXTS = [
+    (x, "low(x)"), (low("Price (EUR)"), 'low("Price (EUR)")'), (low('say "x"'), 'low("say ""x""")'), (x * y * z, "low(x) * high(y) * pos(z, 1)"),
+    (x & y * z, "low(x) & high(y) * pos(z, 1)"), ((x & y) * z, "(low(x) & high(y)) * pos(z, 1)"), (x * (y & z), "low(x) * (high(y) & pos(z, 1))"),
+    (x * (y * z), "low(x) * high(y) * pos(z, 1)"), (-x, "-low(x)"), (--x, "--low(x)"), (-(x * y), "-(low(x) * high(y))"), (-x * y, "-low(x) * high(y)"),
+    (reverse(x & y), "-(low(x) & high(y))"), (x | y & z, "low(x) | high(y) & pos(z, 1)"), ((x | y) & z, "(low(x) | high(y)) & pos(z, 1)"),
+    (x.by("City"), "low(x) by City"), ((x & y).by("City", "a b"), 'low(x) & high(y) by City, "a b"'),
+    (around("x", 5), "around(x, 5)"), (around("x", -5), "around(x, -5)"), (between("x", 0.5, Decimal("1.50")), "between(x, 0.5, 1.50)"),
+    (around("x", Fraction(1, 8)), "around(x, 0.125)"), (around("x", Fraction(-10**40 - 1, 2)), f"around(x, -5{'0' * 39}.5)"), (around("x", Decimal("1e3")), "around(x, 1000)"),
+    (pos("x", float("inf")), "pos(x, 'inf')"), (pos("x", True, False), "pos(x, true, false)"), (pos("x", "it's"), "pos(x, 'it''s')"),
+    (around("x", datetime.date(2026, 5, 1)), "around(x, '2026-05-01')"), (around("x", datetime.datetime(2026, 5, 1, 17, 30)), "around(x, '2026-05-01 17:30:00')"),
+    (around("x", datetime.time(17, 30)), "around(x, '17:30:00')"), (layered("x", ["a", "b"], ["c"]), "layered(x, {'a', 'b'}, {'c'})"),
+    (low(expr("x / y")), "low(x / y)"), (true("x > 5"), "true(x > 5)"), (true(expr("x > 5")), "true(x > 5)"),
+    (empty(), "empty()"), (empty() * x, "low(x)"), (x & empty(), "low(x)"), (empty() * empty(), "empty()"), (empty() | x, "low(x)"),
+]
+
+
+class Values(TestCase):
+    def test_texts(self):
+        for preference, text in TEXTS:
+            with self.subTest(text):
+                self.assertEqual((str(preference), repr(preference)), (text, text))
+
+    def test_equal_where_the_texts_are(self):
+        self.assertEqual(low("x") * low("y"), low("x") * low("y"))
+        self.assertNotEqual(low("x") * low("y"), low("y") * low("x"))
+        self.assertNotEqual(low("x"), "low(x)")
+        self.assertEqual(len({low("x"), low("x"), high("x")}), 2)
+
+    def test_what_is_refused(self):
+        for make, says in [(lambda: low(5), "low(..) takes the name of a column, or expr(..), and not 5"), (lambda: pos("x"), "pos(..) takes at least one value"),
+                           (lambda: layered("x", "abc"), "layered(..) takes a list of values for each layer"), (lambda: layered("x", []), "a layer has at least one value"),
+                           (lambda: low("x") * 5, "* stands between two preferences, and 5 is of type int"), (lambda: low("x") & "y", "& stands between two preferences"),
+                           (lambda: empty() | 5, "| stands between two preferences"), (lambda: low("x") + low("y"), "there is no +, rPref's disjoint union"),
+                           (lambda: pos("x", None), "None, of type NoneType, is no value of a question"), (lambda: low("x").by(), "by(..) takes names of columns, not nothing"),
+                           (lambda: low("x").by(3), "by(..) takes names of columns, not 3"), (lambda: expr(3), "an expression is a text, not 3")]:
+            with self.subTest(says), self.refuses(TypeError, says):
+                make()
+        for make, says in [(lambda: -low("x").by("c"), "low(x) by c has groups"), (lambda: low("y") * low("x").by("c"), "write by(..) last"),
+                           (lambda: around("x", float("nan")), "nan is no value"), (lambda: around("x", Decimal("nan")), "NaN is no number"),
+                           (lambda: around("x", Fraction(1, 3)), "1/3 has more than 18 decimals")]:
+            with self.subTest(says), self.refuses(ValueError, says):
+                make()
+
+    def test_asked(self):
+        records = [{"c": "a", "x": 1, "y": 1}, {"c": "a", "x": 2, "y": 3}, {"c": "b", "x": 3, "y": 2}, {"c": "b", "x": 3, "y": 1}]
+        with prefq.Frame.from_records(records) as frame:
+            self.assertEqual(frame.best(x * y).ids, [1, 2])
+            self.assertEqual(frame.best(x * y).question, "best low(x) * high(y)")
+            self.assertEqual(frame.best((x & y).by("c")).ids, [1, 3])
+            self.assertEqual(frame.best(f"top_level 2 {x}").ids, [1, 2])
+            self.assertEqual(frame.why(4, x * y).ids, [1, 2, 3])
+            self.assertEqual(prefq.psel(frame, x * y, top_level=2).ids, [1, 2, 3])
+
+
+def built(term, chance):
+    """The preference of a random term, by values."""
+    if isinstance(term, (plain.Pareto, plain.Prior)):
+        parts = [built(part, chance) for part in term.parts]
+        whole = parts[0]
+        for part in parts[1:]:
+            whole = whole * part if isinstance(term, plain.Pareto) else whole & part
+        return whole
+    if isinstance(term, plain.Converse):
+        return chance.choice([reverse, lambda part: -part])(built(term.part, chance))
+    if isinstance(term, plain.Layered):
+        return pos(term.name, *term.sets[0]) if term.text.startswith("pos") else layered(term.name, *term.sets)
+    if isinstance(term, plain.Between):
+        return around(term.name, term.first) if term.text.startswith("around") else between(term.name, term.first, term.last)
+    return (high if isinstance(term, plain.High) else low)(term.name)
+
+
+class Random(TestCase):
+    def test_as_the_text(self):
+        """What values make is read as the text that was written by hand: both have the same answer."""
+        with warnings.catch_warnings():
+            warnings.simplefilter("ignore", prefq.UnknownValue)
+            for number in range(COUNT // 5):
+                chance = random.Random(SEED + number)
+                columns, records = random_frames.frame(chance)
+                given = {name: kind.spelling for name, kind in columns.items() if kind.is_given}
+                rows = dict(enumerate(records, 1))
+                with self.subTest(frame=number), prefq.Frame.from_records(records, kinds=given) as frame:
+                    for _ in range(5):
+                        term = random_frames.Questions(chance, columns).term(3)
+                        preference = built(term, chance)
+                        answer = frame.best(preference)
+                        self.assertEqual(list(zip(answer.levels, answer.ids)), plain.Ask("", term, levels=1).answer(rows), (str(preference), term.text))
+
+
+if __name__ == "__main__":
+    unittest.main()
