@@ -223,12 +223,12 @@ def quick(count):
 
 def wheel_of_the_same_library():
     """The wheel of dist/, where nothing that the library is made of has changed since its commit; else None."""
-    commit, made_of = TOP / "dist/COMMIT", ["--", *MADE_OF]
+    commit, git, made_of = TOP / "dist/COMMIT", ["git", "-c", f"safe.directory={TOP}"], ["--", *MADE_OF]
     wheel = next((TOP / "dist").glob("*.whl"), None)
-    if not wheel or not commit.is_file():
+    if not wheel or not commit.is_file() or not shutil.which("git"):
         return None
-    changed = subprocess.run(["git", "diff", "--quiet", commit.read_text().strip(), *made_of], cwd=TOP, stderr=subprocess.DEVNULL)
-    new = subprocess.run(["git", "status", "--porcelain", *made_of], cwd=TOP, stdout=subprocess.PIPE, stderr=subprocess.DEVNULL)
+    changed = subprocess.run([*git, "diff", "--quiet", commit.read_text().strip(), *made_of], cwd=TOP, stderr=subprocess.DEVNULL)
+    new = subprocess.run([*git, "status", "--porcelain", *made_of], cwd=TOP, stdout=subprocess.PIPE, stderr=subprocess.DEVNULL)
     return None if changed.returncode or new.returncode or new.stdout else wheel
 
 
