@@ -5,7 +5,7 @@ all that was committed before, since SQLite has one writer at a time; so what is
 """
 import sqlite3
 from contextlib import closing, contextmanager
-from typing import Any, Dict, Iterator, List, Mapping, Optional, Sequence, Tuple
+from typing import Any, Dict, Iterator, Mapping, Optional, Sequence, Tuple
 from urllib.parse import quote
 
 from .columns import Column

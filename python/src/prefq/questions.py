@@ -4,6 +4,7 @@ The grammar is that of docs/GUIDE.md. Beside it, a name may stand in double quot
 false, or a text in quotes. Whatever is wrong is refused at its place, with what could stand there.
 """
 import re
+from contextlib import suppress
 from dataclasses import dataclass
 from typing import Callable, Dict, List, NamedTuple, NoReturn, Optional, Sequence, Tuple, Union
 
@@ -112,8 +113,9 @@ def read_question(question: str, column: Callable[[str], Optional[Column]], name
     return Reader(question, column, names).question(mode)
 
 
-def names_in(text: str, mode: Optional[Mode], names: Sequence[str]) -> List[str]:
-    """The names of columns that a question has, as far as it can be read without their kinds."""
+def names_asked_for(names: Sequence[str], *reads: Callable[[Callable[[str], Optional[Column]]], object]) -> List[str]:
+    """Those of these names for which each reading asks, as far as it comes without the kinds of their columns. What is wrong is refused where it is read with
+    these."""
     found: Dict[str, None] = {}
 
     def column(name: str) -> Optional[Column]:
@@ -122,11 +124,15 @@ def names_in(text: str, mode: Optional[Mode], names: Sequence[str]) -> List[str]
         found[name] = None
         return Column(name, "whole")
 
-    try:
-        read_question(text, column, names, mode)
-    except Refused:
-        pass        # It is refused where it is read with its columns.
+    for read in reads:
+        with suppress(Refused):
+            read(column)
     return list(found)
+
+
+def names_in(text: str, mode: Optional[Mode], names: Sequence[str]) -> List[str]:
+    """Those of these names that a question has."""
+    return names_asked_for(names, lambda column: read_question(text, column, names, mode))
 
 
 def explained(why: Refused, columns: Sequence[str]) -> Refused:

@@ -1,7 +1,7 @@
 """What is asked beside a question: exactly so many rows, which ones of those that are equally good, and groups; and the answer over the rows of a moment."""
 from collections import defaultdict
-from contextlib import suppress
 from dataclasses import dataclass, replace
+from functools import partial
 from typing import Any, Callable, Dict, Hashable, Iterable, List, Mapping, NamedTuple, Optional, Sequence, Tuple, TypeVar, Union
 
 from .checks import MOST_ROWS, whole
@@ -15,7 +15,7 @@ from .moment import Moment
 from .once import ask_once
 from .preferences import Asked, Operand, text_of_operand, text_preferred
 from .query import Query
-from .questions import Mode, Question, refuse, tokens_of
+from .questions import Mode, Question, names_asked_for, refuse, tokens_of
 from .reading import Progress
 from .rows import Row, Zipped
 from .table import Table
@@ -80,25 +80,13 @@ class Selection:
         return question
 
     def names(self, text: str, names: Sequence[str]) -> List[str]:
-        """Those of these names that the question and what is asked beside it have, as far as it can be read without its columns."""
-        found: Dict[str, None] = {}
-
-        def column(name: str) -> Optional[Column]:
-            if name not in names:
-                return None
-            found[name] = None
-            return Column(name, "whole")
-
-        # What is wrong is refused where it is read with its columns.
-        with suppress(Refused):
-            self.read(text, column, names)
+        """Those of these names that the question and what is asked beside it have."""
+        reads = [partial(self.read, text, names=names)]
         if self.ties is not None:
-            with suppress(Refused):
-                OF_TIES.read(self.ties, column, names)
+            reads.append(partial(OF_TIES.read, self.ties, names=names))
         if self.where is not None:
-            with suppress(Refused):
-                read_condition(self.where, column, names)
-        return list(found)
+            return names_asked_for(names, *reads, partial(read_condition, self.where, names=names))
+        return names_asked_for(names, *reads)
 
 
 OF_TIES = Selection(("best", 1))
