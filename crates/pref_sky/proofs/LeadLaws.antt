@@ -9,7 +9,8 @@ use Rattle.pref_sky.proofs.ItemsLaws.{suit_tells}
 use Rattle.pref_sky.proofs.ListLaws.{among_place}
 use Rattle.pref_sky.proofs.OwnOrders.{own_is_strict, stands_behind}
 use Rattle.pref_sky.specs.ChosenChains.{LeadAmong}
-use Rattle.pref_sky.specs.Leads.{LeadsSweep, chain_at, chains_of, first_of, second_of, third_of}
+use Rattle.pref_sky.specs.Leads.{LeadsSweep, chain_at, chains_of, first_of, mark_of, second_of, third_of}
+use Rattle.pref_sky.specs.Held.{AreHeld}
 use Rattle.pref_sky.specs.Sweep.{AreLed, AreSwept, are_level_in, is_ahead}
 use Rattle.pref_sky.specs.declared.lead.Lead.{Lead}
 use Rattle.pref_term.proofs.ChainLaws.{chain-append}
@@ -247,8 +248,8 @@ module _ (order : OwnOrder) (lead : Lead) (entries : List Entry) (leads : LeadAm
       ∙ and_from (are_level (earlier_in q.group) a.row b.row) (are_level_in (better_in (chain_at lead 0)) (better_in (chain_at lead 1)) (better_in (chain_at lead 2)) a.row b.row)
       (sym (same_group q.group a.row b.row) ∙ group) same
 
-  pub leads_sweep : AreInOrder order entries → Suit (order_of order.ask) lead.scales → LeadsSweep order lead entries
-  leads_sweep ordered suit = record { swept = swept ordered; signed = suit_tells (order_of order.ask) lead.scales suit; keyed = keyed }
+  pub leads_sweep : AreInOrder order entries → Suit (order_of order.ask) lead.scales → AreHeld (own_order order) order.cut (mark_of lead) entries → LeadsSweep order lead entries
+  leads_sweep ordered suit held = record { swept = swept ordered; signed = suit_tells (order_of order.ask) lead.scales suit; keyed = keyed; held = held }
 
 -- no scales suit each question
 pub none_suits : (q : Question) → Suit (order_of q) []

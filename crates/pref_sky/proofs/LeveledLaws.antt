@@ -33,7 +33,7 @@ count_is over (suc cut) all e n chain =
 
 -- ---- a list of them
 
-entries_again : (over : Entry → Entry → Bool) (all : List Entry) (cut : ℕ) (xs : List Entry) → map entry_of (map (with_level over all cut) xs) ≡ xs
+pub entries_again : (over : Entry → Entry → Bool) (all : List Entry) (cut : ℕ) (xs : List Entry) → map entry_of (map (with_level over all cut) xs) ≡ xs
 entries_again over all cut [] = refl
 entries_again over all cut (x ∷ xs) = ap (λ l. x ∷ l) (entries_again over all cut xs)
 

@@ -16,6 +16,7 @@ pub mod KeptLaws
 pub mod LeveledLaws
 pub mod StepLaws
 pub mod SweepLaws
+pub mod HeldLaws
 pub mod ChosenLaws
 pub mod LeadLaws
 pub mod PassedLevels

@@ -1,10 +1,11 @@
 -- What is kept of a level in a sweep: its steps and its run tell whether an entry of the level dominates the next entry, and how they stand for one entry more.
 use Rattle.pref_sky.proofs.Common.{◌≡◌, ℕ, suc, ◌<◌, ◌≤◌, ◌+◌, ◌-◌, Bool, true, false, not, ◌&&◌, ◌⊎◌, inl, inr, List, [], ◌∷◌, ◌++◌, refl, sym, ◌∙◌, ap, subst, arith, length, get_or, take, drop, ◌^◌}
-use Rattle.pref_sky.proofs.Common.{length-take, length-drop, get_or-take, get_or-drop, take-append-drop}
-use Rattle.pref_sky.proofs.Common.{All, both_ways, and_from, cases_Bool, or_cases, cases_eq, cases_lt, false_from_ne_true, Entry, entry_at, Item, IsItem, Among, StandAlike, IsChain, IsInOrder}
+use Rattle.pref_sky.proofs.Common.{Vec, Global, length-take, length-drop, get_or-take, get_or-drop, take-append-drop}
+use Rattle.pref_sky.proofs.Common.{All, both_ways, and_from, and_right, cases_Bool, or_cases, cases_eq, cases_lt, false_from_ne_true, Entry, entry_at, Item, IsItem, Among, StandAlike, IsChain, IsInOrder}
 use Rattle.pref_sky.proofs.ListLaws.{among_all, among_place, any_from, place_of, in_either, in_left, in_right, in_order_at, in_order_back, in_order_front, in_order_joined, in_order_with}
 use Rattle.pref_sky.proofs.Merges.{comes_after, unbeaten_over}
-use Rattle.pref_sky.specs.Sweep.{AreSwept, IsClass, IsMember, IsSameLevel, StandsFor, are_level_in, is_ahead, is_at}
+use Rattle.pref_sky.specs.Sweep.{AreSwept, IsAskedOf, IsClass, IsKept, IsMember, IsOneMore, IsSameLevel, StandsFor, are_level_in, is_ahead, is_at}
+use Rattle.pref_sky.specs.Held.{AreHeld}
 use Rattle.pref_sky.specs.Steps.{AreNoWorse, IsAsked, IsStepPut}
 use Rattle.pref_sky.specs.declared.level.Level.{Level}
 use Rattle.pref_term.specs.Signatures.{is_within}
@@ -38,27 +39,41 @@ one_asked over second all steps e answer one is =
 
 -- ---- another level, and another class
 
--- the order of the run is of no matter
-pub same_level : (over second third : Entry → Entry → Bool) (rule : Entry → ℕ) (all : List Entry) (class i n : ℕ) (old new : Level) → IsSameLevel old new
-    → StandsFor over second third rule all class i n old → StandsFor over second third rule all class i n new
-same_level over second third rule all class i n old new same stands =
+-- the order of what is kept in the class is of no matter
+pub same_level : (over second third : Entry → Entry → Bool) (rule : Entry → ℕ) (mark : ℕ → ℕ) (all : List Entry) (class i n : ℕ) (old new : Level) → IsSameLevel old new
+    → StandsFor over second third rule mark all class i n old → StandsFor over second third rule mark all class i n new
+same_level over second third rule mark all class i n old new same stands =
     record {
       steps_within = λ p m. stands.steps_within p (subst (Among p) same.steps m);
       steps_cover = λ j member. let w = stands.steps_cover j member in (w.0, subst (Among w.0) (sym same.steps) w.1, w.2, w.3);
       by_second = subst (IsInOrder (λ p q. not (second (entry_at all q) (entry_at all p)))) (sym same.steps) stands.by_second;
       by_third = subst (IsInOrder (λ p q. not (third (entry_at all p) (entry_at all q)))) (sym same.steps) stands.by_third;
-      run_within = λ x m. stands.run_within x (same.run x m);
-      run_covers = λ j behind member. let w = stands.run_covers j behind member in (same.class ∙ w.0, (w.1.0, same.back w.1.0 w.1.1, w.1.2));
+      kept_within = λ x m. stands.kept_within x (elim m [ inl old ↦ inl (same.run.back x old) | inr came ↦ inr (same.fresh.back x came) ]);
+      run_held = λ x m. stands.run_held x (same.run.back x m);
+      kept_cover = λ j behind member.
+          let w = stands.kept_cover j behind member in
+          let x = w.1.0 in
+          let kept : IsKept x new = elim w.1.1 [ inl old ↦ inl (same.run.there x old) | inr came ↦ inr (same.fresh.there x came) ] in
+          (same.class ∙ w.0, (x, kept, w.1.2));
     }
 
-module _ (over second third : Entry → Entry → Bool) (rule : Entry → ℕ) (all : List Entry) (class i n : ℕ) (kept : Level) where
-  -- an empty one stands for none
-  pub stands_for_none : ((j : ℕ) → IsMember over all i n j → ⊥) → kept.steps.items ≡ [] → kept.run.items ≡ [] → StandsFor over second third rule all class i n kept
-  stands_for_none none no_steps no_run = grind (arith)
+pub same_then : (a b c : Level) → IsSameLevel a b → IsSameLevel b c → IsSameLevel a c
+same_then a b c ab bc =
+    record {
+      steps = bc.steps ∙ ab.steps;
+      class = bc.class ∙ ab.class;
+      run = record { there = λ x m. bc.run.there x (ab.run.there x m); back = λ x m. ab.run.back x (bc.run.back x m) };
+      fresh = record { there = λ x m. bc.fresh.there x (ab.fresh.there x m); back = λ x m. ab.fresh.back x (bc.fresh.back x m) };
+    }
 
-  module _ (stands : StandsFor over second third rule all class i n kept) where
+module _ (over second third : Entry → Entry → Bool) (rule : Entry → ℕ) (mark : ℕ → ℕ) (all : List Entry) (class i n : ℕ) (kept : Level) where
+  -- an empty one stands for none
+  pub stands_for_none : ((j : ℕ) → IsMember over all i n j → ⊥) → kept.steps.items ≡ [] → kept.run.items ≡ [] → kept.fresh.items ≡ [] → StandsFor over second third rule mark all class i n kept
+  stands_for_none none no_steps no_run no_fresh = grind (arith)
+
+  module _ (stands : StandsFor over second third rule mark all class i n kept) where
     -- no entry so far is of a class that begins behind them
-    pub new_class : (later : ℕ) → i ≤ later → StandsFor over second third rule all later i n kept
+    pub new_class : (later : ℕ) → i ≤ later → StandsFor over second third rule mark all later i n kept
     new_class later behind = grind (arith)
 
     -- what is kept are places
@@ -66,7 +81,10 @@ module _ (over second third : Entry → Entry → Bool) (rule : Entry → ℕ) (
     steps_inside inside = among_all (λ p. p < length all) kept.steps.items (λ p m. omega (arith, inside, (stands.steps_within p m).0))
 
     pub run_inside : All (λ (x : Item). x.place < length all) kept.run.items
-    run_inside = among_all (λ (x : Item). x.place < length all) kept.run.items (λ x m. (stands.run_within x m).1.within)
+    run_inside = among_all (λ (x : Item). x.place < length all) kept.run.items (λ x m. (stands.kept_within x (inl m)).1.within)
+
+    pub fresh_inside : All (λ (x : Item). x.place < length all) kept.fresh.items
+    fresh_inside = among_all (λ (x : Item). x.place < length all) kept.fresh.items (λ x m. (stands.kept_within x (inr m)).1.within)
 
     earlier : (j : ℕ) → IsMember over all i n j → IsMember over all (i + 1) n j
     earlier j member = (omega (arith, member.0), member.1)
@@ -75,20 +93,21 @@ module _ (over second third : Entry → Entry → Bool) (rule : Entry → ℕ) (
     still other j member = elim (cases_eq j i) [ inl same ↦ grind (arith) | inr before ↦ (omega (arith, member.0, before), member.1) ]
 
     -- an entry of another level changes nothing
-    pub stays : is_at over all n (entry_at all i) ≡ false → StandsFor over second third rule all class (i + 1) n kept
+    pub stays : is_at over all n (entry_at all i) ≡ false → StandsFor over second third rule mark all class (i + 1) n kept
     stays other =
         record {
           steps_within = λ p m. earlier p (stands.steps_within p m);
           steps_cover = λ j member. stands.steps_cover j (still other j member);
           by_second = stands.by_second;
           by_third = stands.by_third;
-          run_within = λ x m. let w = stands.run_within x m in (earlier x.place w.0, w.1);
-          run_covers = λ j behind member. stands.run_covers j behind (still other j member);
+          kept_within = λ x m. let w = stands.kept_within x m in (earlier x.place w.0, w.1);
+          run_held = stands.run_held;
+          kept_cover = λ j behind member. stands.kept_cover j behind (still other j member);
         }
 
     -- nor does one that is alike to a member before it, and level with it in all chains
     pub alike_stays : (first : Entry → Entry → Bool) → IsChain second → IsChain third → 0 < i → class ≤ i - 1 → is_at over all n (entry_at all (i - 1)) ≡ true
-        → StandAlike over (entry_at all (i - 1)) (entry_at all i) → are_level_in first second third (entry_at all (i - 1)) (entry_at all i) ≡ true → StandsFor over second third rule all class (i + 1) n kept
+        → StandAlike over (entry_at all (i - 1)) (entry_at all i) → are_level_in first second third (entry_at all (i - 1)) (entry_at all i) ≡ true → StandsFor over second third rule mark all class (i + 1) n kept
     alike_stays first second_is_chain third_is_chain some from at alike level =
         let last : IsMember over all i n (i - 1) = (omega (arith, some), at) in
         let m = entry_at all (i - 1) in
@@ -109,16 +128,84 @@ module _ (over second third : Entry → Entry → Bool) (rule : Entry → ℕ) (
           ];
           by_second = stands.by_second;
           by_third = stands.by_third;
-          run_within = λ x there. let w = stands.run_within x there in (earlier x.place w.0, w.1);
-          run_covers = λ j behind member. elim (cases_eq j i) [
+          kept_within = λ x there. let w = stands.kept_within x there in (earlier x.place w.0, w.1);
+          run_held = stands.run_held;
+          kept_cover = λ j behind member. elim (cases_eq j i) [
             | inl same ↦
-                let w = stands.run_covers (i - 1) from last in
+                let w = stands.kept_cover (i - 1) from last in
                 let x = w.1.0 in
                 let like : StandAlike over (entry_at all x.place) e = record { above = λ c. w.1.2.above c ∙ alike.above c; below = λ c. w.1.2.below c ∙ alike.below c } in
                 (w.0, (x, w.1.1, subst (λ k. StandAlike over (entry_at all x.place) (entry_at all k)) (sym same) like))
-            | inr before ↦ stands.run_covers j behind (omega (arith, member.0, before), member.1)
+            | inr before ↦ stands.kept_cover j behind (omega (arith, member.0, before), member.1)
           ];
         }
+
+-- ---- a class goes on or begins, and one more is kept in it
+
+-- what is kept of a level as the class goes on, and nothing of another class
+pub record GoesOn (old : Level) (class : ℕ) (new : Level) : Type 0 where
+  pub stays : old.class ≡ class → (y : Item) → IsKept y old → IsKept y new
+  pub within : (y : Item) → IsKept y new → IsKept y old
+  pub run : (y : Item) → Among y new.run.items → Among y old.run.items
+
+pub class_goes_on : (old put new : Level) (class : ℕ) → (put.run ≡ old.run) × (put.fresh ≡ old.fresh) × (put.class ≡ old.class)
+    → (put.class ≡ class → (new.run ≡ put.run) × (new.fresh ≡ put.fresh)) → ((put.class ≡ class → ⊥) → (new.run.items ≡ []) × (new.fresh.items ≡ [])) → GoesOn old class new
+class_goes_on old put new class others same anew =
+    elim (cases_eq put.class class) [
+      | inl is ↦
+          let run : new.run.items ≡ old.run.items = ap (λ (v : Vec Item Global). v.items) ((same is).0 ∙ others.0) in
+          let fresh : new.fresh.items ≡ old.fresh.items = ap (λ (v : Vec Item Global). v.items) ((same is).1 ∙ others.1) in
+          record {
+            stays = λ _ y m. elim m [ inl there ↦ inl (subst (Among y) (sym run) there) | inr came ↦ inr (subst (Among y) (sym fresh) came) ];
+            within = λ y m. elim m [ inl there ↦ inl (subst (Among y) run there) | inr came ↦ inr (subst (Among y) fresh came) ];
+            run = λ y m. subst (Among y) run m;
+          }
+      | inr other ↦
+          let none = anew other in
+          record {
+            stays = λ is y m. absurd (other (others.2 ∙ is));
+            within = λ y m. elim m [ inl there ↦ absurd (subst (Among y) none.0 there) | inr came ↦ absurd (subst (Among y) none.1 came) ];
+            run = λ y m. absurd (subst (Among y) none.0 m);
+          }
+    ]
+
+module _ (mark : ℕ → ℕ) (n : ℕ) (before : Level) (x : Item) (new : Level) where
+  pub more_in_run : new.steps.items ≡ before.steps.items → new.class ≡ before.class → new.run.items ≡ before.run.items ++ x ∷ [] → new.fresh.items ≡ before.fresh.items → mark x.place ≡ suc n → IsOneMore mark n before x new
+  more_in_run steps class run fresh at =
+      let old = before.run.items in
+      let among : (y : Item) → Among y new.run.items → Among y old ⊎ (y ≡ x) = λ y m. elim (in_either old (x ∷ []) y (subst (Among y) run m)) [
+        | inl there ↦ inl there
+        | inr last ↦ elim last [ inl same ↦ inr same | inr none ↦ absurd none ]
+      ] in
+      record {
+        steps = steps;
+        class = class;
+        within = λ y m. elim m [
+          | inl there ↦ elim (among y there) [ inl was ↦ inl (inl was) | inr same ↦ inr same ]
+          | inr came ↦ inl (inr (subst (Among y) fresh came))
+        ];
+        held = λ y m. elim (among y m) [ inl was ↦ inl was | inr same ↦ inr (subst (λ (z : Item). mark z.place ≡ suc n) (sym same) at) ];
+        here = inl (subst (Among x) (sym run) (in_right old (x ∷ []) x (inl refl)));
+        others = λ y m. elim m [ inl there ↦ inl (subst (Among y) (sym run) (in_left old (x ∷ []) y there)) | inr came ↦ inr (subst (Among y) (sym fresh) came) ];
+      }
+
+  pub more_in_fresh : new.steps.items ≡ before.steps.items → new.class ≡ before.class → new.run.items ≡ before.run.items → new.fresh.items ≡ before.fresh.items ++ x ∷ [] → IsOneMore mark n before x new
+  more_in_fresh steps class run fresh =
+      let old = before.fresh.items in
+      record {
+        steps = steps;
+        class = class;
+        within = λ y m. elim m [
+          | inl there ↦ inl (inl (subst (Among y) run there))
+          | inr came ↦ elim (in_either old (x ∷ []) y (subst (Among y) fresh came)) [
+            | inl was ↦ inl (inr was)
+            | inr last ↦ elim last [ inl same ↦ inr same | inr none ↦ absurd none ]
+          ]
+        ];
+        held = λ y m. inl (subst (Among y) run m);
+        here = inr (subst (Among x) (sym fresh) (in_right old (x ∷ []) x (inl refl)));
+        others = λ y m. elim m [ inl there ↦ inl (subst (Among y) (sym run) there) | inr came ↦ inr (subst (Among y) (sym fresh) (in_left old (x ∷ []) y came)) ];
+      }
 
 -- ---- does an entry of the level dominate the next one?
 
@@ -149,7 +236,7 @@ module _ (over first second third : Entry → Entry → Bool) (all : List Entry)
         let w = place_of all top.0 (record { id = 0; row = [] }) top.1 in
         grind (arith, swept.in_order i w.0)
 
-  module _ (rule : Entry → ℕ) (class i n : ℕ) (kept : Level) (stands : StandsFor over second third rule all class i n kept) (inside : i < length all) where
+  module _ (rule : Entry → ℕ) (mark : ℕ → ℕ) (class i n : ℕ) (kept : Level) (stands : StandsFor over second third rule mark all class i n kept) (inside : i < length all) where
     abbrev next_one : Entry
     next_one = entry_at all i
 
@@ -216,28 +303,48 @@ module _ (over first second third : Entry → Entry → Bool) (all : List Entry)
     pub found_step : (answer : Bool) → IsAsked over second all steps next_one answer → answer ≡ true → comes_after over all (suc n) next_one ≡ true
     found_step answer asked found = let w = asked.found found in over_by_member i n (get_or steps w.0 0) i (is_step w.0 w.1) (omega (arith, inside)) w.2
 
-    pub found_one : (x : Item) → Among x kept.run.items → over (entry_at all x.place) next_one ≡ true → comes_after over all (suc n) next_one ≡ true
-    found_one x m above = over_by_member i n x.place i (stands.run_within x m).0 (omega (arith, inside)) above
+    pub found_one : (x : Item) → IsKept x kept → over (entry_at all x.place) next_one ≡ true → comes_after over all (suc n) next_one ≡ true
+    found_one x m above = over_by_member i n x.place i (stands.kept_within x m).0 (omega (arith, inside)) above
 
     -- and something is found where a member is over it
     module _ (signed : (a b : Entry) → over a b ≡ true → is_within (rule a) (rule b) ≡ true) (of_class : IsClass first second third all class i) where
       abbrev pub is_over : Item → Bool
       is_over x = is_within x.signature (rule next_one) && over (entry_at all x.place) next_one
 
-      -- one that is level with it in all chains is alike to one of the run
+      -- one that is level with it in all chains is alike to one that is kept in the class
       one_over : (j : ℕ) → IsMember over all i n j → over (entry_at all j) next_one ≡ true → are_level_in first second third (entry_at all j) next_one ≡ true
-          → (kept.class ≡ class) × ((x : Item) × Among x kept.run.items × (is_over x ≡ true))
+          → (kept.class ≡ class) × ((x : Item) × IsKept x kept × (is_over x ≡ true))
       one_over j member above level =
           let from : class ≤ j = elim (cases_lt j class) [ inl before ↦ absurd (both_ways (are_level_in first second third (entry_at all j) next_one) (of_class.apart j before) level) | inr behind ↦ behind ] in
-          let w = stands.run_covers j from member in
+          let w = stands.kept_cover j from member in
           let x = w.1.0 in
           let over_it : over (entry_at all x.place) next_one ≡ true = w.1.2.below next_one ∙ above in
-          let within : is_within x.signature (rule next_one) ≡ true = ap (λ (signature : ℕ). is_within signature (rule next_one)) (stands.run_within x w.1.1).1.signed ∙ signed (entry_at all x.place) next_one over_it in
+          let within : is_within x.signature (rule next_one) ≡ true = ap (λ (signature : ℕ). is_within signature (rule next_one)) (stands.kept_within x w.1.1).1.signed ∙ signed (entry_at all x.place) next_one over_it in
           (w.0, (x, w.1.1, and_from (is_within x.signature (rule next_one)) (over (entry_at all x.place) next_one) within over_it))
 
-      -- where neither the last step that is no worse nor one of the run is over it, none is
+      -- of those that were of this level none is over one that was held too, of this level or of one above
+      held_apart : {cut : ℕ} → AreHeld over cut mark all → mark i ≤ suc n → (x : Item) → Among x kept.run.items → (mark i ≡ 0) ⊎ (is_over x ≡ false)
+      held_apart held near x m =
+          elim (cases_eq (mark i) 0) [
+            | inl new ↦ inl new
+            | inr old ↦
+                let at = stands.run_held x m in
+                let w = stands.kept_within x (inl m) in
+                let apart = held.apart i x.place inside w.1.within (omega (arith, old)) (omega (arith, near, at)) in
+                inr (and_right (is_within x.signature (rule next_one)) (over (entry_at all x.place) next_one) apart)
+          ]
+
+      -- so those that it is not compared with are not over it
+      pub none_kept : {cut : ℕ} → AreHeld over cut mark all → mark i ≤ suc n → ((x : Item) → IsAskedOf (mark i) x kept → is_over x ≡ false) → (x : Item) → IsKept x kept → is_over x ≡ false
+      none_kept held near none x m =
+          elim m [
+            | inr came ↦ none x (inl came)
+            | inl old ↦ elim (held_apart held near x old) [ inl new ↦ none x (inr (new, old)) | inr apart ↦ apart ]
+          ]
+
+      -- where neither the last step that is no worse nor one that is kept in the class is over it, none is
       pub none_over : (answer : Bool) → IsAsked over second all steps next_one answer → answer ≡ false
-          → (kept.class ≡ class → (x : Item) → Among x kept.run.items → is_over x ≡ false) → comes_after over all (suc n) next_one ≡ false
+          → (kept.class ≡ class → (x : Item) → IsKept x kept → is_over x ≡ false) → comes_after over all (suc n) next_one ≡ false
       none_over answer asked no_step no_one =
           false_from_ne_true (comes_after over all (suc n) next_one) (λ late.
           let w = member_over i n inside late in
@@ -364,36 +471,33 @@ module _ (over first second third : Entry → Entry → Bool) (all : List Entry)
           in_order_with le (take from steps) (drop to steps) i (in_order_joined le (take from steps) (drop to steps) first_part last_part across)
           (λ a ma. let x = in_front a ma in ap (λ v. le v i) (sym x.2) ∙ front x.0 x.1) (λ b mb. let y = behind b mb in ap (le i) (sym y.3) ∙ back y.0 y.1 y.2)
 
-      -- what is kept then: the run begins anew where the class does
-      module _ (new : Level) (x : Item) (run : List Item) (steps_are : new.steps.items ≡ put_steps) (class_is : new.class ≡ class) (run_is : new.run.items ≡ run ++ x ∷ [])
+      -- what is kept then: the class begins anew where it is another
+      module _ (new before : Level) (x : Item) (steps_are : new.steps.items ≡ put_steps) (class_is : new.class ≡ class) (more : IsOneMore mark n before x new)
           (place_is : x.place ≡ i) (signed : x.signature ≡ rule next_one) (word : x.signature < 2 ^ 64)
-          (runs : ((kept.class ≡ class) × (run ≡ kept.run.items)) ⊎ ((kept.class ≡ class → ⊥) × (run ≡ []))) where
-        run_within_more : (y : Item) → Among y new.run.items → IsMember over all (i + 1) n y.place × IsItem rule all y
-        run_within_more y m =
-            elim (in_either run (x ∷ []) y (subst (Among y) run_is m)) [
-              | inl old ↦ elim runs [
-                | inl more ↦ let w = stands.run_within y (subst (Among y) more.1 old) in ((omega (arith, w.0.0), w.0.1), w.1)
-                | inr anew ↦ absurd (subst (Among y) anew.1 old)
-              ]
+          (goes_on : GoesOn kept class before) where
+        kept_within_more : (y : Item) → IsKept y new → IsMember over all (i + 1) n y.place × IsItem rule all y
+        kept_within_more y m =
+            elim (more.within y m) [
+              | inl old ↦ let w = stands.kept_within y (goes_on.within y old) in ((omega (arith, w.0.0), w.0.1), w.1)
               | inr last ↦ grind (arith)
             ]
 
-        run_covers_more : (j : ℕ) → class ≤ j → IsMember over all (i + 1) n j → (y : Item) × Among y new.run.items × StandAlike over (entry_at all y.place) (entry_at all j)
-        run_covers_more j behind member =
+        run_held_more : (y : Item) → Among y new.run.items → mark y.place ≡ suc n
+        run_held_more y m = elim (more.held y m) [ inl old ↦ stands.run_held y (goes_on.run y old) | inr last ↦ last ]
+
+        kept_cover_more : (j : ℕ) → class ≤ j → IsMember over all (i + 1) n j → (y : Item) × IsKept y new × StandAlike over (entry_at all y.place) (entry_at all j)
+        kept_cover_more j behind member =
             elim (cases_eq j i) [
               | inl same ↦
                   let alike : StandAlike over (entry_at all j) (entry_at all j) = record { above = λ c. refl; below = λ c. refl } in
-                  (x, subst (Among x) (sym run_is) (in_right run (x ∷ []) x (inl refl)), subst (λ (p : ℕ). StandAlike over (entry_at all p) (entry_at all j)) (same ∙ sym place_is) alike)
+                  (x, more.here, subst (λ (p : ℕ). StandAlike over (entry_at all p) (entry_at all j)) (same ∙ sym place_is) alike)
               | inr other ↦
-                  let w = stands.run_covers j behind (omega (arith, member.0, other), member.1) in
+                  let w = stands.kept_cover j behind (omega (arith, member.0, other), member.1) in
                   let y = w.1.0 in
-                  elim runs [
-                    | inl more ↦ (y, subst (Among y) (sym run_is) (in_left run (x ∷ []) y (subst (Among y) (sym more.1) w.1.1)), w.1.2)
-                    | inr anew ↦ absurd (anew.0 w.0)
-                  ]
+                  (y, more.others y (goes_on.stays w.0 y w.1.1), w.1.2)
             ]
 
-        pub put_stands : StandsFor over second third rule all class (i + 1) n new
+        pub put_stands : StandsFor over second third rule mark all class (i + 1) n new
         put_stands =
             let le_second : ℕ → ℕ → Bool = λ p q. not (second (entry_at all q) (entry_at all p)) in
             let le_third : ℕ → ℕ → Bool = λ p q. not (third (entry_at all p) (entry_at all q)) in
@@ -405,6 +509,7 @@ module _ (over first second third : Entry → Entry → Bool) (all : List Entry)
               steps_cover = λ j member. let w = covers_more j member in (w.0, subst (Among w.0) (sym new_is) w.1, w.2, w.3);
               by_second = subst (IsInOrder le_second) (sym new_is) by_second;
               by_third = subst (IsInOrder le_third) (sym new_is) by_third;
-              run_within = run_within_more;
-              run_covers = λ j behind member. (class_is, run_covers_more j behind member);
+              kept_within = kept_within_more;
+              run_held = run_held_more;
+              kept_cover = λ j behind member. (class_is, kept_cover_more j behind member);
             }

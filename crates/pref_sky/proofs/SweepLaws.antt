@@ -7,6 +7,7 @@ use Rattle.pref_sky.proofs.LeveledLaws.{HasChain, count_is}
 use Rattle.pref_sky.proofs.ListLaws.{among_place, place_of}
 use Rattle.pref_sky.proofs.Merges.{comes_after_upto, unbeaten_over}
 use Rattle.pref_sky.proofs.StepLaws.{alike_stays, new_class, same_level, stays}
+use Rattle.pref_sky.specs.Held.{AreHeld}
 use Rattle.pref_sky.specs.Sweep.{AreSwept, HasBegun, HasFoundClass, HasSwept, IsClass, IsMember, IsSameLevel, StandsFor, are_level_in, is_at}
 use Rattle.pref_sky.specs.declared.level.Level.{Level}
 use Rattle.pref_sky.specs.declared.sweep.Sweep.{Sweep}
@@ -36,7 +37,7 @@ each_pushed P xs y before last k d inside =
 -- ---- how many levels are above an entry
 
 -- as many as a chain over it has entries
-chain_of_count : {E : Type 0} (over : E → E → Bool) (cut : ℕ) (all : List E) (e : E) → HasChain over cut all e (count_above over all cut e)
+pub chain_of_count : {E : Type 0} (over : E → E → Bool) (cut : ℕ) (all : List E) (e : E) → HasChain over cut all e (count_above over all cut e)
 chain_of_count over zero all e = record { within = omega arith; after = refl; no_more = λ less. absurd (omega (arith, less)) }
 chain_of_count over (suc cut) all e =
     elim (cases_Bool (comes_after over all (suc cut) e)) [
@@ -88,9 +89,6 @@ pub record IsSought {E L : Type 0} (over : E → E → Bool) (all : List E) (e :
   pub next : high < length levels → comes_after over all (suc high) e ≡ false
 
 module _ {E L : Type 0} (over : E → E → Bool) (all : List E) (e : E) (levels : List L) where
-  pub sought_at_begin : (high : ℕ) → high ≡ length levels → IsSought over all e levels 0 high
-  sought_at_begin high is = record { ordered = omega arith; within = omega (arith, is); above = refl; next = λ less. absurd (omega (arith, less, is)) }
-
   module _ (low high middle : ℕ) (asked : L) (sought : IsSought over all e levels low high) where
     pub sought_below : middle < high → comes_after over all (suc middle) e ≡ true → IsSought over all e (set levels middle asked) (middle + 1) high
     sought_below inside stands =
@@ -137,13 +135,16 @@ module _ {E : Type 0} (first second third : E → E → Bool) (f : IsChain first
 
 -- ---- what stands for members is inside
 
-module _ {over second third : Entry → Entry → Bool} {rule : Entry → ℕ} {all : List Entry} {class i n : ℕ} {kept : Level} (inside : i < length all)
-    (stands : StandsFor over second third rule all class i n kept) where
+module _ {over second third : Entry → Entry → Bool} {rule : Entry → ℕ} {mark : ℕ → ℕ} {all : List Entry} {class i n : ℕ} {kept : Level} (inside : i < length all)
+    (stands : StandsFor over second third rule mark all class i n kept) where
   pub steps_inside : All (λ p. p < length all) kept.steps.items
   steps_inside k d there = omega (arith, inside, (stands.steps_within (get_or kept.steps.items k d) (among_place kept.steps.items k d there)).0)
 
   pub run_inside : All (λ (x : Item). x.place < length all) kept.run.items
-  run_inside k d there = omega (arith, inside, (stands.run_within (get_or kept.run.items k d) (among_place kept.run.items k d there)).0.0)
+  run_inside k d there = omega (arith, inside, (stands.kept_within (get_or kept.run.items k d) (inl (among_place kept.run.items k d there))).0.0)
+
+  pub fresh_inside : All (λ (x : Item). x.place < length all) kept.fresh.items
+  fresh_inside k d there = omega (arith, inside, (stands.kept_within (get_or kept.fresh.items k d) (inr (among_place kept.fresh.items k d there))).0.0)
 
 -- ---- the next entry
 
@@ -219,7 +220,7 @@ known_more over all cut i count known next j n early member = elim (cases_eq j i
 here_again : (i : ℕ) → i + 1 - 1 ≡ i
 here_again i = omega arith
 
-module _ {over first second third : Entry → Entry → Bool} {all : List Entry} (rule : Entry → ℕ) (cut : ℕ) (swept : AreSwept over first second third all) (i : ℕ) (inside : i < length all) where
+module _ {over first second third : Entry → Entry → Bool} {all : List Entry} (rule : Entry → ℕ) (mark : ℕ → ℕ) (cut : ℕ) (swept : AreSwept over first second third all) (i : ℕ) (inside : i < length all) where
   abbrev e : Entry
   e = entry_at all i
 
@@ -230,16 +231,16 @@ module _ {over first second third : Entry → Entry → Bool} {all : List Entry}
   count x = count_above over all cut x
 
   abbrev Stands : ℕ → ℕ → ℕ → Level → Type 0
-  Stands class j n kept = StandsFor over second third rule all class j n kept
+  Stands class j n kept = StandsFor over second third rule mark all class j n kept
 
   abbrev AllStand : ℕ → ℕ → List Level → Type 0
   AllStand class j levels = (n : ℕ) (d : Level) → n < length levels → Stands class j n (get_or levels n d)
 
   abbrev Swept : ℕ → Sweep → Type 0
-  Swept j sweep = HasSwept over first second third rule cut all j sweep
+  Swept j sweep = HasSwept over first second third rule mark cut all j sweep
 
   abbrev Found : Sweep → Type 0
-  Found sweep = HasFoundClass over first second third rule cut all i sweep
+  Found sweep = HasFoundClass over first second third rule mark cut all i sweep
 
   -- ---- its class
 
@@ -250,7 +251,7 @@ module _ {over first second third : Entry → Entry → Bool} {all : List Entry}
   found_new sweep new so_far apart same begins = record {
     within = omega (arith, so_far.within, ap length same);
     stand = subst (AllStand new.class i) (sym same)
-        (λ n d known. new_class over second third rule all sweep.class i n (get_or sweep.levels.items n d) (so_far.stand n d known) new.class (omega (arith, begins)));
+        (λ n d known. new_class over second third rule mark all sweep.class i n (get_or sweep.levels.items n d) (so_far.stand n d known) new.class (omega (arith, begins)));
     known = λ j n early member. omega (arith, so_far.known j n early member, ap length same);
     class = subst (λ class. IsClass first second third all class i) (sym begins) (class_begins swept i inside apart);
   }
@@ -267,7 +268,7 @@ module _ {over first second third : Entry → Entry → Bool} {all : List Entry}
   found_asked sweep new n kept asked so_far there here same is class =
       let levels = sweep.levels.items in
       let long : length new.levels.items ≡ length levels = ap length is ∙ length-set levels n asked in
-      let stands = same_level over second third rule all sweep.class i n kept asked same (stands_there sweep n kept so_far there here) in
+      let stands = same_level over second third rule mark all sweep.class i n kept asked same (stands_there sweep n kept so_far there here) in
       let all_stand = each_set (Stands sweep.class i) levels n asked there stands (λ k d old other. so_far.stand k d old) in
       record {
         within = omega (arith, so_far.within, long);
@@ -275,6 +276,24 @@ module _ {over first second third : Entry → Entry → Bool} {all : List Entry}
         known = λ j k early member. omega (arith, so_far.known j k early member, long);
         class = subst (λ c. IsClass first second third all c i) (sym class) so_far.class;
       }
+
+  -- where more levels were above it than are known, one would have an entry before it
+  all_known : (sweep : Sweep) → Found sweep → (n : ℕ) → n ≤ cut → comes_after over all n e ≡ true → n ≤ length sweep.levels.items
+  all_known sweep so_far n early chain =
+      let known = length sweep.levels.items in
+      elim (cases_lt known n) [
+        | inl past ↦
+            let w = level_over swept i inside known (comes_after_upto over all (suc known) n e (omega (arith, past)) chain) in
+            absurd (omega (arith, so_far.known w.0 known (omega (arith, past, early)) w.1))
+        | inr within ↦ within
+      ]
+
+  -- one that was held is sought from its level on
+  pub sought_held : AreHeld over cut mark all → (sweep : Sweep) → Found sweep → (low high : ℕ) → low ≡ mark i - 1 → high ≡ length sweep.levels.items → IsSought over all e sweep.levels.items low high
+  sought_held held sweep so_far low high low_is high_is =
+      let after : comes_after over all low e ≡ true = subst (λ n. comes_after over all n e ≡ true) (sym low_is) (held.after i inside) in
+      let known = all_known sweep so_far low (omega (arith, low_is, held.within i inside)) after in
+      record { ordered = omega (arith, known, high_is); within = omega (arith, high_is); above = after; next = λ less. absurd (omega (arith, less, high_is)) }
 
   -- as many levels are above it as a search among those so far finds
   pub count_found : (sweep : Sweep) (low high : ℕ) → Found sweep → IsSought over all e sweep.levels.items low high → high ≤ low → low ≡ count e
@@ -295,17 +314,9 @@ module _ {over first second third : Entry → Entry → Bool} {all : List Entry}
     pub there : new.above < length new.levels.items
     pub above : new.above ≡ sweep.above
 
-  -- where more levels were above it than are known, one would have an entry before it
   above_within : (sweep : Sweep) → Found sweep → sweep.above ≡ count e → sweep.above < cut → sweep.above ≤ length sweep.levels.items
   above_within sweep so_far above early =
-      let known = length sweep.levels.items in
-      elim (cases_lt known sweep.above) [
-        | inl past ↦
-            let chain : comes_after over all sweep.above e ≡ true = subst (λ n. comes_after over all n e ≡ true) (sym above) (chain_of_count over cut all e).after in
-            let w = level_over swept i inside known (comes_after_upto over all (suc known) sweep.above e (omega (arith, past)) chain) in
-            absurd (omega (arith, so_far.known w.0 known (omega (arith, past, early)) w.1))
-        | inr within ↦ within
-      ]
+      all_known sweep so_far sweep.above (omega (arith, early)) (subst (λ n. comes_after over all n e ≡ true) (sym above) (chain_of_count over cut all e).after)
 
   -- no entry so far is of a level that is begun
   found_longer : (sweep new : Sweep) (empty : Level) → Found sweep → length sweep.levels.items < cut
@@ -330,7 +341,7 @@ module _ {over first second third : Entry → Entry → Bool} {all : List Entry}
         | inl last ↦
             let w = begun.begun last in
             record {
-              found = found_longer sweep new w.0 so_far (omega (arith, last, early)) (w.2 over second third rule all sweep.class i (length levels)) w.1 begun.class;
+              found = found_longer sweep new w.0 so_far (omega (arith, last, early)) (w.2 over second third rule mark all sweep.class i (length levels)) w.1 begun.class;
               there = omega (arith, begun.above, last, ap length w.1, length_push levels w.0);
               above = begun.above;
             }
@@ -362,8 +373,8 @@ module _ {over first second third : Entry → Entry → Bool} {all : List Entry}
             let kept = get_or sweep.levels.items n d in
             let stands = so_far.stand n d there in
             elim (cases_Bool (is_at over all n before)) [
-              | inl at ↦ alike_stays over second third rule all sweep.class i n kept stands first swept.led.second_is_chain swept.led.third_is_chain some class.begins at alike level
-              | inr apart ↦ stays over second third rule all sweep.class i n kept stands (sym (same n) ∙ apart)
+              | inl at ↦ alike_stays over second third rule mark all sweep.class i n kept stands first swept.led.second_is_chain swept.led.third_is_chain some class.begins at alike level
+              | inr apart ↦ stays over second third rule mark all sweep.class i n kept stands (sym (same n) ∙ apart)
             ];
         known = known_more over all cut i (length sweep.levels.items) so_far.known (λ n early at. so_far.known (i - 1) n early (omega (arith, some), same n ∙ at));
         class = λ _. subst (IsClass first second third all sweep.class) (sym (here_again i)) (class_goes_on swept sweep.class i some class level);
@@ -377,7 +388,7 @@ module _ {over first second third : Entry → Entry → Bool} {all : List Entry}
       λ n early. false_from_ne_true (is_at over all n e) (λ at. absurd (omega (arith, level_is over cut all e n early at, above, past, early))) in
       record {
         within = so_far.within;
-        stand = λ n d there. stays over second third rule all sweep.class i n (get_or sweep.levels.items n d) (so_far.stand n d there) (none n (omega (arith, there, so_far.within)));
+        stand = λ n d there. stays over second third rule mark all sweep.class i n (get_or sweep.levels.items n d) (so_far.stand n d there) (none n (omega (arith, there, so_far.within)));
         known = known_more over all cut i (length sweep.levels.items) so_far.known (λ n early at. absurd (both_ways (is_at over all n e) (none n early) at));
         class = λ _. subst (IsClass first second third all sweep.class) (sym (here_again i)) so_far.class;
         last = λ _. above ∙ ap (λ k. count (entry_at all k)) (sym (here_again i));
@@ -393,7 +404,7 @@ module _ {over first second third : Entry → Entry → Bool} {all : List Entry}
       let apart : (k : ℕ) → k < length levels → (k ≡ n → ⊥) → is_at over all k e ≡ false =
       λ k old other. false_from_ne_true (is_at over all k e) (λ at. absurd (other (sym (level_is over cut all e k (omega (arith, old, so_far.within)) at) ∙ sym above))) in
       let all_stand = each_set (Stands sweep.class (i + 1)) levels n put there stands
-      (λ k d old other. stays over second third rule all sweep.class i k (get_or levels k d) (so_far.stand k d old) (apart k old other)) in
+      (λ k d old other. stays over second third rule mark all sweep.class i k (get_or levels k d) (so_far.stand k d old) (apart k old other)) in
       record {
         within = omega (arith, long, so_far.within);
         stand = subst (λ c. AllStand c (i + 1) new.levels.items) (sym class) (subst (AllStand sweep.class (i + 1)) (sym is) all_stand);

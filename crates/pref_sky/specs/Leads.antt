@@ -9,6 +9,7 @@ use Rattle.pref_term.specs.declared.key.Key.{Key}
 use Rattle.pref_sky.specs.Chains.{better_in, by_row, earlier_in, in_turn}
 use Rattle.pref_sky.specs.Items.{signature_by}
 use Rattle.pref_sky.specs.Members.{Among}
+use Rattle.pref_sky.specs.Held.{AreHeld}
 use Rattle.pref_sky.specs.OwnOrders.{own_order}
 use Rattle.pref_sky.specs.Sweep.{AreSwept, are_level_in}
 use Rattle.pref_sky.specs.declared.entry.Entry.{Entry}
@@ -37,9 +38,14 @@ third_of order lead = by_row (in_turn (λ a b. earlier_in order.ask.group b a) (
 abbrev pub rule_of : Lead → Entry → ℕ
 rule_of lead = signature_by lead.scales
 
--- these chains lead the order of these entries, which are in order, and see no difference that the question's keys do not; and what dominates another has no bit in its signature that the other lacks
+-- the level of which the entry at a place was when it was held already; 0 of a new one
+abbrev pub mark_of : Lead → ℕ → ℕ
+mark_of lead place = get_or lead.held.items place 0
+
+-- these chains lead the order of these entries, which are in order, and see no difference that the question's keys do not; what dominates another has no bit in its signature that the other lacks; and some were held already
 pub record LeadsSweep (order : OwnOrder) (lead : Lead) (all : List Entry) : Type 0 where
   pub swept : AreSwept (own_order order) (first_of order lead) (second_of order lead) (third_of order lead) all
   pub signed : (a b : Entry) → own_order order a b ≡ true → is_within (rule_of lead a) (rule_of lead b) ≡ true
   pub keyed : (a b : Entry) → Among a all → Among b all → is_same (by_chain (ask_keys order.ask) a.row b.row) ≡ true
       → are_level_in (first_of order lead) (second_of order lead) (third_of order lead) a b ≡ true
+  pub held : AreHeld (own_order order) order.cut (mark_of lead) all

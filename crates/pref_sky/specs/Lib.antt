@@ -10,6 +10,7 @@ pub mod Items
 pub mod Passes
 pub mod Chains
 pub mod OwnOrders
+pub mod Held
 pub mod Sweep
 pub mod Steps
 pub mod ChosenChains

@@ -1,10 +1,10 @@
 -- No public contract cites this.
 -- One pass over entries in order: three chains that lead their order, and what is kept of each level so far, as far as later entries are compared with it.
-use Rattle.std.specs.Prelude.{◌≡◌, ◌<◌, ◌≤◌, ◌-◌, get_or, Bool, true, false, not, ◌&&◌, ◌||◌, ℕ, suc, List, [], ◌∷◌, ◌++◌, length}
+use Rattle.std.specs.Prelude.{◌≡◌, ◌<◌, ◌≤◌, ◌-◌, get_or, Bool, true, false, not, ◌&&◌, ◌||◌, ℕ, suc, List, [], ◌∷◌, ◌++◌, ◌⊎◌, length}
 use Rattle.pref_term.specs.Order.{IsStrictOrder, StandAlike}
 use Rattle.pref_sky.specs.OwnOrders.{comes_after, count_above}
 use Rattle.pref_sky.specs.Items.{IsItem, entry_at}
-use Rattle.pref_sky.specs.Members.{Among}
+use Rattle.pref_sky.specs.Members.{Among, SameMembers}
 use Rattle.pref_sky.specs.Chains.{IsChain, IsInOrder, are_level, comes_first}
 use Rattle.pref_sky.specs.declared.entry.Entry.{Entry}
 use Rattle.pref_sky.specs.declared.item.Item.{Item}
@@ -48,36 +48,54 @@ is_at over all n e = comes_after over all n e && not (comes_after over all (suc 
 abbrev pub IsMember : (Entry → Entry → Bool) → List Entry → (i n place : ℕ) → Type 0
 IsMember over all i n place = (place < i) × (is_at over all n (entry_at all place) ≡ true)
 
+-- kept in the class of a level
+abbrev pub IsKept : Item → Level → Type 0
+IsKept x kept = Among x kept.run.items ⊎ Among x kept.fresh.items
+
+-- one that an entry with this mark is compared with: a new one with all that are kept, another with the fresh ones
+abbrev pub IsAskedOf : ℕ → Item → Level → Type 0
+IsAskedOf mark x kept = Among x kept.fresh.items ⊎ ((mark ≡ 0) × Among x kept.run.items)
+
 -- what is kept stands for the entries before a place that have n levels above them.
 -- Steps: each of these is no better than one of the steps in the second and third chain; they stand from the best in the second to the best in the third.
--- The run: of the entries from the class on, each is alike to one of the run.
-pub record StandsFor (over second third : Entry → Entry → Bool) (rule : Entry → ℕ) (all : List Entry) (class i n : ℕ) (kept : Level) : Type 0 where
+-- The class: of the entries from it on, each is alike to one that is kept in it. In the run are those alone that were held already, and of this level.
+pub record StandsFor (over second third : Entry → Entry → Bool) (rule : Entry → ℕ) (mark : ℕ → ℕ) (all : List Entry) (class i n : ℕ) (kept : Level) : Type 0 where
   pub steps_within : (p : ℕ) → Among p kept.steps.items → IsMember over all i n p
   pub steps_cover : (j : ℕ) → IsMember over all i n j → (p : ℕ) × Among p kept.steps.items × (second (entry_at all j) (entry_at all p) ≡ false) × (third (entry_at all j) (entry_at all p) ≡ false)
   pub by_second : IsInOrder (λ p q. not (second (entry_at all q) (entry_at all p))) kept.steps.items
   pub by_third : IsInOrder (λ p q. not (third (entry_at all p) (entry_at all q))) kept.steps.items
-  pub run_within : (x : Item) → Among x kept.run.items → IsMember over all i n x.place × IsItem rule all x
-  pub run_covers : (j : ℕ) → class ≤ j → IsMember over all i n j → (kept.class ≡ class) × ((x : Item) × Among x kept.run.items × StandAlike over (entry_at all x.place) (entry_at all j))
+  pub kept_within : (x : Item) → IsKept x kept → IsMember over all i n x.place × IsItem rule all x
+  pub run_held : (x : Item) → Among x kept.run.items → mark x.place ≡ suc n
+  pub kept_cover : (j : ℕ) → class ≤ j → IsMember over all i n j → (kept.class ≡ class) × ((x : Item) × IsKept x kept × StandAlike over (entry_at all x.place) (entry_at all j))
 
--- the same, but for the order of the run
+-- the same, but for the order of what is kept in the class
 pub record IsSameLevel (old new : Level) : Type 0 where
   pub steps : new.steps.items ≡ old.steps.items
   pub class : new.class ≡ old.class
-  pub run : (x : Item) → Among x new.run.items → Among x old.run.items
-  pub back : (x : Item) → Among x old.run.items → Among x new.run.items
+  pub run : SameMembers old.run.items new.run.items
+  pub fresh : SameMembers old.fresh.items new.fresh.items
+
+-- the same, with one more in its class: in the run where it was held already, and of this level
+pub record IsOneMore (mark : ℕ → ℕ) (n : ℕ) (before : Level) (x : Item) (new : Level) : Type 0 where
+  pub steps : new.steps.items ≡ before.steps.items
+  pub class : new.class ≡ before.class
+  pub within : (y : Item) → IsKept y new → IsKept y before ⊎ (y ≡ x)
+  pub held : (y : Item) → Among y new.run.items → Among y before.run.items ⊎ (mark y.place ≡ suc n)
+  pub here : IsKept x new
+  pub others : (y : Item) → IsKept y before → IsKept y new
 
 -- what a sweep that goes up to a cut knows before the i-th entry: what is kept stands for each level so far, none is left out, and how the last entry stands
-pub record HasSwept (over first second third : Entry → Entry → Bool) (rule : Entry → ℕ) (cut : ℕ) (all : List Entry) (i : ℕ) (sweep : Sweep) : Type 0 where
+pub record HasSwept (over first second third : Entry → Entry → Bool) (rule : Entry → ℕ) (mark : ℕ → ℕ) (cut : ℕ) (all : List Entry) (i : ℕ) (sweep : Sweep) : Type 0 where
   pub within : length sweep.levels.items ≤ cut
-  pub stand : (n : ℕ) (d : Level) → n < length sweep.levels.items → StandsFor over second third rule all sweep.class i n (get_or sweep.levels.items n d)
+  pub stand : (n : ℕ) (d : Level) → n < length sweep.levels.items → StandsFor over second third rule mark all sweep.class i n (get_or sweep.levels.items n d)
   pub known : (j n : ℕ) → n < cut → IsMember over all i n j → n < length sweep.levels.items
   pub class : 0 < i → IsClass first second third all sweep.class (i - 1)
   pub last : 0 < i → sweep.above ≡ count_above over all cut (entry_at all (i - 1))
 
 -- the same once the class of the i-th entry is found, before its level is
-pub record HasFoundClass (over first second third : Entry → Entry → Bool) (rule : Entry → ℕ) (cut : ℕ) (all : List Entry) (i : ℕ) (sweep : Sweep) : Type 0 where
+pub record HasFoundClass (over first second third : Entry → Entry → Bool) (rule : Entry → ℕ) (mark : ℕ → ℕ) (cut : ℕ) (all : List Entry) (i : ℕ) (sweep : Sweep) : Type 0 where
   pub within : length sweep.levels.items ≤ cut
-  pub stand : (n : ℕ) (d : Level) → n < length sweep.levels.items → StandsFor over second third rule all sweep.class i n (get_or sweep.levels.items n d)
+  pub stand : (n : ℕ) (d : Level) → n < length sweep.levels.items → StandsFor over second third rule mark all sweep.class i n (get_or sweep.levels.items n d)
   pub known : (j n : ℕ) → n < cut → IsMember over all i n j → n < length sweep.levels.items
   pub class : IsClass first second third all sweep.class i
 
@@ -87,4 +105,4 @@ pub record HasBegun (old new : Sweep) : Type 0 where
   pub above : new.above ≡ old.above
   pub known : (old.above ≡ length old.levels.items → ⊥) → new.levels.items ≡ old.levels.items
   pub begun : old.above ≡ length old.levels.items → (empty : Level) × (new.levels.items ≡ old.levels.items ++ empty ∷ [])
-      × ((over second third : Entry → Entry → Bool) (rule : Entry → ℕ) (all : List Entry) (class i n : ℕ) → ((j : ℕ) → IsMember over all i n j → ⊥) → StandsFor over second third rule all class i n empty)
+      × ((over second third : Entry → Entry → Bool) (rule : Entry → ℕ) (mark : ℕ → ℕ) (all : List Entry) (class i n : ℕ) → ((j : ℕ) → IsMember over all i n j → ⊥) → StandsFor over second third rule mark all class i n empty)

@@ -1,11 +1,12 @@
 //! What leads the order of entries in a sweep: up to three chains, whose product decides wherever it sees a difference.
 
-ghost use Rattle.std.specs.Prelude.{◌≡◌, ◌&&◌, true, false, All, IfOk, map};
+ghost use Rattle.std.specs.Prelude.{◌≡◌, ◌&&◌, suc, true, false, All, IfOk, get_or, map};
 ghost use Rattle.pref_term.specs.Chains.{AreInRow, by_chain};
 ghost use Rattle.pref_term.specs.Extension.{ask_keys};
 ghost use Rattle.pref_term.specs.Order.{StandAlike, is_same};
 ghost use Rattle.pref_sky.specs.Chains.{better_in, earlier_in, in_turn, tells_none_apart};
 ghost use Rattle.pref_sky.specs.ChosenChains.{LeadAmong, SayTheSame};
+ghost use Rattle.pref_sky.specs.Held.{AreHeld};
 ghost use Rattle.pref_sky.specs.OwnOrders.{AreInOrder, own_order};
 ghost use Rattle.pref_sky.specs.Sweep.{are_level_in};
 
@@ -29,6 +30,8 @@ pub(crate) struct Lead<'a> {
     pub(crate) chains: Vec<&'a Chain>,
     /// By which entries are signed that are the same in all chains.
     pub(crate) scales: Scales,
+    /// The levels of which these entries were when they were held already, from 1 on; 0 of one that is new.
+    pub(crate) held: Vec<u32>,
     ghost in_row: { All AreInRow (map (λ chain. chain.now) chains.items) },
 }
 
@@ -98,9 +101,9 @@ fn all_chains<'a>(alloc: Global, chains: &'a [Chain]) -> Result<Vec<&'a Chain>, 
 
 impl<'a> Lead<'a> {
     // Here, since what the file names at its top may not name the struct.
-    ghost use Rattle.pref_sky.specs.Leads.{LeadsSweep, chain_at, first_of, rule_of, second_of, third_of};
+    ghost use Rattle.pref_sky.specs.Leads.{LeadsSweep, chain_at, first_of, mark_of, rule_of, second_of, third_of};
 
-    /// What leads these entries, which are in order.
+    /// What leads these entries, which are in order, and of which some were held already, of these levels.
     ///
     /// Cost: for more than three chains a look at each two entries that stand beside each other, until they are told apart. Memory: a list of
     /// chains, and scales where no chain leads.
@@ -108,8 +111,10 @@ impl<'a> Lead<'a> {
         alloc: Global,
         order: &'a OwnOrder,
         entries: &[Entry],
+        held: Vec<u32>,
     ) -> Result<Lead<'a>, AllocError>
-        requires { AreInOrder order.now entries.now }
+        requires in_order { AreInOrder order.now entries.now }
+        requires held { AreHeld (own_order order.now) order.now.cut (λ place. get_or held.items place 0) entries.now }
         ensures { IfOk result (λ lead. LeadsSweep order.now lead entries.now) }
     {
         let chains = chosen_chains(alloc, order, entries)?;
@@ -118,7 +123,11 @@ impl<'a> Lead<'a> {
         } else {
             Scales::none()
         };
-        Ok(Lead { chains, scales })
+        Ok(Lead {
+            chains,
+            scales,
+            held,
+        })
     }
 
     /// How two rows of a group compare in the n-th chain from 0 on: the same where there is none.
@@ -196,5 +205,26 @@ impl<'a> Lead<'a> {
         ensures { result ≡ rule_of self.now entry.now }
     {
         self.scales.signature(&entry.row)
+    }
+
+    /// The level of which the entry at a place was when it was held already, from 1 on; 0 where it is new.
+    #[inline(always)]
+    pub(crate) fn held_level(&self, place: usize) -> u32
+        ensures { result ≡ mark_of self.now place }
+    {
+        if place < self.held.len() {
+            self.held[place]
+        } else {
+            0
+        }
+    }
+
+    /// Whether the entry at a place was held already, and of the level that so many are above.
+    #[inline(always)]
+    pub(crate) fn was_below(&self, place: usize, above: usize) -> bool
+        ensures { result ≡ true → mark_of self.now place ≡ suc above }
+    {
+        let level = self.held_level(place) as usize;
+        level > 0 && level - 1 == above
     }
 }

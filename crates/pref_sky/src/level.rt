@@ -10,14 +10,14 @@
 //! All steps are no dearer than what comes later. The last step that is no farther than a later row is the least noisy one of those: where
 //! it does not dominate the row, no row of the level does that is not the same in all three.
 
-ghost use Rattle.std.specs.Prelude.{◌≡◌, ◌<◌, ◌≤◌, ◌+◌, ◌&&◌, ℕ, suc, Bool, List, true, false, All, MatchOption, OnOk, get_or, length};
+ghost use Rattle.std.specs.Prelude.{◌≡◌, ◌<◌, ◌≤◌, ◌+◌, ◌&&◌, ℕ, suc, Bool, List, [], true, false, All, MatchOption, OnOk, get_or, length};
 ghost use Rattle.pref_term.specs.Signatures.{is_within};
 ghost use Rattle.pref_sky.specs.OwnOrders.{comes_after, own_order};
 ghost use Rattle.pref_sky.specs.Items.{entry_at};
-ghost use Rattle.pref_sky.specs.Leads.{LeadsSweep, first_of, rule_of, second_of, third_of};
-ghost use Rattle.pref_sky.specs.Members.{Among};
+ghost use Rattle.pref_sky.specs.Leads.{LeadsSweep, first_of, mark_of, rule_of, second_of, third_of};
+ghost use Rattle.pref_sky.specs.Members.{Among, SameMembers};
 ghost use Rattle.pref_sky.specs.Steps.{AreBetter, AreNoBetter, AreNoWorse, IsAsked, IsStepPut};
-ghost use Rattle.pref_sky.specs.Sweep.{IsClass, IsMember, IsSameLevel, StandsFor, is_at};
+ghost use Rattle.pref_sky.specs.Sweep.{IsAskedOf, IsClass, IsKept, IsMember, IsOneMore, IsSameLevel, StandsFor, is_at};
 ghost use Rattle.pref_sky.specs.declared.entry.Entry.{Entry};
 ghost use Rattle.pref_sky.specs.declared.item.Item.{Item};
 
@@ -34,8 +34,12 @@ pub(crate) struct Level {
     /// Places of entries of which each other one is no better than one in the second and the third of the leading chains: from the best in
     /// the second to the best in the third.
     pub(crate) steps: Vec<usize>,
-    /// One of each that are alike, of those that are the same in all leading chains as the first entry of a class: what stands behind these chains decides among them.
+    /// One of each that are alike, of those that are the same in all leading chains as the first entry of a class: what stands behind these
+    /// chains decides among them. Here those that were held already, and of this level: none of them dominates another that was so or is
+    /// from a level above ..
     pub(crate) run: Vec<Item>,
+    /// .. and here those that came, or came down.
+    pub(crate) fresh: Vec<Item>,
     /// The place of the first entry of this class.
     pub(crate) class: usize,
 }
@@ -85,20 +89,20 @@ fn end_of_no_better(
     steps.len()
 }
 
-/// The place in the run of the first that dominates an entry.
+/// The place among these of the first that dominates an entry.
 fn first_over(
     order: &OwnOrder,
     entries: &[Entry],
-    run: &[Item],
+    items: &[Item],
     entry: &Entry,
     signature: u64,
 ) -> Option<usize>
-    requires { All (λ (x : Item). x.place < length entries.now) run.now }
+    requires { All (λ (x : Item). x.place < length entries.now) items.now }
     ensures { MatchOption result
-        (All (λ (x : Item). (is_within x.signature signature && own_order order.now (entry_at entries.now x.place) entry.now) ≡ false) run.now)
-        (λ at. (at < length run.now) × ((d : Item) → own_order order.now (entry_at entries.now (get_or run.now at d).place) entry.now ≡ true)) }
+        (All (λ (x : Item). (is_within x.signature signature && own_order order.now (entry_at entries.now x.place) entry.now) ≡ false) items.now)
+        (λ at. (at < length items.now) × ((d : Item) → own_order order.now (entry_at entries.now (get_or items.now at d).place) entry.now ≡ true)) }
 {
-    for (at, item) in run.iter().enumerate() {
+    for (at, item) in items.iter().enumerate() {
         if is_within(item.signature, signature) && order.is_over(&entries[item.place], entry) {
             return Some(at);
         }
@@ -106,15 +110,38 @@ fn first_over(
     None
 }
 
+/// Whether one of these dominates an entry. The one that does is met sooner the next time.
+fn has_one_over(
+    order: &OwnOrder,
+    entries: &[Entry],
+    items: &mut Vec<Item>,
+    entry: &Entry,
+    signature: u64,
+) -> bool
+    requires { All (λ (x : Item). x.place < length entries.now) items.old.items }
+    ensures same { SameMembers items.old.items items.new.items }
+    ensures found { result ≡ true → (x : Item) × Among x items.old.items × (own_order order.now (entry_at entries.now x.place) entry.now ≡ true) }
+    ensures none { result ≡ false → (x : Item) → Among x items.old.items → (is_within x.signature signature && own_order order.now (entry_at entries.now x.place) entry.now) ≡ false }
+{
+    match first_over(order, entries, items, entry, signature) {
+        Some(at) => {
+            items.swap(at / 2, at);
+            true
+        }
+        None => false,
+    }
+}
+
 impl Level {
     /// Nothing of a level. Takes no memory.
     pub(crate) fn new(alloc: Global) -> Level
-        ensures { (over second third : Entry → Entry → Bool) (rule : Entry → ℕ) (all : List Entry) (class i n : ℕ)
-            → ((j : ℕ) → IsMember over all i n j → ⊥) → StandsFor over second third rule all class i n result }
+        ensures { (over second third : Entry → Entry → Bool) (rule : Entry → ℕ) (mark : ℕ → ℕ) (all : List Entry) (class i n : ℕ)
+            → ((j : ℕ) → IsMember over all i n j → ⊥) → StandsFor over second third rule mark all class i n result }
     {
         Level {
             steps: Vec::new(alloc),
             run: Vec::new(alloc),
+            fresh: Vec::new(alloc),
             class: 0,
         }
     }
@@ -156,8 +183,24 @@ impl Level {
         count > 0 && order.is_over(&entries[self.steps[count - 1]], entry)
     }
 
-    /// Whether one of the run dominates an entry. The one that does is met sooner the next time.
-    fn has_one_over(
+    /// Whether one of those that came, or came down, dominates an entry.
+    fn has_fresh_over(
+        &mut self,
+        order: &OwnOrder,
+        entries: &[Entry],
+        entry: &Entry,
+        signature: u64,
+    ) -> bool
+        requires { All (λ (x : Item). x.place < length entries.now) self.old.fresh.items }
+        ensures same { IsSameLevel self.old self.new }
+        ensures found { result ≡ true → (x : Item) × Among x self.old.fresh.items × (own_order order.now (entry_at entries.now x.place) entry.now ≡ true) }
+        ensures none { result ≡ false → (x : Item) → Among x self.old.fresh.items → (is_within x.signature signature && own_order order.now (entry_at entries.now x.place) entry.now) ≡ false }
+    {
+        has_one_over(order, entries, &mut self.fresh, entry, signature)
+    }
+
+    /// Whether one of those that were of this level already dominates an entry.
+    fn has_held_over(
         &mut self,
         order: &OwnOrder,
         entries: &[Entry],
@@ -169,18 +212,37 @@ impl Level {
         ensures found { result ≡ true → (x : Item) × Among x self.old.run.items × (own_order order.now (entry_at entries.now x.place) entry.now ≡ true) }
         ensures none { result ≡ false → (x : Item) → Among x self.old.run.items → (is_within x.signature signature && own_order order.now (entry_at entries.now x.place) entry.now) ≡ false }
     {
-        match first_over(order, entries, &self.run, entry, signature) {
-            Some(at) => {
-                self.run.swap(at / 2, at);
-                true
-            }
-            None => false,
-        }
+        has_one_over(order, entries, &mut self.run, entry, signature)
     }
 
-    /// Whether an entry of this level dominates the one at a place behind them, which is of this class.
+    /// Whether one of the class dominates the entry at a place. Of those that were held already none does where that entry was held too, of
+    /// this level or of one above: then they are not asked.
+    fn has_kept_over(
+        &mut self,
+        order: &OwnOrder,
+        lead: &Lead,
+        entries: &[Entry],
+        place: usize,
+        signature: u64,
+    ) -> bool
+        requires inside { place < length entries.now }
+        requires run { All (λ (x : Item). x.place < length entries.now) self.old.run.items }
+        requires fresh { All (λ (x : Item). x.place < length entries.now) self.old.fresh.items }
+        ensures same { IsSameLevel self.old self.new }
+        ensures found { result ≡ true → (x : Item) × IsKept x self.old × (own_order order.now (entry_at entries.now x.place) (entry_at entries.now place) ≡ true) }
+        ensures none { result ≡ false → (x : Item) → IsAskedOf (mark_of lead.now place) x self.old
+            → (is_within x.signature signature && own_order order.now (entry_at entries.now x.place) (entry_at entries.now place)) ≡ false }
+    {
+        let entry = &entries[place];
+        self.has_fresh_over(order, entries, entry, signature)
+            || (lead.held_level(place) == 0 && self.has_held_over(order, entries, entry, signature))
+    }
+
+    /// Whether an entry of this level dominates the one at a place behind them, which is of this class. Where that one was held already, this is
+    /// the level that it was of, or one below.
     ///
-    /// Cost: a search by halves among the steps, and where the level has entries of the class, a look at their signatures.
+    /// Cost: a search by halves among the steps, and where the level has entries of the class, a look at the signatures of those that are
+    /// asked.
     pub(crate) fn dominates(
         &mut self,
         order: &OwnOrder,
@@ -193,16 +255,17 @@ impl Level {
         requires inside { place < length entries.now }
         requires steps { All (λ p. p < length entries.now) self.old.steps.items }
         requires run { All (λ (x : Item). x.place < length entries.now) self.old.run.items }
+        requires fresh { All (λ (x : Item). x.place < length entries.now) self.old.fresh.items }
         requires signature { signature ≡ rule_of lead.now (entry_at entries.now place) }
         ensures same { IsSameLevel self.old self.new }
         ensures dominated { let over = own_order order.now in
             LeadsSweep order.now lead.now entries.now → IsClass (first_of order.now lead.now) (second_of order.now lead.now) (third_of order.now lead.now) entries.now class place
-            → (n : ℕ) → StandsFor over (second_of order.now lead.now) (third_of order.now lead.now) (rule_of lead.now) entries.now class place n self.old
-            → result ≡ comes_after over entries.now (suc n) (entry_at entries.now place) }
+            → (n : ℕ) → StandsFor over (second_of order.now lead.now) (third_of order.now lead.now) (rule_of lead.now) (mark_of lead.now) entries.now class place n self.old
+            → mark_of lead.now place ≤ suc n → result ≡ comes_after over entries.now (suc n) (entry_at entries.now place) }
     {
         let entry = &entries[place];
         self.has_step_over(order, lead, entries, entry)
-            || (self.class == class && self.has_one_over(order, entries, entry, signature))
+            || (self.class == class && self.has_kept_over(order, lead, entries, place, signature))
     }
 
     /// Puts a place among the steps, and takes out those that are no better in the second and third chain.
@@ -215,7 +278,7 @@ impl Level {
     ) -> Result<(), AllocError>
         requires inside { place < length entries.now }
         requires steps { All (λ p. p < length entries.now) self.old.steps.items }
-        ensures others { (self.new.run ≡ self.old.run) × (self.new.class ≡ self.old.class) }
+        ensures others { (self.new.run ≡ self.old.run) × (self.new.fresh ≡ self.old.fresh) × (self.new.class ≡ self.old.class) }
         ensures put { OnOk result (IsStepPut (second_of order.now lead.now) (third_of order.now lead.now) entries.now self.old.steps.items place self.new.steps.items) }
     {
         let entry = &entries[place];
@@ -231,13 +294,40 @@ impl Level {
         Ok(())
     }
 
-    /// Keeps the entry at a place behind all others of the level, which is of it and of this class.
+    /// Begins a class, unless it is this one already.
+    fn begin_class(&mut self, class: usize)
+        ensures steps { self.new.steps ≡ self.old.steps }
+        ensures class { self.new.class ≡ class }
+        ensures same { self.old.class ≡ class → (self.new.run ≡ self.old.run) × (self.new.fresh ≡ self.old.fresh) }
+        ensures anew { (self.old.class ≡ class → ⊥) → (self.new.run.items ≡ []) × (self.new.fresh.items ≡ []) }
+    {
+        if self.class != class {
+            self.run.clear();
+            self.fresh.clear();
+            self.class = class;
+        }
+    }
+
+    /// Keeps one of the class. So many levels are above it.
+    fn keep(&mut self, lead: &Lead, above: usize, item: Item) -> Result<(), AllocError>
+        ensures { OnOk result (IsOneMore (mark_of lead.now) above self.old item self.new) }
+    {
+        if lead.was_below(item.place, above) {
+            self.run.push(item)?;
+        } else {
+            self.fresh.push(item)?;
+        }
+        Ok(())
+    }
+
+    /// Keeps the entry at a place behind all others of the level, which is of it and of this class. So many levels are above it.
     pub(crate) fn put(
         &mut self,
         order: &OwnOrder,
         lead: &Lead,
         entries: &[Entry],
         class: usize,
+        above: usize,
         place: usize,
         signature: u64,
     ) -> Result<(), AllocError>
@@ -246,16 +336,12 @@ impl Level {
         requires signature { signature ≡ rule_of lead.now (entry_at entries.now place) }
         ensures { let over = own_order order.now in
             LeadsSweep order.now lead.now entries.now → IsClass (first_of order.now lead.now) (second_of order.now lead.now) (third_of order.now lead.now) entries.now class place
-            → (n : ℕ) → StandsFor over (second_of order.now lead.now) (third_of order.now lead.now) (rule_of lead.now) entries.now class place n self.old
-            → is_at over entries.now n (entry_at entries.now place) ≡ true
-            → OnOk result (StandsFor over (second_of order.now lead.now) (third_of order.now lead.now) (rule_of lead.now) entries.now class (place + 1) n self.new) }
+            → StandsFor over (second_of order.now lead.now) (third_of order.now lead.now) (rule_of lead.now) (mark_of lead.now) entries.now class place above self.old
+            → is_at over entries.now above (entry_at entries.now place) ≡ true
+            → OnOk result (StandsFor over (second_of order.now lead.now) (third_of order.now lead.now) (rule_of lead.now) (mark_of lead.now) entries.now class (place + 1) above self.new) }
     {
         self.put_step(order, lead, entries, place)?;
-        if self.class != class {
-            self.run.clear();
-            self.class = class;
-        }
-        self.run.push(Item { signature, place })?;
-        Ok(())
+        self.begin_class(class);
+        self.keep(lead, above, Item { signature, place })
     }
 }

@@ -1,6 +1,7 @@
 //! Entries in the order of a question's keys: new ones are merged into those that are in order.
 
 ghost use Rattle.std.specs.Prelude.{◌≡◌, ◌≤◌, ◌++◌, true, false, length, take, drop, IfOk, OnOk};
+ghost use Rattle.pref_sky.specs.Held.{AreTakenOver, IsTakenOver};
 ghost use Rattle.pref_sky.specs.OwnOrders.{AreInOrder, AreSorted, comes_before};
 ghost use Rattle.pref_sky.specs.Members.{Among};
 ghost use Rattle.pref_sky.specs.declared.entry.Entry.{Entry};
@@ -90,4 +91,37 @@ pub(crate) fn merge_all(
     let mut coming = Vec::from_slice(alloc, recent)?;
     order.sort(&mut coming);
     merge(alloc, order, sorted, &coming)
+}
+
+/// The level of the next one of those that were held, where that is this entry; else 0.
+fn level_if_next(held: &[Entry], levels: &[u32], next: usize, entry: &Entry) -> u32
+    ensures { IsTakenOver held.now levels.now entry.now result }
+{
+    if next < held.len() && next < levels.len() && held[next] == *entry {
+        levels[next]
+    } else {
+        0
+    }
+}
+
+/// For each entry its level where it is one of those that were held, and 0 where it is new. Those that were held stand in the same order
+/// among the others: where one does not, 0 is right as well.
+pub(crate) fn levels_among(
+    alloc: Global,
+    held: &[Entry],
+    levels: &[u32],
+    entries: &[Entry],
+) -> Result<Vec<u32>, AllocError>
+    ensures { IfOk result (λ found. AreTakenOver held.now levels.now entries.now found.items) }
+{
+    let mut found = Vec::with_capacity(alloc, entries.len())?;
+    let mut next = 0;
+    for entry in entries {
+        let level = level_if_next(held, levels, next, entry);
+        if level > 0 {
+            next += 1;
+        }
+        found.push(level)?;
+    }
+    Ok(found)
 }

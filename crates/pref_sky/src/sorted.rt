@@ -2,18 +2,19 @@
 //! to drop those below the cut.
 
 ghost use Rattle.std.specs.Prelude.{◌≡◌, ◌<◌, ◌++◌, true, List, All, get_or, length, map, vec_len, IfOk, IfSome, OnErr, OnOk};
-ghost use Rattle.pref_sky.specs.OwnOrders.{AreInOrder, AreInOrder-prop, AreLeveled, AreLowest, HoldsUpper, is_below, own_levels};
+ghost use Rattle.pref_sky.specs.Held.{AreHeld};
+ghost use Rattle.pref_sky.specs.OwnOrders.{AreInOrder, AreInOrder-prop, AreLeveled, AreLowest, HoldsUpper, is_below, own_levels, own_order};
 ghost use Rattle.pref_sky.specs.Levels.{HaveDifferentIds, entry_of};
 ghost use Rattle.pref_sky.specs.declared.entry.Entry.{Entry};
 ghost use Rattle.pref_sky.specs.declared.entry.Ranked.{Ranked};
 ghost use Rattle.pref_sky.specs.declared.item.Item.{Item};
 
-use crate::entry::{Entry, Ranked, entries_of};
+use crate::entry::{Entry, Ranked, entries_of, levels_of};
 use crate::grouped::compare_groups;
 use crate::item::Item;
 use crate::lately::Lately;
 use crate::lead::Lead;
-use crate::merging::merge_all;
+use crate::merging::{levels_among, merge_all};
 use crate::own_order::OwnOrder;
 use crate::sweep::find_levels;
 use pref_term::{Scales, in_same_group, is_within};
@@ -56,6 +57,8 @@ struct Leveled {
 pub(crate) struct Pruned {
     pub(crate) order: OwnOrder,
     pub(crate) entries: Vec<Entry>,
+    /// The levels of these entries, by which the next sweep spares comparisons among them.
+    levels: Vec<u32>,
     /// The entries of the last level: what one of them dominates is below the cut.
     lowest: Vec<Item>,
     /// By which these are signed. Any scales are right.
@@ -64,6 +67,7 @@ pub(crate) struct Pruned {
     lately: Lately,
     ghost in_order: { AreInOrder order entries.items } by { AreInOrder-prop order entries.items },
     ghost low: { AreLowest order entries.items lowest.items },
+    ghost held: { AreHeld (own_order order) order.cut (λ place. get_or levels.items place 0) entries.items },
 }
 
 impl Pruned {
@@ -185,7 +189,8 @@ impl Pruned {
         ensures { IfOk result (λ leveled. AreLeveled self.now.order (self.now.entries.items ++ recent.now) leveled.found.items) }
     {
         let entries = merge_all(alloc, &self.order, &self.entries, recent)?;
-        let lead = Lead::of(alloc, &self.order, &entries)?;
+        let held = levels_among(alloc, &self.entries, &self.levels, &entries)?;
+        let lead = Lead::of(alloc, &self.order, &entries, held)?;
         let found = find_levels(alloc, &self.order, &lead, &entries)?;
         let Lead { scales, .. } = lead;
         Ok(Leveled { found, scales })
@@ -211,10 +216,12 @@ impl Pruned {
         }
         let Leveled { found, scales } = self.with_levels(alloc, recent)?;
         let entries = entries_of(alloc, &found)?;
+        let levels = levels_of(alloc, &found)?;
         let lowest = items_of_level(alloc, &scales, &found, self.order.cut)?;
         self.lowest = lowest;
         self.scales = scales;
         self.entries = entries;
+        self.levels = levels;
         recent.clear();
         Ok(())
     }
@@ -285,6 +292,7 @@ impl SortedEntries {
             pruned: Pruned {
                 order,
                 entries: Vec::new(alloc),
+                levels: Vec::new(alloc),
                 lowest: Vec::new(alloc),
                 scales: Scales::none(),
                 lately,

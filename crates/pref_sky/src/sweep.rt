@@ -1,10 +1,10 @@
 //! The levels of entries in order, by one pass: the level of an entry is the first of which no entry before it dominates it.
 
-ghost use Rattle.std.specs.Prelude.{◌≡◌, ◌<◌, ◌+◌, ◌-◌, true, false, IfOk, OnOk, length};
+ghost use Rattle.std.specs.Prelude.{◌≡◌, ◌<◌, ◌≤◌, ◌+◌, ◌-◌, true, false, IfOk, OnOk, length};
 ghost use Rattle.pref_term.specs.Order.{StandAlike};
 ghost use Rattle.pref_sky.specs.OwnOrders.{count_above, own_order, with_levels};
 ghost use Rattle.pref_sky.specs.Items.{entry_at};
-ghost use Rattle.pref_sky.specs.Leads.{LeadsSweep, first_of, rule_of, second_of, third_of};
+ghost use Rattle.pref_sky.specs.Leads.{LeadsSweep, first_of, mark_of, rule_of, second_of, third_of};
 ghost use Rattle.pref_sky.specs.Sweep.{HasBegun, HasFoundClass, HasSwept, are_level_in};
 
 use crate::entry::{Entry, Ranked};
@@ -36,7 +36,7 @@ pub(crate) struct Sweep {
 
 impl Sweep {
     /// How many levels are above the entry at the next place: a search by halves, since where an entry of a level dominates it, one of each level before
-    /// does.
+    /// does. One that was held already is sought from its level on, by steps that double: mostly it still is of it.
     fn count_above(
         &mut self,
         order: &OwnOrder,
@@ -48,16 +48,19 @@ impl Sweep {
         requires inside { place < length entries.now }
         requires swept { LeadsSweep order.now lead.now entries.now }
         requires signature { signature ≡ rule_of lead.now (entry_at entries.now place) }
-        requires so_far { HasFoundClass (own_order order.now) (first_of order.now lead.now) (second_of order.now lead.now) (third_of order.now lead.now) (rule_of lead.now) order.now.cut entries.now place self.old }
+        requires so_far { HasFoundClass (own_order order.now) (first_of order.now lead.now) (second_of order.now lead.now) (third_of order.now lead.now) (rule_of lead.now) (mark_of lead.now) order.now.cut entries.now place self.old }
         ensures above { result ≡ count_above (own_order order.now) entries.now order.now.cut (entry_at entries.now place) }
-        ensures so_far { HasFoundClass (own_order order.now) (first_of order.now lead.now) (second_of order.now lead.now) (third_of order.now lead.now) (rule_of lead.now) order.now.cut entries.now place self.new }
+        ensures so_far { HasFoundClass (own_order order.now) (first_of order.now lead.now) (second_of order.now lead.now) (third_of order.now lead.now) (rule_of lead.now) (mark_of lead.now) order.now.cut entries.now place self.new }
     {
-        let mut low = 0;
+        let held = lead.held_level(place);
+        let mut low = held.saturating_sub(1) as usize;
         let mut high = self.levels.len();
+        let mut step = if held == 0 { usize::MAX } else { 0 };
         'halves: while low < high {
-            let middle = low + (high - low) / 2;
+            let middle = next_between(low, high, step);
             if self.levels[middle].dominates(order, lead, entries, self.class, place, signature) {
                 low = middle + 1;
+                step = step.saturating_mul(2).saturating_add(1);
             } else {
                 high = middle;
             }
@@ -88,15 +91,17 @@ impl Sweep {
         requires inside { place < length entries.now }
         requires swept { LeadsSweep order.now lead.now entries.now }
         requires signature { signature ≡ rule_of lead.now (entry_at entries.now place) }
-        requires so_far { HasFoundClass (own_order order.now) (first_of order.now lead.now) (second_of order.now lead.now) (third_of order.now lead.now) (rule_of lead.now) order.now.cut entries.now place self.old }
+        requires so_far { HasFoundClass (own_order order.now) (first_of order.now lead.now) (second_of order.now lead.now) (third_of order.now lead.now) (rule_of lead.now) (mark_of lead.now) order.now.cut entries.now place self.old }
         requires above { self.old.above ≡ count_above (own_order order.now) entries.now order.now.cut (entry_at entries.now place) }
-        ensures { OnOk result (HasSwept (own_order order.now) (first_of order.now lead.now) (second_of order.now lead.now) (third_of order.now lead.now) (rule_of lead.now) order.now.cut entries.now (place + 1) self.new) }
+        ensures { OnOk result (HasSwept (own_order order.now) (first_of order.now lead.now) (second_of order.now lead.now) (third_of order.now lead.now) (rule_of lead.now) (mark_of lead.now) order.now.cut entries.now (place + 1) self.new) }
     {
         if self.above >= order.cut as usize {
             return Ok(());
         }
         self.begin_level(alloc)?;
-        self.levels[self.above].put(order, lead, entries, self.class, place, signature)
+        self.levels[self.above].put(
+            order, lead, entries, self.class, self.above, place, signature,
+        )
     }
 
     /// Goes on by one entry.
@@ -110,8 +115,8 @@ impl Sweep {
     ) -> Result<(), AllocError>
         requires inside { place < length entries.now }
         requires swept { LeadsSweep order.now lead.now entries.now }
-        requires so_far { HasSwept (own_order order.now) (first_of order.now lead.now) (second_of order.now lead.now) (third_of order.now lead.now) (rule_of lead.now) order.now.cut entries.now place self.old }
-        ensures { OnOk result (HasSwept (own_order order.now) (first_of order.now lead.now) (second_of order.now lead.now) (third_of order.now lead.now) (rule_of lead.now) order.now.cut entries.now (place + 1) self.new) }
+        requires so_far { HasSwept (own_order order.now) (first_of order.now lead.now) (second_of order.now lead.now) (third_of order.now lead.now) (rule_of lead.now) (mark_of lead.now) order.now.cut entries.now place self.old }
+        ensures { OnOk result (HasSwept (own_order order.now) (first_of order.now lead.now) (second_of order.now lead.now) (third_of order.now lead.now) (rule_of lead.now) (mark_of lead.now) order.now.cut entries.now (place + 1) self.new) }
     {
         match standing_at(order, lead, entries, place) {
             Standing::Alike => return Ok(()),
@@ -122,6 +127,15 @@ impl Sweep {
         self.above = self.count_above(order, lead, entries, place, signature);
         self.put(alloc, order, lead, entries, place, signature)
     }
+}
+
+/// Where a search between two places looks next: a step on, and at most half way.
+fn next_between(low: usize, high: usize, step: usize) -> usize
+    requires { low < high }
+    ensures from { low ≤ result }
+    ensures to { result < high }
+{
+    low + step.min((high - low) / 2)
 }
 
 /// How the entry at a place stands to the one before it. The first one is apart.

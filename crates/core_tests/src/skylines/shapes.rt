@@ -190,8 +190,10 @@ fn check_texts(rt: &impl Abort, alloc: Global, texts: &[&str]) -> Result<(), Fai
     Ok(())
 }
 
-const TEXTS: [&str; 9] = [
+const TEXTS: [&str; 10] = [
     "best low(x) * low(y)",
+    // No chains lead four that all vary: rows that are held meet those alone that came or came down.
+    "best low(x) * low(y) * around(x, 7) * around(y, 9)",
     "best -(low(x) * low(y))",
     // A product behind a chain, and one before a chain.
     "best between(y, 12, 20) & (low(x) * high(y))",

@@ -6,7 +6,7 @@ use Rattle.pref_sky.proofs.level.first_over.Goals as goal
 pub loop-at-preserved : goal.loop-at-preserved
 loop-at-preserved c k d near =
     let entries = c.args.entries.now in
-    let run = c.args.run.now in
+    let run = c.args.items.now in
     let at = c.loop-at.at in
     let none : Item = record { signature = 0; place = 0 } in
     let is_over_it = λ (x : Item). is_within x.signature c.args.signature && own_order c.args.order.now (entry_at entries x.place) c.args.entry.now in

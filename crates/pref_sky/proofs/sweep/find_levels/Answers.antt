@@ -13,7 +13,7 @@ loop-place-preserved c =
     let inside = c.loop-place-test.true in
     let swept = c.in_ok-step.ensures {u = tt} in
     let n = c.step.new.self.above in
-    let chain = chain_of_last _ cut c.requires.swept i inside c.step.new.self swept in
+    let chain = chain_of_last _ _ cut c.requires.swept i inside c.step.new.self swept in
     let found = c.loop-place.invariant.found in
     let e = c.index-entries-place.result in
     let here : e ≡ entry_at all i = get_or_read all i e inside c.index-entries-place.is (record { id = 0; row = [] }) in

@@ -1,5 +1,5 @@
 use Rattle.pref_sky.proofs.Common.{◌≡◌, take, own_order, with_levels}
-use Rattle.pref_sky.specs.Leads.{first_of, rule_of, second_of, third_of}
+use Rattle.pref_sky.specs.Leads.{first_of, mark_of, rule_of, second_of, third_of}
 use Rattle.pref_sky.specs.Sweep.{HasSwept}
 use Rattle.pref_sky.proofs.sweep.find_levels.Given as goal
 
@@ -7,6 +7,6 @@ abbrev pub invariant-loop-place : goal.invariant-loop-place
 invariant-loop-place l =
     let over = own_order l.order in
     record {
-      swept : HasSwept over (first_of l.order l.lead) (second_of l.order l.lead) (third_of l.order l.lead) (rule_of l.lead) l.order.cut l.entries l.place l.sweep;
+      swept : HasSwept over (first_of l.order l.lead) (second_of l.order l.lead) (third_of l.order l.lead) (rule_of l.lead) (mark_of l.lead) l.order.cut l.entries l.place l.sweep;
       found : l.found.items ≡ with_levels over l.entries l.order.cut (take l.place l.entries);
     }

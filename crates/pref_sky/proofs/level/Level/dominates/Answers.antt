@@ -1,6 +1,6 @@
 use Rattle.pref_sky.proofs.Common.{◌≡◌, ◌&&◌, ◌∙◌, ℕ, [], Entry, ap, cases_Bool, entry_at, get_or_read, inl, inr, own_order, subst, sym}
-use Rattle.pref_sky.proofs.StepLaws.{found_one, found_step, none_over}
-use Rattle.pref_sky.specs.Leads.{rule_of, second_of}
+use Rattle.pref_sky.proofs.StepLaws.{found_one, found_step, none_kept, none_over}
+use Rattle.pref_sky.specs.Leads.{mark_of, rule_of, second_of}
 use Rattle.pref_sky.specs.Steps.{IsAsked}
 use Rattle.pref_term.specs.Signatures.{is_within}
 use Rattle.std.proofs.lemmas.Bool.{ne_eqb}
@@ -15,34 +15,35 @@ asked : (c : After-has_step_over)
 asked c = subst (λ (e : Entry). IsAsked (own_order c.args.order.now) (second_of c.args.order.now c.args.lead.now) c.args.entries.now c.args.self.now.steps.items e c.has_step_over.result) (here c) c.has_step_over.ensures
 
 pub returns-then-has_step_over-clause-dominated : goal.returns-then-has_step_over-clause-dominated
-returns-then-has_step_over-clause-dominated c sweeps of_class n stands =
+returns-then-has_step_over-clause-dominated c sweeps of_class n stands near =
     let w = asked ((goal.at.returns-then-has_step_over-clause-dominated c).After-has_step_over) in
     let found = c.if-has_step_over.true in
-    found ∙ sym (found_step _ _ _ _ c.args.entries.now sweeps.swept (rule_of c.args.lead.now) c.args.class c.args.place n c.args.self.now stands c.requires.inside c.has_step_over.result w found)
+    found ∙ sym (found_step _ _ _ _ c.args.entries.now sweeps.swept (rule_of c.args.lead.now) _ c.args.class c.args.place n c.args.self.now stands c.requires.inside c.has_step_over.result w found)
 
 pub returns-then-self-class-clause-dominated : goal.returns-then-self-class-clause-dominated
-returns-then-self-class-clause-dominated c sweeps of_class n stands =
+returns-then-self-class-clause-dominated c sweeps of_class n stands near =
     let over = own_order c.args.order.now in
     let all = c.args.entries.now in
     let rule = rule_of c.args.lead.now in
+    let mark = mark_of c.args.lead.now in
     let e = entry_at all c.args.place in
+    let kept = c.args.self.now in
     let at = (goal.at.returns-then-self-class-clause-dominated c).After-has_step_over in
     let w = asked at in
-    elim (cases_Bool c.has_one_over.result) [
+    elim (cases_Bool c.has_kept_over.result) [
       | inl found ↦
-          let x = c.has_one_over.ensures.found found in
-          let above = ap (over (entry_at all x.0.place)) (sym (here at)) ∙ x.2 in
-          found ∙ sym (found_one over _ _ _ all sweeps.swept rule c.args.class c.args.place n c.args.self.now stands c.requires.inside x.0 x.1 above)
+          let x = c.has_kept_over.ensures.found found in
+          found ∙ sym (found_one over _ _ _ all sweeps.swept rule mark c.args.class c.args.place n kept stands c.requires.inside x.0 x.1 x.2)
       | inr none ↦
+          let unasked = none_kept over _ _ _ all sweeps.swept rule mark c.args.class c.args.place n kept stands c.requires.inside sweeps.signed of_class sweeps.held near
+          (λ x m. ap (λ (s : ℕ). is_within x.signature s && over (entry_at all x.place) e) (sym c.requires.signature) ∙ c.has_kept_over.ensures.none none x m) in
           none
-          ∙ sym (none_over over _ _ _ all sweeps.swept rule c.args.class c.args.place n c.args.self.now stands c.requires.inside sweeps.signed of_class c.has_step_over.result w c.if-has_step_over.false
-          (λ same x m. ap (λ (s : ℕ). is_within x.signature s && over (entry_at all x.place) e) (sym c.requires.signature)
-          ∙ (ap (λ (y : Entry). is_within x.signature c.args.signature && over (entry_at all x.place) y) (sym (here at)) ∙ c.has_one_over.ensures.none none x m)))
+          ∙ sym (none_over over _ _ _ all sweeps.swept rule mark c.args.class c.args.place n kept stands c.requires.inside sweeps.signed of_class c.has_step_over.result w c.if-has_step_over.false (λ same. unasked))
     ]
 
 pub returns-else-self-class-clause-dominated : goal.returns-else-self-class-clause-dominated
-returns-else-self-class-clause-dominated c sweeps of_class n stands =
+returns-else-self-class-clause-dominated c sweeps of_class n stands near =
     let w = asked ((goal.at.returns-else-self-class-clause-dominated c).After-has_step_over) in
     ne_eqb c.args.self.now.class c.args.class c.if-self-class.false
-    ∙ sym (none_over _ _ _ _ c.args.entries.now sweeps.swept (rule_of c.args.lead.now) c.args.class c.args.place n c.args.self.now stands c.requires.inside sweeps.signed of_class
+    ∙ sym (none_over _ _ _ _ c.args.entries.now sweeps.swept (rule_of c.args.lead.now) _ c.args.class c.args.place n c.args.self.now stands c.requires.inside sweeps.signed of_class
     c.has_step_over.result w c.if-has_step_over.false (λ same x m. absurd (c.if-self-class.false same)))
