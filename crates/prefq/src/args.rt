@@ -36,7 +36,7 @@ pub enum ArgsFault {
 }
 
 /// The version, which `--version` prints after the name.
-const VERSION: &str = "0.2.0";
+const VERSION: &str = "0.3.0";
 
 /// The end of the program's help: the options, an example, and where more is said.
 const AFTER_HELP: &str = "\
