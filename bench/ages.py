@@ -10,7 +10,6 @@ Prints
 Costs are microseconds of processor time, the medians of the rounds (5 where not said), and with `--instructions` numbers of
 instructions, by callgrind: no noise, a few minutes."""
 import argparse
-import os
 import statistics
 
 import runs
@@ -24,7 +23,7 @@ class Costs:
     """The costs of whole scripts, by workload and word: `play` or `threads`."""
 
     def __init__(self, args, names):
-        self.binary, self.rounds = os.path.abspath(args.binary), args.rounds
+        self.binary, self.rounds = runs.program(args.binary), args.rounds
         self.jobs = {}
         for name in names:
             script, play = workloads.write(runs.WORK, name)

@@ -65,8 +65,8 @@ def main():
     parser.add_argument("--rounds", type=int, default=3)
     parser.add_argument("--only", default="")
     args = parser.parse_args()
+    binary = runs.program(args.binary)
     runs.build()
-    binary = os.path.abspath(args.binary)
     names = [name for name in workloads.CHOICES if args.only in name]
     print_table("slots of a block", names, ["all", "1024", "64", "1"], lambda name, block: measured(binary, name, block, 64, args.rounds))
     print_table("rows of the window", names, ["1", "64", "1024", "all"], lambda name, window: measured(binary, name, 1024, window, args.rounds))

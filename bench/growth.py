@@ -12,7 +12,6 @@ A workload is not run at a larger size once a run took more than `--most` second
 `--sqlite` adds what sqlite in memory takes for a skyline by `NOT EXISTS`: the query alone, the table is there already."""
 import argparse
 import math
-import os
 import sqlite3
 import statistics
 import threading
@@ -30,7 +29,7 @@ class Measured:
 
     def __init__(self, args):
         self.args = args
-        self.binary = os.path.abspath(args.binary)
+        self.binary = runs.program(args.binary)
         self.ways = {"prefq": [self.binary], "prefq_rs": [runs.PREFQ_RS], f"prefq_rs --{args.against}": [runs.PREFQ_RS, "--" + args.against]}
 
     def cost(self, command, script, play):

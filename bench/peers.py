@@ -89,6 +89,7 @@ def main():
     parser.add_argument("--rows", type=int, default=10_000)
     parser.add_argument("--rounds", type=int, default=5)
     args = parser.parse_args()
+    binary = runs.program(args.binary)
     runs.build()
     os.makedirs(runs.WORK, exist_ok=True)
     print("| data | levels | prefq | prefq_rs | --sharp | deap | emoa |\n|---|---|---|---|---|---|---|", flush=True)
@@ -98,9 +99,9 @@ def main():
         with open(script, "w") as file:
             file.write("\n".join(lines) + "\n")
         rows = workloads.points(kind, args.rows, d)
-        levels = levels_printed(os.path.abspath(args.binary), ["play", *play], script)
+        levels = levels_printed(binary, ["play", *play], script)
         cells = [f"{KINDS[kind]}, {d} columns", str(levels)]
-        for way in ([os.path.abspath(args.binary)], [runs.PREFQ_RS], [runs.PREFQ_RS, "--sharp"]):
+        for way in ([binary], [runs.PREFQ_RS], [runs.PREFQ_RS, "--sharp"]):
             cells.append(milliseconds(by_program([*way, "play", *play], script, args.rounds)))
         for peer in (by_deap, by_emoa):
             found = peer(rows, args.rounds)

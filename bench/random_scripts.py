@@ -7,7 +7,6 @@ Small tables, also sorted, reversed, with few values and with all rows best; ran
 levels; blocks and windows of many sizes; updates beside the scans, and the same question again after them. Stops at the first script
 whose outputs differ, and writes it to differs.txt."""
 import argparse
-import os
 import random
 import subprocess
 import sys
@@ -74,7 +73,7 @@ def main():
     runs.build()
     ways = [[runs.PREFQ_RS, *way] for way in ([], ["--sharp"], ["--known"])]
     if args.binary:
-        ways.append([os.path.abspath(args.binary)])
+        ways.append([runs.program(args.binary)])
     r = random.Random(args.seed)
     for _ in range(args.count):
         text, play = script(r)

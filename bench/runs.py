@@ -8,6 +8,7 @@ import re
 import resource
 import signal
 import subprocess
+import sys
 import tempfile
 from concurrent.futures import ThreadPoolExecutor
 from dataclasses import dataclass
@@ -33,6 +34,13 @@ class Run:
     megabytes: Optional[float] = None
     stopped: bool = False
     fault: Optional[str] = None
+
+
+def program(path):
+    """The whole path of a program to be measured; ends the script where it is not there."""
+    if not os.path.isfile(path):
+        sys.exit(f"{path} is not there: build it first")
+    return os.path.abspath(path)
 
 
 def build():

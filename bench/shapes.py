@@ -75,7 +75,7 @@ class Measured:
 
     def __init__(self, args):
         self.args = args
-        self.commands = [os.path.abspath(args.binary)], [runs.PREFQ_RS, "--" + args.against]
+        self.commands = [runs.program(args.binary)], [runs.PREFQ_RS, "--" + args.against]
         self.loads = {}
 
     def both(self, lines, play):

@@ -50,7 +50,7 @@ class Run:
         if self.crate != "prefq":
             program = TOP / f"crates/{self.crate}/out/{self.crate}"
             if not program.is_file():
-                return (TOP / f"crates/{self.crate}/stdout").read_text(), 0
+                return (TOP / f"crates/{self.crate}/stdout").read_text(encoding="utf-8"), 0
         done = subprocess.run([program, *self.words], input=self.script.encode(), capture_output=True, timeout=60)
         return (done.stdout + done.stderr).decode(), done.returncode
 
@@ -61,18 +61,18 @@ class Run:
 
     def write(self, folder):
         """Writes the run as a case."""
-        (folder / self.name).write_text(self.script)
-        (folder / f"{self.name}.args").write_text("".join(f"{word}\n" for word in self.words))
-        (folder / f"{self.name}.stdout").write_text(self.printed)
+        (folder / self.name).write_text(self.script, encoding="utf-8")
+        (folder / f"{self.name}.args").write_text("".join(f"{word}\n" for word in self.words), encoding="utf-8")
+        (folder / f"{self.name}.stdout").write_text(self.printed, encoding="utf-8")
 
 
 def blocks(path):
-    return [(part["kind"], part["rest"].strip(), part["text"]) for part in re.finditer(BLOCK, path.read_text(), re.MULTILINE | re.DOTALL)]
+    return [(part["kind"], part["rest"].strip(), part["text"]) for part in re.finditer(BLOCK, path.read_text(encoding="utf-8"), re.MULTILINE | re.DOTALL)]
 
 
 def example(folder):
-    script, replies = ((folder / name).read_text() for name in ("script.txt", "replies.txt"))
-    return Run(f"example-{folder.name}", (folder / "args").read_text().split(), script, replies)
+    script, replies = ((folder / name).read_text(encoding="utf-8") for name in ("script.txt", "replies.txt"))
+    return Run(f"example-{folder.name}", (folder / "args").read_text(encoding="utf-8").split(), script, replies)
 
 
 def strange_parts(folder, run):
@@ -87,7 +87,7 @@ def strange_parts(folder, run):
 def strange_quotes(document):
     """What a document shows of a file and the file does not have."""
     for kind, file, text in blocks(document):
-        if kind in ("rust", "text") and file and text not in (TOP / file).read_text():
+        if kind in ("rust", "text") and file and text not in (TOP / file).read_text(encoding="utf-8"):
             yield f"{document.name} shows what {file} does not have: {text.splitlines()[0]}"
 
 
@@ -126,7 +126,7 @@ def command(text):
 def runs_of(document):
     """What a document shows, run by run."""
     table, asked = [], {}
-    for number, part in enumerate(PART.finditer(document.read_text())):
+    for number, part in enumerate(PART.finditer(document.read_text(encoding="utf-8"))):
         name, kind, text = f"{document.stem}-{number}", part["kind"], part["text"]
         if kind == "table":
             table = text.splitlines()

@@ -79,7 +79,7 @@ def write_cases(folder):
     for number, (words, text) in enumerate(cases):
         name = f"arguments_{number}"
         (folder / name).write_bytes(SCRIPT)
-        (folder / f"{name}.args").write_text("".join(f"{word}\n" for word in words.split()))
+        (folder / f"{name}.args").write_text("".join(f"{word}\n" for word in words.split()), encoding="utf-8")
         (folder / f"{name}.stdout").write_bytes(text)
 
 

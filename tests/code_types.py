@@ -39,7 +39,7 @@ def read_types(top, crates):
     found = {}
     for crate in crates:
         for path in sorted((top / "crates" / crate / "src").rglob("*.rt")):
-            text = path.read_text()
+            text = path.read_text(encoding="utf-8")
             views = {name: view[1].strip() for name, body in MODEL.findall(text) if (view := VIEW.search(body))}
             for kind, name, body in TYPE.findall(text):
                 view = views.get(name, "")

@@ -44,7 +44,7 @@ def functions_of(file, source):
     """The functions of a file. A clause belongs to the function whose head is the last above it."""
     modules, found = {*file.relative_to(source).with_suffix("").parts}, []
     names, is_trait = set(), False
-    for line in file.read_text().splitlines():
+    for line in file.read_text(encoding="utf-8").splitlines():
         if block := BLOCK.match(line):
             names, is_trait = {*re.findall(r"\w+", block[2])}, block[1] is not None
         elif head := HEAD.match(line):
@@ -67,14 +67,14 @@ def called(crate, path):
 
 
 def has_type(crate, name):
-    return any(re.search(rf"\b(?:struct|enum) {name}\b", file.read_text()) for file in (TOP / "crates" / crate / "src").rglob("*.rt"))
+    return any(re.search(rf"\b(?:struct|enum) {name}\b", file.read_text(encoding="utf-8")) for file in (TOP / "crates" / crate / "src").rglob("*.rt"))
 
 
 @lru_cache(maxsize=None)
 def words():
     """All words of the code and of the definitions."""
     files = [*TOP.glob("crates/*/src/**/*.rt"), *TOP.glob("crates/*/specs/**/*.antt")]
-    return {word for file in files for word in re.findall(r"\w+", file.read_text())}
+    return {word for file in files for word in re.findall(r"\w+", file.read_text(encoding="utf-8"))}
 
 
 def faults(crate, line):

@@ -93,7 +93,7 @@ def read_definitions():
     lines, brought, private, mutual = {}, {}, set(), set()
     for crate in ALL_CRATES:
         for path in sorted(specs(crate).glob("*.antt")):
-            text, at = path.read_text(), (crate, path.stem)
+            text, at = path.read_text(encoding="utf-8"), (crate, path.stem)
             brought[at] = imports(text)
             if "No public contract cites this" in text:
                 private.add(at)
@@ -142,7 +142,7 @@ def types_in(keys, lines, brought):
 def exported(crate):
     """The names that a library exports, and those inside pref_script that documents speak of."""
     root = TOP / "crates" / crate / "src/lib.rt"
-    names = re.findall(r"pub use [\w:]+::(?:\{([^}]*)\}|(\w+))", root.read_text())
+    names = re.findall(r"pub use [\w:]+::(?:\{([^}]*)\}|(\w+))", root.read_text(encoding="utf-8"))
     spoken_of = SPOKEN_OF if crate == "pref_script" else set()
     return spoken_of | {name.strip() for several, one in names for name in (several or one).split(",")}
 
@@ -153,7 +153,7 @@ def cited_by_contracts(lines):
     for crate in CRATES:
         public = exported(crate)
         for path in sorted((TOP / "crates" / crate / "src").rglob("*.rt")):
-            text, owner = path.read_text(), ""
+            text, owner = path.read_text(encoding="utf-8"), ""
             brought = imports(text)
             for item in ITEM.finditer(text):
                 kind, trait, indent, name = item.groups()
@@ -257,7 +257,7 @@ def with_count(document, written, right):
 def main():
     lines, brought, private, mutual = read_definitions()
     types, cited = add_views(lines, brought, private), cited_by_contracts(lines)
-    document, wrong, uncounted = DOCUMENT.read_text(), [], []
+    document, wrong, uncounted = DOCUMENT.read_text(encoding="utf-8"), [], []
     for crate, section in re.findall(r"^## [^\n]*\(crates/(\w+)/specs\)\n(.*?)(?=^## |\Z)", document, re.MULTILINE | re.DOTALL):
         without = [key for rest in re.findall(r"Not\s+counted:\s(.*?)\.", section, re.DOTALL) for key in keys_named(rest, crate, lines)]
         uncounted += without
@@ -268,7 +268,7 @@ def main():
             elif written != right:
                 wrong.append(f"{crate}: not \"{written}\", but \"{right}\"")
     if sys.argv[1:] == ["--write"]:
-        DOCUMENT.write_text(document)
+        DOCUMENT.write_text(document, encoding="utf-8")
     wrong += not_listed(document, uncounted, cited, lines, brought, private, mutual)
     print(*wrong, f"{len(wrong)} wrong", sep="\n")
     sys.exit(1 if wrong else 0)

@@ -50,7 +50,7 @@ class Edit:
         """The text of each file that it changes, after the change."""
         found = {}
         for file, old, new in self.changes:
-            text = found[file] if file in found else (TOP / "crates" / self.crate / file).read_text()
+            text = found[file] if file in found else (TOP / "crates" / self.crate / file).read_text(encoding="utf-8")
             if text.count(old) != 1:
                 raise ValueError(f"stands {text.count(old)} times in {file}, not once: {old}")
             found[file] = text.replace(old, new)
@@ -58,7 +58,7 @@ class Edit:
 
 
 def read_edit(path, crate, is_of_the_gate):
-    text, changes, file, old = path.read_text(), [], "", ""
+    text, changes, file, old = path.read_text(encoding="utf-8"), [], "", ""
     for line in text.splitlines():
         kind, _, rest = line.partition(":")
         rest = rest.removeprefix(" ")
@@ -90,7 +90,7 @@ def section(crate, edits):
 
 def page(edits):
     """The page with its tables made anew; what stands before and behind them is written by hand."""
-    made, count = TABLES.subn(lambda _: "".join(section(crate, edits) for crate in CRATES), PAGE.read_text())
+    made, count = TABLES.subn(lambda _: "".join(section(crate, edits) for crate in CRATES), PAGE.read_text(encoding="utf-8"))
     if count != 1:
         sys.exit("docs/EDITS.md has no place for its tables: a heading for each crate, one after the other")
     return made
@@ -106,7 +106,7 @@ def is_test(crate, name):
     """Whether a crate has a test of this name, `MODULE::.. ::FUNCTION`."""
     *modules, function = name.split("::")
     file = Path(TOP / "crates" / crate / "src", *modules).with_suffix(".rt")
-    return file.is_file() and re.search(rf"#\[test\]\s+(?:#\[.*\]\s+)*fn {function}\b", file.read_text()) is not None
+    return file.is_file() and re.search(rf"#\[test\]\s+(?:#\[.*\]\s+)*fn {function}\b", file.read_text(encoding="utf-8")) is not None
 
 
 def faults(edit):
@@ -117,7 +117,7 @@ def faults(edit):
         yield str(fault)
     if not edit.changes:
         yield "changes nothing"
-    yield from (f"has a line that is not read: {line}" for line in edit.path.read_text().splitlines() if not line.startswith(READ))
+    yield from (f"has a line that is not read: {line}" for line in edit.path.read_text(encoding="utf-8").splitlines() if not line.startswith(READ))
     wanted = COLUMNS if edit.is_of_the_gate else ["promise"]
     yield from (f"has no line `# {column}: `" for column in wanted if column not in edit.said)
     for column, text in edit.said.items():
@@ -134,12 +134,12 @@ def faults(edit):
 def main():
     edits = all_edits()
     if sys.argv[1:] == ["--write"]:
-        PAGE.write_text(page(edits))
+        PAGE.write_text(page(edits), encoding="utf-8")
     wrong = [f"{edit.path.relative_to(TOP)}: {fault}" for edit in edits for fault in faults(edit)]
     wrong += [f"{path}: its crate is not known here" for path in strays()]
     names = [f"{edit.crate}/{edit.name}" for edit in edits]
     wrong += [f"two edits are called {name}" for name in sorted({name for name in names if names.count(name) > 1})]
-    if page(edits) != PAGE.read_text():
+    if page(edits) != PAGE.read_text(encoding="utf-8"):
         wrong.append("docs/EDITS.md is not what the edits say: python3 tests/edits.py --write")
     gate = sum(edit.is_of_the_gate for edit in edits)
     print(*wrong, f"{gate} edits, and {len(edits) - gate} more for a release; {len(wrong)} wrong", sep="\n")

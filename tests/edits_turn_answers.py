@@ -32,7 +32,7 @@ def fails(edit, shown):
         for file in ("crates.txt", "HANDLES"):
             shutil.copy(TOP / file, room)
         for file, text in edit.texts().items():
-            Path(room, "crates", edit.crate, file).write_text(text)
+            Path(room, "crates", edit.crate, file).write_text(text, encoding="utf-8")
         if script:
             return script_differs(room, script[1])
         return test_fails(f"{room}/crates/{test[1]}", test[2], test[3])
@@ -57,7 +57,7 @@ def script_differs(room, name):
 
 def tried(folder, *words):
     """What `rt try` says."""
-    return subprocess.run(["rt", "try", *words], cwd=folder, stdout=subprocess.PIPE, stderr=subprocess.STDOUT, text=True, errors="replace").stdout
+    return subprocess.run(["rt", "try", *words], cwd=folder, stdout=subprocess.PIPE, stderr=subprocess.STDOUT, encoding="utf-8", errors="replace").stdout
 
 
 def main():

@@ -63,9 +63,9 @@ def scripts():
     """Each script of the tests and the examples, with its options, and some more that end in their own ways."""
     for script in sorted(TOP.glob("tests/scripts/*.script")):
         words = script.with_suffix(".args")
-        yield script.stem, script.read_bytes(), words.read_text().split() if words.is_file() else []
+        yield script.stem, script.read_bytes(), words.read_text(encoding="utf-8").split() if words.is_file() else []
     for script in sorted(TOP.glob("examples/*/script.txt")):
-        yield script.parent.name, script.read_bytes(), (script.parent / "args").read_text().split()
+        yield script.parent.name, script.read_bytes(), (script.parent / "args").read_text(encoding="utf-8").split()
     for name, script in {
         "no input": b"",
         "no line feed behind end": b"table\nx\nend",
@@ -187,20 +187,20 @@ def at_a_terminal(program):
 def from_python():
     """What examples/live/README.md shows is printed, and the dashboard writes its pictures."""
     folder = TOP / "examples/live"
-    blocks = dict(re.findall(r"^```(python|text)\n(.*?)^```$", (folder / "README.md").read_text(), re.MULTILINE | re.DOTALL))
+    blocks = dict(re.findall(r"^```(python|text)\n(.*?)^```$", (folder / "README.md").read_text(encoding="utf-8"), re.MULTILINE | re.DOTALL))
     setting = {**os.environ, "PYTHONPATH": str(TOP / "python/src"), "PYTHONDONTWRITEBYTECODE": "1"}
-    done = subprocess.run([sys.executable, "-c", blocks["python"]], env=setting, capture_output=True, text=True, timeout=60)
+    done = subprocess.run([sys.executable, "-c", blocks["python"]], env=setting, capture_output=True, encoding="utf-8", timeout=60)
     if done.stdout + done.stderr != blocks["text"]:
         yield f"examples/live/README.md shows something else than {done.stdout + done.stderr}"
     with tempfile.TemporaryDirectory() as room:
-        done = subprocess.run([sys.executable, folder / "dashboard.py", room], env=setting, capture_output=True, text=True, timeout=60)
+        done = subprocess.run([sys.executable, folder / "dashboard.py", room], env=setting, capture_output=True, encoding="utf-8", timeout=60)
         if done.returncode != 0 or len(done.stdout.splitlines()) != 5 or len(list(Path(room).glob("picture-*.svg"))) != 5:
             yield f"the dashboard says {done.stdout + done.stderr}"
 
 
 def peak(process):
     """The most memory that the process has had, in KB."""
-    status = Path(f"/proc/{process.pid}/status").read_text()
+    status = Path(f"/proc/{process.pid}/status").read_text(encoding="utf-8")
     return int(next(line.split()[1] for line in status.splitlines() if line.startswith("VmHWM")))
 
 

@@ -78,7 +78,7 @@ def tried(files):
         edit(f"{room}/crates", files)
         crate = f"{room}/crates/share_tests"
         keep_one_module_of_tests(f"{crate}/src", "reads")
-        ran = subprocess.run(["rt", "try", "--test"], cwd=crate, stdout=subprocess.PIPE, stderr=subprocess.STDOUT, text=True)
+        ran = subprocess.run(["rt", "try", "--test"], cwd=crate, stdout=subprocess.PIPE, stderr=subprocess.STDOUT, encoding="utf-8")
     print(ran.stdout, end="")
     return ran.returncode, ran.stdout
 

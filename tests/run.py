@@ -9,9 +9,10 @@
     python3 tests/run.py release     before a release: all that, every proof from nothing; then the wheel of dist/ built anew from its commit, the edits of
                                      tests/must-fail, and whether each edit turns an answer
 
-tests/quick.sh and tests/all.sh are short names of the first two. Needs the Rattle kit and Python 3.9, and but for `quick` a C compiler, on
-Linux. Tests of the Python package that need pandas, matplotlib, dask, uvicorn, starlette or Chromium are skipped, with a line that says so, where
-these are not installed; they are counted apart from the checks, which pass without them. Leaves nothing behind but the folders out/, which git ignores.
+tests/quick.sh and tests/all.sh are short names of the first two. Says first what it runs, and then what came of each check as soon as it ends, with
+its seconds. Needs the Rattle kit and Python 3.9, and but for `quick` a C compiler, on Linux; whether they are there is tested first. Tests of the
+Python package need pandas, matplotlib, dask, uvicorn, starlette or Chromium: where these are not installed they are skipped, with a line that says so, and
+counted apart from the checks, which pass without them. Leaves nothing behind but the folders out/, which git ignores.
 """
 import contextlib
 import os
@@ -25,7 +26,7 @@ import threading
 import time
 import traceback
 import zipfile
-from concurrent.futures import ThreadPoolExecutor
+from concurrent.futures import ThreadPoolExecutor, as_completed
 from dataclasses import dataclass, field
 from itertools import chain
 from pathlib import Path
@@ -108,7 +109,7 @@ def command(*words, name=""):
 
 def result(check):
     begun = time.monotonic()
-    with tempfile.TemporaryDirectory() as room, tempfile.TemporaryFile("w+", errors="replace") as log:
+    with tempfile.TemporaryDirectory() as room, tempfile.TemporaryFile("w+", encoding="utf-8", errors="replace") as log:
         try:
             is_passed = check.work(Path(room), log)
         except Exception:
@@ -119,11 +120,11 @@ def result(check):
 
 
 def results(checks):
-    """The result of each check, in order. Some run at once; none begins any more where this is interrupted."""
+    """The result of each check, as soon as it ends. Some run at once; none begins any more where this is interrupted."""
     with ThreadPoolExecutor(CHECKS_AT_ONCE) as pool:
         begun = [pool.submit(result, check) for check in checks]
         try:
-            for each in begun:
+            for each in as_completed(begun):
                 yield each.result()
         finally:
             for each in begun:
@@ -133,6 +134,10 @@ def results(checks):
 def say(*lines):
     for line in lines:
         print(line, flush=True)
+
+
+def say_what_runs(checks):
+    say(f"runs {len(checks)} checks, {CHECKS_AT_ONCE} at once:", *(f"  {check.name}" for check in checks))
 
 
 # ---- quick ----
@@ -162,12 +167,12 @@ def join_tests(top):
         shutil.copytree(top / "crates" / name / "src", source / name)
         (source / name / "lib.rt").rename(source / f"{name}.rt")
         for file in [source / f"{name}.rt", *(source / name).rglob("*.rt")]:
-            text = re.sub(r"^#!\[.*\n", "", file.read_text(), flags=re.MULTILINE)
-            file.write_text(re.sub(r"\bcrate::", f"crate::{name}::", text))
-    (source / "lib.rt").write_text("".join(f"mod {name};\n" for name in names))
-    crates = (top / "crates.txt").read_text()
+            text = re.sub(r"^#!\[.*\n", "", file.read_text(encoding="utf-8"), flags=re.MULTILINE)
+            file.write_text(re.sub(r"\bcrate::", f"crate::{name}::", text), encoding="utf-8")
+    (source / "lib.rt").write_text("".join(f"mod {name};\n" for name in names), encoding="utf-8")
+    crates = (top / "crates.txt").read_text(encoding="utf-8")
     libraries = {word for line in re.findall(r"^\w+_tests: (.*)$", crates, re.MULTILINE) for word in line.split()}
-    (top / "crates.txt").write_text(f"{crates}joined: {' '.join(sorted(libraries))}\n")
+    (top / "crates.txt").write_text(f"{crates}joined: {' '.join(sorted(libraries))}\n", encoding="utf-8")
 
 
 def tests_unproved(room, log):
@@ -211,9 +216,10 @@ QUICK = [
 
 def quick(count):
     """Shows what each check that failed said, and what others skipped."""
+    say_what_runs(QUICK)
     for found in results(QUICK):
         if found.is_passed:
-            say(f"passed: {found.name}")
+            say(f"passed: {found.name}, {found.seconds} seconds")
         say(*(found.said.splitlines() if found.is_passed is False else found.skipped()))
         count.add(found)
 
@@ -287,7 +293,7 @@ def let_proofs_go_first(run):
 def run_and_show(*words, beside=None, **environment):
     """Runs a command and shows what it prints as it comes: its lines, and whether it passed. What is done beside it gets its process."""
     lines = []
-    with subprocess.Popen(words, cwd=TOP, env={**os.environ, **environment}, stdout=subprocess.PIPE, text=True, errors="replace") as running:
+    with subprocess.Popen(words, cwd=TOP, env={**os.environ, **environment}, stdout=subprocess.PIPE, encoding="utf-8", errors="replace") as running:
         if beside:
             threading.Thread(target=beside, args=[running], daemon=True).start()
         for line in running.stdout:
@@ -318,6 +324,8 @@ def gate(count, words):
 def whole(count, *words):
     """Shows what each check said. `rt ci` gets the words."""
     begun = time.monotonic()
+    say(f"runs {' '.join(['rt ci', *words])}: the proofs, the must-fail edits and the tests of all crates; after it")
+    say_what_runs([*FIRST, *BUILT])
     gate(count, words)
     say(f"== rt ci took {minutes_since(begun)} minutes")
     for found in chain(results(FIRST), results(BUILT)):
@@ -347,17 +355,28 @@ def release(count):
     say(LEFT_BY_HAND)
 
 
-def main():
-    kinds = {"quick": quick, "all": whole, "release": release}
-    if len(sys.argv) != 2 or sys.argv[1] not in kinds:
-        sys.exit(f"python3 tests/run.py {' | '.join(kinds)}")
+def stop_where_something_is_missing(kind):
+    """Ends the run at once where a program is not there without which it would fail late."""
+    if sys.version_info < (3, 9):
+        sys.exit(f"Python 3.9 or later is needed, and this is {sys.version.split()[0]}")
     if not shutil.which("rt"):
         sys.exit("the Rattle kit's command rt is not on the PATH")
+    if kind != "quick" and not shutil.which("cc"):
+        sys.exit("a C compiler is needed, and cc is not on the PATH")
+
+
+def main():
+    kinds = {"quick": quick, "all": whole, "release": release}
+    if {"-h", "--help"} & set(sys.argv[1:]):
+        sys.exit(print(__doc__.strip()))
+    if len(sys.argv) != 2 or sys.argv[1] not in kinds:
+        sys.exit(f"python3 tests/run.py {' | '.join(kinds)}")
+    stop_where_something_is_missing(sys.argv[1])
     signal.signal(signal.SIGTERM, lambda *_: sys.exit(143))
     # What is started in the background ignores it, and so would the programs that tests of the Python package interrupt.
     signal.signal(signal.SIGINT, signal.default_int_handler)
     sys.stdout.reconfigure(errors="replace")
-    os.environ["PYTHONDONTWRITEBYTECODE"] = "1"
+    os.environ.update(PYTHONDONTWRITEBYTECODE="1", PYTHONUTF8="1")
     begun, count = time.monotonic(), Count()
     kinds[sys.argv[1]](count)
     say(*(f"failed: {name}" for name in count.failed))

@@ -19,7 +19,7 @@ KINDS = {".script", ".out", ".args", ".status"}
 
 def text(script, kind, default):
     file = script.with_suffix(kind)
-    return file.read_text() if file.is_file() else default
+    return file.read_text(encoding="utf-8") if file.is_file() else default
 
 
 def differences(program, script):
@@ -46,7 +46,7 @@ def differences(program, script):
 def write_cases(scripts, folder):
     for script in scripts:
         (folder / script.stem).write_bytes(script.read_bytes())
-        (folder / f"{script.stem}.args").write_text(text(script, ".args", ""))
+        (folder / f"{script.stem}.args").write_text(text(script, ".args", ""), encoding="utf-8")
         (folder / f"{script.stem}.stdout").write_bytes(script.with_suffix(".out").read_bytes())
 
 
