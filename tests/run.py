@@ -1,18 +1,17 @@
 #!/usr/bin/env python3
 """Runs the tests, names what failed, and ends with a count of what passed, what failed and what was skipped.
 
-    python3 tests/run.py quick       for every change: the layout of the files, the lists of definitions and of edits, each test without its
-                                     proof, the stored run, the scripts, the examples, what the documents show, and the wheel of dist/. The
-                                     tests of the Python package run too, where the library is built or PREFQ_LIBRARY names one
+    python3 tests/run.py quick       for every change: the layout of the files, the lists of definitions and of edits, the site of the documents, each test without its proof, the stored run, the scripts, the examples, what the documents show, and the
+                                     wheel of dist/. The tests of the Python package run too, where the library is built or PREFQ_LIBRARY names one
     python3 tests/run.py all         before a merge: the proofs, the must-fail edits and the tests by `rt ci`, which proves from nothing what it has not passed
                                      before on this machine, in just these files; then the lists, and each check over the built programs that takes seconds
     python3 tests/run.py release     before a release: all that, every proof from nothing; then the wheel of dist/ built anew from its commit, the edits of
                                      tests/must-fail, and whether each edit turns an answer
 
 tests/quick.sh and tests/all.sh are short names of the first two. Says first what it runs, and then what came of each check as soon as it ends, with
-its seconds. Needs the Rattle kit and Python 3.9, and but for `quick` a C compiler, on Linux; whether they are there is tested first. Tests of the
-Python package need pandas, matplotlib, dask, uvicorn, starlette or Chromium: where these are not installed they are skipped, with a line that says so, and
-counted apart from the checks, which pass without them. Leaves nothing behind but the folders out/, which git ignores.
+its seconds. Needs the Rattle kit and Python 3.9, and but for `quick` a C compiler, on Linux; whether they are there is tested first. The site needs
+mkdocs, and tests of the Python package need pandas, matplotlib, dask, uvicorn, starlette or Chromium: where these are not installed they are skipped, with a
+line that says so, and counted apart from the checks, which pass without them. Leaves nothing behind but the folders out/, which git ignores.
 """
 import contextlib
 import os
@@ -200,8 +199,17 @@ def python_package(room, log):
     return None
 
 
+def site(room, log):
+    """The documents as a site: each page is there, and each link of a page leads somewhere."""
+    if shutil.which("mkdocs"):
+        return run(log, "mkdocs", "build", "--strict", "--quiet", "--site-dir", room / "site")
+    print("skipped: the site of the documents, since mkdocs is not installed", file=log)
+    return None
+
+
 DEFINITIONS = ["python3", "tests/definitions.py"]
 EDITS = ["python3", "tests/edits.py"]
+SITE = Check("site of the documents", site)
 # The longest first.
 QUICK = [
     Check("stored run, scripts, examples, documents", scripts_unproved),
@@ -209,6 +217,7 @@ QUICK = [
     Check("layout of the files", layout),
     command(*DEFINITIONS, name="list of definitions"),
     command(*EDITS, name="list of edits"),
+    SITE,
     Check("Python package", python_package),
     command("python3", "tests/wheel.py", name="wheel of the last release"),
 ]
@@ -256,6 +265,7 @@ BUILT = [
     command("python3", "tests/reads_take_no_lock.py"),
     command(*DEFINITIONS),
     command(*EDITS),
+    SITE,
     command("python3", "examples/check.py"),
     command("python3", "tests/scripts.py"),
     command("python3", "tests/model/compare.py"),
