@@ -7,7 +7,7 @@ Runs each growing workload at each size, and prints a table in Markdown: the pro
 the rounds) at each size, then by what power of the number of rows it grows over the last three doublings, and then prefq_rs and
 prefq_rs --sharp at the largest size that each reached. `--svg` writes the same as a plot, one small one for each workload.
 `--instructions` counts instructions by callgrind in place of time: no noise, but slow, so give it `--only` or an evening.
-A workload is not run at a larger size once a run took more than `--most` seconds (20 where not said).
+A workload is not run at a larger size once a run took more than `--most` seconds of processor time (20 where not said).
 `--against known` (or fast, rescan, plain) puts that way of prefq_rs in the place of --sharp.
 `--sqlite` adds what sqlite in memory takes for a skyline by `NOT EXISTS`: the query alone, the table is there already."""
 import argparse
@@ -40,7 +40,7 @@ class Measured:
             return count and count / 1e6
         taken = []
         for _ in range(self.args.rounds):
-            run = runs.run(words, script, self.args.most)
+            run = runs.run(words, script, runs.SLACK * self.args.most, self.args.most)
             if run.stopped or run.fault:
                 return None
             taken.append(run.processor)
@@ -129,7 +129,7 @@ def main():
     parser.add_argument("--svg")
     parser.add_argument("--instructions", action="store_true")
     parser.add_argument("--only", default="")
-    parser.add_argument("--most", type=float, default=20)
+    parser.add_argument("--most", type=int, default=20)
     parser.add_argument("--rounds", type=int, default=3)
     parser.add_argument("--sqlite", action="store_true")
     parser.add_argument("--against", choices=runs.WAYS, default="sharp")

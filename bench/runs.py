@@ -21,6 +21,7 @@ PREFQ_RS = os.path.join(BUILT, "prefq_rs")
 PEAK = os.path.join(BUILT, "peak")
 WORK = os.path.join(HERE, "work")
 WAYS = ["sharp", "fast", "known", "rescan", "plain"]
+SLACK = 20  # how many times its processor time a run may take beside other work
 
 
 @dataclass

@@ -18,7 +18,6 @@ import runs
 import workloads
 
 ENOUGH, ROUNDS = 0.3, 15  # seconds that the runs of a script take together, and how many they are at most
-SLACK = 20  # how many times its processor time a run may take beside other work
 HEADS = ["shape", "arrival", "block", "window", "load ms", "prefq ms", "prefq/load", "{0} ms", "{0}/load", "prefq/{0}", "output"]
 
 
@@ -52,7 +51,7 @@ def taken(command, lines, play, most):
         script.flush()
         found = []
         while len(found) < ROUNDS and sum(run.processor for run in found) < ENOUGH:
-            found.append(runs.run([*command, "play", *play], script.name, most * SLACK, most))
+            found.append(runs.run([*command, "play", *play], script.name, runs.SLACK * most, most))
             if found[-1].stopped or found[-1].fault:
                 break
     return Taken(found)
