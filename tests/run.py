@@ -1,7 +1,8 @@
 #!/usr/bin/env python3
 """Runs the tests, names what failed, and ends with a count of what passed, what failed and what was skipped.
 
-    python3 tests/run.py quick       for every change: the layout of the files, the lists of definitions and of edits, the site of the documents, each test without its proof, the stored run, the scripts, the examples, what the documents show, and the
+    python3 tests/run.py quick       for every change: the layout of the files, the lists of definitions and of edits, the sentences and the site of the
+                                     documents, each test without its proof, the stored run, the scripts, the examples, what the documents show, and the
                                      wheel of dist/. The tests of the Python package run too, where the library is built or PREFQ_LIBRARY names one
     python3 tests/run.py all         before a merge: the proofs, the must-fail edits and the tests by `rt ci`, which proves from nothing what it has not passed
                                      before on this machine, in just these files; then the lists, and each check over the built programs that takes seconds
@@ -53,7 +54,7 @@ left by hand (docs/CONTRIBUTING.md, "A release"):
 - real data sets, which packages of R have: python3 python/tests/real_data.py
 - the number of the version: VERSION in crates/prefq/src/args.rt, PREFQ_VERSION in library/include/prefq.h, docs/GUIDE.md, python, CHANGELOG.md
 - the wheel, made of the commit that has all this: python3 dist/release.py
-- a new kit: its name and its logic in README.md"""
+- a new kit: its name in README.md, its logic there and in docs/ASSURANCE.md"""
 
 
 @dataclass
@@ -209,6 +210,7 @@ def site(room, log):
 
 DEFINITIONS = ["python3", "tests/definitions.py"]
 EDITS = ["python3", "tests/edits.py"]
+SENTENCES = ["python3", "tests/sentences.py"]
 SITE = Check("site of the documents", site)
 # The longest first.
 QUICK = [
@@ -217,6 +219,7 @@ QUICK = [
     Check("layout of the files", layout),
     command(*DEFINITIONS, name="list of definitions"),
     command(*EDITS, name="list of edits"),
+    command(*SENTENCES, name="sentences of the documents"),
     SITE,
     Check("Python package", python_package),
     command("python3", "tests/wheel.py", name="wheel of the last release"),
@@ -265,6 +268,7 @@ BUILT = [
     command("python3", "tests/reads_take_no_lock.py"),
     command(*DEFINITIONS),
     command(*EDITS),
+    command(*SENTENCES),
     SITE,
     command("python3", "examples/check.py"),
     command("python3", "tests/scripts.py"),
@@ -378,7 +382,8 @@ def stop_where_something_is_missing(kind):
 def main():
     kinds = {"quick": quick, "all": whole, "release": release}
     if {"-h", "--help"} & set(sys.argv[1:]):
-        sys.exit(print(__doc__.strip()))
+        print(__doc__.strip())
+        return
     if len(sys.argv) != 2 or sys.argv[1] not in kinds:
         sys.exit(f"python3 tests/run.py {' | '.join(kinds)}")
     stop_where_something_is_missing(sys.argv[1])
