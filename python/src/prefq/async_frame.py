@@ -7,8 +7,9 @@ from .answer import Answer
 from .asynchronous import Awaited, on_a_thread
 from .columns import Column
 from .follow import Followed
-from .frame import Frame, Path
+from .frame import Frame
 from .hasse import Hasse
+from .live_rows import Path
 from .preferences import Asked, Operand
 from .records import Record
 from .selection import Names

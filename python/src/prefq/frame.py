@@ -1,8 +1,6 @@
 """Frames: live tables of columns of every kind."""
-import os
-import threading
 from functools import partial
-from typing import Any, Callable, Dict, Iterable, Iterator, List, Mapping, Optional, Sequence, Tuple, TypeVar, Union
+from typing import Any, Dict, Iterable, Iterator, List, Mapping, Optional, Sequence
 
 from .answer import Answer
 from .checks import MOST_ROWS
@@ -11,32 +9,27 @@ from .errors import Refused
 from .follow import Followed, source_of
 from .frame_query import FrameQuery
 from .hasse import Hasse, ranked
-from .kinds import Kind
 from .kinds.forms import Form
-from .loading import Encoded, File, check_known, chosen, column_of_values, decoded, encoded
+from .live_rows import Found, LiveRows, Path
+from .loading import Encoded, File, check_known, chosen, column_of_values, encoded
 from .missing import Missing
 from .opened import Ids, Opened
 from .options import check_options
 from .preferences import Asked, Operand, text_asked, text_preferred
 from .questions import Question
 from .reading import Dialect, Progress, Source, read_csv
-from .records import Record, mapping_of, values_of
+from .records import mapping_of, values_of
 from .rows import Row, WholeRows, Zipped
 from .selection import Names, Selection, first_rows, picked, query_of, reading, without_twins
-from .table import Table, check_changes
 from .translate import plan
 from .warned import warn_of
 from .why import dominators
 
-Result = TypeVar("Result")
-# A row by its level, its id and its numbers.
-Found = Tuple[Optional[int], int, Sequence[int]]
 TABLE_OPTIONS = ("capacity", "clients", "block", "window")
-Path = Union[str, "os.PathLike[str]"]
 CSV_OPTIONS = ("columns", "kinds", "missing", "encoding", "delimiter", "decimal", "thousands", "skip", "null_padding")
 
 
-class Frame:
+class Frame(LiveRows):
     """A live table of records, whose columns are whole numbers, decimals, floats, true and false, dates, times or texts, with gaps or without.
 
     It is made from a CSV file, from records, or from a DataFrame of pandas; every value comes back exactly. Its rows have the ids 1, 2, 3 and so on. Any
@@ -56,16 +49,8 @@ class Frame:
 
     def _open(self, columns: Sequence[Column], rows: WholeRows, options: Dict[str, Any], index: Any = None, notes: Iterable[str] = (), ids: Ids = Ids()) -> None:
         check_options(options, TABLE_OPTIONS, "Frame")
-        self._opened = Opened(columns, rows, options, ids)
+        super().__init__(columns, rows, options, notes, ids)
         self._index = index
-        # What is to be known of how the data were read: which words of a file were taken for missing.
-        self.notes = list(notes)
-        # Held while the rows change, by the thread that changes them; and the last id that was given.
-        self._changing = threading.RLock()
-        self._subscribed: List[Callable[[], None]] = []
-        self._is_opening = False
-        self._is_closed = False
-        self._last = max(len(rows), ids.last)
 
     @classmethod
     def from_csv(cls, source: Source, *, columns: Optional[Sequence[str]] = None, kinds: Optional[Mapping[str, str]] = None, missing: Optional[Iterable[str]] = None,
@@ -203,20 +188,6 @@ class Frame:
         frame._open(columns, rows, options, index, notes, ids)
         return frame
 
-    def __enter__(self) -> "Frame":
-        return self
-
-    def __exit__(self, *failed: Any) -> None:
-        self._is_closed = True
-        self.table.__exit__(*failed)
-
-    def __len__(self) -> int:
-        """The number of rows."""
-        return len(self.table)
-
-    def __iter__(self) -> Iterator[Record]:
-        return iter(self.rows())
-
     def __repr__(self) -> str:
         return f"<prefq.Frame of {listed(self.names)}: {repr(self.table).rpartition(': ')[2]}"
 
@@ -224,146 +195,6 @@ class Frame:
         """The first rows as a table, as a notebook shows them."""
         rows = self.rows()
         return Answer(f"{len(rows)} rows" if len(rows) != 1 else "1 row", self.columns, rows)._repr_html_()
-
-    def close(self) -> None:
-        """Ends the frame; the same again does nothing."""
-        self._is_closed = True
-        self.table.close()
-
-    @property
-    def columns(self) -> Tuple[Column, ...]:
-        """The columns, with their kinds as they are now."""
-        return self._opened.columns
-
-    @property
-    def table(self) -> Table:
-        """The table below, of whole numbers. It is another one after a column has become wider, and its ids are then its own."""
-        return self._opened.table
-
-    @property
-    def names(self) -> List[str]:
-        """The names of the columns."""
-        return self._opened.names
-
-    def insert(self, record: Any) -> int:
-        """Adds a record, and returns its id. What it does not name is missing. A list has a value for each column.
-
-        A column whose kind was taken from its values becomes wider where a value has more decimals: the table is opened anew under the same ids, which takes
-        the time of reading all rows. What a column does not take is a `TypeError` or a `ValueError`.
-
-        >>> import prefq
-        >>> with prefq.Frame.from_records([{"x": 1, "y": 2}]) as frame:
-        ...     frame.insert({"x": 5})
-        2
-        """
-        def insert() -> int:
-            [numbers] = self._numbers([record])
-            self._last = self._opened.ids.outside(self.table.insert(numbers))
-            return self._last
-        return self._change(insert)
-
-    def insert_many(self, records: Iterable[Any]) -> Sequence[int]:
-        """Adds records at one moment, and returns their ids; all of them or, where there is no room, none.
-
-        >>> import prefq
-        >>> with prefq.Frame.from_records([{"x": 1, "y": 2}]) as frame:
-        ...     frame.insert_many([{"x": 5}, [6, 7]])
-        range(2, 4)
-        """
-        def insert_many() -> range:
-            numbers = self._numbers(list(records))      # By this the table may become another one.
-            inside = self.table.insert_many(numbers)
-            if not inside:
-                return inside
-            first = self._opened.ids.outside(inside[0])
-            self._last = first + len(inside) - 1
-            return range(first, self._last + 1)
-        return self._change(insert_many)
-
-    def update(self, id: int, record: Any) -> None:
-        """Gives a row the values of a record; where that is a mapping, what it does not name stays as it is. Kinds grow as by `insert`.
-
-        >>> import prefq
-        >>> with prefq.Frame.from_records([{"x": 1, "y": 2}]) as frame:
-        ...     frame.update(1, {"y": None})
-        ...     frame.get(1)
-        <id 1: {'x': 1, 'y': None}>
-        """
-        def update() -> None:
-            [numbers] = self._numbers([record], [id])
-            whole = self._whole(id, record, numbers)
-            self._of_row(id, lambda row: self.table.update(row, whole))
-        self._change(update)
-
-    def delete(self, id: int) -> None:
-        """Deletes a row; its id is never used again."""
-        self._change(lambda: self._of_row(id, self.table.delete))
-
-    def commit(self, *changes: Sequence[Any]) -> int:
-        """Makes one to eight changes at one moment, or none: each is ("insert", record), ("update", id, record) or ("delete", id). Kinds grow as by `insert`.
-
-        Returns the id of the first new row, 0 where none is new; the others have the next ones.
-
-        >>> import prefq
-        >>> with prefq.Frame.from_records([{"x": 1, "y": 2}]) as frame:
-        ...     frame.commit(("update", 1, {"y": 3}), ("insert", {"x": 5}))
-        ...     frame.rows()
-        2
-        [<id 1: {'x': 1, 'y': 3}>, <id 2: {'x': 5, 'y': None}>]
-        """
-        return self._change(lambda: self._commit(check_changes(changes)))
-
-    def subscribe(self, call: Callable[[], None]) -> Callable[[], None]:
-        """Has this called after each change, by the thread that made it, so it must be quick. Returns what ends it.
-
-        >>> import prefq
-        >>> with prefq.Frame.from_records([{"x": 1}]) as frame:
-        ...     end = frame.subscribe(lambda: print(frame.best("best low(x)").ids))
-        ...     frame.update(1, {"x": 2})
-        ...     end()
-        ...     frame.delete(1)
-        [1]
-        """
-        self._subscribed.append(call)
-        return lambda: self._subscribed.remove(call)
-
-    def get(self, id: int) -> Record:
-        """The row with this id."""
-        opened = self._opened
-        return self._records(opened, [(None, id, self._of_row(id, opened.table.get, opened))])[0]
-
-    def rows(self) -> List[Record]:
-        """All rows, in order of id."""
-        opened = self._opened
-        return self._records(opened, [(None, opened.ids.outside(id), numbers) for id, numbers in opened.table.rows()])
-
-    def save(self, path: Path) -> None:
-        """Saves the frame as it is now in one file, in place of one that is there: whoever opens that finds the frame before or this one, whole.
-
-        >>> import os, prefq, tempfile
-        >>> with tempfile.TemporaryDirectory() as folder, prefq.Frame.from_records([{"x": 1}, {"x": 2}]) as frame:
-        ...     frame.delete(1)
-        ...     frame.save(os.path.join(folder, "rows.prefq"))
-        ...     with prefq.Frame.open(os.path.join(folder, "rows.prefq")) as opened:
-        ...         opened.rows(), opened.insert({"x": 3})
-        ([<id 2: {'x': 2}>], 3)
-        """
-        from .saved import Contents, Description, write
-
-        def contents() -> Contents:
-            opened = self._opened
-            pairs = opened.table.rows()
-            columns = tuple(map(Description.of, opened.columns))
-            ids = [opened.ids.outside(inside) for inside, _ in pairs]
-            # An interruption may have come between an insert and the note of its id.
-            last = max([self._last, *ids[-1:]])
-            return Contents(columns, ids, list(zip(*(numbers for _, numbers in pairs))) or [()] * len(columns), last, tuple(self.notes))
-
-        write(path, self._alone(contents))
-
-    def room(self) -> int:
-        """How many more versions of rows there is room for."""
-        return self.table.room()
 
     def best(self, question: Asked, *, where: Optional[Operand] = None, top: Optional[int] = None, ties: Optional[Asked] = None, by: Names = None,
              progress: Optional[Progress] = None) -> Answer:
@@ -475,87 +306,6 @@ class Frame:
         there = [pairs[moment.id(place + 1) - 1] for place in order]
         warn_of(read.unknown)
         return Hasse(text, opened.columns, self._records(opened, [(None, opened.ids.outside(number), numbers) for number, numbers in there]), worse)
-
-    def _numbers(self, records: Sequence[Any], ids: Iterable[int] = ()) -> List[List[int]]:
-        """The numbers of some records, for which columns that are too narrow become wider, if the rows with these ids are there."""
-        if self._opened.is_outgrown():
-            self._open_anew({})
-        while True:
-            try:
-                return [self._opened.numbers(record) for record in records]
-            except (TypeError, ValueError):
-                wider = self._opened.wider(records)
-                if not wider:
-                    raise
-            for record in records:
-                self._opened.numbers(record, wider)     # What is refused then, too, changes nothing.
-            for id in ids:
-                self._of_row(id, self.table.get)
-            self._open_anew(wider)
-
-    def _whole(self, id: int, record: Any, numbers: List[int]) -> List[int]:
-        """The numbers of a record for a row, with those that the row has where the record is a mapping that does not name them."""
-        found = mapping_of(record)
-        if found is None or set(self.names) <= set(found):
-            return numbers
-        return [number if name in found else old for name, number, old in zip(self.names, numbers, self._of_row(id, self.table.get))]
-
-    def _commit(self, changes: Sequence[Tuple[str, int, Any]]) -> int:
-        """Makes changes, each of which is a verb, an id and a record."""
-        ids = [id for verb, id, _ in changes if verb != "insert"]
-        twice = next((place for place, (verb, id, _) in enumerate(changes) if verb != "insert" and id in [other for _, other, _ in changes[:place]]), None)
-        if twice is not None:       # which the table says as well, but only after a column became wider
-            raise Refused(f"twice place {twice + 1}", "commit", 12, twice + 1)
-        numbers = iter(self._numbers([record for verb, _, record in changes if verb != "delete"], ids))
-        inside = self._opened.ids.inside
-        made: List[Tuple[Any, ...]] = []
-        for verb, id, record in changes:
-            row = () if verb == "insert" else (inside(id),)
-            made.append((verb, *row) if verb == "delete" else (verb, *row, next(numbers) if verb == "insert" else self._whole(id, record, next(numbers))))
-        for id in ids:
-            self._of_row(id, self.table.get)
-        first = self.table.commit(*made)
-        if first == 0:
-            return 0
-        first = self._opened.ids.outside(first)
-        self._last = first + sum(verb == "insert" for verb, _, _ in changes) - 1
-        return first
-
-    def _change(self, change: Callable[[], Result]) -> Result:
-        """A change, of which those who subscribed are told."""
-        result = self._alone(change)
-        for call in list(self._subscribed):
-            call()
-        return result
-
-    def _alone(self, call: Callable[[], Result]) -> Result:
-        """One call after the other. A signal handler of this thread makes none while the table is opened anew, which would not have it."""
-        with self._changing:
-            if self._is_opening:
-                raise Refused("a change that opens the table anew is under way in this thread", "client")
-            return call()
-
-    def _open_anew(self, kinds: Mapping[str, Kind]) -> None:
-        self._is_opening = True
-        try:
-            self._opened = self._opened.anew(kinds, self._last)
-            if self._is_closed:         # meanwhile, which ended the table before
-                self.table.close()
-        finally:
-            self._is_opening = False
-
-    def _of_row(self, id: int, call: Callable[[int], Result], opened: Optional[Opened] = None) -> Result:
-        """A call for a row, by its id in the table."""
-        inside = (opened or self._opened).ids.inside(id)
-        try:
-            return call(inside)
-        except Refused as why:
-            raise (self._opened.missing_row(id) if why.kind == "client" and why.number == 7 else why) from None
-
-    def _records(self, opened: Opened, found: Sequence[Found]) -> List[Record]:
-        """The records of rows, each with its level and id."""
-        values = decoded(opened.columns, [numbers for _, _, numbers in found])
-        return [Record(zip(opened.names, row), id=id, level=level) for (level, id, _), row in zip(found, values)]
 
 
 def fitting(some: Iterable[Any], what: str) -> Iterator[Any]:
