@@ -20,6 +20,10 @@ class Rows:
         """The rows with these numbers, counted from 0."""
         raise NotImplementedError
 
+    def form(self, name: str) -> Any:
+        """What a column of such rows has to be the same in to be read at once."""
+        return None
+
     @staticmethod
     def column(some: Sequence[Any], name: str, reading: Reading) -> Encoded:
         """A column of several such rows, and its numbers."""
@@ -83,27 +87,33 @@ class FrameRows(Rows):
     def at(self, places: Iterable[int]) -> "FrameRows":
         return FrameRows(self.frame.iloc[list(places)])
 
+    def form(self, name: str) -> Any:
+        """Of two types pandas would make a third one, in which not each value is the same."""
+        return self.frame[name].dtype
+
     @staticmethod
     def column(some: Sequence["FrameRows"], name: str, reading: Reading) -> Encoded:
         import pandas
         from .pandas_frames import encoded_series
-        series = [rows.frame[name] for rows in some if len(rows)] or [some[0].frame[name]]
-        return encoded_series(pandas.concat(series, ignore_index=True), name, reading.kinds)
+        return encoded_series(pandas.concat([rows.frame[name] for rows in some], ignore_index=True), name, reading.kinds)
 
 
 def column_of(rows: Sequence[Rows], name: str, reading: Reading) -> Segment:
     """A column of rows of several sources, in their order: of each kind of source it is read at once, and these are brought together."""
-    runs = [list(run) for _, run in groupby(rows, type)]
+    some = [found for found in rows if len(found)] or rows[:1]
+    runs = [list(run) for _, run in groupby(some, lambda found: (type(found), found.form(name)))]
     return as_in_a_frame(joined([_segment(type(run[0]), run, name, reading) for run in runs]))
 
 
 def _segment(source: Type[Rows], run: Sequence[Rows], name: str, reading: Reading) -> Segment:
-    what = "the files" if source is CellRows else "the rows in memory" if source is ValueRows else "the DataFrames"
+    what = "the files" if source is CellRows else "the rows in memory" if source is ValueRows else f"the DataFrames with {run[0].form(name)}"
     has_words = source is CellRows and reading.missing is None
     return Segment.of(*source.column(run, name, reading), what, is_given=name in reading.kinds, has_words=has_words)
 
 
 def frame_of(rows: Sequence[Any]) -> Any:
-    """One DataFrame of rows of several."""
+    """One DataFrame of rows of several. A column of several types has each value as it is."""
     import pandas
-    return pandas.concat([some.frame for some in rows if len(some)] or [rows[0].frame])
+    some = [found.frame for found in rows if len(found)] or [rows[0].frame]
+    mixed = [name for name in some[0].columns if any(frame[name].dtype != some[0][name].dtype for frame in some)]
+    return pandas.concat([frame.astype(dict.fromkeys(mixed, object)) for frame in some])
