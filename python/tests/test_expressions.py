@@ -89,6 +89,10 @@ class Expressions(TestCase):
             self.assertEqual(frame.best(f"best high(x * x / y * {10**300})").ids, [2])
             self.assertEqual(frame.best(f"best low(0 - x * x / y * {10**300})").ids, [2])
 
+    def test_an_infinite_float_beside_a_number_of_many_decimals(self):
+        with prefq.Frame.from_records([{"a": Decimal("1e-18"), "f": float("inf")}], kinds={"a": "decimal(18)", "f": "float"}) as frame:
+            self.assertEqual(frame.best("best low(a)", where=f"f > {' * '.join(['a'] * 18)}").ids, [1])
+
     def test_a_value_that_no_row_has(self):
         with self.assertWarnsRegex(prefq.UnknownValue, "no row of 'City' has 'Lion'; did you mean 'Lyon'?") as caught:
             self.assertEqual(self.frame.best("best low(Price)", where="City = 'Lion'"), [])

@@ -229,9 +229,7 @@ class Queries(TestCase):
 
 
 class MoreRowsThanOneTableHolds(TestCase):
-    """Rows of a moment are asked in parts; what only has a text for its parts refuses what is asked beside it, by name."""
-
-    BESIDE = [("where", "price > 60"), ("top", 2), ("by", "city")]
+    """They are asked in parts."""
 
     def one(self, chance):
         columns, records = random_frames.frame(chance)
@@ -264,28 +262,32 @@ class MoreRowsThanOneTableHolds(TestCase):
         self.assertEqual(prefq.psel(rows, "low(abs(price - 5))", top=2, by="city").index.tolist(), [4, 5, 6, 3])
         self.assertEqual(list(prefq.psel(rows, low("price"), show_level=False)), ["price", "dist", "city"])
 
-    def test_records_and_cursors_refuse_it_by_name(self):
+    def test_records_and_cursors_have_all_that_is_asked_beside_a_question(self):
+        records = [{"price": price, "dist": -(price // 2), "city": ["Lyon", "Bern"][price % 2]} for price in range(MOST_ROWS + 5)]
         db = sqlite3.connect(":memory:")
         self.addCleanup(db.close)
-        for source in ([{"price": price, "city": "Lyon"} for price in range(MOST_ROWS + 1)], db.execute("select 1 as price, 'Lyon' as city")):
-            for name, value in self.BESIDE:
-                with self.subTest(name), self.refuses(prefq.Refused, f"{name}= is not there for psel of more rows than one table holds, of a cursor", kind="arguments"):
-                    prefq.psel(source, "low(price)", **{name: value})
-            self.assertEqual(prefq.psel(source, low("price")).ids, [1])
+        db.execute("create table hotels (price integer, dist integer, city text)")
+        db.executemany("insert into hotels values (:price, :dist, :city)", records)
+        for source in (lambda: records, lambda: db.execute("select * from hotels order by price")):
+            found = prefq.psel(source(), "low(dist) & low(price)", where="price >= 10 and city = 'Lyon'", top=3, ties="high(price)")
+            self.assertEqual([row.price for row in found], [MOST_ROWS + 4, MOST_ROWS + 2, MOST_ROWS])
+            self.assertEqual([row.price for row in prefq.psel(source(), "low(price)", top=2, by="city")], [0, 1, 2, 3])
 
     def test_partitions_take_values(self):
         some = [prefq.parts.Partition(["price", "dist"], [[50, 8], [80, 9]]), prefq.parts.Partition(["price", "dist"], [[60, 5]])]
         self.assertEqual(prefq.parts.best(some, low("price") * low("dist")).ids, [1, 3])
         self.assertEqual(prefq.parts.why(some, 2, low("price") * low("dist")).ids, [1, 3])
 
-    def test_several_files_refuse_it_by_name(self):
+    def test_several_files_have_it_too(self):
         with tempfile.TemporaryDirectory() as folder:
-            for number in range(2):
-                Path(folder, f"{number}.csv").write_text("price\n50\n")
-            for option, value in [("--where", "price > 5"), ("--top", "1")]:
-                done = run("ask", os.path.join(folder, "*.csv"), "best low(price)", option, value)
-                self.assertEqual(done.returncode, 2)
-                self.assertIn(f"{option} is not there for several files", done.stderr)
+            for number, rows in enumerate(["50,Lyon\n60,Bern\n", "70,Bern\n50,Bern\n"]):
+                Path(folder, f"{number}.csv").write_text(f"price,city\n{rows}")
+            for words, ids in [(["--where", "price > 50"], [2]), (["--top", "1"], [1]), (["--top", "1", "--ties", "pos(city, 'Bern')"], [4]), (["--top", "3"], [1, 4, 2])]:
+                done = run("ask", os.path.join(folder, "*.csv"), "best low(price)", *words, "--csv")
+                self.assertEqual((done.returncode, [int(line.split(",")[1]) for line in done.stdout.splitlines()[1:]]), (0, ids), done.stderr)
+            done = run("ask", os.path.join(folder, "*.csv"), "best low(price)", "--where", "prise > 5")
+            self.assertEqual((done.returncode, done.stdout), (2, ""))
+            self.assertIn("no column 'prise'; did you mean price?\n    prise > 5\n    ^", done.stderr)
 
 
 class Random(TestCase):

@@ -128,10 +128,9 @@ def run(options: argparse.Namespace) -> None:
     files = files_like(options.file)
     selection = Selection.of(where=options.where, top=options.top, ties=options.ties)
     if files:
-        selection.mode_alone("several files")
-        answer = asked_of_files(files, options.question, reading_of(options), progress)
+        found = asked_of_files(files, options.question, selection, reading_of(options), progress)
         progress.end()
-        show(answer, options, answer.notes)
+        show(found, options, found.notes)
         return
     file = file_of(options, progress)
     if options.question is None:

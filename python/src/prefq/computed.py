@@ -19,6 +19,7 @@ from .kinds.numbers import are_in_range
 from .moment import Moment
 from .questions import refuse
 from .translate import unknown_value
+from .widening import Nothing
 
 COMPARE: Dict[str, Callable[[Any, Any], bool]] = {"=": operator.eq, "<>": operator.ne, "<": operator.lt, "<=": operator.le, ">": operator.gt, ">=": operator.ge}
 COMBINE: Dict[str, Callable[[Any, Any], Any]] = {"+": operator.add, "-": operator.sub, "*": operator.mul, "min": min, "max": max}
@@ -34,7 +35,7 @@ class Numbers:
     def in_units(self, scale: int) -> Sequence[Optional[Number]]:
         """The same numbers in finer units."""
         by = scale // self.scale
-        return self.values if by == 1 else [None if value is None else value * by for value in self.values]
+        return self.values if by == 1 else [value if value is None or isinstance(value, float) else value * by for value in self.values]
 
 
 @dataclass(frozen=True)
@@ -52,7 +53,12 @@ class Others:
     numbers: Sequence[int]
 
 
-Values = Union[Numbers, Truths, Others, Literal]
+@dataclass(frozen=True)
+class NoValues:
+    """A column none of whose rows has a value here; elsewhere it may have values of any kind."""
+
+
+Values = Union[Numbers, Truths, Others, NoValues, Literal]
 
 
 class Computer:
@@ -60,8 +66,13 @@ class Computer:
 
     def __init__(self, text: str, moment: Moment) -> None:
         self._text, self._moment = text, moment
-        # What is said of each value of the text that no row has.
-        self.unknown: List[str] = []
+        # Each value of the text that no row of a column has.
+        self.absent: List[Tuple[Column, str]] = []
+
+    @property
+    def unknown(self) -> List[str]:
+        """What is said of each value of the text that no row has."""
+        return [unknown_value(column, text) for column, text in self.absent]
 
     def column(self, node: Node, text: str, place: int) -> Column:
         """The column of an expression, whose name is its text."""
@@ -104,12 +115,14 @@ class Computer:
             return Numbers([shown.get(number) for number in numbers])
         if isinstance(kind, Booleans):
             return Truths([None if number == LEAST else bool(number) for number in numbers])
-        return Others(node.column, numbers)
+        return NoValues() if isinstance(kind, Nothing) else Others(node.column, numbers)
 
     def _numbers(self, node: Node) -> Numbers:
         found = self._values(node)
         if isinstance(found, Literal) and found.kind == "number":
             return self._constant(found)
+        if isinstance(found, NoValues):
+            return Numbers(self._gaps())
         if not isinstance(found, Numbers):
             refuse(self._text, node.place, f"{self._shown(node, found)}, and numbers are computed with")
         return found
@@ -150,7 +163,9 @@ class Computer:
     def _distance(self, node: Operation) -> Optional[Numbers]:
         """The days between two dates, or the seconds between two times; None where there are others."""
         left, right = map(self._values, node.parts)
-        if not isinstance(left, Others) or not isinstance(right, Others) or not self._are_alike(left, right) or not isinstance(left.column.kind, (Dates, Times)):
+        if is_time(left) and isinstance(right, NoValues) or isinstance(left, NoValues) and is_time(right):
+            return Numbers(self._gaps())
+        if not isinstance(left, Others) or not isinstance(right, Others) or not self._are_alike(left, right) or not is_time(left):
             return None
         kind = left.column.kind
         values = each(operator.sub, *([None if number == LEAST else number for number in some.numbers] for some in (left, right)))
@@ -172,6 +187,8 @@ class Computer:
         found = self._values(node)
         if isinstance(found, Literal) and found.kind == "truth":
             return Truths([WORDS[found.text.lower()]] * self._moment.count)
+        if isinstance(found, NoValues):
+            return Truths(self._gaps())
         if not isinstance(found, Truths):
             refuse(self._text, node.place, f"{self._shown(node, found)}, and a condition is true or false: write a comparison, such as x > 5 or City = 'Lyon'")
         return found
@@ -187,6 +204,8 @@ class Computer:
         found = self._values(node)
         if isinstance(found, Literal):
             refuse(self._text, node.place, "a value that is written is never missing")
+        if isinstance(found, NoValues):
+            return Truths([True] * self._moment.count)
         gap = LEAST if isinstance(found, Others) else None
         values: Sequence[Any] = found.numbers if isinstance(found, Others) else found.values
         return Truths([value == gap for value in values])
@@ -195,6 +214,8 @@ class Computer:
         left, right = self._values(node.left), self._values(node.right)
         if isinstance(left, Literal) and isinstance(right, Literal):
             refuse(self._text, node.place, "two values that are written are compared")
+        if NoValues in (type(left), type(right)):
+            return Truths(self._gaps())
         if isinstance(left, Others) and isinstance(right, Literal):
             return self._with_literal(node.sign, left, right)
         if isinstance(left, Literal) and isinstance(right, Others):
@@ -224,7 +245,7 @@ class Computer:
         except (TypeError, ValueError) as why:
             refuse(self._text, literal.place, f"column {column.column.name!r} ({kind}): {why}")
         if wanted is None:
-            self.unknown.append(unknown_value(column.column, literal.text))
+            self.absent.append((column.column, literal.text))
         compare = COMPARE[sign]
         return Truths([None if number == LEAST else compare(number, wanted) for number in column.numbers])
 
@@ -247,6 +268,10 @@ class Computer:
             return kinds[0].nanoseconds == kinds[1].nanoseconds and (kinds[0].zone is None) == (kinds[1].zone is None)
         return type(kinds[0]) is type(kinds[1]) and (not isinstance(kinds[0], Choices) or repr(kinds[0]) == repr(kinds[1]))
 
+    def _gaps(self) -> List[None]:
+        """A value for each row, all of them missing."""
+        return [None] * self._moment.count
+
     def _shown(self, node: Node, found: Values) -> str:
         """What an expression is, in a message."""
         if isinstance(found, Others):
@@ -255,6 +280,11 @@ class Computer:
             return f"{found.text!r} is a {'truth value' if found.kind == 'truth' else found.kind}"
         what = "true or false" if isinstance(found, Truths) else "a number"
         return f"column {node.column.name!r} is {what}" if isinstance(node, Named) else f"this is {what}"
+
+
+def is_time(found: Values) -> bool:
+    """Whether these are dates or times."""
+    return isinstance(found, Others) and isinstance(found.column.kind, (Dates, Times))
 
 
 def each(function: Callable[[Any, Any], Any], left: Iterable[Any], right: Iterable[Any]) -> List[Any]:

@@ -15,7 +15,7 @@ from .better_than import Order, is_weak, ranks
 from .columns import Column
 from .moment import Moment
 from .questions import Base, Converse, Product, Question, Term, refuse
-from .translate import plan, terms_columns
+from .translate import bases_of, plan, terms_columns
 
 
 def has_intersection(term: Term) -> bool:
@@ -49,7 +49,7 @@ class Intersections:
         return Product(term.sign, tuple(self._term(part, turned) for part in term.parts))
 
     def _product(self, parts: Sequence[Term], turned: bool) -> Term:
-        place = first_base(parts[0]).place
+        place = bases_of(parts[0])[0].place
         if not all(map(is_weak, parts)):
             refuse(self._text, place, "| stands between terms by which any two rows can be compared, that is base terms, and those with & between them: of others it is "
                    "no product of columns that the table could compare")
@@ -80,8 +80,3 @@ def parts_of(term: Product) -> Tuple[Term, ...]:
     for part in term.parts:
         found += parts_of(part) if isinstance(part, Product) and part.sign == "|" else [part]
     return tuple(found)
-
-
-def first_base(term: Term) -> Base:
-    """The base term that stands first in a term."""
-    return term if isinstance(term, Base) else first_base(term.part if isinstance(term, Converse) else term.parts[0])

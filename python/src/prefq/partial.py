@@ -2,12 +2,11 @@
 from array import array
 from bisect import bisect_left
 from dataclasses import dataclass, field, replace
-from itertools import product
 from typing import Any, Dict, Iterable, Iterator, List, Mapping, Sequence, Tuple
 
 from .carried import Rows
 from .errors import Refused
-from .widening import Segment, joined
+from .widening import Segment, check_one_line_of_time, check_zones, joined
 
 # The value of a question that no row of a column has, by the column's name and its text, and what is said of it.
 Absent = Mapping[Tuple[str, str], str]
@@ -19,12 +18,14 @@ class Partial:
     """What is left of partitions that follow each other, in their order."""
 
     names: Tuple[Any, ...]          # of all columns of a row
-    asked: Tuple[Segment, ...]      # the columns that the question names
+    asked: Tuple[Segment, ...]      # the columns that the question and its ties name
     count: int                      # of all rows of these partitions
     places: Sequence[int]           # of the rows that are left among all these, from 0, ascending
     rows: Tuple[Rows, ...] = ()     # the rows that are left as they came, one source after the other; none where nobody wants them
     absent: Absent = field(default_factory=dict)
     words: Words = field(default_factory=dict)
+    condition: Tuple[Segment, ...] = ()     # the columns of the condition by which rows were left out, without rows
+    moments: Mapping[str, str] = field(default_factory=dict)     # by column of times with a zone, a text beside it that names none
 
     def __len__(self) -> int:
         return len(self.places)
@@ -38,10 +39,6 @@ class Partial:
         """The same with only the rows that have these numbers among those left, ascending."""
         return replace(self, asked=tuple(segment.at(at) for segment in self.asked), places=array("q", [self.places[index] for index in at]),
                        rows=tuple(_rows_at(self.rows, at)))
-
-    def views(self) -> "Iterator[Partial]":
-        """The same rows for each way in which columns of nothing but words such as n/a may turn out: as texts, or as missing."""
-        return (replace(self, asked=asked) for asked in product(*(segment.views() for segment in self.asked)))
 
     def groups(self, names: Iterable[str]) -> List[Tuple[int, ...]]:
         """The numbers of each row in these columns."""
@@ -58,12 +55,32 @@ def together(partials: Sequence[Partial]) -> Partial:
     for other in partials[1:]:
         if set(first.names) != set(other.names):
             raise Refused(f"partitions have different columns: {', '.join(map(str, first.names))} and {', '.join(map(str, other.names))}", "table")
-    asked = tuple(joined([partial.asked[place] for partial in partials]) for place in range(len(first.asked)))
     places, count = array("q"), 0
     for partial in partials:
         places.extend(count + place for place in partial.places)
         count += partial.count
-    return Partial(first.names, asked, count, places, tuple(rows for partial in partials for rows in partial.rows), _absent_in_all(partials), _words_of(partials))
+    moments = {name: text for partial in partials for name, text in partial.moments.items()}
+    return Partial(first.names, tuple(_asked(partials, moments)), count, places, tuple(rows for partial in partials for rows in partial.rows), _absent_in_all(partials),
+                   _words_of(partials), tuple(_condition(partials, moments)), moments)
+
+
+def _asked(partials: Sequence[Partial], moments: Mapping[str, str]) -> Iterator[Segment]:
+    """The columns of the question, each brought together."""
+    return (_joined(segments, moments) for segments in zip(*(partial.asked for partial in partials)))
+
+
+def _condition(partials: Sequence[Partial], moments: Mapping[str, str]) -> Iterator[Segment]:
+    """The columns of the condition, each brought together."""
+    for segments in zip(*(partial.condition for partial in partials)):
+        check_one_line_of_time(segments)
+        yield _joined(segments, moments)
+
+
+def _joined(segments: Sequence[Segment], moments: Mapping[str, str]) -> Segment:
+    name = segments[0].column.name
+    if name in moments:
+        check_zones(segments, moments[name])
+    return joined(segments)
 
 
 def _rows_at(rows: Sequence[Rows], at: Sequence[int]) -> Iterable[Rows]:

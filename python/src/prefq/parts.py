@@ -24,6 +24,7 @@ import builtins
 import csv
 import os
 from dataclasses import dataclass, field, replace
+from functools import partial as with_words
 from typing import Any, Callable, Dict, Iterable, Iterator, List, Optional, Sequence, Tuple
 from uuid import uuid4
 
@@ -31,23 +32,28 @@ from .answer import Answer
 from .carried import column_of
 from .checks import MOST_IDS, MOST_ROWS, whole
 from .columns import Column
+from .conditions import moments_beside_columns, rows_that_meet
 from .errors import Refused
 from .kinds import Texts
 from .loading import decoded
 from .missing import note_of
+from .moment import Moment
 from .once import ask_once
 from .partial import Partial, together
 from .partition import Partition, Reading, Source, called, is_of_dask, partitions_of
-from .preferences import Asked as AskedFor, text_asked
-from .questions import Mode, Question, names_in, read_question
+from .preferences import Asked as AskedFor
+from .preferences import Operand, text_asked
+from .questions import Question, names_asked_for, read_question
 from .reading import check_names
 from .records import Record
-from .rows import Zipped
-from .selection import without_twins
+from .rows import Row, Zipped
+from .selection import Names, Selection, picked, plan_of_ties, without_twins
+from .selection import Reading as QuestionRead
 from .sources import Opened, opened
 from .translate import Plan, columns_in, plan
+from .undecided import views_of, ways_of
 from .warned import warn_of
-from .widening import Nothing, Segment, as_in_a_frame
+from .widening import Nothing, Segment, Undecided, as_in_a_frame
 
 MERGED = 8                 # partial results that one merge takes
 SHRINKS = 15 / 16          # rows that may be left of all rows where asking piece by piece goes on
@@ -86,14 +92,14 @@ class Asked:
 
     question: Question
     plan: Plan
-    columns: Tuple[str, ...]        # as the table below calls them
+    columns: Tuple[str, ...]        # as the table below calls them; they are the first ones of those that are asked
 
 
 @dataclass(frozen=True)
 class Job:
     """A question over partitions as three functions that an engine can run anywhere; a job can be pickled, and so can what its methods return.
 
-    `levels` is how many levels the parts are asked for, where the question itself does not say it (`at_least`); `mode` is that of a question without one;
+    `levels` is how many levels the parts are asked for, where the question itself does not say it (`at_least`); `selection` is what is asked beside the question;
     `reading` is how the partitions are read. The library is found where the job runs, by `prefq.find_library`.
 
     No two jobs are the same to an engine that keeps results by what they were made of, as Dask does: each job reads its files anew.
@@ -109,7 +115,7 @@ class Job:
 
     question: str
     levels: Optional[int] = None
-    mode: Optional[Mode] = None
+    selection: Selection = Selection()
     reading: Reading = Reading()
     call: str = field(default_factory=lambda: uuid4().hex, compare=False, repr=False)
 
@@ -148,11 +154,24 @@ class Job:
         found = sorted((at, level) for level, at in self._ask(asked, left, range(len(left))))
         rows = left.kept([at for at, _ in found])
         levels = [level for _, level in found]
-        return Found(rows, levels, self._is_whole(asked.question, rows, levels))
+        whole = Found(rows, levels, self._is_whole(asked.question, rows, levels))
+        return whole if self.selection.top is None or not whole.is_whole else self._first(whole, asked)
+
+    def _first(self, found: Found, asked: Asked) -> Found:
+        """The first rows of an answer of whole levels: those of which so many are wanted."""
+        segments = {segment.column.name: segment for segment in found.rows.asked}
+        moment = Moment(list(segments), lambda name: (segments[name].column, segments[name].numbers))
+        if self.selection.ties is not None:
+            plan_of_ties(self.selection.ties, moment)
+        read = QuestionRead.of(self.question, asked.question, lambda column: segments[column.name].numbers)
+        rows = sorted(Row(level, place, list(values)) for place, (level, *values) in enumerate(zip(found.levels, *read.lists), 1))
+        levels = {row.id - 1: row.level for row in picked(rows, read, self.selection, moment)}
+        return Found(found.rows.kept(sorted(levels)), [levels[place] for place in sorted(levels)], True)
 
     def loaded(self, source: Opened, what: str) -> Partial:
-        """All rows of a source, with the columns that the question names."""
-        source.load(names_in(self.question, self.mode, source.names))
+        """The rows of a source that meet the condition, with the columns that the question and its ties name."""
+        names = [name for name in source.names if isinstance(name, str)]
+        source.load(names_asked_for(names, with_words(self.question_over, names=names), *self.selection.reads_beside(names)))
         segments: Dict[str, Segment] = {}
 
         def column(name: str) -> Optional[Column]:
@@ -160,21 +179,30 @@ class Job:
                 segments[name] = Segment.of(*source.column(name), what, is_given=name in self.reading.kinds, has_words=source.has_words)
             return segments[name].column if name in segments else None
 
-        question = read_question(self.question, column, [name for name in source.names if isinstance(name, str)], self.mode)
-        asked = tuple(segments[found.name] for found in columns_in(question))
+        question = self.question_over(column, names)
+        for read in self.selection.reads_beside(names):
+            read(column)
+        named = dict.fromkeys([*(found.name for found in columns_in(question)), *self.selection.names_of_ties(names)])
+        asked = tuple(segments[name] for name in named)
         words = {**source.words, **{segment.column.name: segment.words() for segment in asked if segment.words()}}
         left = Partial(source.names, asked, source.count, range(source.count), words=words)
         try:
             planned = self.views(left)[0][0].plan
+            met = None if self.selection.where is None else rows_that_meet(self.selection.where, source.names, column, segments, source.count)
         except Refused as why:      # by the values of a column, so it says in which file
             raise Refused(f"{what}: {why.args[0]}", why.kind, why.number, why.place, why.question) from None
-        return replace(left, absent={(found.name, text): said for (found, text), said in zip(planned.absent, planned.unknown)})
+        absent = {(found.name, text): said for (found, text), said in zip(planned.absent, planned.unknown)}
+        moments = moments_beside_columns(question)
+        if met is None:
+            return replace(left, absent=absent, moments=moments)
+        return replace(left.kept(met.places), absent={**absent, **met.absent}, condition=met.columns, moments={**met.moments, **moments})
 
     def views(self, partial: Partial) -> List[Tuple[Asked, Partial]]:
         """What the parts are asked of each way in which these rows may turn out, of which one at least has to take the question. `at_least` counts rows of the
         whole, so parts are asked for levels."""
         found, refused = [], None
-        for view in partial.views():
+        for asked in views_of(partial, self.ways(partial)):
+            view = replace(partial, asked=tuple(asked))
             try:
                 found.append((self.asked(view, levels=self.levels), view))
             except Refused as why:
@@ -183,14 +211,27 @@ class Job:
             raise refused
         return found
 
+    def ways(self, partial: Partial) -> List[List[Segment]]:
+        """The ways in which each column may turn out that are tried."""
+        if not any(isinstance(segment.column.kind, Undecided) for segment in partial.asked):
+            return [[segment] for segment in partial.asked]
+        columns = {segment.column.name: Column(segment.column.name, Nothing()) if isinstance(segment.column.kind, Undecided) else segment.column for segment in partial.asked}
+        question = self.question_over(columns.get, list(columns))
+        return [ways_of(segment, question) for segment in partial.asked]
+
     def asked(self, partial: Partial, *, levels: Optional[int] = None) -> Asked:
         """The question over these rows, or the one that asks for so many levels in its place."""
         by_name = {segment.column.name: segment.column for segment in partial.asked}
-        question = read_question(self.question, by_name.get, list(by_name), self.mode)
+        question = self.question_over(by_name.get, list(by_name))
         if levels is not None:
             question = replace(question, mode="top_level", count=levels)
-        below = {id(segment.column): f"c{place}" for place, segment in enumerate(partial.asked)}
+        below = {id(column): f"c{place}" for place, column in enumerate(columns_in(question))}
         return Asked(question, plan(self.question, question, below), tuple(below.values()))
+
+    def question_over(self, column: Callable[[str], Optional[Column]], names: Sequence[str]) -> Question:
+        """The tree of the question, with the groups and as many levels as are wanted."""
+        selection = self.selection
+        return selection.applied(read_question(self.question, column, names, selection.mode), column, names)
 
     def _narrowed(self, partial: Partial) -> Partial:
         """Asks for the levels, one table after the other, and again of what is left, while that is more than one table holds and clearly shrinks. What may be left
@@ -207,7 +248,7 @@ class Job:
         """The level and the number of each row of a piece that answers a question."""
         if not piece:
             return []
-        rows = Zipped([segment.numbers[piece.start::piece.step] for segment in partial.asked])
+        rows = Zipped([segment.numbers[piece.start::piece.step] for segment in partial.asked[:len(asked.columns)]])
         with asked.plan.refusing():
             found = ask_once(asked.columns, rows, asked.plan.text)
         return [(row.level, piece[row.id - 1]) for row in without_twins(found, asked.plan)]
@@ -248,21 +289,22 @@ class Job:
     def rows_wanted(self) -> Optional[int]:
         """The count of `at_least`; None where the question is another one, or is refused."""
         try:
-            question = read_question(self.question, lambda name: Column(name, Nothing()), [], self.mode)
+            question = self.question_over(lambda name: Column(name, Nothing()), [])
         except Refused:
             return None
         return question.count if question.mode == "at_least" else None
 
 
-def best(partitions: Iterable[Source], question: AskedFor, *, map: Callable[..., Any] = map, reduce: Optional[Callable[..., Partial]] = None,
-         **options: Any) -> Answer:
+def best(partitions: Iterable[Source], question: AskedFor, *, where: Optional[Operand] = None, top: Optional[int] = None, ties: Optional[AskedFor] = None, by: Names = None,
+         map: Callable[..., Any] = map, reduce: Optional[Callable[..., Partial]] = None, **options: Any) -> Answer:
     """The answer over the rows of all partitions, whose ids are their numbers in the order of the partitions, from 1.
 
     A partition is the path of a CSV file, read where it is asked, a `Partition` with rows or a DataFrame of pandas; each has the same columns. Only those that
     the question names are understood, each in the kind that this partition's values have, or the one of `kinds`; a DataFrame of Dask takes the place of the list,
     and is asked by Dask's own scheduler. `map(function, items)` returns the results in the order of the items, or Dask's futures of them: `map` of a
     `concurrent.futures` or `mpi4py.futures` executor and of a `dask.distributed` client are such functions. Partial results are merged by a tree of further maps,
-    or by `reduce(function of two, results)`, if it is given. `kinds`, `missing`, `encoding`, `delimiter`, `decimal`, `thousands`, `skip` and
+    or by `reduce(function of two, results)`, if it is given. `where`, `top`, `ties` and `by` are those of `Frame.best`: the condition is computed in each part,
+    and rows that are equally good come in the order of the partitions. `kinds`, `missing`, `encoding`, `delimiter`, `decimal`, `thousands`, `skip` and
     `null_padding` are those of `Frame.from_csv`.
 
     What is wrong with a question, a value or a kind is `Refused`, or a `TypeError` or `ValueError` that names the file. `RowsLeft` says that the answer, or what
@@ -277,12 +319,13 @@ def best(partitions: Iterable[Source], question: AskedFor, *, map: Callable[...,
         1   2  Anna    80.0     2
         1   3  Post    60.5     5
     """
-    job = Job(text_asked(question), reading=Reading.of(options, "prefq.parts.best"))
+    job = Job(text_asked(question), selection=Selection.of(where=where, top=top, ties=ties, by=by), reading=Reading.of(options, "prefq.parts.best"))
     sources, engine = _sources(partitions, map, reduce)
     return answer_of(found_in(job, sources, engine, reduce), job)
 
 
-def why(partitions: Iterable[Source], id: int, question: AskedFor, *, map: Callable[..., Any] = map, **options: Any) -> Answer:
+def why(partitions: Iterable[Source], id: int, question: AskedFor, *, where: Optional[Operand] = None, by: Names = None, map: Callable[..., Any] = map,
+        **options: Any) -> Answer:
     """The rows that dominate the one with this id in a question, each with its own level (None behind level 1000), as `Frame.why` has them. What it takes is as
     with `best`, and so is what is refused; 65,536 rows at most may dominate it. The partitions are read three times: one that is another meanwhile is refused.
 
@@ -294,7 +337,7 @@ def why(partitions: Iterable[Source], id: int, question: AskedFor, *, map: Calla
         1   3  Post    60.5     5
     """
     from .why_parts import Rivalry, dominators
-    job = Rivalry(text_asked(question), reading=Reading.of(options, "prefq.parts.why"))
+    job = Rivalry(text_asked(question), selection=Selection.of(where=where, by=by), reading=Reading.of(options, "prefq.parts.why"))
     return dominators(job, *_sources(partitions, map), whole(id, "id", 0, MOST_IDS))
 
 

@@ -12,6 +12,7 @@ from .columns import Column, quoted
 from .errors import Refused
 from .hints import hint_for, hint_for_mode, hint_for_value, unknown_column
 from .kinds import Choices, Texts
+from .widening import Nothing
 
 UNEXPECTED, UNKNOWN_COLUMN, NUMBER_RANGE, TOO_DEEP, TOO_LONG, BAD_COUNT, NO_MIN_OR_MAX, EMPTY_RANGE = 1, 2, 3, 4, 5, 6, 7, 9
 DEEPEST = 64
@@ -114,25 +115,19 @@ def read_question(question: str, column: Callable[[str], Optional[Column]], name
 
 
 def names_asked_for(names: Sequence[str], *reads: Callable[[Callable[[str], Optional[Column]]], object]) -> List[str]:
-    """Those of these names for which each reading asks, as far as it comes without the kinds of their columns. What is wrong is refused where it is read with
-    these."""
+    """Those of these names for which each reading asks. What is wrong is refused where it is read with the kinds of their columns."""
     found: Dict[str, None] = {}
 
     def column(name: str) -> Optional[Column]:
         if name not in names:
             return None
         found[name] = None
-        return Column(name, "whole")
+        return Column(name, Nothing())
 
     for read in reads:
         with suppress(Refused):
             read(column)
     return list(found)
-
-
-def names_in(text: str, mode: Optional[Mode], names: Sequence[str]) -> List[str]:
-    """Those of these names that a question has."""
-    return names_asked_for(names, lambda column: read_question(text, column, names, mode))
 
 
 def explained(why: Refused, columns: Sequence[str]) -> Refused:

@@ -29,8 +29,7 @@ def psel(frame: Any, preference: Asked, *, where: Optional[Operand] = None, top:
 
     Only rows that meet the condition `where` count, such as "Stars >= 4 and City = 'Lyon'". Of the last level that has its place among the `top` rows, those come
     first that `ties`, a preference, likes best, and then those that stand first. `by` are the columns of groups, in each of which all this is done; the groupby of a
-    DataFrame by names of columns has its groups itself. These four are `Refused` for a frame that follows a table, a DataFrame of Dask, the cursor of a query of a
-    database, and more records than one table holds.
+    DataFrame by names of columns has its groups itself.
 
     The preference is one that `prefq.low` and so on make, or its text, that of rPref, without a mode, as in "low(`price eur`) * low(dist)"; it may end in `by city`.
     A question with a mode is taken too. Of a DataFrame of pandas or of Dask the rows come back as they are, in a DataFrame of pandas with the column `.level` in
@@ -84,7 +83,7 @@ def _partitions_of(records: Sequence[Any]) -> List[Partition]:
 def _job(text: str, selection: Selection, kinds: Optional[Mapping[str, str]], options: Mapping[str, Any]) -> Job:
     """The question as one over partitions, whose tables are as they need to be."""
     check_options(options, [], f"{IN_PARTS},")
-    return Job(text, mode=selection.mode_alone(IN_PARTS), reading=Reading(kinds or {}))
+    return Job(text, selection=selection, reading=Reading(kinds or {}))
 
 
 def mode_of(top_level: Optional[int], at_least: Optional[int]) -> Mode:

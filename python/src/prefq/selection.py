@@ -19,7 +19,7 @@ from .questions import Mode, Question, names_asked_for, refuse, tokens_of
 from .reading import Progress
 from .rows import Row, Zipped
 from .table import Table
-from .translate import Plan, columns_in, plan, term_below
+from .translate import Plan, columns_in, plan, term_below, unknown_value
 from .warned import warn_of
 
 MOST_ROWS_ASKED = 1000
@@ -70,7 +70,10 @@ class Selection:
 
     def read(self, text: str, column: Callable[[str], Optional[Column]], names: Sequence[str], make: Make = unmade) -> Question:
         """The tree of a question, with the groups and as many levels as are wanted; `make` makes the columns that are computed."""
-        question = read_frames_question(text, column, names, self.mode, make)
+        return self.applied(read_frames_question(text, column, names, self.mode, make), column, names)
+
+    def applied(self, question: Question, column: Callable[[str], Optional[Column]], names: Sequence[str]) -> Question:
+        """A question that was read, with the groups and as many levels as are wanted."""
         if self.by:
             if question.by:
                 raise Refused("the question has groups itself: leave out by= or the groups of the question", "arguments")
@@ -81,12 +84,16 @@ class Selection:
 
     def names(self, text: str, names: Sequence[str]) -> List[str]:
         """Those of these names that the question and what is asked beside it have."""
-        reads = [partial(self.read, text, names=names)]
-        if self.ties is not None:
-            reads.append(partial(OF_TIES.read, self.ties, names=names))
-        if self.where is not None:
-            return names_asked_for(names, *reads, partial(read_condition, self.where, names=names))
-        return names_asked_for(names, *reads)
+        return names_asked_for(names, partial(self.read, text, names=names), *self.reads_beside(names))
+
+    def names_of_ties(self, names: Sequence[str]) -> List[str]:
+        """Those of these names that the ties have."""
+        return [] if self.ties is None else names_asked_for(names, partial(read_ties, self.ties, names=names))
+
+    def reads_beside(self, names: Sequence[str]) -> List[Callable[[Callable[[str], Optional[Column]]], object]]:
+        """What reads the ties and the condition, where they are given, with what gives the column of a name."""
+        ties = [] if self.ties is None else [partial(read_ties, self.ties, names=names)]
+        return ties if self.where is None else [*ties, partial(read_condition, self.where, names=names)]
 
 
 OF_TIES = Selection(("best", 1))
@@ -201,13 +208,13 @@ def below(columns: Sequence[Column]) -> Dict[int, str]:
 
 def reading(text: str, selection: Selection, moment: Moment) -> Reading:
     """Reads a question over the rows of a moment, of which those count from now on that meet the condition; what decides between equally good ones is read too."""
-    unknown = kept(selection, moment)
+    unknown = [unknown_value(column, text) for column, text in kept(selection, moment)]
     computer = Computer(text, moment)
     intersections = Intersections(text, moment)
     question = intersections.replaced(selection.read(text, moment.column, moment.names, computer.column))
     read = Reading.of(text, question, moment.numbers, [*unknown, *computer.unknown, *intersections.unknown])
     if selection.ties is not None:
-        check_ties(selection.ties, moment)
+        plan_of_ties(selection.ties, moment)
     return read
 
 
@@ -243,23 +250,29 @@ def picked(answer: List[Row], read: Reading, selection: Selection, moment: Momen
     return with_ties(Cut.of(rows, selection.top, group_in(read.plan)), selection.ties, [column.name for column in read.question.by], moment, options)
 
 
-def kept(selection: Selection, moment: Moment) -> List[str]:
-    """Keeps the rows that meet the condition, and returns what is said of each value in it that no row has."""
+def kept(selection: Selection, moment: Moment) -> List[Tuple[Column, str]]:
+    """Keeps the rows that meet the condition, and returns each value in it that no row of a column has."""
     if selection.where is None:
         return []
     computer = Computer(selection.where, moment)
     condition = read_condition(selection.where, moment.column, moment.names)
     moment.keep(computer.met(condition))
-    return computer.unknown
+    return computer.absent
 
 
-def check_ties(ties: str, moment: Moment) -> None:
-    """Refuses what is no preference over the columns of a moment, also where no rows are equally good, so that it is not asked."""
-    question = OF_TIES.read(ties, moment.column, moment.names)
+def read_ties(ties: str, column: Callable[[str], Optional[Column]], names: Sequence[str]) -> Question:
+    """The tree of what decides between rows that are equally good. What is no preference is refused."""
+    question = OF_TIES.read(ties, column, names)
     first = tokens_of(ties)[0]
     if first.kind == "word" and first.text.lower() in MODES:
         refuse(ties, first.place, "what decides between rows that are equally good is a preference, as low(x), without best, top_level and so on")
-    plan(ties, question, below(columns_in(question)))
+    return question
+
+
+def plan_of_ties(ties: str, moment: Moment) -> Plan:
+    """Refuses what is no preference over the columns of a moment, also where no rows are equally good, so that it is not asked."""
+    question = read_ties(ties, moment.column, moment.names)
+    return plan(ties, question, below(columns_in(question)))
 
 
 def with_ties(cut: Cut, ties: str, by: Sequence[str], moment: Moment, options: Mapping[str, Any]) -> List[Row]:

@@ -3,12 +3,11 @@ import os
 from typing import Any, Dict, Iterable, List, Sequence, Tuple
 
 from .carried import CellRows, FrameRows, Rows, ValueRows
+from .errors import Refused
 from .loading import Encoded, File, check_known, column_of_values
 from .missing import Missing
 from .partition import Partition, Reading, Source, is_frame, values_of_rows
 from .reading import check_names, read_csv
-
-PARQUET = (".parquet", ".pq")
 
 
 class Opened:
@@ -115,7 +114,18 @@ def opened(source: Source, reading: Reading) -> Opened:
         return OpenedRows(source, reading)
     if not isinstance(source, (str, os.PathLike)):
         raise TypeError(f"a partition is a path, a Partition or a DataFrame of pandas, not {source!r}")
-    if os.fspath(source).endswith(PARQUET):
+    return OpenedFrame(parquet(source), reading) if is_parquet(source) else OpenedFile(source, reading)
+
+
+def is_parquet(path: Any) -> bool:
+    """Whether a path is by its name that of a Parquet file."""
+    return os.fspath(path).endswith((".parquet", ".pq"))
+
+
+def parquet(path: Any) -> Any:
+    """The DataFrame of a Parquet file. It is `Refused` where nothing is there that reads one."""
+    try:
         import pandas
-        return OpenedFrame(pandas.read_parquet(source), reading)
-    return OpenedFile(source, reading)
+        return pandas.read_parquet(path)
+    except ImportError as why:
+        raise Refused(f"{os.fspath(path)}: a Parquet file is read by pandas and pyarrow ({why})", "table") from None

@@ -78,12 +78,17 @@ class Plan:
         return Refused(str(why.args[0]).split(" at ")[0], "term", why.number, at, self.question)
 
 
+def bases_of(term: Term) -> List[Base]:
+    """The base terms of a term, in the order in which they stand there."""
+    if isinstance(term, Base):
+        return [term]
+    parts = (term.part,) if isinstance(term, Converse) else term.parts
+    return [base for part in parts for base in bases_of(part)]
+
+
 def terms_columns(term: Term) -> List[Column]:
     """The columns of a term, each once, in the order in which they stand there."""
-    if isinstance(term, Base):
-        return [term.column]
-    parts = (term.part,) if isinstance(term, Converse) else term.parts
-    return different(column for part in parts for column in terms_columns(part))
+    return different(base.column for base in bases_of(term))
 
 
 def columns_in(question: Question) -> List[Column]:

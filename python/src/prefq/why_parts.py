@@ -7,10 +7,12 @@ from typing import Any, Callable, Dict, List, NamedTuple, Optional, Sequence, Tu
 from .answer import Answer
 from .checks import MOST_ROWS
 from .errors import Refused
-from .parts import Asked, Job, Partial, in_partition, records_of, together, waited_for
+from .partial import Partial, together
+from .parts import Asked, Job, in_partition, records_of, waited_for
 from .partition import Source, called
 from .selection import Reading
 from .sources import Opened, opened
+from .widening import Segment
 from .why import LEVELS, better
 from .why import dominators as dominators_in
 
@@ -41,26 +43,32 @@ class Rivalry(Job):
         """How many rows a partition has."""
         return self._rows(partition)[1].count
 
-    def target(self, partition: Source, place: int) -> Partial:
-        """The row of a partition that has this number, from 0."""
+    def target(self, partition: Source, place: int, id: int) -> Partial:
+        """The row of a partition that has this number, from 0, and this id over all of them."""
         source, rows = self._rows(partition)
         if place >= rows.count:
             raise Refused(CHANGED, "table")
-        return replace(rows.kept([place]), rows=(source.rows_at([place]),))
+        if place not in rows.places:
+            raise Refused(f"row {id} does not meet the condition", "arguments")
+        return replace(rows.kept([rows.places.index(place)]), rows=(source.rows_at([place]),))
 
     def rivals(self, item: Tuple[Source, Partial, int]) -> Partial:
         """The rows of a partition that dominate the target, which has this number among its rows: less than 0, or more than there are, where it is in another."""
         partition, target, place = item
         source, rows = self._rows(partition)
-        rivals = self.among(target, replace(rows, places=range(1, rows.count + 1)), place + 1)
-        found = sorted({id for some in rivals for id in some.ids()})
-        left = rows.kept([id - 1 for id in found])
+        rivals = self.among(target, replace(rows, places=[place + 1 for place in rows.places]), place + 1)
+        found = {id for some in rivals for id in some.ids()}
+        left = rows.kept([at for at, place in enumerate(rows.places) if place + 1 in found])
         return replace(left, asked=tuple(segment.alone() for segment in left.asked), rows=(source.rows_at(left.places),))
 
     def among(self, target: Partial, rows: Partial, number: int) -> List[Rivals]:
         """The rivals of the target, which has this number, among rows whose numbers are their places; for each way in which they may turn out."""
         both = together([replace(target, rows=()), replace(rows, rows=())])
         return [self._rivals(asked, view, rows.places, number) for asked, view in self.views(both)]
+
+    def ways(self, partial: Partial) -> List[List[Segment]]:
+        """All ways: what dominates a row in one of them may not in another, and none is to be missed."""
+        return [segment.views() for segment in partial.asked]
 
     def _rivals(self, asked: Asked, view: Partial, places: Sequence[int], number: int) -> Rivals:
         first, *others = zip(*(segment.numbers for segment in view.asked))
@@ -88,7 +96,7 @@ def dominators(job: Rivalry, sources: Sequence[Any], map: Callable[..., Any], id
     home = next((number for number, first in enumerate(firsts) if first < id <= first + counts[number]), None)
     if home is None:
         raise Refused(f"no such row {id}", "client", 7)
-    [found] = map(with_words(job.target, place=id - 1 - firsts[home]), [sources[home]])
+    [found] = map(with_words(job.target, place=id - 1 - firsts[home], id=id), [sources[home]])
     target = waited_for(found)
     items: List[Any] = [(source, target, id - 1 - first) for source, first in zip(sources, firsts)]
     [found] = map(together, [list(map(job.rivals, items))])

@@ -10,7 +10,7 @@ from .checks import LEAST
 from .columns import Column
 from .errors import Refused
 from .kinds import Booleans, Choices, Floats, Kind, NotRead, Texts, Times, Whole
-from .kinds.moments import Dates
+from .kinds.moments import Dates, name_of
 from .kinds.numbers import Number
 from .missing import WORDS, folded
 
@@ -61,6 +61,10 @@ class Segment(NamedTuple):
     def at(self, places: Iterable[int]) -> "Segment":
         """The same of these rows."""
         return self._replace(numbers=array("q", [self.numbers[place] for place in places]))
+
+    def without_rows(self) -> "Segment":
+        """The column alone, of which no row is there."""
+        return self._replace(numbers=array("q"))
 
     def words(self) -> Dict[str, int]:
         """The words of a column of nothing else, each with the number of its rows."""
@@ -126,7 +130,7 @@ def _wider(first: Segment, second: Segment) -> Segment:
     if _have_one_line_of_time(one, other):
         finer = max(first, second, key=lambda segment: _fineness(segment.column.kind))
         is_one_zone = _zone(one) == _zone(other)
-        return finer if is_one_zone else finer._replace(column=finer.column.of_kind(type(finer.column.kind)(datetime.timezone.utc)))
+        return finer if is_one_zone else finer._replace(column=finer.column.of_kind(in_utc(finer.column.kind)))
     raise Refused(f"column {first.column.name!r} is {one} in {first.source} and {other} in {second.source}: "
                   "give it by kinds={..} a kind that reads the values of both, or mend one of them", "table")
 
@@ -138,8 +142,20 @@ def _fineness(kind: Kind) -> Tuple[int, int]:
     return 1, -kind.nanoseconds if isinstance(kind, Times) else -10**15 if isinstance(kind, Dates) else 0
 
 
+def in_utc(kind: Kind) -> Kind:
+    """The kind of times of UTC that are as fine."""
+    assert isinstance(kind, Times)
+    return type(kind)(datetime.timezone.utc)
+
+
 def _zone(kind: Kind) -> Optional[datetime.tzinfo]:
     return kind.zone if isinstance(kind, Times) else None
+
+
+def _zone_name(kind: Kind) -> Optional[str]:
+    """The name of a zone, by which that of pandas and that of Python are the same."""
+    zone = _zone(kind)
+    return None if zone is None else name_of(zone)
 
 
 def _have_one_line_of_time(one: Kind, other: Kind) -> bool:
@@ -176,3 +192,24 @@ def _float(value: Decimal) -> float:
     if Decimal(repr(found)) != value:
         raise NotRead(f"{value} is no 64-bit float")
     return found
+
+
+def check_zones(segments: Sequence[Segment], written: str) -> None:
+    """Refuses times of several zones, where this text is written beside them, which names none and so would be another moment in each part."""
+    times = [segment for segment in segments if isinstance(segment.column.kind, Times)]
+    for first, other in zip(times, times[1:]):
+        if _zone_name(first.column.kind) != _zone_name(other.column.kind):
+            raise _two_meanings(first, other, f"{written!r} would be another moment in each: write its offset, as in '2026-05-01 17:30+02:00', or give the column a zone by "
+                                "kinds={..}, such as 'time(UTC)'")
+
+
+def check_one_line_of_time(segments: Sequence[Segment]) -> None:
+    """Refuses dates in one part and times in another: what is computed over them in each part would not be the same."""
+    moments = [segment for segment in segments if isinstance(segment.column.kind, (Dates, Times))]
+    for first, other in zip(moments, moments[1:]):
+        if isinstance(first.column.kind, Times) != isinstance(other.column.kind, Times):
+            raise _two_meanings(first, other, "a condition would mean something else in each: give the column one kind by kinds={..}")
+
+
+def _two_meanings(first: Segment, second: Segment, why: str) -> Refused:
+    return Refused(f"column {first.column.name!r} is {first.column.kind} in {first.source} and {second.column.kind} in {second.source}, so that {why}", "table")
