@@ -145,6 +145,12 @@ class Together(TestCase):
         self.assertEqual(best(files, "best low(n)", where="code = 'NA'", missing=[]).ids, [1])
         self.assertEqual(best(self.files("x,n\nNA,1\n", "x,n\n5,3\n"), "best low(n)", where="x > 4").ids, [2])
 
+    def test_a_question_for_what_words_may_be_missing_from(self):
+        """The words beside yes and no are missing, and `true` is a value of the column, though not of this part alone."""
+        files = self.files("x,y\nn/a,3\n", "x,y\nyes,2\nno,1\n")
+        self.assertEqual((best(files, "best pos(x, true)").ids, why(files, 1, "best pos(x, true)").ids), ([2], [2]))
+        self.assertEqual(best(files, "best low(y)", where="x = true").ids, [2])
+
     def test_times_of_several_zones(self):
         """A text without a zone would be another moment in each part, so that rows would be left out that are in the answer over all."""
         files = self.files("at,n\n2026-05-01T11:00:00+02:00,1\n2026-05-01T09:00:00+02:00,2\n", "at,n\n2026-05-01T03:00:00+00:00,4\n")

@@ -37,6 +37,8 @@ class Nothing(Kind):
 class Undecided(Texts):
     """The kind of a column of a file whose cells are all words such as n/a: they are missing beside values of another kind, and texts beside texts."""
 
+    takes_words = True
+
 
 class Segment(NamedTuple):
     """A column of some parts, its numbers, and the part from which its kind comes, as it is called in what is said."""
@@ -129,8 +131,10 @@ def _wider(first: Segment, second: Segment) -> Segment:
         return max(first, second, key=lambda segment: _fineness(segment.column.kind))
     if _have_one_line_of_time(one, other):
         finer = max(first, second, key=lambda segment: _fineness(segment.column.kind))
-        is_one_zone = _zone(one) == _zone(other)
-        return finer if is_one_zone else finer._replace(column=finer.column.of_kind(in_utc(finer.column.kind)))
+        kind = finer.column.kind
+        if not isinstance(kind, Times) or _zone(one) == _zone(other):
+            return finer
+        return finer._replace(column=finer.column.of_kind(type(kind)(datetime.timezone.utc)))
     raise Refused(f"column {first.column.name!r} is {one} in {first.source} and {other} in {second.source}: "
                   "give it by kinds={..} a kind that reads the values of both, or mend one of them", "table")
 
@@ -140,12 +144,6 @@ def _fineness(kind: Kind) -> Tuple[int, int]:
     if isinstance(kind, Whole):
         return 0, kind.decimals
     return 1, -kind.nanoseconds if isinstance(kind, Times) else -10**15 if isinstance(kind, Dates) else 0
-
-
-def in_utc(kind: Kind) -> Kind:
-    """The kind of times of UTC that are as fine."""
-    assert isinstance(kind, Times)
-    return type(kind)(datetime.timezone.utc)
 
 
 def _zone(kind: Kind) -> Optional[datetime.tzinfo]:
