@@ -23,7 +23,16 @@ TERMS = {
     "pos(carb, 2) & high(mpg)": Prior("", [Layered("carb", "", [[2]]), High("mpg", "")]),
     "layered(cyl, {4, 6}, {8}) * high(hp)": Pareto("", [Layered("cyl", "", [[4, 6], [8]]), High("hp", "")]), "-(low(mpg) * low(hp))": Converse("", LOW), "low(mpg)": MPG,
     "high(mpg)": High("mpg", ""), "high(mpg) | high(hp)": Both("", [High("mpg", ""), High("hp", "")]), "empty() * high(hp)": High("hp", ""),
-    "high(mpg) * low(wt)": Pareto("", [High("mpg", ""), Low("wt", "")])}
+    "high(mpg) * low(wt)": Pareto("", [High("mpg", ""), Low("wt", "")]), "low(hp) * high(mpg)": Pareto("", [HP, High("mpg", "")]),
+    "high(hp) * low(mpg)": Pareto("", [High("hp", ""), MPG]), "around(mpg, 25)": Between("mpg", "", 25, 25), "layered(cyl, {2, 4}, {6})": Layered("cyl", "", [[2, 4], [6]]),
+    "high(4 * mpg + hp)": High("weighted", ""), "high(mpg / 642.9 + hp / 4694)": High("share", ""), "true(cyl = 4) & low(hp)": Prior("", [Layered("cyl", "", [[4]]), HP]),
+    "low(abs(mpg - 20.090625) / 33.9 + abs(hp - 146.6875) / 335)": Low("spread", "")}
+# The functions of rPref, of each of which the document says what it is here.
+FUNCTIONS = """low high around between pos layered true low_ high_ around_ between_ pos_ layered_ true_ reverse empty is.empty_pref psel psel.indices peval eval.pref group_by top at_least
+    top_level and_connected show_level get_btg plot_btg get_btg_dot hasse_pred all_pred hasse_succ all_succ init_pred_succ plot_front pareto_front length show.pref pref.str show.query
+    as.expression is.preference is.base_pref is.complex_pref""".split()
+SIGNS = ["p * q", "p & q", "p \\| q", "p + q", "-p"]
+TABLE = re.compile(r"^\| rPref \| here \|\n(?P<rows>(?:\|.*\n)*)", re.MULTILINE)
 
 
 def rows():
@@ -33,6 +42,10 @@ def rows():
         for id, row in enumerate(csv.DictReader(file), 1):
             car = {name: cell if name == "model" else Fraction(cell) for name, cell in row.items()}
             found[id] = {**car, "ratio": car["wt"] / car["hp"], "distance": abs(car["mpg"] - 20), "good": car["mpg"] > 20 and car["hp"] > 100}
+    mpg, hp = ([car[name] for car in found.values()] for name in ("mpg", "hp"))
+    for car in found.values():
+        car["weighted"], car["share"] = 4 * car["mpg"] + car["hp"], car["mpg"] / sum(mpg) + car["hp"] / sum(hp)
+        car["spread"] = abs(car["mpg"] - sum(mpg) / len(mpg)) / max(mpg) + abs(car["hp"] - sum(hp) / len(hp)) / max(hp)
     return found
 
 
@@ -55,6 +68,21 @@ class Cars(TestCase):
             with self.subTest(example["call"]):
                 answer = eval(example["call"], {"psel": prefq.psel, "cars": self.cars})      # a call that the document shows
                 self.assertEqual(", ".join(row.model for row in answer), example["cars"])
+
+    def test_each_function_of_rpref_is_in_the_table(self):
+        rows = TABLE.search(DOCUMENT.read_text(encoding="utf-8"))["rows"].splitlines()[1:]
+        said = " ".join(row.split(" | ")[0] for row in rows)
+        there = re.findall(r"[\w.]+", said)
+        self.assertEqual([name for name in FUNCTIONS if name not in there] + [sign for sign in SIGNS if f"`{sign}" not in said], [])
+
+    def test_the_better_than_graph(self):
+        """Of the first ten cars, as by a comparison of each two."""
+        ten = {id: car for id, car in rows().items() if id <= 10}
+        ask = Ask("", TERMS["high(mpg) * low(wt)"])
+        over = {(a, b) for a in ten for b in ten if a != b and ask.dominates((a, ten[a]), (b, ten[b]))}
+        edges = sorted((a, b) for a, b in over if not any((a, c) in over and (c, b) in over for c in ten))
+        with prefq.Frame.from_records([dict(row) for row in self.cars.rows()[:10]]) as cars:
+            self.assertEqual(list(cars.hasse("high(mpg) * low(wt)")), edges)
 
     def test_as_by_a_plain_evaluation(self):
         cars = rows()

@@ -38,6 +38,17 @@ class Values(TestCase):
             with self.subTest(text):
                 self.assertEqual((str(preference), repr(preference)), (text, text))
 
+    def test_how_many_base_terms_there_are(self):
+        for preference, length in [(x, 1), (x * y * z, 3), (-(x & y), 2), (x | y & z, 3), ((x * x).by("c"), 2), (empty(), 0), (empty() * x, 1), (low(expr("x + y / z")), 1), (-empty(), 0)]:
+            with self.subTest(str(preference)):
+                self.assertEqual(len(preference), length)
+
+    def test_what_a_preference_is(self):
+        for preference, is_base, is_empty in [(x, True, False), (true("x > 5"), True, False), (empty(), False, True), (-x, False, False), (x * y, False, False), (empty() * x, True, False)]:
+            with self.subTest(str(preference)):
+                self.assertEqual((preference.is_base, preference.is_empty, isinstance(preference, prefq.Preference)), (is_base, is_empty, True))
+        self.assertEqual(((x & y).by("c").question, empty().question), ("best low(x) & high(y) by c", "best empty()"))
+
     def test_equal_where_the_texts_are(self):
         self.assertEqual(low("x") * low("y"), low("x") * low("y"))
         self.assertNotEqual(low("x") * low("y"), low("y") * low("x"))

@@ -37,7 +37,7 @@ Operand = Union[str, Expression]
 
 class Preference:
     """What is preferred: `*` where both count at once (Pareto), `&` where the first decides (prioritisation), `|` where a row has to be better in both, and `-` for
-    the other way round. `by` adds groups. Its text, `str(p)`, is what is asked; two of the same text are equal.
+    the other way round. `by` adds groups. Its text, `str(p)`, is what is asked; two of the same text are equal. `len(p)` is how many base terms it has.
 
     >>> from prefq import high, low, pos
     >>> low("Price (EUR)") * high("Stars") & pos("City", "Lyon")
@@ -47,8 +47,25 @@ class Preference:
     ValueError: low(x) & high(y) by City has groups, and stands for itself: write by(..) last
     """
 
-    def __init__(self, text: str, tightness: int = TIGHTEST, groups: Tuple[str, ...] = ()) -> None:
-        self._text, self._tightness, self._groups = text, tightness, groups
+    # Whether it is a base term alone, and whether it prefers nothing.
+    is_base = is_empty = False
+
+    def __init__(self, text: str, tightness: int = TIGHTEST, groups: Tuple[str, ...] = (), length: int = 1) -> None:
+        self._text, self._tightness, self._groups, self._length = text, tightness, groups, length
+
+    @property
+    def question(self) -> str:
+        """The question for its best rows, as `best` asks it.
+
+        >>> from prefq import high, low
+        >>> (low("Price") * high("Stars")).question
+        'best low(Price) * high(Stars)'
+        """
+        return f"best {self}"
+
+    def __len__(self) -> int:
+        """How many base terms it has."""
+        return self._length
 
     def __str__(self) -> str:
         return self._text + (f" by {', '.join(map(spelled, self._groups))}" if self._groups else "")
@@ -78,20 +95,20 @@ class Preference:
                         "and worse by the other; write * where both count at once, & where the first decides")
 
     def __neg__(self) -> "Preference":
-        return Preference(f"-{self._inside(TIGHTEST)}")
+        return Preference(f"-{self._inside(TIGHTEST)}", length=len(self))
 
     def by(self, *columns: str) -> "Preference":
         """The same in each group of rows that are equal in these columns."""
         if not columns or not all(isinstance(name, str) for name in columns):
             raise TypeError(f"by(..) takes names of columns, not {', '.join(map(repr, columns)) or 'nothing'}")
-        return Preference(self._ungrouped(), self._tightness, columns)
+        return Preference(self._ungrouped(), self._tightness, columns, len(self))
 
     def _with(self, sign: int, other: "Preference") -> "Preference":
         if not isinstance(other, Preference):
             raise TypeError(f"{SIGNS[sign]} stands between two preferences, and {other!r} is of type {type(other).__name__}")
         if isinstance(other, Empty):
             return self
-        return Preference(f"{self._inside(sign)} {SIGNS[sign]} {other._inside(sign)}", sign)
+        return Preference(f"{self._inside(sign)} {SIGNS[sign]} {other._inside(sign)}", sign, length=len(self) + len(other))
 
     def _inside(self, tightness: int) -> str:
         """The text as a part of something that holds this tightly."""
@@ -104,11 +121,19 @@ class Preference:
         return self._text
 
 
+class Base(Preference):
+    """A base term, such as low(x)."""
+
+    is_base = True
+
+
 class Empty(Preference):
     """The preference by which all rows are equally good: with another one it is that one."""
 
+    is_empty = True
+
     def __init__(self) -> None:
-        super().__init__("empty()")
+        super().__init__("empty()", length=0)
 
     def _with(self, sign: int, other: Preference) -> Preference:
         if not isinstance(other, Preference):
@@ -247,7 +272,7 @@ def _base(word: str, column: Operand, *values: str) -> Preference:
     if not isinstance(column, (str, Expression)):
         raise TypeError(f"{word}(..) takes the name of a column, or expr(..), and not {column!r}")
     operand = column.text if isinstance(column, Expression) else spelled(column)
-    return Preference(f"{word}({', '.join([operand, *values])})")
+    return Base(f"{word}({', '.join([operand, *values])})")
 
 
 def _listed(values: Tuple[Any, ...], what: str) -> str:
@@ -276,7 +301,7 @@ def text_of_operand(expression: Operand) -> str:
 
 def text_asked(question: Asked) -> str:
     """The text of a question, which may be a preference: then it asks for the best rows."""
-    return f"best {question}" if isinstance(question, Preference) else question
+    return question.question if isinstance(question, Preference) else question
 
 
 def text_preferred(preference: Asked) -> str:
