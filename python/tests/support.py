@@ -5,6 +5,7 @@ import os
 import signal
 import time
 import unittest
+from concurrent.futures import ProcessPoolExecutor, ThreadPoolExecutor
 from contextlib import contextmanager
 from pathlib import Path
 
@@ -96,6 +97,11 @@ def printed(done):
     return [tuple(map(int, line.split(",")[:2])) for line in done.stdout.splitlines()[1:]]
 
 
+def pairs(answer):
+    """The level and the id of each row of an answer."""
+    return list(zip(answer.levels, answer.ids))
+
+
 def needs(test, module):
     if not importlib.util.find_spec(module):
         test.skipTest(f"{module} is not installed")
@@ -125,3 +131,29 @@ class TestCase(unittest.TestCase):
         begun = time.monotonic()
         yield
         self.assertLess(time.monotonic() - begun, seconds)
+
+
+class FrameTestCase(TestCase):
+    """Tests that ask one frame of these records, and do not change it."""
+
+    records = ()
+
+    @classmethod
+    def setUpClass(cls):
+        cls.frame = prefq.Frame.from_records(cls.records)
+
+    @classmethod
+    def tearDownClass(cls):
+        cls.frame.close()
+
+
+class OnPools:
+    """What a test case can `check` on a map, on those of Python's pools."""
+
+    def test_threads(self):
+        with ThreadPoolExecutor(2) as pool:
+            self.check(pool.map)
+
+    def test_processes(self):
+        with ProcessPoolExecutor(2) as pool:
+            self.check(pool.map)

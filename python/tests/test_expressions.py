@@ -11,7 +11,7 @@ import plain
 import plain_expressions
 import prefq
 import random_frames
-from support import TestCase
+from support import FrameTestCase, TestCase, pairs
 
 try:
     import pandas
@@ -27,18 +27,8 @@ HOTELS = [{"City": "Lyon", "Price": Decimal("57.40"), "Stars": 5, "x": 0.1, "Ope
           {"City": None, "Price": None, "Stars": 4, "x": 0.5, "Opened": None, "Left": datetime.date(2012, 4, 14), "Pool": None}]
 
 
-def pairs(answer):
-    return list(zip(answer.levels, answer.ids))
-
-
-class Expressions(TestCase):
-    @classmethod
-    def setUpClass(cls):
-        cls.frame = prefq.Frame.from_records(HOTELS)
-
-    @classmethod
-    def tearDownClass(cls):
-        cls.frame.close()
+class Expressions(FrameTestCase):
+    records = HOTELS
 
     def test_answers(self):
         for question, ids in [

@@ -33,6 +33,21 @@ def number(text, missing):
     return missing if text.strip().lower() in ("", "n/a") else Decimal(text)
 
 
+class Records(TestCase):
+    """Records that are none, or of another form."""
+
+    def test_no_records_with_their_columns(self):
+        with prefq.Frame.from_records([], columns=["hotel", "price"], kinds={"hotel": "text", "price": "decimal(2)"}) as frame:
+            self.assertEqual((frame.rows(), [str(column.kind) for column in frame.columns], frame.insert({"price": "59.50"})), ([], ["text", "decimal(2)"], 1))
+        with self.refuses(prefq.Refused, "without rows a column has to be given its kind: hotel"):
+            prefq.Frame.from_records([], columns=["hotel", "price"], kinds={"price": "decimal(2)"})
+
+    def test_lists_say_what_takes_them(self):
+        for record in ((1, 2), [1, 2]):
+            with self.refuses(TypeError, f"row 1 is no mapping, but {record!r}: Frame.from_sql takes the cursor of a query, and Frame(columns, rows) lists of values"):
+                prefq.Frame.from_records([record])
+
+
 class Hotels(TestCase):
     def plainly(self):
         """The best hotels of Lyon by price, stars and distance, as pairs of their row and their level."""

@@ -14,7 +14,7 @@ import subprocess
 import sys
 import tempfile
 import unittest
-from concurrent.futures import ProcessPoolExecutor, ThreadPoolExecutor
+from concurrent.futures import ProcessPoolExecutor
 from concurrent.futures.process import BrokenProcessPool
 from decimal import Decimal
 from pathlib import Path
@@ -23,7 +23,7 @@ from unittest import mock
 import prefq
 from prefq.__main__ import main
 from prefq.parts import Partition, best, why
-from support import TestCase, needs, package_path, printed
+from support import OnPools, TestCase, needs, package_path, printed
 
 try:
     import pandas
@@ -141,7 +141,7 @@ class Once:
         return self.function(item)
 
 
-class ManyRows(TestCase):
+class ManyRows(OnPools, TestCase):
     @classmethod
     def setUpClass(cls):
         if pandas is None:
@@ -158,14 +158,6 @@ class ManyRows(TestCase):
     def check(self, map):
         for question in self.wanted:
             self.same(question, best(self.files, question, map=map))
-
-    def test_threads(self):
-        with ThreadPoolExecutor(2) as pool:
-            self.check(pool.map)
-
-    def test_processes(self):
-        with ProcessPoolExecutor(2) as pool:
-            self.check(pool.map)
 
     def test_dask(self):
         """By files, by a DataFrame whose partitions have types of their own, and where a worker is killed."""

@@ -9,18 +9,17 @@ import subprocess
 import sys
 import tempfile
 import unittest
-from concurrent.futures import ProcessPoolExecutor, ThreadPoolExecutor
 from pathlib import Path
 
 import prefq
 from prefq.parts import Job, best
-from support import needs, package_path, printed
+from support import OnPools, needs, package_path, printed
 from test_parts import QUESTIONS, answered, plain, random_rows, write
 
 EXAMPLES = Path(__file__).resolve().parents[2] / "examples/parts"
 
 
-class Engines(unittest.TestCase):
+class Engines(OnPools, unittest.TestCase):
     def setUp(self):
         folder = tempfile.TemporaryDirectory()
         self.addCleanup(folder.cleanup)
@@ -38,14 +37,6 @@ class Engines(unittest.TestCase):
         self.assertEqual((caught.exception.kind, caught.exception.number, caught.exception.place), ("term", 2, 9))
         question = "best low(price) * low(dist)"
         self.assertEqual(answered(best(self.files, question, map=map)), self.wanted[question])
-
-    def test_threads(self):
-        with ThreadPoolExecutor(2) as pool:
-            self.check(pool.map)
-
-    def test_processes(self):
-        with ProcessPoolExecutor(2) as pool:
-            self.check(pool.map)
 
     def test_dask(self):
         """In a process of its own, since Dask leaves an event loop behind."""

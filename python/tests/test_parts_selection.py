@@ -3,7 +3,6 @@
 PREFQ_TEST_COUNT is how many questions are asked (of 6 parts at most), and PREFQ_TEST_SEED begins other ones.
 """
 import importlib.util
-import os
 import random
 import tempfile
 import unittest
@@ -19,27 +18,15 @@ from prefq import parts
 from prefq.ask_files import FilesAnswer, files_like
 from prefq.carried import FrameRows, frame_of
 from prefq.parts import Job, Partition, best, found_in, why
-from support import TestCase
+from support import TestCase, pairs
 from test_ask import run
-from test_parts_kinds import Deal
+from test_parts_kinds import QUESTIONS, QUESTIONS_OF_A_FRAME, SEED, Deal, pandas
 
-try:
-    import pandas
-except ImportError:
-    pandas = None
-
-QUESTIONS = int(os.environ.get("PREFQ_TEST_COUNT", 100))
-SEED = int(os.environ.get("PREFQ_TEST_SEED", 20261130))
-QUESTIONS_OF_A_FRAME = 5
 HOTELS = [Partition(["city", "price", "dist"], [["Lyon", 50, 8], ["Lyon", 60, 5], ["Bern", 80, 2]]), Partition(["price", "city", "dist"], [[70.5, "Bern", 6], [90.0, "Bern", 2]]),
           Partition(["dist", "price", "city"], [[9, 95, "Lyon"], [1, None, "Lyon"]])]
 QUESTION = "best low(price) * low(dist)"
 # What is refused of parts alone, by name: a column of which no part has a value, or all cells of a part are words that may be missing.
 REFUSED = "that are written are compared|names a column|has texts|which has no order|which has no distances|is larger than|are words such as n/a"
-
-
-def pairs(answer):
-    return list(zip(answer.levels, answer.ids))
 
 
 class RandomParts(TestCase):

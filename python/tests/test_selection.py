@@ -7,6 +7,7 @@ import tempfile
 import unittest
 import unittest.mock
 import warnings
+from contextlib import contextmanager
 from pathlib import Path
 
 import prefq
@@ -15,7 +16,7 @@ from plain import first
 from prefq import high, low
 from prefq.checks import MOST_ROWS
 from prefq.selection import Selection, selected
-from support import TestCase
+from support import FrameTestCase, TestCase, pairs
 from test_ask import run
 
 try:
@@ -29,18 +30,17 @@ HOTELS = [{"city": "Lyon", "price": 50, "dist": 8}, {"city": "Lyon", "price": 60
           {"city": "Bern", "price": 70, "dist": 6}, {"city": "Bern", "price": 90, "dist": 2}, {"city": "Lyon", "price": 95, "dist": 9}]
 
 
-def pairs(answer):
-    return list(zip(answer.levels, answer.ids))
+@contextmanager
+def random_frame(chance):
+    """A random frame, its rows by their ids, and random questions about it."""
+    columns, records = random_frames.frame(chance)
+    given = {name: kind.spelling for name, kind in columns.items() if kind.is_given}
+    with prefq.Frame.from_records(records, kinds=given) as frame:
+        yield frame, dict(enumerate(records, 1)), random_frames.Questions(chance, columns)
 
 
-class Top(TestCase):
-    @classmethod
-    def setUpClass(cls):
-        cls.frame = prefq.Frame.from_records(HOTELS)
-
-    @classmethod
-    def tearDownClass(cls):
-        cls.frame.close()
+class Top(FrameTestCase):
+    records = HOTELS
 
     def test_exactly_so_many_rows(self):
         question = "best low(price) * low(dist)"
@@ -232,11 +232,7 @@ class MoreRowsThanOneTableHolds(TestCase):
     """They are asked in parts."""
 
     def one(self, chance):
-        columns, records = random_frames.frame(chance)
-        rows = dict(enumerate(records, 1))
-        ask = random_frames.Questions(chance, columns)
-        given = {name: kind.spelling for name, kind in columns.items() if kind.is_given}
-        with prefq.Frame.from_records(records, kinds=given) as frame:
+        with random_frame(chance) as (frame, rows, ask):
             for _ in range(5):
                 asked, ties, top = ask.question(), chance.choice([None, ask.term(2)]), chance.randrange(1, 8)
                 opened = frame._opened
@@ -292,11 +288,7 @@ class MoreRowsThanOneTableHolds(TestCase):
 
 class Random(TestCase):
     def one(self, chance):
-        columns, records = random_frames.frame(chance)
-        rows = dict(enumerate(records, 1))
-        ask = random_frames.Questions(chance, columns)
-        given = {name: kind.spelling for name, kind in columns.items() if kind.is_given}
-        with prefq.Frame.from_records(records, kinds=given) as frame:
+        with random_frame(chance) as (frame, rows, ask):
             for _ in range(5):
                 asked, ties, top = ask.question(), chance.choice([None, ask.term(2)]), chance.randrange(1, 8)
                 query = frame.query(asked.text, top=top, ties=ties and ties.text)

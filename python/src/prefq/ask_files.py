@@ -59,4 +59,7 @@ class FilesAnswer(Answer):
 def in_one_order(found: Found, names: Sequence[str]) -> Iterable[Optional[List[str]]]:
     """The cells of each row, in the order of these columns, whatever it is in their files; None where it comes from none that has cells."""
     for rows in found.rows.rows:
-        yield from map(list, zip(*(rows.values(name) for name in names))) if isinstance(rows, CellRows) else [None] * len(rows)
+        if isinstance(rows, CellRows):
+            yield from map(list, zip(*(rows.values(name) for name in names)))
+        else:
+            yield from [None] * len(rows)

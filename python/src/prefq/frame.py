@@ -77,7 +77,8 @@ class Frame(LiveRows):
     @classmethod
     def from_records(cls, records: Iterable[Any], *, columns: Optional[Sequence[str]] = None, kinds: Optional[Mapping[str, str]] = None,
                      **options: Any) -> "Frame":
-        """The frame of records: mappings, named tuples or data classes. What a record does not have is missing, and so are None and NaN.
+        """The frame of records: mappings, named tuples or data classes. What a record does not have is missing, and so are None and NaN. Where there are no records,
+        `columns` and the kind of each make a frame without rows, as `empty` does.
 
         >>> import prefq
         >>> with prefq.Frame.from_records([{"x": 1, "y": 2.5}, {"x": 2}]) as frame:
@@ -86,6 +87,8 @@ class Frame(LiveRows):
         """
         check_options(options, ["columns", "kinds", *TABLE_OPTIONS], "Frame.from_records")
         rows = list(mappings(fitting(records, "records")))
+        if not rows and columns is not None:
+            return cls.empty(columns, kinds or {}, **options)
         there = list(dict.fromkeys(name for row in rows for name in row))
         names = chosen(there, columns)
         check_known(list(kinds or ()), there)
@@ -321,5 +324,6 @@ def mappings(records: Iterable[Any]) -> Iterator[Dict[str, Any]]:
     for row, record in enumerate(records, 1):
         found = mapping_of(record)
         if found is None:
-            raise TypeError(f"row {row} is no mapping, but {record!r}")
+            instead = ": Frame.from_sql takes the cursor of a query, and Frame(columns, rows) lists of values" if isinstance(record, (list, tuple)) else ""
+            raise TypeError(f"row {row} is no mapping, but {record!r}{instead}")
         yield found

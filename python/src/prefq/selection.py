@@ -92,8 +92,12 @@ class Selection:
 
     def reads_beside(self, names: Sequence[str]) -> List[Callable[[Callable[[str], Optional[Column]]], object]]:
         """What reads the ties and the condition, where they are given, with what gives the column of a name."""
-        ties = [] if self.ties is None else [partial(read_ties, self.ties, names=names)]
-        return ties if self.where is None else [*ties, partial(read_condition, self.where, names=names)]
+        found: List[Callable[[Callable[[str], Optional[Column]]], object]] = []
+        if self.ties is not None:
+            found.append(partial(read_ties, self.ties, names=names))
+        if self.where is not None:
+            found.append(partial(read_condition, self.where, names=names))
+        return found
 
 
 OF_TIES = Selection(("best", 1))

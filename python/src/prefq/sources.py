@@ -119,7 +119,7 @@ def opened(source: Source, reading: Reading) -> Opened:
 
 def is_parquet(path: Any) -> bool:
     """Whether a path is by its name that of a Parquet file."""
-    return os.fspath(path).endswith((".parquet", ".pq"))
+    return str(os.fspath(path)).endswith((".parquet", ".pq"))
 
 
 def parquet(path: Any) -> Any:

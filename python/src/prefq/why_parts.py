@@ -76,7 +76,7 @@ class Rivalry(Job):
         if numbers.get(number, first) != first:
             raise Refused(CHANGED, "table")
         rows = sorted({**numbers, number: first}.items())
-        lists = dict(zip((id(segment.column) for segment in view.asked), zip(*(values for _, values in rows))))
+        lists: Dict[int, Sequence[int]] = dict(zip((id(segment.column) for segment in view.asked), zip(*(values for _, values in rows))))
         read = Reading.of(self.question, asked.question, lambda column: lists[id(column)])
         return Rivals(read, [other for other, _ in rows], [other for other, _ in rows].index(number))
 
