@@ -138,6 +138,15 @@ class Together(TestCase):
         self.assertEqual((best(files, "best pos(x, true)").ids, why(files, 1, "best pos(x, true)").ids), ([2], [2]))
         self.assertEqual(best(files, "best low(y)", where="x = true").ids, [2])
 
+    def test_a_value_that_is_refused_in_a_column_that_nobody_names(self):
+        """It is named by the id of its row, and not by its number among the rows that are left."""
+        files = self.files("x,n\n9,k\n9,k\n1,bad\n", "x,n\n5,3\n1,6\n")
+        with self.refuses(ValueError, "row 3, column 'n' (whole): 'bad' is no number"):
+            best(files, "best low(x)", kinds={"n": "whole"})
+        rows = [[9, 7]] * 4 + [[1, 2**53 + 1], [2, 3], [1, 0.5]]
+        with self.refuses(ValueError, "row 5, column 'n' (float): 9007199254740993 is no 64-bit float"):
+            best([Partition(["x", "n"], rows)], "best low(x)")
+
     def test_times_of_several_zones(self):
         """A text without a zone would be another moment in each part, so that rows would be left out that are in the answer over all."""
         files = self.files("at,n\n2026-05-01T11:00:00+02:00,1\n2026-05-01T09:00:00+02:00,2\n", "at,n\n2026-05-01T03:00:00+00:00,4\n")

@@ -105,6 +105,8 @@ class Top(FrameTestCase):
             self.frame.best("best low(dist) by city", by="city")
         with self.refuses(TypeError, "by is a name of a column or a list of them, not 5"):
             self.frame.best("best low(dist)", by=["city", 5])
+        with self.refuses(TypeError, "by is a name of a column or a list of them, not 5"):
+            self.frame.best("best low(dist)", by=5)
         with self.refuses(prefq.Refused, "show_level=False leaves the column .level out of a DataFrame"):
             prefq.psel(HOTELS, "low(price)", show_level=False)
         with self.refuses(TypeError, "psel has no option 'topp'; did you mean 'top'?"):

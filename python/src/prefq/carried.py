@@ -1,6 +1,6 @@
 """Whole rows as they came from a source: they go with the columns that are asked, and are understood once they are in an answer."""
-from itertools import chain, groupby
-from typing import Any, Iterable, List, Sequence, Tuple, Type
+from itertools import chain, groupby, islice
+from typing import Any, Iterable, List, Sequence, Tuple
 
 from .loading import CellRefused, Encoded, column_of_texts, column_of_values
 from .missing import Missing
@@ -25,8 +25,8 @@ class Rows:
         return None
 
     @staticmethod
-    def column(some: Sequence[Any], name: str, reading: Reading) -> Encoded:
-        """A column of several such rows, and its numbers."""
+    def column(some: Sequence[Any], name: str, reading: Reading, ids: Sequence[int]) -> Encoded:
+        """A column of several such rows, and its numbers. A value that is refused is named with the id of its row."""
         raise NotImplementedError
 
 
@@ -55,20 +55,20 @@ class CellRows(Listed):
     """Rows of a file, as the texts of their cells."""
 
     @staticmethod
-    def column(some: Sequence["CellRows"], name: str, reading: Reading) -> Encoded:
+    def column(some: Sequence["CellRows"], name: str, reading: Reading, ids: Sequence[int]) -> Encoded:
         texts = list(chain.from_iterable(rows.values(name) for rows in some))
         try:
             return column_of_texts(name, texts, reading.kinds.get(name), Missing(reading.missing), reading.form)
         except CellRefused as why:
-            raise type(why.why)(str(why)) from None
+            raise type(why.why)(f"row {ids[why.row]}, {why}") from None
 
 
 class ValueRows(Listed):
     """Rows of Python's values."""
 
     @staticmethod
-    def column(some: Sequence["ValueRows"], name: str, reading: Reading) -> Encoded:
-        return column_of_values(name, list(chain.from_iterable(rows.values(name) for rows in some)), reading.kinds)
+    def column(some: Sequence["ValueRows"], name: str, reading: Reading, ids: Sequence[int]) -> Encoded:
+        return column_of_values(name, list(chain.from_iterable(rows.values(name) for rows in some)), reading.kinds, ids)
 
 
 class FrameRows(Rows):
@@ -92,23 +92,24 @@ class FrameRows(Rows):
         return self.frame[name].dtype
 
     @staticmethod
-    def column(some: Sequence["FrameRows"], name: str, reading: Reading) -> Encoded:
+    def column(some: Sequence["FrameRows"], name: str, reading: Reading, ids: Sequence[int]) -> Encoded:
         import pandas
         from .pandas_frames import encoded_series
-        return encoded_series(pandas.concat([rows.frame[name] for rows in some], ignore_index=True), name, reading.kinds)
+        return encoded_series(pandas.concat([rows.frame[name] for rows in some], ignore_index=True), name, reading.kinds, ids)
 
 
-def column_of(rows: Sequence[Rows], name: str, reading: Reading) -> Segment:
-    """A column of rows of several sources, in their order: of each kind of source it is read at once, and these are brought together."""
-    some = [found for found in rows if len(found)] or rows[:1]
+def column_of(rows: Sequence[Rows], name: str, reading: Reading, ids: Iterable[int]) -> Segment:
+    """A column of rows of several sources, in their order, which have these ids: of each kind of source it is read at once, and these are brought together."""
+    some, left = [found for found in rows if len(found)] or rows[:1], iter(ids)
     runs = [list(run) for _, run in groupby(some, lambda found: (type(found), found.form(name)))]
-    return as_in_a_frame(joined([_segment(type(run[0]), run, name, reading) for run in runs]))
+    return as_in_a_frame(joined([_segment(run, name, reading, list(islice(left, sum(map(len, run))))) for run in runs]))
 
 
-def _segment(source: Type[Rows], run: Sequence[Rows], name: str, reading: Reading) -> Segment:
+def _segment(run: Sequence[Rows], name: str, reading: Reading, ids: Sequence[int]) -> Segment:
+    source = type(run[0])
     what = "the files" if source is CellRows else "the rows in memory" if source is ValueRows else f"the DataFrames with {run[0].form(name)}"
     has_words = source is CellRows and reading.missing is None
-    return Segment.of(*source.column(run, name, reading), what, is_given=name in reading.kinds, has_words=has_words)
+    return Segment.of(*source.column(run, name, reading, ids), what, is_given=name in reading.kinds, has_words=has_words)
 
 
 def frame_of(rows: Sequence[Any]) -> Any:

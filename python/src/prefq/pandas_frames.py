@@ -43,22 +43,22 @@ class Timestamps(Times):
         return pandas.Timestamp(number, tz="UTC").tz_convert(self.zone) if self.zone else pandas.Timestamp(number)
 
 
-def encoded_series(series: Any, name: str, kinds: Optional[Mapping[str, str]] = None) -> Tuple[Column, List[int]]:
-    """A column of a DataFrame, and its numbers. The column keeps the type of pandas as `dtype`."""
+def encoded_series(series: Any, name: str, kinds: Optional[Mapping[str, str]] = None, ids: Optional[Sequence[int]] = None) -> Tuple[Column, List[int]]:
+    """A column of a DataFrame, and its numbers; see `loading.encoded`. The column keeps the type of pandas as `dtype`."""
     if kinds and name in kinds:
-        column, numbers = _by_values(series, Column(name, kinds[name]))
+        column, numbers = _by_values(series, Column(name, kinds[name]), ids)
     else:
         kind, codes = _by_type(series, name)
-        column, numbers = (_by_values(series, Column(name, kind)) if codes is None else (Column(name, kind), codes))
+        column, numbers = (_by_values(series, Column(name, kind), ids) if codes is None else (Column(name, kind), codes))
         column.grows = True
     column.has_gaps = column.has_gaps or LEAST in numbers
     column.dtype = series.dtype
     return column, numbers
 
 
-def _by_values(series: Any, column: Column) -> Tuple[Column, List[int]]:
+def _by_values(series: Any, column: Column, ids: Optional[Sequence[int]]) -> Tuple[Column, List[int]]:
     from .loading import encoded
-    return column, encoded(column, series.tolist())
+    return column, encoded(column, series.tolist(), ids)
 
 
 def _by_type(series: Any, name: str) -> Tuple[Kind, Optional[List[int]]]:

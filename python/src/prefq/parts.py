@@ -397,7 +397,7 @@ def notes_of(rows: Partial, reading: Reading) -> List[str]:
 def records_of(left: Partial, levels: Sequence[Optional[int]], reading: Reading) -> Tuple[List[Column], List[Record]]:
     """The columns and the records of these rows, which have these levels."""
     by_name = {segment.column.name: segment for segment in left.asked}
-    segments = [by_name.get(name) or column_of(left.rows, name, reading) for name in check_names(left.names)]
+    segments = [by_name.get(name) or column_of(left.rows, name, reading, [place + 1 for place in left.places]) for name in check_names(left.names)]
     columns = [segment.column for segment in segments]
     values = decoded(columns, list(zip(*(segment.numbers for segment in segments))))
     return columns, [Record(zip(left.names, row), id=place + 1, level=level) for level, place, row in zip(levels, left.places, values)]

@@ -105,7 +105,7 @@ OF_TIES = Selection(("best", 1))
 
 def names_of(by: Names) -> Tuple[str, ...]:
     """The names of columns, of which one may stand alone."""
-    found = () if by is None else (by,) if isinstance(by, str) else tuple(by)
+    found = () if by is None else tuple(by) if isinstance(by, Iterable) and not isinstance(by, str) else (by,)
     for name in found:
         if not isinstance(name, str):
             raise TypeError(f"by is a name of a column or a list of them, not {name!r}")
