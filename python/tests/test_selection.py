@@ -286,6 +286,10 @@ class MoreRowsThanOneTableHolds(TestCase):
             done = run("ask", os.path.join(folder, "*.csv"), "best low(price)", "--where", "prise > 5")
             self.assertEqual((done.returncode, done.stdout), (2, ""))
             self.assertIn("no column 'prise'; did you mean price?\n    prise > 5\n    ^", done.stderr)
+            Path(folder, "2.csv").write_text("price,city\n2026-05-01,Lyon\n")
+            done = run("ask", os.path.join(folder, "*.csv"), "best low(price)")
+            self.assertEqual((done.returncode, done.stdout), (2, ""))
+            self.assertIn("give it by --kind COLUMN=KIND a kind that reads the values of both", done.stderr)
 
 
 class Random(TestCase):

@@ -87,8 +87,17 @@ def file_of(options: argparse.Namespace, progress: Optional["Progress"] = None) 
 
 
 # What is said of arguments of a function, and of options.
-IN_OPTIONS = {r"^(where|top|ties)= ": r"--\1 ", r"it needs top=": "it needs --top", r"by where=": "by --where", r"missing=\[\.\.\]": "--missing", r"null_padding=True": "--null-padding", r"encoding='([^']*)'": r"--encoding \1",
-              r"give it the kind '([^']*)'": r"give it a kind, as --kind 'COLUMN=\1'", r"kinds=\{'([^']*)': '([^']*)'\}": r"--kind '\1=\2'"}
+IN_OPTIONS = {
+    r"^(where|top|ties)= ": r"--\1 ",
+    r"it needs top=": "it needs --top",
+    r"by where=": "by --where",
+    r"missing=\[\.\.\]": "--missing",
+    r"null_padding=True": "--null-padding",
+    r"encoding='([^']*)'": r"--encoding \1",
+    r"give it the kind '([^']*)'": r"give it a kind, as --kind 'COLUMN=\1'",
+    r"kinds=\{'([^']*)': '([^']*)'\}": r"--kind '\1=\2'",
+    r"kinds=\{\.\.\}": "--kind COLUMN=KIND",
+}
 
 
 def main(arguments: Optional[Sequence[str]] = None) -> int:
