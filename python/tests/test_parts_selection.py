@@ -123,6 +123,9 @@ class Together(TestCase):
         with warnings.catch_warnings():
             warnings.simplefilter("error")
             self.assertEqual(best(HOTELS, QUESTION, where="city = 'Bern'").ids, [3, 4])     # which the third part does not have
+            self.assertEqual(best(HOTELS, "best low(dist)", where="dist = 2", top=1, ties="pos(city, 'Lyon')").ids, [3])     # which no row has that is left
+        with self.assertWarnsRegex(prefq.UnknownValue, "no row of 'city' has 'Lion'"):
+            self.assertEqual(best(HOTELS, "best low(dist)", where="dist = 2", top=1, ties="pos(city, 'Lion')").ids, [3])
 
     def test_words_that_may_be_missing(self):
         files = self.files("code,n\nNA,1\nn/a,2\n", "code,n\nDE,3\n")

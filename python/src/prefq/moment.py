@@ -14,6 +14,8 @@ class Moment:
         self._all_names, self._load, self._progress, self._called = names, load, progress, called
         self.names = [name for name in names if isinstance(name, str)]
         self.kept: Optional[Sequence[int]] = None
+        # Whether a value that no row here has is one that no row has at all: not so of what is left of parts.
+        self.has_all_values = True
         self._loaded: Dict[str, Encoded] = {}
         # The numbers of columns that are computed over the rows that count, by the identity of the column, which is kept.
         self._computed: Dict[int, Tuple[Column, Sequence[int]]] = {}

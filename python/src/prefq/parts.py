@@ -161,8 +161,9 @@ class Job:
         """The first rows of an answer of whole levels: those of which so many are wanted."""
         segments = {segment.column.name: segment for segment in found.rows.asked}
         moment = Moment(list(segments), lambda name: (segments[name].column, segments[name].numbers))
+        moment.has_all_values = False
         if self.selection.ties is not None:
-            plan_of_ties(self.selection.ties, moment)
+            plan_of_ties(self.selection.ties, moment.column, moment.names)
         read = QuestionRead.of(self.question, asked.question, lambda column: segments[column.name].numbers)
         rows = sorted(Row(level, place, list(values)) for place, (level, *values) in enumerate(zip(found.levels, *read.lists), 1))
         levels = {row.id - 1: row.level for row in picked(rows, read, self.selection, moment)}
@@ -191,11 +192,18 @@ class Job:
             met = None if self.selection.where is None else rows_that_meet(self.selection.where, source.names, column, segments, source.count)
         except Refused as why:      # by the values of a column, so it says in which file
             raise Refused(f"{what}: {why.args[0]}", why.kind, why.number, why.place, why.question) from None
-        absent = {(found.name, text): said for (found, text), said in zip(planned.absent, planned.unknown)}
+        absent = {**self._absent_in_ties(column, names), **absent_in(planned)}
         moments = moments_beside_columns(question)
         if met is None:
             return replace(left, absent=absent, moments=moments)
         return replace(left.kept(met.places), absent={**absent, **met.absent}, condition=met.columns, moments={**met.moments, **moments})
+
+    def _absent_in_ties(self, column: Callable[[str], Optional[Column]], names: Sequence[str]) -> Dict[Tuple[str, str], str]:
+        """The values of the ties that no row here has; none where these columns do not take the ties, of which all parts decide together."""
+        try:
+            return {} if self.selection.ties is None else absent_in(plan_of_ties(self.selection.ties, column, names))
+        except Refused:
+            return {}
 
     def views(self, partial: Partial) -> List[Tuple[Asked, Partial]]:
         """What the parts are asked of each way in which these rows may turn out, of which one at least has to take the question. `at_least` counts rows of the
@@ -401,6 +409,11 @@ def records_of(left: Partial, levels: Sequence[Optional[int]], reading: Reading)
     columns = [segment.column for segment in segments]
     values = decoded(columns, list(zip(*(segment.numbers for segment in segments))))
     return columns, [Record(zip(left.names, row), id=place + 1, level=level) for level, place, row in zip(levels, left.places, values)]
+
+
+def absent_in(planned: Plan) -> Dict[Tuple[str, str], str]:
+    """The values of a question that no row has, by column and text, and what is said of each."""
+    return {(found.name, text): said for (found, text), said in zip(planned.absent, planned.unknown)}
 
 
 def _pieces(count: int) -> List[range]:

@@ -218,7 +218,7 @@ def reading(text: str, selection: Selection, moment: Moment) -> Reading:
     question = intersections.replaced(selection.read(text, moment.column, moment.names, computer.column))
     read = Reading.of(text, question, moment.numbers, [*unknown, *computer.unknown, *intersections.unknown])
     if selection.ties is not None:
-        plan_of_ties(selection.ties, moment)
+        plan_of_ties(selection.ties, moment.column, moment.names)
     return read
 
 
@@ -273,9 +273,9 @@ def read_ties(ties: str, column: Callable[[str], Optional[Column]], names: Seque
     return question
 
 
-def plan_of_ties(ties: str, moment: Moment) -> Plan:
-    """Refuses what is no preference over the columns of a moment, also where no rows are equally good, so that it is not asked."""
-    question = read_ties(ties, moment.column, moment.names)
+def plan_of_ties(ties: str, column: Callable[[str], Optional[Column]], names: Sequence[str]) -> Plan:
+    """Refuses what is no preference over these columns, also where no rows are equally good, so that it is not asked."""
+    question = read_ties(ties, column, names)
     return plan(ties, question, below(columns_in(question)))
 
 
@@ -285,7 +285,11 @@ def with_ties(cut: Cut, ties: str, by: Sequence[str], moment: Moment, options: M
     if not crowded:
         return cut.by_order()
     some = moment.only(sorted(row.id for _, rows in crowded for row in rows))
-    answer = selected(ties, Selection(("at_least", max(wanted for wanted, _ in crowded)), by=tuple(by)), some, **options)
+    selection = Selection(("at_least", max(wanted for wanted, _ in crowded)), by=tuple(by))
+    read = reading(ties, selection, some)
+    answer = picked(answered(read, None, options), read, selection, some)
+    if moment.has_all_values:
+        warn_of(read.unknown)
     places = {row.id: place for place, row in enumerate(answer)}
 
     def liked(row: Row) -> int:
