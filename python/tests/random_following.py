@@ -1,5 +1,11 @@
 """Random transactions on a table that a frame follows, against a plain evaluation of the questions on what is committed."""
+from dataclasses import dataclass
+from typing import Any
+
+import plain_expressions
+import prefq
 import random_frames
+from plain import Ask, first
 
 KEY = 'the "key"'
 TABLE = "it`s a 'table'; -- \"of\" rows"
@@ -84,20 +90,78 @@ class Store:
                 rows[new] = rows.pop(old)
 
 
+@dataclass
+class Beside:
+    """A question, with what is asked beside it: a condition, how many rows, a term that decides between those of the last level, and names of groups."""
+
+    asked: Any
+    where: Any = None
+    top: Any = None
+    ties: Any = None
+    by: tuple = ()
+
+    def options(self):
+        """As arguments of a call."""
+        found = {"where": self.where and self.where.text, "top": self.top, "ties": self.ties and self.ties.text, "by": self.by}
+        return {name: value for name, value in found.items() if value}
+
+    def met(self, rows):
+        """The rows that meet the condition. `Nothing` is raised where one of them has no value."""
+        return {key: row for key, row in rows.items() if self.where is None or self.where.of(row)}
+
+    def answer(self, rows):
+        """Pairs of a level and a key, in order."""
+        return self.asked.answer(self.met(rows)) if self.top is None else first(self.asked, self.met(rows), self.top, self.ties)
+
+
+class Questions:
+    """Random questions, with what is asked beside them."""
+
+    def __init__(self, random, columns):
+        self.random = random
+        self.plain, self.expressions = random_frames.Questions(random, columns), plain_expressions.Expressions(random, columns)
+
+    def question(self):
+        asked, by = self.plain.question(), ()
+        if not asked.by and not asked.text.startswith("skyline") and self.random.random() < 0.3:
+            by = (self.random.choice(list(self.plain.columns)),)
+            asked = Ask(asked.text, asked.term, by, asked.levels, asked.rows)
+        where = self.expressions.condition() if self.random.random() < 0.3 else None
+        top = self.random.randrange(1, 8) if self.random.random() < 0.4 else None
+        ties = self.plain.term(2) if top is not None and self.random.random() < 0.5 else None
+        return Beside(asked, where, top, ties, by)
+
+
 def transactions(test, random, store, count):
     """Random transactions, of each of which the frame has all or nothing."""
-    ask = random_frames.Questions(random, store.columns)
+    ask = Questions(random, store.columns)
     store.transaction(20)
     kinds = {name: kind.spelling for name, kind in store.columns.items()}
     with store.followed(kinds=kinds, capacity=random.choice([8, 1024])) as frame:
         for _ in range(count):
             store.transaction(random.randrange(1, 12))
-            asked = ask.question()
-            answer = frame.best(asked.text)
-            test.assertEqual(list(zip(answer.levels, answer.ids)), asked.answer(store.rows), asked.text)
-            test.assertEqual([dict(record) for record in answer], [store.rows[record.id] for record in answer])
+            answers(test, frame, store, ask.question())
         test.assertEqual([(row.id, dict(row)) for row in frame.rows()], sorted(store.rows.items()))
         test.assertEqual(len(frame), len(store.rows))
         if store.rows:
-            id, asked = random.choice(list(store.rows)), ask.question()
+            id, asked = random.choice(list(store.rows)), ask.plain.question()
             test.assertEqual(sorted(frame.why(id, asked.text).ids), sorted(asked.dominators(store.rows, id)))
+
+
+def answers(test, frame, store, beside):
+    """The frame answers a question as a plain evaluation does."""
+    text, options = beside.asked.text, beside.options()
+    try:
+        wanted = beside.answer(store.rows)
+    except plain_expressions.Nothing:
+        with test.assertRaises(prefq.Refused):
+            frame.best(text, **options)
+        return
+    try:
+        answer = frame.best(text, **options)
+    except prefq.Refused as why:
+        # What a condition compares may be written so that nothing is computed with it.
+        test.assertTrue(beside.where and ("names a column" in str(why) or "that are written are compared" in str(why)), (text, options, str(why)))
+        return
+    test.assertEqual(list(zip(answer.levels, answer.ids)), wanted, (text, options))
+    test.assertEqual([dict(record) for record in answer], [store.rows[record.id] for record in answer])

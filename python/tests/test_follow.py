@@ -246,15 +246,6 @@ class Refusals(OfSqlite):
             prefq.Frame.follow(self.db, table, **options)
         self.assertEqual(self.db.execute("select name, sql from sqlite_master").fetchall(), before)
 
-    def test_what_is_asked_beside_a_question_is_refused_by_name(self):
-        frame = self.offers((1, "a", 60, 5), (2, "b", 50, 8), (3, "c", 70, 9))
-        for name, value in [("where", "price > 55"), ("top", 1), ("by", "hotel")]:
-            calls = [lambda: frame.best("best low(price)", **{name: value}), lambda: prefq.psel(frame, "low(price)", **{name: value})]
-            calls += [] if name == "top" else [lambda: frame.why(1, "best low(price)", **{name: value})]
-            for call in calls:
-                with self.subTest(name), self.refuses(prefq.Refused, f"{name}= is not there for a frame that follows a table of a database", kind="arguments"):
-                    call()
-
     def test_a_preference_is_asked_by_its_value(self):
         frame = self.offers((1, "a", 60, 5), (2, "b", 50, 8), (3, "c", 70, 9))
         preference = prefq.low("price") * prefq.low("dist")
@@ -471,14 +462,14 @@ class ManyTables(OfSqlite):
 
     def test_more_rows_than_one_table_holds_are_left_by_all_of_them(self):
         frame = self.offers(*((number, "x", number, 40 - number) for number in range(40)), capacity=16)
-        with unittest.mock.patch("prefq.dealt.MOST_ROWS", 30), self.refuses(prefq.Refused, "40 rows are left after each table was asked", kind="parts"):
+        with unittest.mock.patch("prefq.dealt_questions.MOST_ROWS", 30), self.refuses(prefq.Refused, "40 rows are left after each table was asked", kind="parts"):
             frame.best(QUESTION)
         self.assertEqual(len(frame.best(QUESTION)), 40)
 
     def test_many_rows_that_are_left_are_asked_in_pieces(self):
         frame = self.offers(*((number, "x", number % 20, number // 20) for number in range(60)), capacity=16)
         found = frame.best("top_level 5 low(price) * low(dist)")
-        with unittest.mock.patch("prefq.dealt.MOST_ROWS", 30):
+        with unittest.mock.patch("prefq.dealt_questions.MOST_ROWS", 30):
             self.assertEqual(frame.best("top_level 5 low(price) * low(dist)").ids, found.ids)
 
     def test_a_question_sees_all_tables_as_they_were_at_its_begin(self):

@@ -11,19 +11,25 @@ import threading
 import time
 import warnings
 from contextlib import closing
+from itertools import cycle
 
 import prefq
 import random_following
 import random_frames
 import test_follow
 from plain import Ask, Low, Pareto
-from random_following import KEY, TABLE, Store, quoted
+from plain_expressions import Part
+from random_following import KEY, TABLE, Beside, Store, quoted
 from support import TestCase
 from test_follow import QUESTION, QUESTIONS, SEED
 
 SECONDS = float(os.environ.get("PREFQ_TEST_SECONDS", 3))
 QUESTIONS_OF_A_TABLE = 20
 ANSWERS = 9
+BEST = Ask(QUESTION, Pareto("", [Low("price", ""), Low("dist", "")]), levels=1)
+CHEAP = Part("price < 20 and hotel = 'x'", lambda row: row["price"] < 20 and row["hotel"] == "x")
+ASKED = [Beside(BEST), Beside(BEST, top=4, ties=Low("dist", "low(dist)")), Beside(BEST, CHEAP),
+         Beside(Ask("top_level 2 low(price)", Low("price", ""), ["hotel"], 2), CHEAP, top=3, by=("hotel",))]
 
 
 class ManyRows(test_follow.OfSqlite):
@@ -63,9 +69,11 @@ class FourWriters(test_follow.OfSqlite):
                     self.write(db, chance, seen)
 
         def ask(number):
-            while not self.stop.is_set():
-                answer = frame.best(QUESTION, at_least=frame.now() if number else None)
-                answers.append((answer.at, answer.ids))
+            for asked in cycle(ASKED):
+                if self.stop.is_set():
+                    break
+                answer = frame.best(asked.asked.text, at_least=frame.now() if number else None, **asked.options())
+                answers.append((asked, answer.at, list(zip(answer.levels, answer.ids))))
 
         calls = [*((write, SEED + number) for number in range(4)), *((ask, number) for number in range(3))]
         threads = [threading.Thread(target=self.reported, args=call) for call in calls]
@@ -76,10 +84,9 @@ class FourWriters(test_follow.OfSqlite):
         for thread in threads:
             thread.join()
         self.assertEqual(self.failures, [])
-        term = Pareto("", [Low("price", ""), Low("dist", "")])
-        for at, ids in answers:
-            rows = {id: {"price": price, "dist": dist} for id, _, price, dist in seen[at]}
-            self.assertEqual([id for _, id in Ask("", term, levels=1).answer(rows)], ids)
+        for asked, at, found in answers:
+            rows = {id: {"hotel": hotel, "price": price, "dist": dist} for id, hotel, price, dist in seen[at]}
+            self.assertEqual(asked.answer(rows), found, asked)
         print(f"{len(seen)} transactions of four writers, {len(answers)} answers", file=sys.stderr)
 
     def reported(self, call, argument):

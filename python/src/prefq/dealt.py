@@ -1,27 +1,22 @@
-"""Rows under keys of their own, dealt to as many tables as they need, and questions that see all of these tables at one moment.
+"""Rows under keys of their own, dealt to as many tables as they need, which questions see at one moment.
 
-Whoever changes the rows or begins a question holds one lock meanwhile (that of `Followed`), so a question begins on all tables between two changes. What the
-tables answer is merged as parts are: the levels 1 to n of all rows are those of the rows that have the levels 1 to n in their tables (`prefq.parts` says why).
+Whoever changes the rows or begins a question holds one lock meanwhile (that of `Followed`), so a question begins on all tables between two changes.
 """
 import os
 from collections import deque
 from concurrent.futures import ThreadPoolExecutor
 from contextlib import ExitStack
-from dataclasses import replace
-from typing import Any, Deque, Dict, Iterator, List, Mapping, NamedTuple, Optional, Sequence, Tuple, Union
+from typing import Any, Deque, Dict, List, Mapping, NamedTuple, Optional, Sequence, Tuple, Union
 
 from .checks import MOST_ROWS
 from .columns import Column
 from .errors import Refused
 from .loading import check_width
-from .once import ask_once
 from .opened import is_outgrown, size_of_code_books, texts_last
 from .query import Query
-from .questions import Question
 from .reading import check_names
 from .rows import Zipped
 from .table import IN_COMMIT, Table
-from .translate import clause_of, plan
 
 Key = Union[int, str]
 Numbers = Sequence[int]
@@ -158,10 +153,6 @@ class Dealt:
         """Deletes all rows."""
         self.change(dict.fromkeys(self._places))
 
-    def begin(self, text: str, question: Question) -> "Asked":
-        """Begins a question on all tables. No row may change meanwhile."""
-        return Asked(self, text, question)
-
     def begin_all(self) -> "Begun":
         """Begins a question on all tables whose answer has all rows. No row may change meanwhile."""
         return Begun(self, self._shards[0].table.all_rows)
@@ -250,62 +241,6 @@ class Begun:
             left.callback(self._dealt.ended, self)
             for _, query in self._queries:
                 left.callback(query.abandon)
-
-
-class Asked:
-    """A question in the names and values of the columns that has begun. Of rows that are equal in the columns of a distinct clause, the one with the smallest key
-    is in the answer: a table would take the one that came first."""
-
-    def __init__(self, dealt: Dealt, text: str, question: Question) -> None:
-        self.columns = dealt.columns
-        self._twins = [dealt.columns.index(column) for column in [*(base.column for base in clause_of(question.term)), *question.by]] if question.distinct else None
-        plain = replace(question, distinct=False)
-        self.plan = plan(text, plain, dealt.below)
-        self._names = list(dealt.below.values())
-        # Each level has a row, so the first k levels hold what `at_least k` wants of all rows.
-        of_parts = replace(plain, mode="top_level") if question.mode == "at_least" and len(dealt.tables) > 1 else plain
-        self._text_of_parts = plan(text, of_parts, dealt.below).text
-        try:
-            self._begun = Begun(dealt, self._text_of_parts)
-        except Refused as why:
-            raise self.plan.refusal(why) from None
-
-    def answer(self) -> List[Found]:
-        """The answer, by level and then by key."""
-        parts = self._begun.answers()
-        rows = parts[0] if len(parts) == 1 else self._merged([row for part in parts for row in part])
-        rows.sort(key=lambda row: (row.level, ordered(row.key)))
-        return rows if self._twins is None else list(_first_of_twins(rows, self._twins))
-
-    def _merged(self, rows: List[Found]) -> List[Found]:
-        """The answer over the rows that the tables' answers have together. Refused where more of them are left than one table holds."""
-        while len(rows) > MOST_ROWS:
-            pieces = [rows[begin:begin + MOST_ROWS] for begin in range(0, len(rows), MOST_ROWS)]
-            fewer = [row for piece in pieces for row in self._asked_of(piece, self._text_of_parts)]
-            if len(fewer) == len(rows):
-                raise Refused(f"{len(rows)} rows are left after each table was asked, and one table holds {MOST_ROWS}: too few rows dominate others. Put what matters "
-                              "most before an &, leave out columns or groups, or ask for fewer levels", "parts")
-            rows = fewer
-        return self._asked_of(rows, self.plan.text)
-
-    def _asked_of(self, rows: List[Found], text: str) -> List[Found]:
-        """The answer over these rows, as many as one table holds."""
-        if not rows:
-            return []
-        try:
-            found = ask_once(self._names, Zipped(list(zip(*(row.numbers for row in rows)))), text)
-        except Refused as why:
-            raise self.plan.refusal(why) from None
-        return [rows[row.id - 1]._replace(level=row.level) for row in found]
-
-
-def _first_of_twins(rows: Sequence[Found], places: Sequence[int]) -> Iterator[Found]:
-    seen = set()
-    for row in rows:
-        values = tuple(row.numbers[place] for place in places)
-        if values not in seen:
-            seen.add(values)
-            yield row
 
 
 def ordered(key: Key) -> Tuple[bool, Key]:

@@ -12,7 +12,8 @@ from typing import Any, Collection, Dict, Iterator, List, Mapping, NamedTuple, O
 from .answer import Answer
 from .checks import MOST, whole
 from .columns import Column
-from .dealt import Asked, Begun, Dealt, Found, Key, Numbers, ordered
+from .dealt import Begun, Dealt, Found, Key, Numbers, ordered
+from .dealt_questions import Asked, AskedOfTables, asked_of, moment_of
 from .errors import Ended, Refused
 from .kinds import Floats, Whole
 from .loading import check_known, column_of_values, decoded, encoded
@@ -20,8 +21,8 @@ from .preferences import Asked as AskedFor, Operand, text_asked
 from .questions import read_question
 from .records import Record
 from .rows import Zipped
-from .selection import Names, Reading, Selection
-from .translate import Plan, columns_in
+from .selection import Names, Selection, reading
+from .translate import columns_in
 from .warned import warn_of
 from .why import dominators
 
@@ -37,7 +38,6 @@ class Unchanged:
 
 
 UNCHANGED = Unchanged()
-FOLLOWED = "a frame that follows a table of a database"
 
 
 class Everything(NamedTuple):
@@ -59,14 +59,14 @@ class Changes(NamedTuple):
 
 
 class Snapshot(NamedTuple):
-    """All rows and the answer to a question at one moment; `version` counts how often the rows have changed."""
+    """All rows and the answer to a question at one moment; `version` counts how often the rows have changed, and `unknown` is what is said of the question's values."""
 
     version: int
     columns: Sequence[Column]
     rows: Mapping[Key, Numbers]
     best: Sequence[Found]
-    plan: Plan
     asked: Sequence[Column]
+    unknown: Sequence[str]
 
 
 class Source:
@@ -210,56 +210,56 @@ class Followed:
 
     def best(self, question: AskedFor, *, at_least: Any = None, wait: float = 60.0, where: Optional[Operand] = None, top: Optional[int] = None,
              ties: Optional[AskedFor] = None, by: Names = None) -> Answer:
-        """The answer to a question, as of the place that its `at` has.
+        """The answer to a question, as of the place that its `at` has. `where`, `top`, `ties` and `by` are those of `Frame.best`, and the order of rows that of keys.
 
         With `at_least` it sees what was committed up to this place, and is not before it: a place that is there already is answered at once, without a look at
-        the database, and another one is waited for, so many seconds at most. `where`, `top`, `ties` and `by` are `Refused`: only other frames have them.
+        the database, and another one is waited for, so many seconds at most.
         """
         return self.answer(text_asked(question), Selection.of(where=where, top=top, ties=ties, by=by), at_least=at_least, wait=wait)
 
     def answer(self, question: str, selection: Selection, *, at_least: Any = None, wait: float = 60.0) -> Answer:
-        """The same of a question that has the mode of this selection, if it has none itself."""
-        mode = selection.mode_alone(FOLLOWED)
+        """The same with what is asked beside the question."""
         place = None if at_least is None else self._source.place(at_least)
         if place is not None:
             self._wait(place, wait)
 
         def begun(dealt: Dealt) -> Tuple[Asked, int]:
-            return dealt.begin(question, read_question(question, dealt.by_name.get, dealt.names, mode)), self.at
+            return asked_of(dealt, question, selection), self.at
 
         asked, at, rows = self._answered(begun, lambda begun: (*begun, begun[0].answer()), is_there=place is not None)
-        warn_of(asked.plan.unknown)
+        warn_of(asked.unknown)
         return Answer(question, asked.columns, _records(asked.columns, rows), others=self.rows, at=at)
 
     def snapshot(self, question: str) -> Snapshot:
         """All rows and the answer to a question at one moment, as numbers."""
         def begun(dealt: Dealt) -> Tuple[int, Sequence[Column], Asked, Begun]:
             read = read_question(question, dealt.by_name.get, dealt.names, None)
-            return self.version, columns_in(read), dealt.begin(question, read), dealt.begin_all()
+            return self.version, columns_in(read), AskedOfTables(dealt, question, read), dealt.begin_all()
 
         def answered(begun: Tuple[int, Sequence[Column], Asked, Begun]) -> Snapshot:
             version, columns, asked, everything = begun
-            return Snapshot(version, asked.columns, everything.pairs(), asked.answer(), asked.plan, columns)
+            return Snapshot(version, asked.columns, everything.pairs(), asked.answer(), columns, asked.unknown)
 
         found: Snapshot = self._answered(begun, answered)
         return found
 
     def why(self, id: Key, question: AskedFor, *, where: Optional[Operand] = None, by: Names = None) -> Answer:
-        """The rows that dominate this one in a question: those because of which it is not in the answer. `where` and `by` are `Refused`, as with `best`."""
-        text = text_asked(question)
-        Selection.of(where=where, by=by).mode_alone(FOLLOWED)
+        """The rows that dominate this one in a question: those because of which it is not in the answer, among those that meet the condition `where`."""
+        text, selection = text_asked(question), Selection.of(where=where, by=by)
 
         def begun(dealt: Dealt) -> Tuple[Dealt, Begun, int]:
             return dealt, dealt.begin_all(), self.at
 
-        dealt, at, pairs = self._answered(begun, lambda begun: (begun[0], begun[2], begun[1].pairs()))
-        if id not in pairs:
-            raise missing_row(id)
-        keys = list(pairs)
-        lists = dict(zip((column.name for column in dealt.columns), zip(*pairs.values())))
-        read = Reading.of(text, read_question(text, dealt.by_name.get, dealt.names, None), lambda column: lists[column.name])
-        rows = [(level, keys[place], pairs[keys[place]]) for place, level in dominators(read, keys.index(id))]
-        return Answer(text, dealt.columns, _records(dealt.columns, rows), others=self.rows, at=at)
+        dealt, at, pairs = self._answered(begun, lambda begun: (begun[0], begun[2], list(begun[1].pairs().items())))
+        moment = moment_of(dealt.columns, pairs)
+        read = reading(text, selection, moment)
+        number = next((number for number, (key, _) in enumerate(pairs, 1) if key == id), None)
+        place = None if number is None else moment.place(number)
+        if place is None:
+            raise missing_row(id) if number is None else Refused(f"row {id!r} does not meet the condition", "arguments")
+        found = [(level, pairs[moment.id(other + 1) - 1]) for other, level in dominators(read, place)]
+        warn_of(read.unknown)
+        return Answer(text, dealt.columns, _records(dealt.columns, [(level, key, numbers) for level, (key, numbers) in found]), others=self.rows, at=at)
 
     def _is_ours(self) -> bool:
         return os.getpid() == self._owner

@@ -62,7 +62,7 @@ class FollowedDesk(Desk):
         self._see(found.version, found.columns)
         rows = [Held(int(key), tuple(numbers)) for key, numbers in found.rows.items()]
         best = [Found(row.level, int(row.key), tuple(row.numbers)) for row in found.best]
-        return Picture(found.version, list(found.columns), rows, best, list(found.asked), found.plan.unknown)
+        return Picture(found.version, list(found.columns), rows, best, list(found.asked), tuple(found.unknown))
 
     def _follow(self) -> None:
         """Wakes those who watch where the rows have changed. What cannot be read is said to who asks for a picture."""

@@ -1,0 +1,127 @@
+"""Questions about rows that are dealt to tables: each begins on all tables at one moment, and is answered while the rows change.
+
+What the tables answer is merged as parts are: the levels 1 to n of all rows are those of the rows that have the levels 1 to n in their tables (`prefq.parts` says
+why). What no table answers by itself, as a condition, is computed over all rows as they were at the begin.
+"""
+from dataclasses import replace
+from typing import Iterator, List, Sequence, Tuple
+
+from .checks import MOST_ROWS
+from .columns import Column
+from .dealt import Begun, Dealt, Found, Key, Numbers, ordered
+from .errors import Refused
+from .loading import Encoded
+from .moment import Moment
+from .once import ask_once
+from .questions import Question
+from .rows import Row, Zipped
+from .selection import Selection, answered, picked, reading
+from .translate import clause_of, plan
+
+
+class Asked:
+    """A question that has begun; the columns of the rows that it is about, and what is said of its values, which is there once it has its answer."""
+
+    columns: Tuple[Column, ...]
+    unknown: Sequence[str] = ()
+
+    def answer(self) -> List[Found]:
+        """The answer, by level and then by key."""
+        raise NotImplementedError
+
+
+class AskedOfTables(Asked):
+    """A question that each table answers, and of whose answer the first rows may be wanted. Of rows that are equal in the columns of a distinct clause, the one with
+    the smallest key is in the answer: a table would take the one that came first."""
+
+    def __init__(self, dealt: Dealt, text: str, question: Question, selection: Selection = Selection()) -> None:
+        self.columns = dealt.columns
+        self._text, self._selection = text, selection
+        self._twins = [dealt.columns.index(column) for column in [*(base.column for base in clause_of(question.term)), *question.by]] if question.distinct else None
+        plain = replace(question, distinct=False)
+        self._plan = plan(text, plain, dealt.below)
+        self.unknown = self._plan.unknown
+        self._names = list(dealt.below.values())
+        # Each level has a row, so the first k levels hold what `at_least k` wants of all rows.
+        of_parts = replace(plain, mode="top_level") if question.mode == "at_least" and len(dealt.tables) > 1 else plain
+        self._text_of_parts = plan(text, of_parts, dealt.below).text
+        with self._plan.refusing():
+            self._begun = Begun(dealt, self._text_of_parts)
+
+    def answer(self) -> List[Found]:
+        parts = self._begun.answers()
+        rows = parts[0] if len(parts) == 1 else self._merged([row for part in parts for row in part])
+        rows.sort(key=lambda row: (row.level, ordered(row.key)))
+        if self._twins is not None:
+            rows = list(_first_of_twins(rows, self._twins))
+        return rows if self._selection.top is None else self._first(rows)
+
+    def _first(self, found: List[Found]) -> List[Found]:
+        """The first rows of the answer that are wanted."""
+        moment = moment_of(self.columns, [(row.key, row.numbers) for row in found])
+        read = reading(self._text, self._selection, moment)
+        rows = [Row(row.level, number, list(values)) for number, (row, values) in enumerate(zip(found, zip(*read.lists)), 1)]
+        return [found[row.id - 1] for row in picked(rows, read, self._selection, moment)]
+
+    def _merged(self, rows: List[Found]) -> List[Found]:
+        """The answer over the rows that the tables' answers have together. Refused where more of them are left than one table holds."""
+        while len(rows) > MOST_ROWS:
+            pieces = [rows[begin:begin + MOST_ROWS] for begin in range(0, len(rows), MOST_ROWS)]
+            fewer = [row for piece in pieces for row in self._asked_of(piece, self._text_of_parts)]
+            if len(fewer) == len(rows):
+                raise Refused(f"{len(rows)} rows are left after each table was asked, and one table holds {MOST_ROWS}: too few rows dominate others. Put what matters "
+                              "most before an &, leave out columns or groups, or ask for fewer levels", "parts")
+            rows = fewer
+        return self._asked_of(rows, self._plan.text)
+
+    def _asked_of(self, rows: List[Found], text: str) -> List[Found]:
+        """The answer over these rows, as many as one table holds."""
+        if not rows:
+            return []
+        with self._plan.refusing():
+            found = ask_once(self._names, Zipped(list(zip(*(row.numbers for row in rows)))), text)
+        return [rows[row.id - 1]._replace(level=row.level) for row in found]
+
+
+class AskedOfRows(Asked):
+    """A question that is computed over all rows as they were at its begin."""
+
+    def __init__(self, dealt: Dealt, text: str, selection: Selection) -> None:
+        self.columns = dealt.columns
+        self._text, self._selection = text, selection
+        self._begun = dealt.begin_all()
+
+    def answer(self) -> List[Found]:
+        pairs = list(self._begun.pairs().items())
+        moment = moment_of(self.columns, pairs)
+        read = reading(self._text, self._selection, moment)
+        self.unknown = read.unknown
+        return [Found(row.level, *pairs[row.id - 1]) for row in picked(answered(read, None, {}), read, self._selection, moment)]
+
+
+def asked_of(dealt: Dealt, text: str, selection: Selection) -> Asked:
+    """Begins a question, with what is asked beside it. No row may change meanwhile."""
+    question = selection.read(text, dealt.by_name.get, dealt.names)
+    # What decides between equally good rows is asked of the answer.
+    if replace(selection, ties=None).is_answered_by(question, dealt.columns):
+        return AskedOfTables(dealt, text, question, selection)
+    return AskedOfRows(dealt, text, selection)
+
+
+def moment_of(columns: Sequence[Column], rows: Sequence[Tuple[Key, Numbers]]) -> Moment:
+    """Rows of these columns as they are at one moment, which messages call by their keys."""
+    places = {column.name: place for place, column in enumerate(columns)}
+
+    def load(name: str) -> Encoded:
+        return columns[places[name]], [numbers[places[name]] for _, numbers in rows]
+
+    return Moment(list(places), load, called=lambda number: repr(rows[number - 1][0]))
+
+
+def _first_of_twins(rows: Sequence[Found], places: Sequence[int]) -> Iterator[Found]:
+    seen = set()
+    for row in rows:
+        values = tuple(row.numbers[place] for place in places)
+        if values not in seen:
+            seen.add(values)
+            yield row
