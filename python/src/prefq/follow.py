@@ -83,8 +83,8 @@ class Source:
         """What has changed since this place; None where everything has to be read."""
         raise NotImplementedError
 
-    def now(self) -> int:
-        """The place behind all that is committed."""
+    def now(self) -> Optional[int]:
+        """The place behind all that is committed; None where everything has to be read."""
         raise NotImplementedError
 
     def place(self, given: Any) -> int:
@@ -182,7 +182,11 @@ class Followed:
     def now(self) -> int:
         """The place behind all that the database has committed: with `at_least=frame.now()` a question sees what was committed before."""
         with self._alone():
-            return self._source.now()
+            place = self._source.now()
+            if place is None:
+                self._read_everything()
+                return self.at
+            return place
 
     def refresh(self) -> int:
         """Takes in what the database has committed, and returns the place."""

@@ -28,14 +28,9 @@ class SqliteSource(Source):
     """A table of a file of SQLite, by a connection of its own."""
 
     def __init__(self, connection: sqlite3.Connection, table: str, key: str, columns: Optional[Sequence[str]]) -> None:
-        cursor = connection.cursor()
-        cursor.row_factory = None       # whatever the caller makes of rows
-        path = next(path for _, name, path in cursor.execute("pragma database_list") if name == "main")
-        if not path:
-            raise Refused("a database in memory has no file that another connection reads", "follow")
-        self._db = sqlite3.connect(f"file:{quote(path)}?mode=rw", uri=True, isolation_level=None, check_same_thread=False)
+        self._db = sqlite3.connect(f"file:{quote(path_of(connection, table))}?mode=rw", uri=True, isolation_level=None, check_same_thread=False)
         try:
-            with self._reading():
+            with self._transaction():
                 self.name = self._canonical(table)
                 self._key, self._schema = key, -1
                 there = self._declared()
@@ -49,7 +44,7 @@ class SqliteSource(Source):
 
     def everything(self) -> Everything:
         self._install()
-        with self._reading():
+        with self._transaction():
             self._check_columns()
             if not self._has_objects():
                 raise Refused(f"what follows table {self.name!r} was dropped while it was read: ask again", "follow")
@@ -58,12 +53,9 @@ class SqliteSource(Source):
         return Everything(place, self._kinds(), {self._checked(row[0]): row[1:] for row in rows})
 
     def changes(self, since: int) -> Optional[Changes]:
-        with self._reading():
-            version = self._version()
-            if version != self._schema:
-                if not self._is_as_it_was():
-                    return None
-                self._schema = version
+        with self._transaction():
+            if self._version() != self._schema:     # Which rows are others now is not to be seen.
+                return None
             place = self._last()
             if place == since:
                 return Changes(place, False, {})
@@ -72,24 +64,35 @@ class SqliteSource(Source):
             notes, table, key = map(identifier, (self._notes, self.name, self._key))
             found = self._db.execute(f"select n.key, {self._names('t.')} from {notes} n left join {table} t on t.{key} = n.key where n.number > ?", (since,)).fetchall()
             [count] = self._db.execute(f"select count(*) from {table}").fetchone()
+        if any(noted is None for noted, *_ in found):      # which no row is found by
+            return None
         return Changes(place, False, dict(self._changed(found)), count)
 
-    def now(self) -> int:
-        with self._reading():
-            return self._last() if self._has_objects() else 0
+    def now(self) -> Optional[int]:
+        with self._transaction():
+            return self._last() if self._version() == self._schema else None
 
     def close(self) -> None:
         self._db.close()
 
     @contextmanager
-    def _reading(self) -> Iterator[None]:
-        """What is read in the block is read at one moment."""
-        self._db.execute("begin")
+    def _transaction(self, begin: str = "begin") -> Iterator[None]:
+        """What is read in the block is read at one moment; what is not committed in it is undone. An interruption leaves no transaction open: it may come right
+        behind the begin, and amid the end."""
         try:
+            self._roll_back()
+            self._db.execute(begin)
             yield
         finally:
-            if self._db.in_transaction:
-                self._db.execute("rollback")
+            try:
+                self._roll_back()
+            except BaseException:
+                self._roll_back()
+                raise
+
+    def _roll_back(self) -> None:
+        if self._db.in_transaction:
+            self._db.execute("rollback")
 
     def _changed(self, found: Sequence[Sequence[Any]]) -> Iterator[Tuple[Key, Optional[Cells]]]:
         """The rows that are changed. By the table's own comparison another key may be equal to the one that is noted: then the noted one has gone."""
@@ -111,10 +114,10 @@ class SqliteSource(Source):
 
     def _canonical(self, table: str) -> str:
         """The name of the table as it is spelled in the file."""
-        rows = self._db.execute("select name, type, sql from sqlite_master where type in ('table', 'view')").fetchall()
-        found = next((row for row in rows if row[0].lower() == table.lower()), None)
+        some = "select name, type, sql from sqlite_master where type in ('table', 'view')"
+        found = self._db.execute(f"{some} and name = ? collate nocase", (table,)).fetchone()
         if found is None:
-            near = nearest(table, [name for name, _, _ in rows])
+            near = nearest(table, [name for name, _, _ in self._db.execute(some) if not name.startswith(("sqlite_", "prefq_"))])
             raise Refused(f"there is no table {table!r}" + (f"; did you mean {near!r}?" if near else ""), "follow")
         if found[1] == "view" or found[2].lower().startswith("create virtual"):
             raise Refused(f"{found[0]!r} is a {'view' if found[1] == 'view' else 'virtual table'}, whose rows no trigger sees: follow the table that has them", "follow")
@@ -135,16 +138,13 @@ class SqliteSource(Source):
             raise Refused(f"several rows of table {self.name!r} may have the same {self._key!r}: a key is the primary key, or unique", "follow")
 
     def _check_columns(self) -> None:
-        """Refuses a table whose columns that are followed are not those that they were."""
+        """Refuses a table whose columns that are followed are not those that they were, or whose key is none any more."""
         there = self._declared()
         for name, declared in self._followed.items():
             if there.get(name) != declared:
                 now = f"has the type {there[name]!r} now, and had {declared!r}" if name in there else "is not there any more"
                 raise Refused(f"table {self.name!r} was changed: column {name!r} {now}. Follow it again", "follow")
-
-    def _is_as_it_was(self) -> bool:
-        self._check_columns()
-        return self._has_objects()
+        self._check_key(there)
 
     def _kinds(self) -> Dict[str, Column]:
         """The kinds of columns by their types, for those that have no values."""
@@ -184,12 +184,11 @@ class SqliteSource(Source):
 
     def _install(self) -> None:
         """Adds the table of notes and the triggers, unless they are there. What has one of their names and is another thing is refused, and stays."""
-        with self._reading():
+        with self._transaction():
             self._check_columns()
             if self._has_objects():
                 return
-        self._db.execute("begin immediate")
-        try:
+        with self._transaction("begin immediate"):
             self._check_columns()
             there = self._there()
             for name, sql in self._objects.items():
@@ -198,22 +197,31 @@ class SqliteSource(Source):
                 if name not in there:
                     self._db.execute(sql)
             self._db.execute("commit")
-        finally:
-            if self._db.in_transaction:
-                self._db.execute("rollback")
 
     def remove(self) -> None:
         """Removes what was added to the file."""
-        self._db.execute("begin immediate")
-        for name in [name for name, sql in self._there().items() if sql == self._objects[name]]:
-            self._db.execute(f"drop {'table' if name == self._notes else 'trigger'} {identifier(name)}")
-        self._db.execute("commit")
+        with self._transaction("begin immediate"):
+            for name in [name for name, sql in self._there().items() if sql == self._objects[name]]:
+                self._db.execute(f"drop {'table' if name == self._notes else 'trigger'} {identifier(name)}")
+            self._db.execute("commit")
 
     def _last(self) -> int:
         return int(self._db.execute(f"select max(number) from {identifier(self._notes)}").fetchone()[0] or 0)
 
     def _names(self, of: str) -> str:
         return ", ".join(of + identifier(name) for name in (self._key, *self.columns))
+
+
+def path_of(connection: sqlite3.Connection, table: str) -> bytes:
+    """The file in which a connection has a table of this name, whatever it makes of rows and texts."""
+    cursor = connection.cursor()
+    cursor.row_factory = None
+    if cursor.execute("select 1 from sqlite_temp_master where name = ? collate nocase", (table,)).fetchone():
+        raise Refused(f"{table!r} is a temporary table of this connection, which no other one reads", "follow")
+    [path] = cursor.execute("select cast(file as blob) from pragma_database_list where name = 'main'").fetchone()
+    if not path:
+        raise Refused("a database in memory has no file that another connection reads", "follow")
+    return bytes(path)
 
 
 def identifier(name: str) -> str:
