@@ -154,6 +154,20 @@ class Saved(InAFolder):
         with prefq.Frame.open(self.path) as opened:
             self.assertEqual(opened.get(1), {"x": 1})
 
+    def test_a_folder_that_is_not_there_is_said_by_the_system(self):
+        with prefq.Frame.from_records([{"x": 1}]) as frame, self.refuses(FileNotFoundError, str(self.folder / "none" / "hotels.prefq")):
+            frame.save(self.folder / "none" / "hotels.prefq")
+
+    def test_a_path_that_is_no_utf_8(self):
+        path = os.fsdecode(os.fsencode(self.folder) + b"/caf\xe9.prefq")
+        with prefq.Frame.from_records([{"x": 1}]) as frame:
+            try:
+                frame.save(path)
+            except OSError as why:      # as where the file system has other names alone
+                self.skipTest(str(why))
+        with prefq.Frame.open(path) as opened:
+            self.assertEqual(opened.get(1), {"x": 1})
+
     def test_a_column_with_a_zone_without_a_name_is_refused(self):
         class Zone(tzinfo):
             def utcoffset(self, when):

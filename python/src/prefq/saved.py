@@ -106,6 +106,7 @@ def write(path: Path, contents: Contents) -> None:
     target = os.path.realpath(path)
     beside = f"{target}.{uuid4().hex}.new"
     try:
+        os.close(os.open(beside, os.O_CREAT | os.O_EXCL | os.O_WRONLY, 0o644))      # so that it is the system that says what is wrong with the path
         with closing(sqlite3.connect(beside, isolation_level=None)) as file:
             _fill(file, contents)
         with suppress(FileNotFoundError):
@@ -153,7 +154,7 @@ def read(path: Path) -> Contents:
             raise Refused(f"{os.fspath(path)} is no saved frame", "saved")
     try:
         # No other program writes into it: it is replaced as a whole.
-        with closing(sqlite3.connect(f"file:{quote(os.path.realpath(path))}?mode=ro&immutable=1", uri=True)) as file:
+        with closing(sqlite3.connect(f"file:{quote(os.fsencode(os.path.realpath(path)))}?mode=ro&immutable=1", uri=True)) as file:
             _check_version(path, file)
             contents, digest = _read(file)
         is_whole = contents.digest() == digest
