@@ -43,6 +43,8 @@ class Layout:
     def cell(self, name: str, text: Optional[str]) -> Optional[str]:
         """A value of a column as its kind reads it; None where it is missing. NaN is missing in every frame."""
         declared = self.types[name]
+        if text is not None and declared == "character":        # whose blanks at the end mean nothing
+            return text.rstrip(" ")
         if text is None or text == "NaN" and declared in ("numeric", "real", "double precision"):
             return None
         return text[:-3] + "Z" if declared == "timestamp with time zone" and text.endswith("+00") else text
@@ -79,11 +81,12 @@ class Log:
             return
         old, new = rest.split(NEW, 1) if verb == "UPDATE" and rest.startswith(OLD) else ("", rest)
         cells = dict(_cells(new, self._layout.types))
-        key = self._key(cells)
+        before = self._key(dict(_cells(old[len(OLD):], self._layout.types))) if old else None
+        key = before if before is not None and cells.get(self._layout.key) is UNCHANGED else self._key(cells)
         if verb == "DELETE":
             self.rows[key] = None
             return
-        before = self._key(dict(_cells(old[len(OLD):], self._layout.types))) if old else key
+        before = key if before is None else before
         self._write(key, before, [cells[name] if cells.get(name) is UNCHANGED else self._layout.cell(name, cells[name]) for name in self._followed(cells)])
 
     def _followed(self, cells: Mapping[str, Any]) -> Sequence[str]:
@@ -92,7 +95,7 @@ class Log:
         return self._layout.columns
 
     def _key(self, cells: Mapping[str, Any]) -> Key:
-        if self._layout.key not in cells:
+        if cells.get(self._layout.key, UNCHANGED) is UNCHANGED:
             raise NotUnderstood("a row has no key")
         return self._layout.key_of(cells[self._layout.key])
 
@@ -132,7 +135,7 @@ def _value(text: str) -> Any:
         return UNCHANGED
     if text == "null":
         return None
-    return text[1:-1].replace("''", "'") if text.startswith("'") else text
+    return text[text.index("'") + 1:-1].replace("''", "'") if text.startswith(("'", "B'")) else text
 
 
 def place_of(text: str) -> int:
