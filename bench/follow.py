@@ -1,24 +1,31 @@
 #!/usr/bin/env python3
-"""Measures a frame that follows a table of SQLite: how long its rows take to be read, to be asked and to be changed.
+"""Measures a frame that follows a table: how long its rows take to be read, to be asked and to be changed, and when an answer has what was committed.
 
-    PYTHONPATH=python/src python3 bench/follow.py [ROWS]
+    PYTHONPATH=python/src python3 bench/follow.py [ROWS] [--postgres]
 
-Needs the built library. Times are processor times, those of the tables' calls on all threads among them, and medians of wall time.
+Needs the built library; the table is one of SQLite, or of a server of PostgreSQL that is started for it (python/tests/postgres.py). Times are processor times of this
+process, those of the tables' calls on all threads among them, and medians of wall time, which say something only beside the load that is printed.
 """
+import argparse
 import os
 import random
+import resource
 import sqlite3
 import statistics
 import sys
 import tempfile
 import time
-from contextlib import closing
+from contextlib import closing, contextmanager
+from pathlib import Path
 
 import prefq
 
-QUESTIONS = ["best low(price) * low(dist)", "best low(price) * low(dist) * low(noise)"]
+QUESTIONS = ["best low(price) * low(dist)", "best low(price) * low(dist) * low(noise)", "top_level 5 low(price) * low(dist)"]
+BESIDE = {"top": 10, "ties": "low(noise)"}
+TABLE = "create table offers (id integer primary key, price integer, dist integer, noise integer)"
 CHANGES = 20_000
 ROUNDS = 15
+MOST = 10**6
 
 
 def show(what, call, rounds=ROUNDS, each=1):
@@ -29,40 +36,78 @@ def show(what, call, rounds=ROUNDS, each=1):
         call()
         walls.append(time.perf_counter() - begun)
     processor = (time.process_time() - processor) / rounds / each * 1e6
-    print(f"{what}: {processor:,.0f} us of a processor, wall {statistics.median(walls) / each * 1e6:,.0f} us", flush=True)
+    print(f"{what}: {processor:,.1f} us of a processor, wall {statistics.median(walls) / each * 1e6:,.0f} us at a load of {os.getloadavg()[0]:.0f}", flush=True)
 
 
-def made(path, count, chance):
-    """A file with a table of so many rows."""
-    db = sqlite3.connect(path, isolation_level=None)
-    db.execute("pragma journal_mode = wal")
-    db.execute("pragma synchronous = normal")
-    db.execute("create table offers (id integer primary key, price int, dist int, noise int)")
-    db.execute("begin")
-    db.executemany("insert into offers values (?, ?, ?, ?)", ((number, *chance.choices(range(10**6), k=3)) for number in range(count)))
-    db.execute("commit")
-    return db
+@contextmanager
+def of_sqlite(rows):
+    """A file with a table of these rows, by a connection; and how a statement has a value."""
+    with tempfile.TemporaryDirectory() as folder, closing(sqlite3.connect(os.path.join(folder, "offers.db"), isolation_level=None)) as db:
+        db.execute("pragma journal_mode = wal")
+        db.execute("pragma synchronous = normal")
+        db.execute(TABLE)
+        db.execute("begin")
+        db.executemany("insert into offers values (?, ?, ?, ?)", rows)
+        db.execute("commit")
+        yield db, "?"
 
 
-def main(count):
+@contextmanager
+def of_postgres(rows):
+    """The same of PostgreSQL."""
+    sys.path.append(str(Path(__file__).resolve().parent.parent / "python/tests"))
+    import postgres
+    with postgres.Server() as server, closing(server.connected()) as db:
+        db.cursor().execute(TABLE)
+        numbers = [list(some) for some in zip(*rows)]
+        db.cursor().execute("insert into offers select * from unnest(%s, %s, %s, %s)", numbers)
+        yield db, "%s"
+
+
+def changed_rows(frame, chance):
+    """Other numbers for some of the rows, as they stand in the tables."""
+    keys = chance.sample(range(len(frame)), CHANGES)
+    return {key: chance.choices(range(MOST), k=3) for key in keys}
+
+
+def measure(db, mark, count, chance):
+    cursor = db.cursor()
+    processor, begun = time.process_time(), time.perf_counter()
+    with prefq.Frame.follow(db, "offers") as frame:
+        print(f"{count} rows in {frame.tables} tables are followed after {time.process_time() - processor:.1f} s of a processor, wall {time.perf_counter() - begun:.1f} s, "
+              f"with a peak of {resource.getrusage(resource.RUSAGE_SELF).ru_maxrss / 1024:.0f} MB", flush=True)
+
+        def change():
+            cursor.execute(f"update offers set price = {mark} where id = {mark}", (chance.randrange(MOST), chance.randrange(count)))
+
+        def change_and_ask():
+            change()
+            frame.best(QUESTIONS[0])
+
+        for question in QUESTIONS:
+            show(f"{question}, {len(frame.best(question))} rows", lambda: frame.best(question, at_least=frame.at))
+        show(f"{QUESTIONS[0]}, {BESIDE}", lambda: frame.best(QUESTIONS[0], at_least=frame.at, **BESIDE))
+        show(f"{QUESTIONS[0]} where price > 500000", lambda: frame.best(QUESTIONS[0], at_least=frame.at, where="price > 500000"), 1)
+        show("a change and an answer that has it", change_and_ask)
+        cursor.execute("begin")
+        for _ in range(CHANGES):
+            change()
+        cursor.execute("commit")
+        show(f"each of {CHANGES} changes of a transaction taken in", frame.refresh, 1, CHANGES)
+        rows = changed_rows(frame, chance)
+        show(f"each of {CHANGES} changes in the tables alone", lambda: frame._dealt.change(rows), 1, CHANGES)      # the last one: the database has others
+
+
+def main():
+    parser = argparse.ArgumentParser(description="Measures a frame that follows a table.")
+    parser.add_argument("rows", type=int, nargs="?", default=300_000)
+    parser.add_argument("--postgres", action="store_true")
+    given = parser.parse_args()
     chance = random.Random(1)
-    with tempfile.TemporaryDirectory() as folder, closing(made(os.path.join(folder, "offers.db"), count, chance)) as db:
-        processor, begun = time.process_time(), time.perf_counter()
-        with prefq.Frame.follow(db, "offers") as frame:
-            print(f"{count} rows in {frame.tables} tables are followed after {time.process_time() - processor:.1f} s of a processor, wall {time.perf_counter() - begun:.1f} s", flush=True)
-
-            def change():
-                db.execute("update offers set price = ? where id = ?", (chance.randrange(10**6), chance.randrange(count)))
-
-            for question in QUESTIONS:
-                show(question, lambda: frame.best(question, at_least=frame.at))
-            db.execute("begin")
-            for _ in range(CHANGES):
-                change()
-            db.execute("commit")
-            show(f"each of {CHANGES} changes taken in", frame.refresh, 1, CHANGES)
-            show("a change and an answer that has it", lambda: (change(), frame.best(QUESTIONS[0])))
+    rows = ((number, *chance.choices(range(MOST), k=3)) for number in range(given.rows))
+    with (of_postgres if given.postgres else of_sqlite)(rows) as (db, mark):
+        measure(db, mark, given.rows, chance)
 
 
 if __name__ == "__main__":
-    main(int(sys.argv[1]) if len(sys.argv) > 1 else 300_000)
+    main()

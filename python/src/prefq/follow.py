@@ -15,6 +15,7 @@ from .columns import Column
 from .dealt import Begun, Dealt, Found, Key, Numbers, ordered
 from .dealt_questions import Asked, AskedOfTables, asked_of, moment_of
 from .errors import Ended, Refused
+from .kept import Kept
 from .kinds import Floats, Whole
 from .loading import check_known, column_of_values, decoded, encoded
 from .preferences import Asked as AskedFor, Operand, text_asked
@@ -29,6 +30,7 @@ from .why import dominators
 Cells = Sequence[Any]
 TRIES = 3           # how often a call reads the table anew where its own were refused memory
 PAUSE = 0.002       # seconds between two looks at a place that is waited for
+MOST_ROWS_KEPT = 2000       # of one of the answers that are kept while the rows stay as they are
 # Of which values a kind was taken; another one was taken of texts.
 TYPES: Dict[Any, Any] = {Whole: int, Floats: (int, float)}
 
@@ -67,6 +69,19 @@ class Snapshot(NamedTuple):
     best: Sequence[Found]
     asked: Sequence[Column]
     unknown: Sequence[str]
+
+
+class Answered(NamedTuple):
+    """The answer to a question, as numbers, which was begun at this place; `unknown` is what is said of the question's values."""
+
+    at: int
+    columns: Sequence[Column]
+    rows: Sequence[Found]
+    unknown: Sequence[str]
+
+    def is_small(self) -> bool:
+        """Whether it may be kept."""
+        return len(self.rows) <= MOST_ROWS_KEPT
 
 
 class Source:
@@ -126,6 +141,7 @@ class Followed:
         # Whether the rows are those of the table at that place. They are not while they change, nor where that was interrupted.
         self._is_whole = False
         self._dealt: Optional[Dealt] = None
+        self._kept: Kept[Answered] = Kept(Answered.is_small)
         try:
             with self._alone():
                 self._read_everything()
@@ -227,12 +243,29 @@ class Followed:
         if place is not None:
             self._wait(place, wait)
 
-        def begun(dealt: Dealt) -> Tuple[Asked, int]:
-            return asked_of(dealt, question, selection), self.at
+        version, at = self._surviving(lambda _: (self.version, self.at), is_there=place is not None)
 
-        asked, at, rows = self._answered(begun, lambda begun: (*begun, begun[0].answer()), is_there=place is not None)
-        warn_of(asked.unknown)
-        return Answer(question, asked.columns, _records(asked.columns, rows), others=self.rows, at=at)
+        def made() -> Tuple[int, Answered]:
+            return self._made(question, selection)
+
+        # What decides between equally good rows warns where it is asked.
+        found_version, found = made() if selection.ties is not None else self._kept.get((question, selection), version, made)
+        warn_of(found.unknown)
+        # Where no row has changed since, it is the answer at each place up to now.
+        return Answer(question, found.columns, _records(found.columns, found.rows), others=self.rows, at=at if found_version == version else found.at)
+
+    def _made(self, question: str, selection: Selection) -> Tuple[int, Answered]:
+        """The answer to a question over the rows as they are in the tables, with their version."""
+        def begun(dealt: Dealt) -> Tuple[int, int, Asked]:
+            return self.version, self.at, asked_of(dealt, question, selection)
+
+        def answered(begun: Tuple[int, int, Asked]) -> Tuple[int, Answered]:
+            version, at, asked = begun
+            rows = asked.answer()
+            return version, Answered(at, asked.columns, rows, asked.unknown)
+
+        found: Tuple[int, Answered] = self._answered(begun, answered, is_there=True)
+        return found
 
     def snapshot(self, question: str) -> Snapshot:
         """All rows and the answer to a question at one moment, as numbers."""
@@ -349,9 +382,13 @@ class Followed:
         if rows:
             dealt.change(rows)
         if rows or changes.is_cleared:
-            self.version += 1
+            self._count_change()
         self.at, self._is_whole = changes.place, True
         return True
+
+    def _count_change(self) -> None:
+        self.version += 1
+        self._kept.drop()
 
     def _numbers(self, dealt: Dealt, key: Key, cells: Cells) -> Numbers:
         """The numbers of a row."""
@@ -376,7 +413,7 @@ class Followed:
         columns = [self._column(name, values[place], found.kinds.get(name), keys) for place, name in enumerate(self._source.columns)]
         dealt = Dealt([column for column, _ in columns], keys, Zipped([numbers for _, numbers in columns]), self._options)
         self._dealt = dealt
-        self.version += 1
+        self._count_change()
         self.at, self._is_whole = found.place, True
 
     def _column(self, name: str, values: Sequence[Any], own: Optional[Column], keys: Sequence[Key]) -> Tuple[Column, Sequence[int]]:

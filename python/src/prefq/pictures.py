@@ -7,11 +7,11 @@ from typing import Any, Dict, List, Optional, Sequence, Tuple
 
 from .columns import Column, spelled
 from .desk import Desk, Held, Numbers
+from .kept import Kept
 from .kinds import Booleans, Choices, Clock, Dates, Texts
 
 MOST_BEST = 500         # rows of an answer that are sent; a page is no place for more
 MOST_OTHERS = 2000      # other rows that are drawn
-MOST_SHOWN = 64         # pictures that are kept for whoever asks next
 MOST_AT_ONCE = 2        # pictures that are made at a time: more of them would hold up changes, and be made no sooner
 DAY = datetime.date(1970, 1, 1).toordinal()
 
@@ -43,33 +43,18 @@ class Shown:
 
     def __init__(self, desk: Desk) -> None:
         self._desk = desk
-        self._lock = threading.Lock()
         self._making = threading.BoundedSemaphore(MOST_AT_ONCE)
-        self._made: Dict[Tuple[str, ...], Made] = {}
+        self._kept: Kept[str] = Kept()
+        desk.subscribe(self._kept.drop)
 
     def get(self, question: str, axes: Sequence[Optional[str]]) -> Tuple[int, str]:
         """The version of the picture as it is now, and the picture as JSON."""
-        key = (question, *(axis or "" for axis in axes))
-        with self._lock:
-            made = self._made.pop(key, None) or Made()
-            self._made[key] = made              # the last one is the newest
-            if len(self._made) > MOST_SHOWN:
-                del self._made[next(iter(self._made))]
-        with made.lock:
-            if made.version != self._desk.version:
-                with self._making:
-                    found = picture(self._desk, question, axes)
-                    made.version, made.text = found["version"], json.dumps(found)
-            return made.version, made.text
+        def made() -> Tuple[int, str]:
+            with self._making:
+                found = picture(self._desk, question, axes)
+                return found["version"], json.dumps(found)
 
-
-class Made:
-    """A picture, and the version of which it is."""
-
-    def __init__(self) -> None:
-        self.lock = threading.Lock()
-        self.version = 0
-        self.text = ""
+        return self._kept.get((question, *(axis or "" for axis in axes)), self._desk.version, made)
 
 
 def truth_of(column: Column) -> List[str]:
