@@ -52,6 +52,16 @@ class Pages(test_follow.OfSqlite):
         with FollowedDesk(self.followed("rooms", key="code")) as rooms, self.refuses(prefq.Refused, "there is a row with the key 'a'", kind="follow"):
             rooms.picture("best low(price)")
 
+    def test_a_frame_that_is_closed_below_its_page(self):
+        desk = self.desk((1, "x", 1, 1))
+        desk._frame.close()
+        with self.refuses(prefq.Ended, kind="closed"):
+            desk.wait(desk.version, 60)
+
+    def test_a_frame_with_one_client_is_no_frame_for_a_page(self):
+        with self.refuses(prefq.Refused, "follow the table with clients=2 or more", kind="arguments"):
+            self.desk((1, "x", 1, 1), clients=1)
+
     def test_a_page_that_is_closed(self):
         desk = self.desk((1, "x", 1, 1))
         desk.close()

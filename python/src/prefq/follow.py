@@ -195,6 +195,11 @@ class Followed:
         """How many tables have the rows."""
         return len(self._tables.tables)
 
+    @property
+    def clients(self) -> int:
+        """How many questions may be open at once."""
+        return self._tables.tables[0].clients
+
     def now(self) -> int:
         """The place behind all that the database has committed: with `at_least=frame.now()` a question sees what was committed before."""
         with self._alone():

@@ -8,6 +8,7 @@ from .errors import Ended, Refused
 from .follow import Followed
 
 PAUSE = 0.1     # seconds between two looks at the database
+CLIENTS = 2     # that a picture needs of each table
 
 
 class FollowedDesk(Desk):
@@ -25,6 +26,8 @@ class FollowedDesk(Desk):
     """
 
     def __init__(self, frame: Followed) -> None:
+        if frame.clients < CLIENTS:
+            raise Refused(f"a page asks for all rows and for an answer at once: follow the table with clients={CLIENTS} or more", "arguments")
         self._frame = frame
         self._changed = threading.Condition()
         self._closed = False
@@ -69,8 +72,9 @@ class FollowedDesk(Desk):
         while not self._end.wait(PAUSE):
             try:
                 self._frame.refresh()
-            except Ended:
-                if self._closed:
+            except Ended as why:
+                if why.kind == "closed":
+                    self.close()
                     return
             except Exception:
                 continue

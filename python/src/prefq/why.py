@@ -2,6 +2,8 @@
 from typing import Dict, List, Optional, Sequence, Tuple
 
 from .better_than import Order, bits, places_in
+from .checks import MOST_ROWS
+from .errors import Refused
 from .once import ask_once
 from .rows import Zipped
 from .selection import Reading
@@ -16,6 +18,8 @@ def dominators(read: Reading, target: int) -> List[Tuple[int, Optional[int]]]:
     What dominates a row that dominates the target is among them too, so their levels are those that they have among all rows.
     """
     found = better(read, target)
+    if len(found) > MOST_ROWS:
+        raise Refused(f"{len(found)} rows dominate this one, and {MOST_ROWS} are compared at most", "parts")
     levels = levels_of(found, *terms_lists(read), read.term)
     return sorted(((place, levels.get(place)) for place in found), key=lambda pair: (pair[1] or LEVELS + 1, pair[0]))
 
