@@ -117,10 +117,10 @@ class Names(OfTwoRows):
             self.assertFalse(os.path.exists(path), why)
             self.skipTest(str(why))
 
-    def test_what_is_added_to_a_file_is_no_hint(self):
+    def test_a_hint_is_a_table_of_the_users_own(self):
         self.followed("t")
-        with self.assertRaisesRegex(prefq.Refused, "there is no table 'prefq_changes:t'$"):
-            self.followed("prefq_changes:t")
+        with self.refuses(prefq.Refused, "there is no table 'sqlite_sequences'; did you mean 't'?", kind="follow"):
+            self.followed("sqlite_sequences")
 
 
 class Interrupted(Exception):

@@ -1,4 +1,6 @@
 """What is asked beside a question of a frame that follows a table of SQLite: so many rows, ties, conditions, groups and expressions."""
+import unittest.mock
+
 import prefq
 import test_follow
 from prefq import high, low
@@ -75,6 +77,11 @@ class Beside(test_follow.OfSqlite):
             self.assertEqual(pairs(frame.why(6, "best low(price / dist)", where="hotel = 'Lyon'")), [(1, 1)])
             with self.refuses(prefq.Refused, "row 1 does not meet the condition", kind="arguments"):
                 frame.why(1, QUESTION, where="price > 60")
+
+    def test_why_of_a_row_that_too_many_dominate(self):
+        for frame in self.frames:
+            with unittest.mock.patch("prefq.why.MOST_ROWS", 5), self.refuses(prefq.Refused, "6 rows dominate this one, and 5 are compared at most", kind="parts"):
+                frame.why(6, QUESTION)
 
     def test_at_a_place(self):
         for frame in self.frames:

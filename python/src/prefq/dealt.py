@@ -6,7 +6,8 @@ import os
 from collections import deque
 from concurrent.futures import ThreadPoolExecutor
 from contextlib import ExitStack
-from typing import Any, Deque, Dict, List, Mapping, NamedTuple, Optional, Sequence, Tuple, Union
+from itertools import chain
+from typing import Any, Callable, Deque, Dict, List, Mapping, NamedTuple, Optional, Sequence, Tuple, TypeVar, Union
 
 from .checks import MOST_ROWS
 from .columns import Column
@@ -16,10 +17,11 @@ from .opened import is_outgrown, size_of_code_books, texts_last
 from .query import Query
 from .reading import check_names
 from .rows import Zipped
-from .table import IN_COMMIT, Table
+from .table import Table
 
 Key = Union[int, str]
 Numbers = Sequence[int]
+Row = TypeVar("Row")
 FULL = ("client", 8)
 # How much of a table rows may fill, which leaves room for their next versions.
 FILLED = 7 / 8
@@ -50,30 +52,27 @@ class Shard:
         self.keys.update(zip(inside, keys))
         return inside
 
-    def change(self, changes: Sequence[Tuple[Any, ...]]) -> List[int]:
-        """Updates and deletes rows. Returns the ids of those that had to be deleted in place of an update, since the table has no room for their new versions."""
+    def change(self, rows: Sequence[Tuple[int, Optional[Numbers]]]) -> List[int]:
+        """Gives the rows with these ids these numbers, and deletes those that have none. Returns the ids of those that had to be deleted in place of an update,
+        since the table has no room for their new versions."""
         moved: List[int] = []
-        for begin in range(0, len(changes), IN_COMMIT):
-            some = changes[begin:begin + IN_COMMIT]
-            try:
-                self.table.commit(*some)
-            except Refused as why:
-                if (why.kind, why.number) != FULL:
-                    raise
-                moved += self._change_one_by_one(some)
+        for inside, numbers in rows:
+            if numbers is None:
+                self.table.delete(inside)
+            elif not self._update(inside, numbers):
+                self.table.delete(inside)
+                moved.append(inside)
         return moved
 
-    def _change_one_by_one(self, changes: Sequence[Tuple[Any, ...]]) -> List[int]:
-        moved = []
-        for change in changes:
-            try:
-                self.table.commit(change)
-            except Refused as why:
-                if (why.kind, why.number) != FULL:
-                    raise
-                self.table.delete(change[1])
-                moved.append(change[1])
-        return moved
+    def _update(self, inside: int, numbers: Numbers) -> bool:
+        """Whether there was room for the new version of a row."""
+        try:
+            self.table.update(inside, numbers)
+        except Refused as why:
+            if (why.kind, why.number) != FULL:
+                raise
+            return False
+        return True
 
 
 class Dealt:
@@ -137,17 +136,18 @@ class Dealt:
         """Gives the rows with these keys these numbers, adds those that are not there, and deletes those that have none."""
         self._changes += 1
         self._forget()
-        changes: Dict[Shard, List[Tuple[Any, ...]]] = {}
-        for key in filter(self.has, rows):
+        changes: Dict[Shard, List[Tuple[int, Optional[Numbers]]]] = {}
+        for key, numbers in rows.items():
+            if key not in self._places:
+                continue
             shard, inside = self._places[key]
-            numbers = rows[key]
-            changes.setdefault(shard, []).append(("delete", inside) if numbers is None else ("update", inside, numbers))
+            changes.setdefault(shard, []).append((inside, numbers))
             if numbers is None:
                 self._has_gone(key)
         for shard, some in changes.items():
             for inside in shard.change(some):
                 self._has_gone(shard.keys[inside])
-        self._insert({key: numbers for key, numbers in rows.items() if numbers is not None and not self.has(key)})
+        self._insert({key: numbers for key, numbers in rows.items() if numbers is not None and key not in self._places})
 
     def clear(self) -> None:
         """Deletes all rows."""
@@ -219,21 +219,22 @@ class Begun:
 
     def answers(self) -> List[List[Found]]:
         """What each table answers; the question has ended then."""
-        try:
-            if len(self._queries) == 1:
-                return [self._answer(*self._queries[0])]
-            with ThreadPoolExecutor(min(len(self._queries), os.cpu_count() or 1)) as pool:
-                return list(pool.map(self._answer, *zip(*self._queries)))
-        finally:
-            self._end()
+        return self._of_each(lambda shard, query: [Found(row.level, shard.keys[row.id], row.values) for row in query.answer()])
 
     def pairs(self) -> Dict[Key, Numbers]:
-        """The rows that the tables answer by their keys, in the order of these."""
-        return dict(sorted(((row.key, row.numbers) for rows in self.answers() for row in rows), key=lambda pair: ordered(pair[0])))
+        """The rows that the tables answer by their keys, in the order of these; the question has ended then."""
+        pairs = chain.from_iterable(self._of_each(lambda shard, query: [(shard.keys[id], numbers) for id, numbers in query.pairs()]))
+        return dict(sorted(pairs, key=lambda pair: ordered(pair[0])))
 
-    @staticmethod
-    def _answer(shard: Shard, query: Query) -> List[Found]:
-        return [Found(row.level, shard.keys[row.id], row.values) for row in query.answer()]
+    def _of_each(self, answer: Callable[[Shard, Query], List[Row]]) -> List[List[Row]]:
+        """What a call gives of each table and its query."""
+        try:
+            if len(self._queries) == 1:
+                return [answer(*self._queries[0])]
+            with ThreadPoolExecutor(min(len(self._queries), os.cpu_count() or 1)) as pool:
+                return list(pool.map(answer, *zip(*self._queries)))
+        finally:
+            self._end()
 
     def _end(self) -> None:
         """Abandons what has no answer."""
