@@ -84,10 +84,15 @@ def measure(db, mark, count, chance):
             change()
             frame.best(QUESTIONS[0])
 
+        def ask_anew(question, **beside):
+            frame._kept.drop()
+            return frame.best(question, at_least=frame.at, **beside)
+
         for question in QUESTIONS:
-            show(f"{question}, {len(frame.best(question))} rows", lambda: frame.best(question, at_least=frame.at))
-        show(f"{QUESTIONS[0]}, {BESIDE}", lambda: frame.best(QUESTIONS[0], at_least=frame.at, **BESIDE))
-        show(f"{QUESTIONS[0]} where price > 500000", lambda: frame.best(QUESTIONS[0], at_least=frame.at, where="price > 500000"), 1)
+            show(f"{question}, {len(frame.best(question))} rows", lambda: ask_anew(question))
+        show("the same as before, which is kept", lambda: frame.best(QUESTIONS[-1], at_least=frame.at))
+        show(f"{QUESTIONS[0]}, {BESIDE}", lambda: ask_anew(QUESTIONS[0], **BESIDE))
+        show(f"{QUESTIONS[0]} where price > 500000", lambda: ask_anew(QUESTIONS[0], where="price > 500000"), 1)
         show("a change and an answer that has it", change_and_ask)
         cursor.execute("begin")
         for _ in range(CHANGES):
