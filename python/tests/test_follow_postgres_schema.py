@@ -31,7 +31,8 @@ class Lines(TestCase):
     def test_a_long_key_that_is_unchanged(self):
         log = self.log("UPDATE: old-key: id[text]:'a' new-tuple: id[text]:unchanged-toast-datum price[integer]:5")
         self.assertEqual((log.rows, log.is_clear), ({"a": ["5"]}, True))
-        for line in ("UPDATE: id[text]:unchanged-toast-datum price[integer]:5", "UPDATE: old-key: id[text]:unchanged-toast-datum new-tuple: id[text]:'a' price[integer]:5"):
+        for line in ("UPDATE: id[text]:unchanged-toast-datum price[integer]:5",
+                     "UPDATE: old-key: id[text]:unchanged-toast-datum new-tuple: id[text]:'a' price[integer]:5"):
             with self.subTest(line):
                 self.assertFalse(self.log(line).is_clear)
 
@@ -71,7 +72,8 @@ class Values(OfPostgres):
 
     def test_a_value_is_written_the_same_way_before_and_after_a_change(self):
         row = "'10.0.0.1', '101', true, '10', true, 'a ', null, '{1,2}', '(1,2)'"
-        frame = self.made("create domain truth as boolean", "create table t (id int primary key, a inet, b bit(3), c truth, d varbit, e boolean, f char(3), g inet, h int[], i point)",
+        frame = self.made("create domain truth as boolean",
+                          "create table t (id int primary key, a inet, b bit(3), c truth, d varbit, e boolean, f char(3), g inet, h int[], i point)",
                           f"insert into t values (1, {row})", kinds=dict.fromkeys("abcdghi", "text"))
         wanted = ("10.0.0.1", "101", "t", "10", True, "a", None, "{1,2}", "(1,2)")
         self.are(frame, (1, *wanted))

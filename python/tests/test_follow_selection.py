@@ -6,7 +6,8 @@ import test_follow
 from prefq import high, low
 from test_follow import QUESTION
 
-HOTELS = [(1, "Lyon", 50, 8), (2, "Lyon", 60, 5), (3, "Bern", 80, 2), (4, "Bern", 70, 6), (5, "Bern", 90, 2), (6, "Lyon", 95, 9), (7, None, None, 7), (8, "Bern", 50, 8)]
+HOTELS = [(1, "Lyon", 50, 8), (2, "Lyon", 60, 5), (3, "Bern", 80, 2), (4, "Bern", 70, 6), (5, "Bern", 90, 2),
+          (6, "Lyon", 95, 9), (7, None, None, 7), (8, "Bern", 50, 8)]
 # In one table, and in several.
 CAPACITIES = (1024, 4)
 
@@ -32,12 +33,15 @@ class Beside(test_follow.OfSqlite):
             self.as_sql("best low(price)", f"select id from offers order by price is null, price, id limit {top}", top=top)
         self.db.execute("update offers set price = 10 where id = 6")
         self.as_sql("best low(price)", "select id from offers order by price is null, price, id limit 2", top=2)
-        self.as_sql("best low(price) by hotel", "select id from (select *, row_number() over (partition by hotel order by price, id) as place from offers) where place <= 2 "
+        self.as_sql("best low(price) by hotel",
+                    "select id from (select *, row_number() over (partition by hotel order by price, id) as place from offers) where place <= 2 "
                     "order by place, id", top=2)
 
     def test_ties(self):
-        for ties, order in (("high(price)", "price desc"), (-low("dist"), "dist desc"), ("low(price / dist)", "1.0 * price / dist"), ("pos(hotel, 'Lyon')", "hotel <> 'Lyon'")):
-            self.as_sql("best pos(hotel, 'Bern', 'Lyon')", f"select id from (select * from offers where hotel is not null order by {order}, id limit 4) order by id", top=4, ties=ties)
+        for ties, order in (("high(price)", "price desc"), (-low("dist"), "dist desc"), ("low(price / dist)", "1.0 * price / dist"),
+                            ("pos(hotel, 'Lyon')", "hotel <> 'Lyon'")):
+            self.as_sql("best pos(hotel, 'Bern', 'Lyon')",
+                        f"select id from (select * from offers where hotel is not null order by {order}, id limit 4) order by id", top=4, ties=ties)
         for frame in self.frames:
             self.assertEqual(frame.best(QUESTION, top=3, ties="high(dist)").ids, [1, 2, 8])
 
@@ -45,7 +49,8 @@ class Beside(test_follow.OfSqlite):
         for where, condition in (("price > 55", "price > 55"), ("hotel = 'Bern' and dist <= 6 or price is missing", "hotel = 'Bern' and dist <= 6 or price is null"),
                                  ("price / dist >= 10", "1.0 * price / dist >= 10"), ("price > 1000", "price > 1000")):
             self.as_sql(QUESTION, f"""with some as (select * from offers where {condition}) select id from some a where not exists
-                (select 1 from some b where ifnull(b.price, 9e9) <= ifnull(a.price, 9e9) and b.dist <= a.dist and (ifnull(b.price, 9e9) < ifnull(a.price, 9e9) or b.dist < a.dist))
+                (select 1 from some b where ifnull(b.price, 9e9) <= ifnull(a.price, 9e9) and b.dist <= a.dist
+                and (ifnull(b.price, 9e9) < ifnull(a.price, 9e9) or b.dist < a.dist))
                 order by id""", where=where)
 
     def test_expressions_and_intersections(self):
@@ -98,7 +103,8 @@ class Beside(test_follow.OfSqlite):
         self.db.execute("create table rooms (code text primary key, price int, beds int)")
         self.db.execute("insert into rooms values ('a', 5, 1), ('b', 6, 0)")
         rooms = self.followed("rooms", key="code")
-        for call, words in ((lambda: rooms.best("best low(price / beds)"), "row 'b' has 0 behind the /"), (lambda: rooms.best("best low(price)", ties="low(beds)"), "it needs top="),
+        for call, words in ((lambda: rooms.best("best low(price / beds)"), "row 'b' has 0 behind the /"),
+                            (lambda: rooms.best("best low(price)", ties="low(beds)"), "it needs top="),
                             (lambda: rooms.best("best low(price)", top=1, ties="low(bed)"), "no column 'bed'; did you mean beds?"),
                             (lambda: rooms.best("best low(price)", where="bed > 1"), "no column 'bed'; did you mean beds?"),
                             (lambda: rooms.best("best low(price)", by="bed"), "no column 'bed'; did you mean beds?"),
@@ -111,7 +117,8 @@ class Beside(test_follow.OfSqlite):
 
     def test_a_value_that_no_row_has_is_warned_of(self):
         for frame in self.frames:
-            for question, beside in (("best pos(hotel, 'Lion')", {"top": 1}), ("best low(price)", {"where": "hotel <> 'Lion'"}), ("best low(price)", {"top": 1, "ties": high("price") & prefq.pos("hotel", "Lion")})):
+            for question, beside in (("best pos(hotel, 'Lion')", {"top": 1}), ("best low(price)", {"where": "hotel <> 'Lion'"}),
+                                     ("best low(price)", {"top": 1, "ties": high("price") & prefq.pos("hotel", "Lion")})):
                 with self.subTest(question, **beside), self.assertWarns(prefq.UnknownValue) as caught:
                     frame.best(question, **beside)
                 self.assertEqual(caught.filename, __file__)

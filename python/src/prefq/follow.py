@@ -61,7 +61,8 @@ class Changes(NamedTuple):
 
 
 class Snapshot(NamedTuple):
-    """All rows and the answer to a question at one moment; `version` counts how often the rows have changed, and `unknown` is what is said of the question's values."""
+    """All rows and the answer to a question at one moment. `version` counts how often the rows have changed, and `unknown` is what is said of the question's
+    values."""
 
     version: int
     columns: Sequence[Column]
@@ -235,7 +236,7 @@ class Followed:
 
     def best(self, question: AskedFor, *, at_least: Any = None, wait: float = 60.0, where: Optional[Operand] = None, top: Optional[int] = None,
              ties: Optional[AskedFor] = None, by: Names = None) -> Answer:
-        """The answer to a question, as of the place that its `at` has. `where`, `top`, `ties` and `by` are those of `Frame.best`, and the order of rows that of keys.
+        """The answer to a question, as of the place that its `at` has. `where`, `top`, `ties` and `by` are those of `Frame.best`; rows are in the order of keys.
 
         With `at_least` it sees what was committed up to this place, and is not before it: a place that is there already is answered at once, without a look at
         the database, and another one is waited for, so many seconds at most.

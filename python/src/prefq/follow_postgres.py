@@ -31,7 +31,8 @@ KINDS: Dict[str, Any] = {"real": Floats, "double precision": Floats, "boolean": 
 KEYS = (*WHOLE, "text", "character varying", "uuid", "name")
 KINDS_OF_TABLES = {"v": "a view", "m": "a materialized view", "p": "a partitioned table", "f": "a foreign table"}
 FIND = """select c.oid, c.relkind, c.relpersistence, c.relreplident, pg_relation_filenode(c.oid), quote_ident(n.nspname) || '.' || quote_ident(c.relname),
-    exists (select from pg_inherits where inhparent = c.oid), row_security_active(c.oid) from pg_class c join pg_namespace n on n.oid = c.relnamespace where c.oid = coalesce(to_regclass(quote_ident(%s)), to_regclass(%s))"""
+    exists (select from pg_inherits where inhparent = c.oid), row_security_active(c.oid)
+    from pg_class c join pg_namespace n on n.oid = c.relnamespace where c.oid = coalesce(to_regclass(quote_ident(%s)), to_regclass(%s))"""
 COLUMNS = """select attname, format_type(atttypid, null), format_type(atttypid, atttypmod), typtype, attnum from pg_attribute a join pg_type t on t.oid = atttypid
     where attrelid = %s and attnum > 0 and not attisdropped order by attnum"""
 INDEXES = """select attname, indisprimary, indisreplident, attnotnull from pg_index join pg_attribute on attrelid = indrelid and attnum = indkey[0]
@@ -186,7 +187,9 @@ class PostgresSource(Source):
     def _written(self, name: str) -> str:
         """A column as the log writes it: as its type puts values out, but for true and false."""
         column = identifier(name)
-        return f"{column}::text" if self._declared[name].plain == "boolean" else f"case when {column} is not distinct from null then null else format('%s', {column}) end"
+        if self._declared[name].plain == "boolean":
+            return f"{column}::text"
+        return f"case when {column} is not distinct from null then null else format('%s', {column}) end"
 
     def _with(self, rows: Dict[Key, List[Any]], log: Log) -> Optional[Dict[Key, Cells]]:
         """Rows with what the log says; None where that is not clear."""
