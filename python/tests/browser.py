@@ -34,6 +34,7 @@ class Browser:
             for domain in ("Page", "Runtime", "Log"):
                 self.call(f"{domain}.enable")
             self.size(width, height)
+            self.call("Emulation.setFocusEmulationEnabled", enabled=True)       # as a window that is in front
             self.call("Emulation.setEmulatedMedia", features=[{"name": "prefers-color-scheme", "value": "dark" if dark else "light"}])
         except BaseException:
             self.close()

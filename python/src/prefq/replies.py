@@ -31,8 +31,8 @@ from .hosts import Hosts
 from .kinds import Choices, Texts
 
 PAGE = Path(__file__).with_name("page")
-SCRIPTS = ("page.js", "edit.js", "plot.js", "parts.js")
-FILES = {"/": ("index.html", "text/html"), "/page.css": ("page.css", "text/css"), **{f"/{name}": (name, "text/javascript") for name in SCRIPTS}}
+SCRIPTS = ("page.js", "edit.js", "plot.js", "parts.js", "speech.js")
+FILES = {"/": ("index.html", "text/html"), "/guide.html": ("guide.html", "text/html"), "/page.css": ("page.css", "text/css"), **{f"/{name}": (name, "text/javascript") for name in SCRIPTS}}
 POLICY = ("default-src 'none'; script-src 'self'; style-src 'self'; connect-src 'self'; img-src 'self' data:; base-uri 'none'; form-action 'none'; "
           "frame-ancestors 'none'")
 EVENTS = "text/event-stream; charset=utf-8"
@@ -218,7 +218,11 @@ class Site:
             return as_json(409, {"error": str(why), "kind": why.kind, "version": why.version, "values": self._texts(why.values)})
         if isinstance(why, Refused):
             return as_json(404 if (why.kind, why.number) == ("client", 7) else 400 if why.kind == "term" else 409, reason(why))
-        return as_json(503 if isinstance(why, Error) else 400, reason(why))
+        return as_json(503 if isinstance(why, Error) else 400, {**reason(why), "column": self._column_of(why)})
+
+    def _column_of(self, why: Exception) -> Optional[str]:
+        """The name of the column that refuses a value, None where it is not one."""
+        return next((column.name for column in self.desk.columns if str(why).startswith(f"column {column.name!r} (")), None)
 
 
 def headers(kind: str) -> List[Tuple[str, str]]:

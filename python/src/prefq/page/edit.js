@@ -42,6 +42,11 @@ class Field {
     return this.control.value === "" ? null : end ? this.control.value.replaceAll("\n", end[0]) : this.control.value;
   }
 
+  set isRefused(isRefused) {
+    for (const [name, value] of [["aria-invalid", "true"], ["aria-describedby", "wrong"]]) isRefused ? this.control.setAttribute(name, value) : this.control.removeAttribute(name);
+    if (isRefused) this.control.focus();
+  }
+
   say(...parts) {
     this.chosen = null;
     this.box.querySelector(".changed")?.remove();
@@ -108,6 +113,7 @@ export function edit(columns, row, version) {
 export async function save() {
   if ($("save").disabled) return;
   $("save").disabled = true;          // until there is a reply: a second click would be another change
+  for (const field of opened.fields) field.isRefused = false;
   const changed = opened.fields.filter(field => field.isChanged);
   const values = Object.fromEntries(changed.map(field => [field.column.name, field.value]));
   try {
@@ -118,6 +124,7 @@ export async function save() {
   } catch (why) {
     $("wrong").textContent = why.reply?.kind === "changed" ? compare(why.reply) : why.status === 404 ? "Somebody else has removed this row." : why.message;
     $("wrong").hidden = false;
+    for (const field of opened.fields) if (field.column.name === why.reply?.column) field.isRefused = true;
   } finally {
     $("save").disabled = false;
   }

@@ -1,9 +1,11 @@
 // The page: asks a question, and shows each picture that the server sends.
 import {edit, remove, save} from "./edit.js";
-import {$, element, isNumber} from "./parts.js";
+import {$, counted, element, inThousands, isLong, isNumber} from "./parts.js";
 import {draw, levelName, make, shape} from "./plot.js";
+import {speak} from "./speech.js";
 
 const EXCERPT = 72;
+const NAMED = 3;        // rows of the answer that are named in a message
 const AGAIN = 3000;     // milliseconds until a server that refused to be watched is asked again
 let about, picture, stream;
 
@@ -39,12 +41,17 @@ function listen() {
   stream.addEventListener("open", async () => { if (broken && (await read()).run !== about.run) location.reload(); });
   stream.addEventListener("failed", event => { failure = JSON.parse(event.data).error; });
   stream.addEventListener("error", event => {
-    $("state").textContent = `${failure || "The server does not answer"}. Trying again …`;
+    state(`${failure || "The server does not answer"}. Trying again …`);
     failure = "";
     broken = true;
     // The browser tries again by itself, but not where it was replied that it may not watch.
     if (event.target.readyState === EventSource.CLOSED) setTimeout(() => { if (stream === event.target) listen(); }, AGAIN);
   });
+}
+
+function state(text) {
+  if ($("state").textContent !== text) speak("state", text);
+  $("state").textContent = text;
 }
 
 function refuse(reason, question) {
@@ -65,17 +72,32 @@ function pointed(question, place) {
 }
 
 function show(received) {
+  const before = picture, text = summary(received), notes = received.notes.length ? `Note: ${received.notes.join("; ")}` : "";
   picture = received;
   $("question").removeAttribute("aria-invalid");
   $("refusal").hidden = true;
   history.replaceState(null, "", `?${new URLSearchParams({question: received.question})}`);
   $("state").textContent = `Live, version ${received.version}`;
-  const levels = Math.max(0, ...received.best.map(row => row.level)), first = received.best.filter(row => row.level === 1).length;
-  const more = received.found > received.best.length ? `, of which the first ${received.best.length} are shown` : "";
-  $("summary").textContent = `${received.found} of ${received.count} rows are in the answer${more}${levels > 1 ? `: ${first} in the first level, ${received.found - first} behind it` : ""}.`;
-  $("notes").textContent = received.notes.length ? `Note: ${received.notes.join("; ")}` : "";
+  const news = before?.question === received.question ? changes(before.best, received.best) : [];
+  if (text !== $("summary").textContent || notes !== $("notes").textContent || news.length) speak("answer", [text, notes, ...news].join(" "));
+  $("summary").textContent = text;
+  $("notes").textContent = notes;
   fillTable(received);
   redraw();
+}
+
+function summary({best, found, count}) {
+  const levels = Math.max(0, ...best.map(row => row.level)), first = best.filter(row => row.level === 1).length;
+  const more = found > best.length ? `, of which the first ${counted(best.length)} are shown` : "";
+  const split = levels > 1 ? `: ${counted(first)} in the first level, ${counted(found - first)} behind it` : "";
+  return `${counted(found)} of ${counted(count)} rows are in the answer${more}${split}.`;
+}
+
+// Which rows came into the answer, and which left it.
+function changes(before, now) {
+  const without = (some, others) => some.filter(row => !others.some(other => other.id === row.id)).map(row => row.cells[name()]);
+  const told = (what, names) => names.length ? [`${what}: ${names.slice(0, NAMED).join(", ")}${names.length > NAMED ? ` and ${names.length - NAMED} more` : ""}.`] : [];
+  return [...told("New in the answer", without(now, before)), ...told("No longer in the answer", without(before, now))];
 }
 
 function redraw() {
@@ -88,8 +110,8 @@ function redraw() {
   const legend = [["first", "level 1"], ["second", "level 2"], ["further", "further levels"], ["other", "other rows"]].filter(([name]) => name === "other" || levels.has(name));
   const notes = [];
   const hidden = picture.count - picture.found - picture.others.length;
-  if (hidden > 0) notes.push(`${hidden} others are not drawn`);
-  if (count < rows.length) notes.push(`${rows.length - count} without a value on an axis`);
+  if (hidden > 0) notes.push(`${counted(hidden)} others are not drawn`);
+  if (count < rows.length) notes.push(`${counted(rows.length - count)} without a value on an axis`);
   $("legend").replaceChildren(...legend.map(([name, text]) => element("li", {}, sign(name), ` ${text}`)), ...notes.map(text => element("li", {textContent: text})));
 }
 
@@ -99,22 +121,27 @@ function sign(name) {
   return svg;
 }
 
-// The places of the columns as the table has them: the first of texts, which is mostly a name, those of the question, and the others.
+// The place of the column that names a row: the first of texts, if there is one.
+function name() {
+  return Math.max(0, about.columns.findIndex(column => column.kind === "text" || column.kind === "choice"));
+}
+
+// The places of the columns as the table has them: that of the names, those of the question, and the others.
 function order() {
-  const name = about.columns.findIndex(column => column.kind === "text" || column.kind === "choice");
   const asked = picture.asked.map(asked => about.columns.findIndex(column => column.name === asked));
-  return [...new Set([...(name < 0 ? [] : [name]), ...asked, ...about.columns.keys()])];
+  return [...new Set([name(), ...asked, ...about.columns.keys()])];
 }
 
 function fillTable({best, version}) {
   const places = order(), body = $("rows").tBodies[0], focus = document.activeElement;
   const head = (textContent, column) => element("th", {scope: "col", textContent, className: isNumber(column) ? "number" : ""});
-  $("rows").tHead.replaceChildren(element("tr", {}, head("Level"), ...places.map(at => head(about.columns[at].name, about.columns[at])), ...(about.editable ? [head("Change")] : [])));
+  const areLong = new Set(places.filter(at => isNumber(about.columns[at]) && best.some(row => isLong(row.cells[at]))));
+  $("rows").tHead.replaceChildren(element("tr", {}, head("Level"), ...places.map(at => head(about.columns[at].name, about.columns[at])), ...(about.editable ? [element("th", {scope: "col", textContent: "Change", className: "actions"})] : [])));
   body.replaceChildren(...best.map(row => {
-    const cells = places.map(at => element("td", {textContent: row.cells[at], className: isNumber(about.columns[at]) ? "number" : ""}));
+    const cells = places.map(at => element("td", {className: isNumber(about.columns[at]) ? "number" : ""}, ...(areLong.has(at) ? inThousands(row.cells[at]) : [row.cells[at]])));
     const line = element("tr", {}, element("td", {textContent: row.level, className: levelName(row.level)}), ...cells);
     line.dataset.id = row.id;
-    if (about.editable) line.append(element("td", {}, action("Edit", row, () => edit(about.columns, row, version)), " ", action("Remove", row, () => remove(row, version))));
+    if (about.editable) line.append(element("td", {className: "actions"}, action("Edit", row, () => edit(about.columns, row, version)), " ", action("Remove", row, () => remove(row, version))));
     return line;
   }));
   // The button that had the focus has it again, where its row is still there.

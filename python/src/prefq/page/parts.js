@@ -1,4 +1,6 @@
-// What the other files build the page of.
+// What the other files build the page of, and what it says of what was done.
+import {speak} from "./speech.js";
+
 export const $ = id => document.getElementById(id);
 
 export function element(tag, properties = {}, ...children) {
@@ -11,6 +13,27 @@ export function isNumber(column) {
   return Boolean(column) && ["whole", "decimal", "float"].includes(column.kind);
 }
 
+// How many rows there are, as it is read.
+export function counted(number) {
+  return number.toLocaleString("en");
+}
+
+const PLAIN_NUMBER = /^(-?)(\d+)(\.\d+)?$/;
+const LONG = 5;         // digits before the point: fewer are read at a glance, and may be a year
+
+export function isLong(text) {
+  return text.match(PLAIN_NUMBER)?.[2].length >= LONG;
+}
+
+// A number with its thousands apart. The commas are drawn alone: the text of the cell, which may be copied, is the value.
+export function inThousands(text) {
+  const [, sign, whole, rest = ""] = text.match(PLAIN_NUMBER) ?? [];
+  if (whole === undefined) return [text];
+  const groups = whole.match(/\d{1,3}(?=(?:\d{3})*$)/g);
+  return [sign, ...groups.slice(0, -1).map(group => element("span", {className: "thousands", textContent: group})), groups[groups.length - 1] + rest];
+}
+
 export function said(...parts) {
   $("done").replaceChildren(...parts);
+  speak("done", $("done").textContent);
 }

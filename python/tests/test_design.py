@@ -1,0 +1,181 @@
+"""What a designer looks at on the page: contrast, sizes, names, paper, wide tables, and what is said of a change. `audit.js` has the checks of each part."""
+import base64
+import json
+import re
+import unittest
+from contextlib import contextmanager
+from pathlib import Path
+
+from prefq import server
+from support import TestCase
+from test_page import Paged
+from test_serve import ask, get, served
+
+AUDIT = Path(__file__).with_name("audit.js").read_text()
+SIZES = [(1280, 900), (390, 844), (320, 700)]
+PEOPLE = [{"Hotel": name, "Price (EUR)": price, "Distance": distance, "Opened": None, "Guests": guests}
+          for name, price, distance, guests in [("Quay", "40", 1200, 1998), ("Alpine", "99", 540, 53940), ("Garden", "170", 170, -1234567), ("Full", "99", 900, 7)]]
+
+
+class Designed(Paged):
+    """What the tests of this file do on the page."""
+
+    def audit(self):
+        """What the checks find, by their names."""
+        return self.browser.js(AUDIT)
+
+    @contextmanager
+    def seen(self, width, height, dark=False, media="screen"):
+        """The page at a size, in the dark or not, on a screen or on paper."""
+        self.emulate(media, dark)
+        self.browser.size(width, height)
+        self.browser.until(f"document.documentElement.clientWidth === {width}")
+        try:
+            yield
+        finally:
+            self.emulate("screen", False)
+            self.browser.size(1200, 860)
+
+    def emulate(self, media, dark):
+        self.browser.call("Emulation.setEmulatedMedia", media=media, features=[{"name": "prefers-color-scheme", "value": "dark" if dark else "light"}])
+
+    def style(self, selector, name, pseudo=None):
+        return self.browser.js(f"getComputedStyle(document.querySelector({json.dumps(selector)}), {json.dumps(pseudo)}).{name}")
+
+    def refuse(self):
+        self.ask("best low(Distanze)")
+        self.browser.until("!document.getElementById('refusal').hidden")
+
+    def until_version(self, version):
+        self.browser.until(f"document.getElementById('state').textContent === 'Live, version {version}'")
+
+
+class Checks(Designed):
+    """Contrast of 4.5 and 3, targets of 24 px, the focus seen, names, headings, landmarks, and no sideways scroll."""
+
+    def states(self):
+        """Each state of the page that has parts of its own, and what leads there."""
+        return {"page": lambda: None, "editor": lambda: self.browser.click("#rows .actions button"), "refused": self.refuse}
+
+    def test_each_part_at_each_size_in_light_and_in_the_dark(self):
+        for width, height in SIZES:
+            for dark in (False, True):
+                for state, lead in self.states().items():
+                    with self.subTest(width=width, dark=dark, state=state), self.seen(width, height, dark):
+                        self.open()
+                        lead()
+                        self.assertEqual(self.audit(), {})
+
+    def test_the_guide(self):
+        self.assertEqual(self.browser.js("document.querySelector('header a').textContent"), "Guide")
+        self.browser.open(f"{self.server.url}guide.html")
+        self.browser.until("document.readyState === 'complete' && document.title === 'Guide to questions'")
+        for width, height in SIZES:
+            for dark in (False, True):
+                with self.seen(width, height, dark):
+                    self.assertEqual(self.audit(), {}, (width, dark))
+        self.browser.click("header a")
+        self.browser.until("document.querySelectorAll('#rows tbody tr').length === 5")
+
+    def test_the_checks_see_what_is_wrong(self):
+        harm = {"texts": "document.getElementById('summary').style.color = '#999'", "graphics": "document.documentElement.style.setProperty('--other', '#a6afb8')",
+                "targets": "document.querySelector('#rows td button').style.cssText = 'min-height: 0; min-width: 0; padding: 0; font-size: 9px'",
+                "focus": "document.getElementById('add').style.outline = 'none'", "names": "document.querySelector('label[for=question]').remove()",
+                "references": "document.getElementById('summary').id = 'other'", "outline": "document.getElementById('best').outerHTML = '<h4 id=best>Best</h4>'",
+                "sideways": "document.body.append(Object.assign(document.createElement('div'), {className: 'wide'})); document.querySelector('.wide').style.width = '3000px';"
+                            "document.querySelector('.wide').style.height = '1px'", "cells": "document.querySelector('th').removeAttribute('scope')"}
+        for check, code in harm.items():
+            with self.subTest(check=check):
+                self.open()
+                self.browser.js(code)
+                self.assertEqual(list(self.audit()), [check])
+
+
+class Paper(Designed):
+    def test_all_rows_are_printed_and_nothing_that_is_clicked(self):
+        self.ask("top_level 9 low(Distance)")
+        self.browser.until("document.querySelectorAll('#rows tbody tr').length === 8")
+        with self.seen(720, 1000, dark=True, media="print"):
+            self.assertEqual(self.browser.js("[...document.querySelectorAll('button, select, input, a')].filter(part => part.checkVisibility()).map(part => part.outerHTML)"), [])
+            self.assertEqual((self.style("body", "backgroundColor"), self.style(".scroll", "overflow"), self.style(".scroll", "maxHeight"), self.style("thead", "display")),
+                             ("rgb(255, 255, 255)", "visible", "none", "table-header-group"))
+            self.assertEqual(self.browser.js("[document.documentElement.scrollWidth, document.querySelector('.scroll').scrollWidth <= document.querySelector('.scroll').clientWidth]"), [720, True])
+            self.assertEqual(self.browser.js("document.querySelector('.scroll').scrollHeight - document.querySelector('.scroll').clientHeight"), 0)
+            self.assertIn("low(Distance)", self.browser.js("document.getElementById('question').checkVisibility() && document.getElementById('question').value"))
+
+    def test_a_long_answer_takes_several_sheets(self):
+        records = [{"Hotel": f"Hotel {number}", "Price (EUR)": number, "Distance": 300 - number, "Opened": None} for number in range(200)]
+        with served(records) as server:
+            self.browser.open(server.url)
+            self.browser.until("document.querySelectorAll('#rows tbody tr').length === 200")
+            printed = self.browser.call("Page.printToPDF")["data"]
+            self.assertGreater(sheets(printed), 3)
+
+
+def sheets(printed):
+    """How many pages a PDF has, which comes in base64."""
+    return len(re.findall(rb"/Type\s*/Page\b", base64.b64decode(printed)))
+
+
+class Numbers(Designed):
+    records = PEOPLE
+    kinds = {"Hotel": "text", "Price (EUR)": "decimal(2)", "Distance": "whole", "Opened": "date", "Guests": "whole"}
+
+    def test_thousands_stand_apart_and_the_text_stays_the_value(self):
+        self.ask("top_level 9 high(Guests)")
+        self.browser.until("document.querySelectorAll('#rows th')[2].textContent === 'Guests'")
+        cells = self.browser.js("[...document.querySelectorAll('#rows tbody tr')].map(row => row.children[2]).map(cell => [cell.textContent,"
+                                " [...cell.childNodes].map(part => part.className === 'thousands' ? part.textContent + getComputedStyle(part, '::after').content : part.textContent).join('')])")
+        self.assertEqual(cells, [["53940", '53","940'], ["1998", '1","998'], ["7", "7"], ["-1234567", '-1","234","567']])
+        self.assertEqual(self.style("#rows td:nth-child(3)", "textAlign"), "right")
+        # Numbers that are all short, as years are, stay as they are.
+        self.assertEqual(self.browser.js("document.querySelectorAll('#rows td:nth-child(5) .thousands').length"), 0)
+
+    def test_counts_are_in_thousands(self):
+        records = [{"Hotel": "x", "Price (EUR)": number, "Distance": number} for number in range(1200)]
+        with served(records) as server:
+            self.browser.open(f"{server.url}?question=best+low(Distance)")
+            self.browser.until("document.getElementById('summary').textContent === '1 of 1,200 rows are in the answer.'")
+
+
+class Messages(Designed):
+    def setUp(self):
+        super().setUp()
+        self.browser.until("document.getElementById('spoken').textContent")        # of the first picture
+        self.browser.js("window.messages = []; new MutationObserver(() => messages.push(document.getElementById('spoken').textContent))"
+                        ".observe(document.getElementById('spoken'), {childList: true, characterData: true, subtree: true})")
+
+    def test_one_polite_message_for_a_change(self):
+        self.assertEqual(self.browser.js("[...document.querySelectorAll('[aria-live], [role=status], [role=log]')].map(part => part.id)"), ["spoken"])
+        for version, change in enumerate([{"Price (EUR)": "41"}, {"Price (EUR)": "42"}, {"Price (EUR)": "500", "Distance": 9000}], 2):
+            self.server.desk.update(1, change)
+            self.until_version(version)
+        self.browser.until("messages.length")
+        said = self.browser.js("messages")
+        self.assertEqual(len(said), 1)
+        self.assertIn("No longer in the answer: Quay.", said[0])
+
+    def test_what_is_refused_is_said_and_marked_at_its_field(self):
+        page = self.browser
+        page.click("#rows .actions button")
+        page.fill('#fields [name="Distance"]', "far")
+        page.click("#save")
+        page.until("!document.getElementById('wrong').hidden")
+        page.faults.clear()
+        self.assertEqual(page.js("[...document.querySelectorAll('#fields [aria-invalid=true]')].map(part => [part.name, part.getAttribute('aria-describedby'), part === document.activeElement])"),
+                         [["Distance", "wrong", True]])
+        page.fill('#fields [name="Distance"]', "77")
+        page.click("#save")
+        self.until_version(2)
+        self.assertEqual(page.count("#fields [aria-invalid]"), 0)
+
+
+class Refusals(TestCase):
+    def test_a_refused_value_has_its_column(self):
+        with served() as running:
+            for value, column in [({"Distance": "far"}, "Distance"), ({"Price (EUR)": "9.999"}, "Price (EUR)"), ({"Distanze": 1}, None)]:
+                self.assertEqual(ask(running, "PUT", "/rows/1", value)[1]["column"], column)
+
+
+if __name__ == "__main__":
+    unittest.main()
