@@ -6,10 +6,10 @@ import unittest
 from contextlib import contextmanager
 from pathlib import Path
 
-from prefq import server
+import prefq
 from support import TestCase
 from test_page import Paged
-from test_serve import ask, get, served
+from test_serve import ask, served
 
 AUDIT = Path(__file__).with_name("audit.js").read_text()
 SIZES = [(1280, 900), (390, 844), (320, 700)]
@@ -96,7 +96,7 @@ class Paper(Designed):
         self.ask("top_level 9 low(Distance)")
         self.browser.until("document.querySelectorAll('#rows tbody tr').length === 8")
         with self.seen(720, 1000, dark=True, media="print"):
-            self.assertEqual(self.browser.js("[...document.querySelectorAll('button, select, input, a')].filter(part => part.checkVisibility()).map(part => part.outerHTML)"), [])
+            self.assertEqual(self.browser.js("[...document.querySelectorAll('button:not(.sort), select, input, a')].filter(part => part.checkVisibility()).map(part => part.outerHTML)"), [])
             self.assertEqual((self.style("body", "backgroundColor"), self.style(".scroll", "overflow"), self.style(".scroll", "maxHeight"), self.style("thead", "display")),
                              ("rgb(255, 255, 255)", "visible", "none", "table-header-group"))
             self.assertEqual(self.browser.js("[document.documentElement.scrollWidth, document.querySelector('.scroll').scrollWidth <= document.querySelector('.scroll').clientWidth]"), [720, True])
@@ -136,6 +136,93 @@ class Numbers(Designed):
         with served(records) as server:
             self.browser.open(f"{server.url}?question=best+low(Distance)")
             self.browser.until("document.getElementById('summary').textContent === '1 of 1,200 rows are in the answer.'")
+
+
+WIDE = [{"Name": name, **{f"Measure {number}": str(value * number) for number in range(1, 14)}, "Large": large}
+        for name, value, large in [("Quay", 3, 2**53 + 1), ("Alpine", 5, 2**53), ("Garden", 1, None), ("Station with a name that is rather long", 4, -2**60)]]
+
+
+class Tables(Designed):
+    """Wide tables, their order, a filter, the file, and the address."""
+
+    records = WIDE
+    kinds = {"Name": "text", **{f"Measure {number}": "whole" for number in range(1, 14)}, "Large": "whole"}
+
+    def open(self, question='top_level 9 low("Measure 1")'):
+        super().open(question)
+
+    def names(self):
+        return [name.split()[0] for name in self.rows()]
+
+    def sort(self, name):
+        self.browser.js(f"[...document.querySelectorAll('#rows .sort')].find(button => button.textContent === {json.dumps(name)}).click()")
+
+    def places(self):
+        """How far the name and the buttons of the last row are from both ends of the table's box."""
+        return self.browser.js("""(() => {
+            const box = document.querySelector(".scroll"), at = box.getBoundingClientRect(), row = document.querySelector("#rows tbody tr:last-child");
+            return [row.querySelector(".name").getBoundingClientRect().left - at.left - box.clientLeft, at.right - box.clientLeft - row.querySelector(".actions").getBoundingClientRect().right].map(Math.round);
+        })()""")
+
+    def test_the_name_and_the_buttons_stay_at_hand(self):
+        for width, height in SIZES:
+            with self.seen(width, height):
+                self.assertTrue(self.browser.js("document.querySelector('.scroll').scrollWidth > document.querySelector('.scroll').clientWidth + 100"))
+                self.assertEqual(self.places()[1], 0, width)
+                self.browser.js("document.querySelector('.scroll').scrollLeft = 1e6")
+                self.assertEqual(self.places(), [0, 0], width)
+                self.assertEqual(self.audit(), {})
+                self.browser.js("document.querySelector('.scroll').scrollLeft = 0")
+
+    def test_ids_are_shown(self):
+        self.assertEqual(self.browser.js("[...document.querySelectorAll('#rows tbody tr')].map(row => row.querySelector('.id').textContent)"), ["3", "1", "4", "2"])
+
+    def test_a_head_sorts_up_down_and_as_answered(self):
+        page = self.browser
+        self.assertEqual(self.names(), ["Garden", "Quay", "Station", "Alpine"])
+        for name, way, names in [("Large", "ascending", ["Station", "Alpine", "Quay", "Garden"]), ("Large", "descending", ["Quay", "Alpine", "Station", "Garden"]),
+                                 ("Large", "none", ["Garden", "Quay", "Station", "Alpine"]), ("Name", "ascending", ["Alpine", "Garden", "Quay", "Station"]),
+                                 ("Id", "ascending", ["Quay", "Alpine", "Garden", "Station"]), ("Level", "ascending", ["Garden", "Quay", "Station", "Alpine"])]:
+            self.sort(name)
+            self.assertEqual((self.names(), page.js(f"[...document.querySelectorAll('#rows th[scope=col]')].find(head => head.textContent === {json.dumps(name)}).ariaSort")), (names, way))
+            self.assertLessEqual(page.js("[...document.querySelectorAll('#rows [aria-sort]')].filter(head => head.ariaSort !== 'none').length"), 1)
+
+    def test_the_order_and_the_focus_stay_where_rows_change(self):
+        self.sort("Name")
+        self.browser.js("document.querySelector('#rows .name .sort').focus()")
+        self.server.desk.insert({"Name": "Beach", "Measure 1": 1})
+        self.until_version(2)
+        self.assertEqual(self.names(), ["Alpine", "Beach", "Garden", "Quay", "Station"])
+        self.assertEqual(self.browser.js("document.activeElement.textContent"), "Name")
+
+    def test_a_filter(self):
+        for text, names in [("A", ["Garden", "Quay", "Station", "Alpine"]), ("LONG", ["Station"]), ("3", ["Garden", "Quay", "Station", "Alpine"]), ("zz", []), ("", ["Garden", "Quay", "Station", "Alpine"])]:
+            self.browser.fill("#filter", text)
+            self.browser.js("document.getElementById('filter').dispatchEvent(new Event('input'))")
+            self.assertEqual(self.names(), names, text)
+            self.assertEqual(self.browser.text("#matches"), f"{len(names)} of 4 rows that are shown have “{text}”." if text else "")
+
+    def test_the_file_of_the_answer(self):
+        self.ask('best high(Large) * low("Measure 2")')
+        self.browser.until("document.querySelectorAll('#rows tbody tr').length === 2")
+        received = self.browser.js("fetch(document.getElementById('download').href).then(reply => reply.text())")
+        with prefq.Frame.from_records(self.records, kinds=self.kinds) as frame:
+            self.assertEqual(received, frame.best('best high(Large) * low("Measure 2")').to_csv())
+        self.assertEqual(self.browser.js("document.getElementById('download').download"), "answer.csv")
+
+    def test_back_goes_back(self):
+        page = self.browser
+        self.ask("best high(Large)")
+        page.until("document.querySelectorAll('#rows tbody tr').length === 1")
+        page.js("document.getElementById('x').value = 'Measure 3'; document.getElementById('x').dispatchEvent(new Event('change'))")
+        page.until("document.querySelector('#plot text.name').textContent === 'Measure 3'")
+        self.refuse()
+        self.assertIn("Distanze", page.js("location.search"))
+        for back, question, axis, count in [("history.back()", "best high(Large)", "Measure 3", 1), ("history.back()", "best high(Large)", "Large", 1),
+                                            ("history.back()", 'top_level 9 low("Measure 1")', "Measure 1", 4), ("history.forward()", "best high(Large)", "Large", 1)]:
+            page.js(f"{back}; 0")
+            page.until(f"document.getElementById('question').value === {json.dumps(question)} && document.querySelectorAll('#rows tbody tr').length === {count}"
+                       f" && document.querySelector('#plot text.name').textContent === {json.dumps(axis)} && document.getElementById('refusal').hidden")
 
 
 class Messages(Designed):

@@ -80,7 +80,7 @@ class Page(Paged):
         self.assertEqual(page.js("[...document.querySelectorAll('#plot text.name')].map(text => text.textContent)"), ["Price (EUR)", "Distance"])
         self.assertEqual(self.rows(), ["Quay", "Alpine", "Garden", "Old Town", "River"])
         self.assertEqual(self.rows(1), ["1", "1", "1", "2", "2"])
-        self.assertEqual(page.js("[...document.querySelectorAll('#rows th')].map(cell => cell.textContent)"), ["Level", "Hotel", "Price (EUR)", "Distance", "Opened", "Change"])
+        self.assertEqual(page.js("[...document.querySelectorAll('#rows thead th')].map(cell => cell.textContent)"), ["Level", "Hotel", "Price (EUR)", "Distance", "Opened", "Id", "Change"])
         self.assertEqual(page.js("document.querySelector('#plot .stairs').getAttribute('d').match(/[ML]/g).length"), 5)
         self.assertTrue(page.js("""(() => {
             const plot = document.getElementById("plot").getBoundingClientRect();
@@ -144,7 +144,7 @@ class Page(Paged):
         page.js("document.getElementById('x').value = 'Opened'; document.getElementById('x').dispatchEvent(new Event('change'))")
         page.until("document.querySelector('#plot text.name').textContent === 'Opened'")
         ticks = page.js("[...document.querySelectorAll('#plot text')].map(text => text.textContent)")
-        self.assertEqual([tick for tick in ticks if len(tick) == 4 and tick.isdigit()], ["1995", "2000", "2005", "2010", "2015", "2020", "2025"])
+        self.assertEqual([tick for tick in ticks if len(tick) == 4 and tick.isdigit()], ["1990", "2000", "2010", "2020", "2030"])
         self.assertEqual(page.js("document.querySelectorAll('#plot text.name')[1].textContent"), "Price (EUR)")
 
     def test_rows_are_added_repriced_removed_and_added_again(self):
@@ -185,9 +185,9 @@ class Page(Paged):
                 page.until("document.getElementById('state').textContent === 'Live, version 2'")
             self.ask("best low(Distance) & high(Opened)")
             self.browser.until("document.querySelectorAll('#rows tbody tr').length === 1")
-            self.assertEqual(other.js("document.querySelector('#rows tbody').innerText"), "\n".join(
-                "\t".join(cells) for cells in [["1", "Garden", "170.00", "170", "1999-01-31", "Edit Remove"], ["1", "River", "30.00", "490", "2010-02-03", "Edit Remove"],
-                                               ["2", "Quay", "40.00", "1200", "2001-05-01", "Edit Remove"], ["2", "Alpine", "99.00", "540", "", "Edit Remove"]]))
+            self.assertEqual(other.js("[...document.querySelectorAll('#rows tbody tr')].map(row => [...row.children].map(cell => cell.textContent))"),
+                             [["1", "Garden", "170.00", "170", "1999-01-31", "3", "EditRemove"], ["1", "River", "30.00", "490", "2010-02-03", "5", "EditRemove"],
+                              ["2", "Quay", "40.00", "1200", "2001-05-01", "1", "EditRemove"], ["2", "Alpine", "99.00", "540", "", "2", "EditRemove"]])
             self.assertEqual(other.faults, [])
 
     @test_asgi.CAN_BE_MOUNTED

@@ -25,6 +25,7 @@ from prefq.replies import MOST_BODY
 from prefq.server import Server
 from support import TestCase
 
+PAGE = Path(replies.__file__).with_name("page")
 EXAMPLES = Path(__file__).resolve().parents[2] / "examples"
 RECORDS = [
     {"Hotel": "Quay <b>", "Price (EUR)": "59.90", "Distance": 900, "Opened": "2001-05-01"},
@@ -131,7 +132,7 @@ class Pictures(Served):
             self.assertEqual((status, about["title"], about["questions"], about["editable"]), (200, "Hotels", ["best low(Distance)"], True))
             self.assertEqual([(column["name"], column["spelled"], column["axis"]) for column in about["columns"]],
                              [("Hotel", "Hotel", False), ("Price (EUR)", '"Price (EUR)"', True), ("Distance", "Distance", True), ("Opened", "Opened", True)])
-            for path, kind in [("/", "text/html"), ("/page.css", "text/css"), ("/page.js", "text/javascript"), ("/edit.js", "text/javascript"), ("/parts.js", "text/javascript"), ("/plot.js", "text/javascript")]:
+            for path, kind in [("/", "text/html"), ("/guide.html", "text/html"), ("/page.css", "text/css"), *((f"/{file.name}", "text/javascript") for file in PAGE.glob("*.js"))]:
                 reply, body = get(server, path)
                 self.assertEqual((reply.status, reply.getheader("Content-Type")), (200, f"{kind}; charset=utf-8"))
                 self.assertIn("default-src 'none'", reply.getheader("Content-Security-Policy"))
@@ -161,6 +162,23 @@ class Pictures(Served):
             self.assertEqual((shown["axes"], shown["best"][0]["x"], shown["others"][0][1]), (["Opened", "Distance"], None, 11_443))
             self.assertEqual((shown["notes"], picture(server, "best pos(Hotel, 'Xyz', 'Alpine')")[1]["notes"]), ([], ["no row of 'Hotel' has 'Xyz'"]))
             self.assertEqual(picture(server, "best low(Distance)", x="Hotel", y="nothing")[1]["axes"], ["Distance", "Price (EUR)"])
+
+    def test_the_whole_answer_is_the_file_that_a_frame_writes(self):
+        rng = random.Random(68)
+        records = [{"Hotel": rng.choice(["a, b", 'c "d"', "é\n", "", "Nö"]), "Price (EUR)": rng.choice([None, f"{rng.uniform(-9, 9):.2f}", "90071992547409.93"]),
+                    "Distance": rng.choice([None, rng.randint(-3, 3), 2**53 + rng.randint(0, 3)]), "Opened": rng.choice([None, "2001-05-01", "1999-12-31"])} for _ in range(900)]
+        with self.served(records) as server, prefq.Frame.from_records(records, kinds=KINDS) as frame:
+            for question in ("best low(Distance) * low(Opened)", "top_level 999 high(\"Price (EUR)\")", "at_least 40 pos(Hotel, 'Nö') & low(Distance) by Opened", "skyline of distinct Distance min"):
+                reply, body = get(server, f"/answer.csv?{urlencode({'question': question})}")
+                self.assertEqual((reply.status, reply.getheader("Content-Type"), body.decode()), (200, "text/csv; charset=utf-8", frame.best(question).to_csv()))
+            self.assertEqual(ask(server, "GET", "/answer.csv?question=best+lo")[1]["place"], 5)
+
+    def test_ranks_are_those_of_the_values(self):
+        records = [{"Hotel": name, "Price (EUR)": price, "Distance": distance, "Opened": None}
+                   for name, price, distance in [("b", "5", 2**53 + 1), ("A", None, 2**53), ("a", "-90071992547409.93", -1), ("", "90071992547409.93", None), ("b", "5.00", 2**53 + 1)]]
+        with self.served(records) as server:
+            shown = picture(server, "top_level 9 high(Distance)")[1]["best"]
+            self.assertEqual({row["id"]: row["ranks"] for row in shown}, {1: [3, 1, 2, None], 2: [1, None, 1, None], 3: [2, 0, 0, None], 4: [0, 2, None, None], 5: [3, 1, 2, None]})
 
     def test_twins_of_a_distinct_clause(self):
         records = [{"Hotel": name, "Price (EUR)": price, "Distance": 1} for name, price in [("a", "5"), ("b", None), ("c", "5"), ("d", "5")]]

@@ -5,10 +5,12 @@ import threading
 from decimal import Decimal
 from typing import Any, Dict, List, Optional, Sequence, Tuple
 
+from .answer import Answer
 from .columns import Column, spelled
 from .desk import Desk, Held, Numbers
 from .kept import Kept
 from .kinds import Booleans, Choices, Clock, Dates, Texts
+from .records import Record
 
 MOST_BEST = 500         # rows of an answer that are sent; a page is no place for more
 MOST_OTHERS = 2000      # other rows that are drawn
@@ -29,13 +31,22 @@ def picture(desk: Desk, question: str, axes: Sequence[Optional[str]] = (None, No
     columns = seen.columns
     x, y = chosen(columns, seen.asked, axes)
     label = next((place for place, column in enumerate(columns) if isinstance(column.kind, (Texts, Choices))), None)
-    best = [{"id": row.id, "level": row.level, "cells": texts(columns, row.numbers), "x": at(columns, row, x), "y": at(columns, row, y)}
-            for row in seen.best[:MOST_BEST]]
+    shown = seen.best[:MOST_BEST]
+    best = [{"id": row.id, "level": row.level, "cells": texts(columns, row.numbers), "ranks": places, "x": at(columns, row, x), "y": at(columns, row, y)}
+            for row, places in zip(shown, ranks(columns, [row.numbers for row in shown]))]
     among = {row.id for row in seen.best}
     others = sample([row for row in seen.rows if row.id not in among])
     points = [[row.id, at(columns, row, x), at(columns, row, y), "" if label is None else texts(columns, row.numbers)[label]] for row in others]
     return {"version": seen.version, "question": question, "count": len(seen.rows), "found": len(seen.best), "best": best, "others": points,
             "notes": list(seen.notes), "asked": [column.name for column in seen.asked], "axes": [None if axis is None else columns[axis].name for axis in (x, y)]}
+
+
+def answer(desk: Desk, question: str) -> Answer:
+    """The whole answer at one version."""
+    seen = desk.picture(question)
+    names = [column.name for column in seen.columns]
+    values = (zip(names, (column.decode(number) for column, number in zip(seen.columns, row.numbers))) for row in seen.best)
+    return Answer(question, seen.columns, [Record(pairs, id=row.id, level=row.level) for row, pairs in zip(seen.best, values)])
 
 
 class Shown:
@@ -91,6 +102,20 @@ def at(columns: Sequence[Column], row: Any, axis: Optional[int]) -> Any:
 def texts(columns: Sequence[Column], numbers: Numbers) -> List[str]:
     """The values of a row as a file has them."""
     return [column.text(column.decode(number)) for column, number in zip(columns, numbers)]
+
+
+def ranks(columns: Sequence[Column], rows: Sequence[Numbers]) -> List[Tuple[Optional[int], ...]]:
+    """At which place of the order of its column each value of some rows is, so that a page can sort by it; None where it is missing."""
+    return list(zip(*(ranks_in(column, numbers) for column, numbers in zip(columns, zip(*rows)))))
+
+
+def ranks_in(column: Column, numbers: Sequence[int]) -> List[Optional[int]]:
+    """Those of a column. Texts are in the order of the alphabet, all else in that of their numbers."""
+    values = {number: column.decode(number) for number in numbers}
+    ordered = sorted((number for number in values if values[number] is not None),
+                     key=lambda number: (values[number].casefold(), values[number]) if isinstance(column.kind, Texts) else number)
+    places: Dict[int, Optional[int]] = {number: place for place, number in enumerate(ordered)}
+    return [places.get(number) for number in numbers]
 
 
 def sample(rows: List[Held]) -> List[Held]:

@@ -2,7 +2,8 @@
 
     GET /about                   the columns, and questions to begin with
     GET /picture?question=..     the answer and the other rows at one version, as JSON; &x=..&y=.. choose the axes
-    GET /events?question=..      the same as server-sent events, at once and after each change; the last one is `event: refused` where the question is, and
+    GET /answer.csv?question=..  the whole answer as comma-separated values
+    GET /events?question=..      pictures as server-sent events, at once and after each change; the last one is `event: refused` where the question is, and
                                  `event: failed` where the table has ended
     POST /rows                   {"Price": 59.9, ..}, a new row; replies its id
     PUT /rows/7                  {"Price": 64.9}, other values for a row
@@ -31,7 +32,7 @@ from .hosts import Hosts
 from .kinds import Choices, Texts
 
 PAGE = Path(__file__).with_name("page")
-SCRIPTS = ("page.js", "edit.js", "plot.js", "parts.js", "speech.js")
+SCRIPTS = ("page.js", "edit.js", "plot.js", "parts.js", "speech.js", "table.js")
 FILES = {"/": ("index.html", "text/html"), "/guide.html": ("guide.html", "text/html"), "/page.css": ("page.css", "text/css"), **{f"/{name}": (name, "text/javascript") for name in SCRIPTS}}
 POLICY = ("default-src 'none'; script-src 'self'; style-src 'self'; connect-src 'self'; img-src 'self' data:; base-uri 'none'; form-action 'none'; "
           "frame-ancestors 'none'")
@@ -149,6 +150,8 @@ class Site:
         asked = (self.about["questions"][0] if question is None else question, [request.given(axis) for axis in ("x", "y")])
         if request.path == "/picture":
             return Route(lambda _: Reply(200, "application/json", self.shown.get(*asked)[1].encode()), makes_picture=True)
+        if request.path == "/answer.csv":
+            return Route(lambda _: Reply(200, "text/csv; charset=utf-8", pictures.answer(self.desk, asked[0]).to_csv().encode()), makes_picture=True)
         if request.path == "/events":
             return Watch(self, *asked)
         raise Wrong(404, f"there is no {request.path}")

@@ -1,8 +1,9 @@
 // The page: asks a question, and shows each picture that the server sends.
 import {edit, remove, save} from "./edit.js";
-import {$, counted, element, inThousands, isLong, isNumber} from "./parts.js";
+import {$, counted, element} from "./parts.js";
 import {draw, levelName, make, shape} from "./plot.js";
 import {speak} from "./speech.js";
+import {fillTable, namePlace} from "./table.js";
 
 const EXCERPT = 72;
 const NAMED = 3;        // rows of the answer that are named in a message
@@ -19,22 +20,44 @@ async function begin() {
   $("examples").append(element("option", {textContent: "choose …", value: ""}), ...about.questions.map(text => element("option", {textContent: text, value: text})));
   for (const axis of ["x", "y"]) {
     $(axis).append(element("option", {textContent: "as asked", value: ""}), ...about.columns.filter(column => column.axis).map(column => element("option", {textContent: column.name, value: column.name})));
-    $(axis).addEventListener("change", listen);
+    $(axis).addEventListener("change", ask);
   }
-  $("question").value = new URLSearchParams(location.search).get("question") || about.questions[0];
   $("add").hidden = !about.editable;
+  addEventListener("popstate", restore);
+  restore();
+}
+
+// What is asked is in the address, so that Back goes back to the question before.
+function restore() {
+  const asked = new URLSearchParams(location.search);
+  $("question").value = asked.get("question") || about.questions[0];
+  for (const axis of ["x", "y"]) $(axis).value = about.columns.some(column => column.axis && column.name === asked.get(axis)) ? asked.get(axis) : "";
   listen();
 }
 
+function ask() {
+  const address = `?${asked()}`;
+  if (address !== location.search) history.pushState(null, "", address);
+  listen();
+}
+
+function asked() {
+  const found = new URLSearchParams({question: $("question").value.trim().replace(/\s*\n\s*/g, " ")});
+  for (const axis of ["x", "y"]) if ($(axis).value) found.set(axis, $(axis).value);
+  return found;
+}
+
 function listen() {
-  const asked = {question: $("question").value.trim().replace(/\s*\n\s*/g, " ")};
-  for (const axis of ["x", "y"]) if ($(axis).value) asked[axis] = $(axis).value;
+  const query = asked();
   if (stream) stream.close();
-  stream = new EventSource(`events?${new URLSearchParams(asked)}`);
-  stream.addEventListener("message", event => show(JSON.parse(event.data)));
+  stream = new EventSource(`events?${query}`);
+  stream.addEventListener("message", event => {
+    $("download").href = `answer.csv?${query}`;
+    show(JSON.parse(event.data));
+  });
   stream.addEventListener("refused", event => {
     event.target.close();
-    refuse(JSON.parse(event.data), asked.question);
+    refuse(JSON.parse(event.data), query.get("question"));
   });
   let failure = "", broken = false;
   // Where the server was started anew, its columns and rows may be others.
@@ -76,26 +99,25 @@ function show(received) {
   picture = received;
   $("question").removeAttribute("aria-invalid");
   $("refusal").hidden = true;
-  history.replaceState(null, "", `?${new URLSearchParams({question: received.question})}`);
   $("state").textContent = `Live, version ${received.version}`;
   const news = before?.question === received.question ? changes(before.best, received.best) : [];
   if (text !== $("summary").textContent || notes !== $("notes").textContent || news.length) speak("answer", [text, notes, ...news].join(" "));
   $("summary").textContent = text;
   $("notes").textContent = notes;
-  fillTable(received);
+  fillTable(about.columns, received, actions);
   redraw();
 }
 
 function summary({best, found, count}) {
   const levels = Math.max(0, ...best.map(row => row.level)), first = best.filter(row => row.level === 1).length;
-  const more = found > best.length ? `, of which the first ${counted(best.length)} are shown` : "";
+  const more = found > best.length ? `, of which the first ${counted(best.length)} are shown, and all are in the download` : "";
   const split = levels > 1 ? `: ${counted(first)} in the first level, ${counted(found - first)} behind it` : "";
   return `${counted(found)} of ${counted(count)} rows are in the answer${more}${split}.`;
 }
 
 // Which rows came into the answer, and which left it.
 function changes(before, now) {
-  const without = (some, others) => some.filter(row => !others.some(other => other.id === row.id)).map(row => row.cells[name()]);
+  const without = (some, others) => some.filter(row => !others.some(other => other.id === row.id)).map(row => row.cells[namePlace(about.columns)]);
   const told = (what, names) => names.length ? [`${what}: ${names.slice(0, NAMED).join(", ")}${names.length > NAMED ? ` and ${names.length - NAMED} more` : ""}.`] : [];
   return [...told("New in the answer", without(now, before)), ...told("No longer in the answer", without(before, now))];
 }
@@ -121,38 +143,8 @@ function sign(name) {
   return svg;
 }
 
-// The place of the column that names a row: the first of texts, if there is one.
-function name() {
-  return Math.max(0, about.columns.findIndex(column => column.kind === "text" || column.kind === "choice"));
-}
-
-// The places of the columns as the table has them: that of the names, those of the question, and the others.
-function order() {
-  const asked = picture.asked.map(asked => about.columns.findIndex(column => column.name === asked));
-  return [...new Set([name(), ...asked, ...about.columns.keys()])];
-}
-
-function fillTable({best, version}) {
-  const places = order(), body = $("rows").tBodies[0], focus = document.activeElement;
-  const head = (textContent, column) => element("th", {scope: "col", textContent, className: isNumber(column) ? "number" : ""});
-  const areLong = new Set(places.filter(at => isNumber(about.columns[at]) && best.some(row => isLong(row.cells[at]))));
-  $("rows").tHead.replaceChildren(element("tr", {}, head("Level"), ...places.map(at => head(about.columns[at].name, about.columns[at])), ...(about.editable ? [element("th", {scope: "col", textContent: "Change", className: "actions"})] : [])));
-  body.replaceChildren(...best.map(row => {
-    const cells = places.map(at => element("td", {className: isNumber(about.columns[at]) ? "number" : ""}, ...(areLong.has(at) ? inThousands(row.cells[at]) : [row.cells[at]])));
-    const line = element("tr", {}, element("td", {textContent: row.level, className: levelName(row.level)}), ...cells);
-    line.dataset.id = row.id;
-    if (about.editable) line.append(element("td", {className: "actions"}, action("Edit", row, () => edit(about.columns, row, version)), " ", action("Remove", row, () => remove(row, version))));
-    return line;
-  }));
-  // The button that had the focus has it again, where its row is still there.
-  const id = focus?.closest?.("tr")?.dataset.id;
-  if (id) [...body.querySelectorAll(`tr[data-id="${id}"] button`)].find(button => button.textContent === focus.textContent)?.focus();
-}
-
-function action(name, row, act) {
-  const button = element("button", {type: "button", textContent: name, ariaLabel: `${name} ${row.cells[0]}`});
-  button.addEventListener("click", act);
-  return button;
+function actions(row) {
+  return about.editable ? {Edit: () => edit(about.columns, row, picture.version), Remove: () => remove(row, picture.version)} : {};
 }
 
 function choose(event) {
@@ -161,9 +153,9 @@ function choose(event) {
   if (id) for (const same of document.querySelectorAll(`tr[data-id="${id}"], .point[data-id="${id}"]`)) same.classList.add("chosen");
 }
 
-$("ask").addEventListener("submit", event => { event.preventDefault(); listen(); });
-$("question").addEventListener("keydown", event => { if (event.key === "Enter" && !event.shiftKey && !event.isComposing) { event.preventDefault(); listen(); } });
-$("examples").addEventListener("change", event => { if (event.target.value) { $("question").value = event.target.value; event.target.value = ""; listen(); } });
+$("ask").addEventListener("submit", event => { event.preventDefault(); ask(); });
+$("question").addEventListener("keydown", event => { if (event.key === "Enter" && !event.shiftKey && !event.isComposing) { event.preventDefault(); ask(); } });
+$("examples").addEventListener("change", event => { if (event.target.value) { $("question").value = event.target.value; event.target.value = ""; ask(); } });
 $("add").addEventListener("click", () => edit(about.columns));
 $("values").addEventListener("submit", event => {
   if (event.submitter?.value === "cancel") return;
