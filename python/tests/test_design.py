@@ -46,6 +46,15 @@ class Designed(Paged):
         self.ask("best low(Distanze)")
         self.browser.until("!document.getElementById('refusal').hidden")
 
+    def group(self):
+        self.ask("best low(Distance) by Hotel")
+        self.browser.until("document.querySelectorAll('#legend li').length > 8")
+
+    def explain(self, id):
+        self.browser.fill("#row", str(id))
+        self.browser.click("#which button")
+        self.browser.until("document.getElementById('reasons').open")
+
     def until_version(self, version):
         self.browser.until(f"document.getElementById('state').textContent === 'Live, version {version}'")
 
@@ -55,7 +64,7 @@ class Checks(Designed):
 
     def states(self):
         """Each state of the page that has parts of its own, and what leads there."""
-        return {"page": lambda: None, "editor": lambda: self.browser.click("#rows .actions button"), "refused": self.refuse}
+        return {"page": lambda: None, "groups": self.group, "editor": lambda: self.browser.click("#rows .actions button"), "refused": self.refuse, "why": lambda: self.explain(4)}
 
     def test_each_part_at_each_size_in_light_and_in_the_dark(self):
         for width, height in SIZES:
@@ -223,6 +232,93 @@ class Tables(Designed):
             page.js(f"{back}; 0")
             page.until(f"document.getElementById('question').value === {json.dumps(question)} && document.querySelectorAll('#rows tbody tr').length === {count}"
                        f" && document.querySelector('#plot text.name').textContent === {json.dumps(axis)} && document.getElementById('refusal').hidden")
+
+
+class Reasons(Designed):
+    """Why a row is where it is: of the answer, by its button; of the others, by their points and their ids."""
+
+    def reasons(self):
+        self.browser.until("document.getElementById('reasons').open")
+        found = self.browser.js("[...document.querySelectorAll('#better tbody tr')].map(row => [...row.children].map(cell => cell.textContent))")
+        self.browser.click("#reasons button")
+        return self.browser.text("#reason") or self.browser.js("document.getElementById('reason').textContent"), found
+
+    def test_of_a_row_behind_the_first_level(self):
+        self.browser.js("document.querySelector('tr[data-id=\"4\"] button:last-child').click()")
+        self.assertEqual(self.reasons(), ("In version 1, 1 row is better.", [["this row", "Old Town", "74.00", "1210", "4"], ["1", "Quay", "40.00", "1200", "1"]]))
+        self.assertEqual(self.browser.js("[...document.querySelectorAll('tr[data-id=\"1\"] button')].map(button => button.textContent)"), ["Edit", "Remove"])
+
+    def test_of_a_grey_point(self):
+        place = self.browser.js("""(() => {
+            const box = document.querySelector('#plot .other[data-id="7"]').getBoundingClientRect();
+            return [box.left + box.width / 2 + 4, box.top + box.height / 2 - 4];
+        })()""")
+        for kind in ("mousePressed", "mouseReleased"):
+            self.browser.call("Input.dispatchMouseEvent", type=kind, x=place[0], y=place[1], button="left", clickCount=1)
+        said, found = self.reasons()
+        self.assertEqual((said, found[0][1], [row[1] for row in found[1:]]), ("In version 1, 6 rows are better.", "Station & Co",
+                                                                             ["Quay", "Alpine", "Garden", "Old Town", "River", "<img src=x onerror=alert(1)>"]))
+
+    def test_by_an_id_without_a_mouse(self):
+        self.explain(1)
+        self.assertEqual(self.reasons(), ("In version 1, no row is better: it is in the first level.", [["this row", "Quay", "40.00", "1200", "1"]]))
+        self.explain(77)
+        self.assertEqual(self.reasons(), ("no such row 77", []))
+        self.assertIn("404", self.browser.faults.pop()["entry"]["text"])
+
+
+class Groups(Designed):
+    records = [{"Hotel": f"{city} {price}", "Price (EUR)": price, "Distance": distance, "City": city}
+               for city, price, distance in [("Lyon", 50, 9), ("Lyon", 60, 5), ("Lyon", 90, 9), ("Bern", 90, 2), ("Bern", 100, 1), ("Bern", 95, 8), ("Aarau", 10, 30), ("Aarau", 20, 20)]]
+    kinds = {"Hotel": "text", "Price (EUR)": "decimal(2)", "Distance": "whole", "City": "text"}
+
+    def open(self, question='best low("Price (EUR)") * low(Distance) by City'):
+        super().open(question)
+
+    def test_each_group_has_a_colour_and_a_staircase(self):
+        stairs = self.browser.js("[...document.querySelectorAll('#plot .stairs')].map(path => [getComputedStyle(path).stroke, path.getAttribute('d').match(/[ML]/g)?.length ?? 0])")
+        self.assertEqual(sorted(count for _, count in stairs), [3, 3, 3])
+        fills = self.browser.js("Object.fromEntries([...document.querySelectorAll('#plot .first')].map(point => [point.textContent.split(/[ \\n]/)[1], getComputedStyle(point).fill]))")
+        self.assertEqual((sorted(fills), len(set(fills.values())), sorted(fills.values())), (["Aarau", "Bern", "Lyon"], 3, sorted(colour for colour, _ in stairs)))
+        self.assertEqual(self.browser.js("[...document.querySelectorAll('#legend li')].slice(2).map(entry => entry.textContent.trim())"), ["Aarau", "Bern", "Lyon"])
+        self.assertEqual(self.browser.count("#plot .other"), 2)
+
+    def test_without_groups_the_levels_have_the_colours(self):
+        self.ask('top_level 2 low("Price (EUR)") * low(Distance)')
+        self.browser.until("document.querySelectorAll('#plot .second').length > 0 && document.querySelectorAll('#plot .stairs').length === 1")
+        self.assertEqual(self.browser.js("[...document.querySelectorAll('#plot [class*=group]')].length"), 0)
+
+
+class Outliers(Designed):
+    records = [*({"Hotel": f"h{number}", "Price (EUR)": 10 + number % 7 * 3, "Distance": 5 + number % 11, "Opened": None} for number in range(60)),
+               {"Hotel": "far", "Price (EUR)": 100_000, "Distance": 1_000_000, "Opened": None}, {"Hotel": "free", "Price (EUR)": 0, "Distance": 900, "Opened": None}]
+
+    def view(self, name):
+        self.browser.js(f"document.getElementById('view').value = {json.dumps(name)}; document.getElementById('view').dispatchEvent(new Event('change'))")
+
+    def across(self):
+        """How much of the plot's width the rows of ordinary prices take."""
+        return self.browser.js("""(() => {
+            const places = [...document.querySelectorAll("#plot .point")].filter(point => /^(Hotel: )?h/.test(point.textContent)).map(point => new DOMMatrix(getComputedStyle(point).transform).e);
+            return (Math.max(...places) - Math.min(...places)) / document.getElementById("plot").clientWidth;
+        })()""")
+
+    def test_the_answer_alone_or_a_logarithm_makes_room(self):
+        self.browser.js("document.getElementById('plot').classList.add('still')")
+        self.assertLess(self.across(), 0.01)
+        self.assertEqual(self.browser.count("#plot .point"), 62)
+        self.view("answer")
+        self.browser.until("document.getElementById('legend').textContent.includes('43 outside of the view')")
+        self.assertEqual((self.browser.count("#plot .point"), self.browser.count('#plot .point[data-id="61"]')), (19, 0))
+        self.view("logarithmic")
+        self.assertEqual(self.browser.count("#plot .point"), 62)
+        self.assertIn("Price (EUR) has values that have no logarithm", self.browser.text("#legend"))
+        self.server.desk.update(62, {"Price (EUR)": "0.5"})
+        self.until_version(2)
+        self.browser.until("!document.getElementById('legend').textContent.includes('logarithm')")
+        self.assertGreater(self.across(), 0.05)
+        ticks = self.browser.js("[...document.querySelectorAll('#plot text')].map(text => text.textContent)")
+        self.assertTrue({"0.1", "10", "1K", "100K", "1M"} <= set(ticks), ticks)
 
 
 class Messages(Designed):

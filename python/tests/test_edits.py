@@ -163,7 +163,7 @@ class Edits(Editing):
         self.until_closed()
         self.assertEqual(self.values(1), [TEXT, "49.90", "1100", "2001-05-01"])
         self.browser.until("document.getElementById('state').textContent === 'Live, version 2'")
-        self.browser.click('tr[data-id="1"] button:last-child')
+        self.browser.click('tr[data-id="1"] button:nth-child(2)')
         self.browser.until("document.querySelectorAll('#done button').length")
         self.browser.click("#done button")
         self.browser.until("document.getElementById('done').textContent === 'Added again.'")
@@ -186,7 +186,7 @@ class Edits(Editing):
         self.assertEqual(self.values(2)[0], "Alpine Inn")
 
     def test_a_row_that_somebody_else_has_changed_is_removed_where_that_is_wanted(self):
-        self.browser.js("window.before = document.querySelector('tr[data-id=\"2\"] button:last-child')")
+        self.browser.js("window.before = document.querySelector('tr[data-id=\"2\"] button:nth-child(2)')")
         self.price(2, "20")
         self.browser.until("document.getElementById('state').textContent === 'Live, version 2'")
         self.browser.js("before.click()")       # as of the picture before

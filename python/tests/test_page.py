@@ -80,7 +80,7 @@ class Page(Paged):
         self.assertEqual(page.js("[...document.querySelectorAll('#plot text.name')].map(text => text.textContent)"), ["Price (EUR)", "Distance"])
         self.assertEqual(self.rows(), ["Quay", "Alpine", "Garden", "Old Town", "River"])
         self.assertEqual(self.rows(1), ["1", "1", "1", "2", "2"])
-        self.assertEqual(page.js("[...document.querySelectorAll('#rows thead th')].map(cell => cell.textContent)"), ["Level", "Hotel", "Price (EUR)", "Distance", "Opened", "Id", "Change"])
+        self.assertEqual(page.js("[...document.querySelectorAll('#rows thead th')].map(cell => cell.textContent)"), ["Level", "Hotel", "Price (EUR)", "Distance", "Opened", "Id", "Actions"])
         self.assertEqual(page.js("document.querySelector('#plot .stairs').getAttribute('d').match(/[ML]/g).length"), 5)
         self.assertTrue(page.js("""(() => {
             const plot = document.getElementById("plot").getBoundingClientRect();
@@ -167,7 +167,7 @@ class Page(Paged):
         page.click("#save")
         page.until("document.getElementById('state').textContent === 'Live, version 3'")
         self.assertEqual(self.rows(), ["Quay", "Alpine", "Garden", "Old Town", "River"])
-        page.click('tr[data-id="1"] button:last-child')
+        page.click('tr[data-id="1"] button:nth-child(2)')
         page.until("document.getElementById('state').textContent === 'Live, version 4'")
         self.assertNotIn("Quay", self.rows())
         self.assertIn("Quay is removed.", page.text("#done"))
@@ -187,7 +187,7 @@ class Page(Paged):
             self.browser.until("document.querySelectorAll('#rows tbody tr').length === 1")
             self.assertEqual(other.js("[...document.querySelectorAll('#rows tbody tr')].map(row => [...row.children].map(cell => cell.textContent))"),
                              [["1", "Garden", "170.00", "170", "1999-01-31", "3", "EditRemove"], ["1", "River", "30.00", "490", "2010-02-03", "5", "EditRemove"],
-                              ["2", "Quay", "40.00", "1200", "2001-05-01", "1", "EditRemove"], ["2", "Alpine", "99.00", "540", "", "2", "EditRemove"]])
+                              ["2", "Quay", "40.00", "1200", "2001-05-01", "1", "EditRemoveWhy?"], ["2", "Alpine", "99.00", "540", "", "2", "EditRemoveWhy?"]])
             self.assertEqual(other.faults, [])
 
     @test_asgi.CAN_BE_MOUNTED

@@ -156,7 +156,7 @@ class Pictures(Served):
             self.assertEqual([(row["id"], row["level"], row["x"], row["y"]) for row in shown["best"]], [(1, 1, 59.9, 900), (2, 1, 49.5, 2500), (4, 1, None, 100), (3, 2, 80, 1200)])
             self.assertEqual(shown["best"][0]["cells"], ["Quay <b>", "59.90", "900", "2001-05-01"])
             shown = picture(server, "best low(Distance)")[1]
-            self.assertEqual(([row["id"] for row in shown["best"]], shown["others"][0]), ([4], [1, 900, 59.9, "Quay <b>"]))
+            self.assertEqual(([row["id"] for row in shown["best"]], shown["others"][0]), ([4], [1, 900, 59.9, "Quay <b>", None]))
             self.assertEqual(shown["axes"], ["Distance", "Price (EUR)"])
             shown = picture(server, "best pos(Hotel, 'Alpine')", x="Opened", y="Distance")[1]
             self.assertEqual((shown["axes"], shown["best"][0]["x"], shown["others"][0][1]), (["Opened", "Distance"], None, 11_443))
@@ -172,6 +172,17 @@ class Pictures(Served):
                 reply, body = get(server, f"/answer.csv?{urlencode({'question': question})}")
                 self.assertEqual((reply.status, reply.getheader("Content-Type"), body.decode()), (200, "text/csv; charset=utf-8", frame.best(question).to_csv()))
             self.assertEqual(ask(server, "GET", "/answer.csv?question=best+lo")[1]["place"], 5)
+
+    def test_why_a_row_is_where_it_is(self):
+        with self.served() as server:
+            status, found = ask(server, "GET", f"/why?{urlencode({'question': QUESTION, 'id': 3})}")
+            self.assertEqual((status, found["version"], found["row"], found["count"], found["asked"]), (200, 1, {"id": 3, "cells": ["Garden", "80.00", "1200", "1999-01-31"]}, 1, ["Price (EUR)", "Distance"]))
+            self.assertEqual(found["rows"], [{"id": 1, "level": 1, "cells": ["Quay <b>", "59.90", "900", "2001-05-01"]}])
+            for query, status, said in [({"question": "best lo", "id": 1}, 400, "lo"), ({"question": QUESTION, "id": 9}, 404, "no such row 9"), ({"question": QUESTION}, 400, "id is"),
+                                        ({"question": QUESTION, "id": "-1"}, 400, "id is"), ({"question": QUESTION, "id": "9" * 40}, 400, "id is")]:
+                replied = ask(server, "GET", f"/why?{urlencode(query)}")
+                self.assertEqual(replied[0], status)
+                self.assertIn(said, replied[1]["error"])
 
     def test_ranks_are_those_of_the_values(self):
         records = [{"Hotel": name, "Price (EUR)": price, "Distance": distance, "Opened": None}

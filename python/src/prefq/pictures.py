@@ -3,19 +3,27 @@ import datetime
 import json
 import threading
 from decimal import Decimal
-from typing import Any, Dict, List, Optional, Sequence, Tuple
+from typing import Any, Callable, Dict, Iterable, List, Optional, Sequence, Tuple, TypeVar
 
 from .answer import Answer
+from .checks import LEAST
 from .columns import Column, spelled
 from .desk import Desk, Held, Numbers
+from .errors import Refused
 from .kept import Kept
 from .kinds import Booleans, Choices, Clock, Dates, Texts
+from .loading import Encoded
+from .moment import Moment
+from .questions import read_question
 from .records import Record
+from .selection import Selection, reading
+from .why import dominators
 
 MOST_BEST = 500         # rows of an answer that are sent; a page is no place for more
 MOST_OTHERS = 2000      # other rows that are drawn
 MOST_AT_ONCE = 2        # pictures that are made at a time: more of them would hold up changes, and be made no sooner
 DAY = datetime.date(1970, 1, 1).toordinal()
+Result = TypeVar("Result")
 
 
 def about(desk: Desk, title: str, questions: Sequence[str], editable: bool) -> Dict[str, Any]:
@@ -31,14 +39,40 @@ def picture(desk: Desk, question: str, axes: Sequence[Optional[str]] = (None, No
     columns = seen.columns
     x, y = chosen(columns, seen.asked, axes)
     label = next((place for place, column in enumerate(columns) if isinstance(column.kind, (Texts, Choices))), None)
+    groups = Groups.of(question, columns, seen.best)
     shown = seen.best[:MOST_BEST]
-    best = [{"id": row.id, "level": row.level, "cells": texts(columns, row.numbers), "ranks": places, "x": at(columns, row, x), "y": at(columns, row, y)}
+    best = [{"id": row.id, "level": row.level, "cells": texts(columns, row.numbers), "ranks": places, "group": groups.place(row), "x": at(columns, row, x), "y": at(columns, row, y)}
             for row, places in zip(shown, ranks(columns, [row.numbers for row in shown]))]
     among = {row.id for row in seen.best}
     others = sample([row for row in seen.rows if row.id not in among])
-    points = [[row.id, at(columns, row, x), at(columns, row, y), "" if label is None else texts(columns, row.numbers)[label]] for row in others]
-    return {"version": seen.version, "question": question, "count": len(seen.rows), "found": len(seen.best), "best": best, "others": points,
+    points = [[row.id, at(columns, row, x), at(columns, row, y), "" if label is None else texts(columns, row.numbers)[label], groups.place(row)] for row in others]
+    return {"version": seen.version, "question": question, "count": len(seen.rows), "found": len(seen.best), "best": best, "others": points, "groups": groups.names,
             "notes": list(seen.notes), "asked": [column.name for column in seen.asked], "axes": [None if axis is None else columns[axis].name for axis in (x, y)]}
+
+
+class Groups:
+    """The groups of a question that rows of its answer are in, by the numbers of their columns; none where the question has none."""
+
+    def __init__(self, columns: Sequence[Column], places: List[int], rows: Iterable[Any]) -> None:
+        self._places = places
+        keys = {self._key(row) for row in rows} if places else set()
+        by = [columns[place] for place in places]
+        ordered = sorted(keys, key=lambda key: [(number != LEAST, in_order(column)(number)) for column, number in zip(by, key)])
+        self._numbers = {key: number for number, key in enumerate(ordered)}
+        self.names = [", ".join(column.text(column.decode(number)) or "missing" for column, number in zip(by, key)) for key in ordered]
+
+    @staticmethod
+    def of(question: str, columns: Sequence[Column], rows: Iterable[Any]) -> "Groups":
+        """Those of a question over these columns."""
+        by = read_question(question, named(columns).get, list(named(columns))).by
+        return Groups(columns, [columns.index(column) for column in by], rows)
+
+    def _key(self, row: Any) -> Numbers:
+        return tuple(row.numbers[place] for place in self._places)
+
+    def place(self, row: Any) -> Optional[int]:
+        """The place of a row's group among those of the answer."""
+        return self._numbers.get(self._key(row))
 
 
 def answer(desk: Desk, question: str) -> Answer:
@@ -47,6 +81,32 @@ def answer(desk: Desk, question: str) -> Answer:
     names = [column.name for column in seen.columns]
     values = (zip(names, (column.decode(number) for column, number in zip(seen.columns, row.numbers))) for row in seen.best)
     return Answer(question, seen.columns, [Record(pairs, id=row.id, level=row.level) for row, pairs in zip(seen.best, values)])
+
+
+def why(desk: Desk, question: str, id: int) -> Dict[str, Any]:
+    """A row and the rows that are better than it, at one version."""
+    seen = desk.picture(question)
+    place = next((place for place, row in enumerate(seen.rows) if row.id == id), None)
+    if place is None:
+        raise Refused(f"no such row {id}", "client", 7)
+    found = dominators(reading(question, Selection(), moment_of(seen.columns, seen.rows)), place)
+    rows = [{"id": seen.rows[better].id, "level": level, "cells": texts(seen.columns, seen.rows[better].numbers)} for better, level in found[:MOST_BEST]]
+    return {"version": seen.version, "row": {"id": id, "cells": texts(seen.columns, seen.rows[place].numbers)}, "rows": rows, "count": len(found),
+            "asked": [column.name for column in seen.asked]}
+
+
+def moment_of(columns: Sequence[Column], rows: Sequence[Held]) -> Moment:
+    """The rows of a picture, counted from 1."""
+    def load(name: str) -> Encoded:
+        place = list(named(columns)).index(name)
+        return columns[place], [row.numbers[place] for row in rows]
+
+    return Moment(list(named(columns)), load, called=lambda number: rows[number - 1].id)
+
+
+def named(columns: Iterable[Column]) -> Dict[str, Column]:
+    """Columns by their names."""
+    return {column.name: column for column in columns}
 
 
 class Shown:
@@ -66,6 +126,11 @@ class Shown:
                 return found["version"], json.dumps(found)
 
         return self._kept.get((question, *(axis or "" for axis in axes)), self._desk.version, made)
+
+    def made(self, make: Callable[..., Result], *words: Any) -> Result:
+        """What is made of the desk and these beside pictures, and as seldom at a time."""
+        with self._making:
+            return make(self._desk, *words)
 
 
 def truth_of(column: Column) -> List[str]:
@@ -110,12 +175,19 @@ def ranks(columns: Sequence[Column], rows: Sequence[Numbers]) -> List[Tuple[Opti
 
 
 def ranks_in(column: Column, numbers: Sequence[int]) -> List[Optional[int]]:
-    """Those of a column. Texts are in the order of the alphabet, all else in that of their numbers."""
-    values = {number: column.decode(number) for number in numbers}
-    ordered = sorted((number for number in values if values[number] is not None),
-                     key=lambda number: (values[number].casefold(), values[number]) if isinstance(column.kind, Texts) else number)
+    """Those of a column."""
+    ordered = sorted((number for number in set(numbers) if number != LEAST), key=in_order(column))
     places: Dict[int, Optional[int]] = {number: place for place, number in enumerate(ordered)}
     return [places.get(number) for number in numbers]
+
+
+def in_order(column: Column) -> Callable[[int], Any]:
+    """By what the numbers of a column are sorted. Texts are in the order of the alphabet, all else in that of their numbers."""
+    def alphabet(number: int) -> Tuple[str, str]:
+        text = str(column.decode(number) or "")
+        return text.casefold(), text
+
+    return alphabet if isinstance(column.kind, Texts) else lambda number: number
 
 
 def sample(rows: List[Held]) -> List[Held]:

@@ -3,6 +3,7 @@
     GET /about                   the columns, and questions to begin with
     GET /picture?question=..     the answer and the other rows at one version, as JSON; &x=..&y=.. choose the axes
     GET /answer.csv?question=..  the whole answer as comma-separated values
+    GET /why?question=..&id=7    the rows that are better than one, each with its level
     GET /events?question=..      pictures as server-sent events, at once and after each change; the last one is `event: refused` where the question is, and
                                  `event: failed` where the table has ended
     POST /rows                   {"Price": 59.9, ..}, a new row; replies its id
@@ -32,7 +33,7 @@ from .hosts import Hosts
 from .kinds import Choices, Texts
 
 PAGE = Path(__file__).with_name("page")
-SCRIPTS = ("page.js", "edit.js", "plot.js", "parts.js", "speech.js", "table.js")
+SCRIPTS = ("page.js", "edit.js", "plot.js", "parts.js", "speech.js", "table.js", "legend.js", "scales.js", "stairs.js", "why.js")
 FILES = {"/": ("index.html", "text/html"), "/guide.html": ("guide.html", "text/html"), "/page.css": ("page.css", "text/css"), **{f"/{name}": (name, "text/javascript") for name in SCRIPTS}}
 POLICY = ("default-src 'none'; script-src 'self'; style-src 'self'; connect-src 'self'; img-src 'self' data:; base-uri 'none'; form-action 'none'; "
           "frame-ancestors 'none'")
@@ -46,7 +47,7 @@ SECONDS_REQUEST = 10.0      # from the first byte of a request to its last
 SIGN_OF_LIFE = ": nothing has changed\n\n"
 COME_AGAIN = "retry: 1000\n\n"      # milliseconds, where the stream breaks
 ROW = re.compile(r"/rows/(\d{1,18})")
-VERSION = re.compile(r"\d{1,18}")
+NUMBER = re.compile(r"\d{1,18}")
 
 
 class Wrong(Exception):
@@ -151,7 +152,12 @@ class Site:
         if request.path == "/picture":
             return Route(lambda _: Reply(200, "application/json", self.shown.get(*asked)[1].encode()), makes_picture=True)
         if request.path == "/answer.csv":
-            return Route(lambda _: Reply(200, "text/csv; charset=utf-8", pictures.answer(self.desk, asked[0]).to_csv().encode()), makes_picture=True)
+            return Route(lambda _: Reply(200, "text/csv; charset=utf-8", self.shown.made(pictures.answer, asked[0]).to_csv().encode()), makes_picture=True)
+        if request.path == "/why":
+            id = request.given("id") or ""
+            if not NUMBER.fullmatch(id):
+                raise Wrong(400, "id is that of a row, a whole number")
+            return Route(lambda _: as_json(200, self.shown.made(pictures.why, asked[0], int(id))), makes_picture=True)
         if request.path == "/events":
             return Watch(self, *asked)
         raise Wrong(404, f"there is no {request.path}")
@@ -181,7 +187,7 @@ class Site:
         if not found:
             raise Wrong(404, "a row is /rows/ID")
         self._check_editable()
-        if seen is not None and not VERSION.fullmatch(seen):
+        if seen is not None and not NUMBER.fullmatch(seen):
             raise Wrong(400, "seen is the version of a picture, a whole number")
         return int(found[1]), None if seen is None else int(seen)
 

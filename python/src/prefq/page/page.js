@@ -1,9 +1,11 @@
 // The page: asks a question, and shows each picture that the server sends.
 import {edit, remove, save} from "./edit.js";
+import {showLegend} from "./legend.js";
 import {$, counted, element} from "./parts.js";
-import {draw, levelName, make, shape} from "./plot.js";
+import {draw, rowAt, VIEWS} from "./plot.js";
 import {speak} from "./speech.js";
 import {fillTable, namePlace} from "./table.js";
+import {showWhy} from "./why.js";
 
 const EXCERPT = 72;
 const NAMED = 3;        // rows of the answer that are named in a message
@@ -22,6 +24,7 @@ async function begin() {
     $(axis).append(element("option", {textContent: "as asked", value: ""}), ...about.columns.filter(column => column.axis).map(column => element("option", {textContent: column.name, value: column.name})));
     $(axis).addEventListener("change", ask);
   }
+  $("view").append(...Object.entries(VIEWS).map(([value, textContent]) => element("option", {value, textContent})));
   $("add").hidden = !about.editable;
   addEventListener("popstate", restore);
   restore();
@@ -125,26 +128,19 @@ function changes(before, now) {
 function redraw() {
   if (!picture) return;
   const labels = row => about.columns.map((column, at) => `${column.name}: ${row.cells[at]}`).join("\n");
-  const rows = [...picture.others.map(([id, x, y, text]) => ({id, x, y, text})), ...picture.best.map(row => ({...row, text: labels(row)}))];
+  const rows = [...picture.others.map(([id, x, y, text, group]) => ({id, x, y, text, group})), ...picture.best.map(row => ({...row, text: labels(row)}))];
   const axes = picture.axes.map(name => about.columns.find(column => column.name === name) || {name: "row", kind: "whole"});
-  const count = draw($("plot"), rows, axes);
-  const levels = new Set(picture.best.map(row => levelName(row.level)));
-  const legend = [["first", "level 1"], ["second", "level 2"], ["further", "further levels"], ["other", "other rows"]].filter(([name]) => name === "other" || levels.has(name));
-  const notes = [];
-  const hidden = picture.count - picture.found - picture.others.length;
-  if (hidden > 0) notes.push(`${counted(hidden)} others are not drawn`);
-  if (count < rows.length) notes.push(`${counted(rows.length - count)} without a value on an axis`);
-  $("legend").replaceChildren(...legend.map(([name, text]) => element("li", {}, sign(name), ` ${text}`)), ...notes.map(text => element("li", {textContent: text})));
+  showLegend(picture, draw($("plot"), rows, axes, $("view").value));
 }
 
-function sign(name) {
-  const svg = make("svg", {viewBox: "-8 -8 16 16", "aria-hidden": "true"});
-  svg.append(shape(name));
-  return svg;
-}
-
+// What the buttons of a row do, as it was in the picture in which it is shown.
 function actions(row) {
-  return about.editable ? {Edit: () => edit(about.columns, row, picture.version), Remove: () => remove(row, picture.version)} : {};
+  const {version} = picture, changes = about.editable ? {Edit: () => edit(about.columns, row, version), Remove: () => remove(row, version)} : {};
+  return row.level > 1 ? {...changes, "Why?": () => explain(row.id)} : changes;
+}
+
+function explain(id) {
+  showWhy(about.columns, new URL($("download").href).searchParams, id);
 }
 
 function choose(event) {
@@ -161,6 +157,15 @@ $("values").addEventListener("submit", event => {
   if (event.submitter?.value === "cancel") return;
   event.preventDefault();
   save();
+});
+$("view").addEventListener("change", redraw);
+$("plot").addEventListener("click", event => {
+  const id = rowAt($("plot"), event.clientX, event.clientY);
+  if (id !== null) explain(id);
+});
+$("which").addEventListener("submit", event => {
+  event.preventDefault();
+  explain($("row").value.trim());
 });
 document.addEventListener("pointerover", choose);
 document.addEventListener("focusin", choose);

@@ -52,10 +52,14 @@ function inOrder(rows) {
 }
 
 function headLine() {
-  const {columns, places, picture} = shown;
+  const {columns, places} = shown;
   const heads = places.map(at => head(columns[at].name, at, `${isNumber(columns[at]) ? "number" : ""} ${at === places[0] ? "name" : ""}`));
-  const actions = picture.best.length && Object.keys(shown.actions(picture.best[0])).length ? [element("th", {scope: "col", textContent: "Change", className: "actions"})] : [];
+  const actions = haveActions() ? [element("th", {scope: "col", textContent: "Actions", className: "actions"})] : [];
   return element("tr", {}, head(LEVEL, LEVEL, ""), ...heads, head(ID, ID, "number"), ...actions);
+}
+
+function haveActions() {
+  return shown.picture.best.some(row => Object.keys(shown.actions(row)).length);
 }
 
 function head(text, by, className) {
@@ -77,7 +81,7 @@ function line(row, areLong) {
   const made = element("tr", {}, element("td", {textContent: row.level, className: levelName(row.level)}), ...cells, element("td", {textContent: row.id, className: "number id"}));
   made.dataset.id = row.id;
   const actions = Object.entries(shown.actions(row)).map(([text, act]) => action(text, row, act));
-  if (actions.length) made.append(element("td", {className: "actions"}, element("div", {}, ...actions)));
+  if (haveActions()) made.append(element("td", {className: "actions"}, element("div", {}, ...actions)));
   return made;
 }
 
