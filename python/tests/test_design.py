@@ -8,7 +8,7 @@ from pathlib import Path
 
 import prefq
 from support import TestCase
-from test_page import Paged
+from test_page import QUESTION, Paged
 from test_serve import ask, served
 
 AUDIT = Path(__file__).with_name("audit.js").read_text()
@@ -55,6 +55,21 @@ class Designed(Paged):
         self.browser.click("#which button")
         self.browser.until("document.getElementById('reasons').open")
 
+    def build(self):
+        self.browser.js("document.getElementById('builder').open = true")
+        self.wish("Hotel", "pos")
+
+    def wish(self, name, word, value=None):
+        """Picks a wish for a column in the builder, and what it is near to or one of."""
+        self.enter(f"[aria-label={json.dumps(f'Wish for {name}')}]", word)
+        if value is not None:
+            self.enter(f"[aria-label^={json.dumps(f'Value for {name},')}]", value)
+
+    def enter(self, selector, value):
+        """Writes a value into a field, as a person does."""
+        self.browser.fill(selector, value)
+        self.browser.js(f"document.querySelector({json.dumps(selector)}).dispatchEvent(new Event('input', {{bubbles: true}}))")
+
     def until_version(self, version):
         self.browser.until(f"document.getElementById('state').textContent === 'Live, version {version}'")
 
@@ -64,7 +79,8 @@ class Checks(Designed):
 
     def states(self):
         """Each state of the page that has parts of its own, and what leads there."""
-        return {"page": lambda: None, "groups": self.group, "editor": lambda: self.browser.click("#rows .actions button"), "refused": self.refuse, "why": lambda: self.explain(4)}
+        return {"page": lambda: None, "groups": self.group, "editor": lambda: self.browser.click("#rows .actions button"), "refused": self.refuse, "why": lambda: self.explain(4),
+                "builder": self.build}
 
     def test_each_part_at_each_size_in_light_and_in_the_dark(self):
         for width, height in SIZES:
@@ -92,7 +108,7 @@ class Checks(Designed):
                 "focus": "document.getElementById('add').style.outline = 'none'", "names": "document.querySelector('label[for=question]').remove()",
                 "references": "document.getElementById('summary').id = 'other'", "outline": "document.getElementById('best').outerHTML = '<h4 id=best>Best</h4>'",
                 "sideways": "document.body.append(Object.assign(document.createElement('div'), {className: 'wide'})); document.querySelector('.wide').style.width = '3000px';"
-                            "document.querySelector('.wide').style.height = '1px'", "cells": "document.querySelector('th').removeAttribute('scope')"}
+                            "document.querySelector('.wide').style.height = '1px'", "cells": "document.querySelector('#rows th').removeAttribute('scope')"}
         for check, code in harm.items():
             with self.subTest(check=check):
                 self.open()
@@ -319,6 +335,45 @@ class Outliers(Designed):
         self.assertGreater(self.across(), 0.05)
         ticks = self.browser.js("[...document.querySelectorAll('#plot text')].map(text => text.textContent)")
         self.assertTrue({"0.1", "10", "1K", "100K", "1M"} <= set(ticks), ticks)
+
+
+class Built(Designed):
+    """A question that is built of columns."""
+
+    def question(self):
+        return self.browser.js("document.getElementById('question').value")
+
+    def test_the_columns_and_their_kinds(self):
+        self.assertEqual(self.browser.js("[...document.querySelectorAll('#wishes th')].map(cell => [...cell.childNodes].map(part => part.textContent))"),
+                         [["Hotel", "text"], ["Price (EUR)", "decimal(2)"], ["Distance", "whole"], ["Opened", "date"]])
+        self.assertEqual(self.browser.js("[...document.querySelectorAll('#wishes select')].map(field => [...field.options].map(option => option.value).join(' ').trim())"),
+                         ["pos", *["low high around pos"] * 3])
+
+    def test_the_question_writes_itself(self):
+        self.build()
+        self.assertEqual(self.question(), QUESTION)         # there is no value yet
+        self.wish("Hotel", "")
+        for act, written in [(lambda: self.wish("Price (EUR)", "low"), 'best low("Price (EUR)")'),
+                             (lambda: self.wish("Hotel", "pos", "Quay\nO'Hara, Inn\n"), "best low(\"Price (EUR)\") * pos(Hotel, 'Quay', 'O''Hara, Inn')"),
+                             (lambda: self.wish("Opened", "around", "2001-05-01"), "best low(\"Price (EUR)\") * pos(Hotel, 'Quay', 'O''Hara, Inn') * around(Opened, '2001-05-01')"),
+                             (lambda: self.wish("Hotel", ""), "best low(\"Price (EUR)\") * around(Opened, '2001-05-01')"),
+                             (lambda: self.wish("Price (EUR)", "around", "59.9"), "best around(\"Price (EUR)\", 59.9) * around(Opened, '2001-05-01')"),
+                             (lambda: self.enter("#sign", " & "), "best around(\"Price (EUR)\", 59.9) & around(Opened, '2001-05-01')"),
+                             (lambda: self.enter("#mode", "top_level"), "top_level 2 around(\"Price (EUR)\", 59.9) & around(Opened, '2001-05-01')"),
+                             (lambda: self.enter("#number", "3"), "top_level 3 around(\"Price (EUR)\", 59.9) & around(Opened, '2001-05-01')"),
+                             (lambda: self.browser.click("[aria-label='Groups by Hotel']"), "top_level 3 around(\"Price (EUR)\", 59.9) & around(Opened, '2001-05-01') by Hotel")]:
+            act()
+            self.assertEqual(self.question(), written)
+        self.assertEqual(self.rows(), ["Quay", "Alpine", "Garden", "Old Town", "River"])     # nothing is asked before that is wanted
+        self.browser.click("#ask button")
+        self.browser.until("document.querySelectorAll('#rows tbody tr').length === 8")
+
+    def test_what_is_no_value_is_refused_at_its_place(self):
+        self.build()
+        self.wish("Distance", "around", "far")
+        self.browser.click("#ask button")
+        self.browser.until("!document.getElementById('refusal').hidden")
+        self.assertEqual(self.browser.js("document.querySelector('#refusal mark').textContent"), "f")
 
 
 class Messages(Designed):

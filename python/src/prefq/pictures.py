@@ -28,8 +28,8 @@ Result = TypeVar("Result")
 
 def about(desk: Desk, title: str, questions: Sequence[str], editable: bool) -> Dict[str, Any]:
     """What a page has to know before the first picture."""
-    columns = [{"name": column.name, "spelled": spelled(column.name), "kind": column.kind.name, "example": column.kind.example, "axis": is_axis(column),
-                "iso": str(column.kind) == Dates.name, "truth": truth_of(column)} for column in desk.columns]
+    columns = [{"name": column.name, "spelled": spelled(column.name), "kind": column.kind.name, "spelling": str(column.kind), "example": column.kind.example, "axis": is_axis(column),
+                "ordered": column.kind.ordered, "measured": column.kind.measured, "iso": str(column.kind) == Dates.name, "truth": truth_of(column)} for column in desk.columns]
     return {"title": title, "columns": columns, "questions": list(questions), "editable": editable}
 
 

@@ -33,7 +33,7 @@ from .hosts import Hosts
 from .kinds import Choices, Texts
 
 PAGE = Path(__file__).with_name("page")
-SCRIPTS = ("page.js", "edit.js", "plot.js", "parts.js", "speech.js", "table.js", "legend.js", "scales.js", "stairs.js", "why.js")
+SCRIPTS = ("page.js", "edit.js", "plot.js", "parts.js", "speech.js", "table.js", "legend.js", "scales.js", "stairs.js", "why.js", "builder.js")
 FILES = {"/": ("index.html", "text/html"), "/guide.html": ("guide.html", "text/html"), "/page.css": ("page.css", "text/css"), **{f"/{name}": (name, "text/javascript") for name in SCRIPTS}}
 POLICY = ("default-src 'none'; script-src 'self'; style-src 'self'; connect-src 'self'; img-src 'self' data:; base-uri 'none'; form-action 'none'; "
           "frame-ancestors 'none'")

@@ -1,4 +1,5 @@
 // The page: asks a question, and shows each picture that the server sends.
+import {showBuilder} from "./builder.js";
 import {edit, remove, save} from "./edit.js";
 import {showLegend} from "./legend.js";
 import {$, counted, element} from "./parts.js";
@@ -26,6 +27,7 @@ async function begin() {
   }
   $("view").append(...Object.entries(VIEWS).map(([value, textContent]) => element("option", {value, textContent})));
   $("add").hidden = !about.editable;
+  showBuilder(about.columns);
   addEventListener("popstate", restore);
   restore();
 }
