@@ -9,7 +9,7 @@ from pathlib import Path
 import prefq
 from support import TestCase
 from test_page import QUESTION, Paged
-from test_serve import ask, served
+from test_serve import KINDS, ask, served
 
 AUDIT = Path(__file__).with_name("audit.js").read_text()
 SIZES = [(1280, 900), (390, 844), (320, 700)]
@@ -374,6 +374,43 @@ class Built(Designed):
         self.browser.click("#ask button")
         self.browser.until("!document.getElementById('refusal').hidden")
         self.assertEqual(self.browser.js("document.querySelector('#refusal mark').textContent"), "f")
+
+
+class Beside(Designed):
+    """What is asked beside the question: a condition, and exactly so many rows."""
+
+    def ask_beside(self, **beside):
+        for name in ("where", "top"):
+            self.browser.fill(f"#{name}", beside.get(name, ""))
+        self.browser.click("#ask button")
+
+    def test_a_condition_and_how_many(self):
+        page = self.browser
+        self.ask_beside(where="Distance > 500", top="2")
+        page.until("document.getElementById('summary').textContent === '2 of 8 rows are in the answer. Only rows where Distance > 500 count. 2 rows are wanted.'")
+        self.assertEqual(self.rows(), ["Quay", "Alpine"])
+        self.assertEqual(page.js("[...new URLSearchParams(location.search)]"), [["question", QUESTION], ["where", "Distance > 500"], ["top", "2"]])
+        received = page.js("fetch(document.getElementById('download').href).then(reply => reply.text())")
+        with prefq.Frame.from_records(self.records, kinds=KINDS) as frame:
+            self.assertEqual(received, frame.best(QUESTION, where="Distance > 500", top=2).to_csv())
+        page.js("history.back(); 0")
+        page.until("document.querySelectorAll('#rows tbody tr').length === 5")
+        self.assertEqual(page.js("[document.getElementById('where').value, document.getElementById('top').value]"), ["", ""])
+
+    def test_each_is_refused_at_its_field(self):
+        page = self.browser
+        for beside, field, said, marked in [({"where": "Distance > 5 and Distanze > 1"}, "where", "no column 'Distanze'", "D"), ({"top": "many"}, "top", "top is 'many'", None), ({}, "question", "no column 'Distanze'", "D")]:
+            page.fill("#question", QUESTION if beside else "best low(Distanze)")
+            self.ask_beside(**beside)
+            page.until(f"document.querySelector('#ask [aria-invalid=true]')?.id === {json.dumps(field)}")
+            self.assertIn(said, page.text("#refusal"))
+            self.assertEqual(page.js("document.querySelector('#refusal mark')?.textContent"), marked)
+            self.assertEqual(page.count("#ask [aria-invalid]"), 1)
+            self.assertEqual(self.audit(), {})
+        page.fill("#question", QUESTION)
+        self.ask_beside()
+        page.until("document.getElementById('refusal').hidden")
+        self.assertEqual(page.count("#ask [aria-invalid]"), 0)
 
 
 class Messages(Designed):

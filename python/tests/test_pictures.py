@@ -5,12 +5,17 @@ PREFQ_TEST_COUNT is how many questions are asked, and PREFQ_TEST_SEED begins oth
 import json
 import os
 import random
+import sqlite3
+import tempfile
 import unittest
+from contextlib import closing
 
 import prefq
 import random_frames
+from plain import first
 from prefq import pictures
 from prefq.desk import Desk
+from prefq.follow_desk import FollowedDesk
 from support import TestCase
 
 QUESTIONS = int(os.environ.get("PREFQ_TEST_COUNT", 200))
@@ -32,9 +37,13 @@ class Pictures(TestCase):
             questions = random_frames.Questions(rng, columns)
             for _ in range(QUESTIONS_OF_A_DESK):
                 self.change(rng, desk, columns, rows)
-                ask = questions.question()
-                self.same(desk, ask, rows)
-                self.reasons(rng, desk, ask, rows)
+                ask, name = questions.question(), rng.choice([None, *columns])
+                where = name and f"{questions.quoted(name)} is not missing"
+                top = rng.choice([None, None, 1, 2, 5])
+                kept = {id: row for id, row in rows.items() if name is None or row[name] is not None}
+                asked = pictures.Asked(ask.text, where, top and str(top))
+                self.same(desk, asked, ask, rows, first(ask, kept, top) if top else ask.answer(kept))
+                self.reasons(rng, desk, asked, ask, kept)
 
     def change(self, rng, desk, columns, rows):
         """A row comes, and perhaps another one goes."""
@@ -45,26 +54,37 @@ class Pictures(TestCase):
             desk.delete(id)
             del rows[id]
 
-    def same(self, desk, ask, rows):
+    def same(self, desk, asked, ask, rows, answer):
         """The picture as the page receives it, and the file."""
-        shown = json.loads(json.dumps(pictures.picture(desk, ask.text)))
+        shown = json.loads(json.dumps(pictures.picture(desk, asked)))
         best, others = shown["best"], shown["others"]
-        self.assertEqual([(row["level"], row["id"]) for row in best], ask.answer(rows), ask.text)
+        self.assertEqual([(row["level"], row["id"]) for row in best], answer, asked)
         self.assertEqual(sorted([row["id"] for row in best] + [point[0] for point in others]), sorted(rows))
         groups = {row["id"]: row["group"] for row in best} | {point[0]: point[4] for point in others}
         self.assertEqual({(groups[a] == groups[b]) for a in rows for b in rows if all(rows[a][name] == rows[b][name] for name in ask.by)}, {True})
         self.assertEqual(len({tuple(str(rows[row["id"]][name]) for name in ask.by) for row in best}) if ask.by else 0, len(shown["groups"]))
-        found = pictures.answer(desk, ask.text)
+        found = pictures.answer(desk, asked)
         self.assertEqual([(row.level, row.id, dict(row)) for row in found], [(row["level"], row["id"], rows[row["id"]]) for row in best])
 
-    def reasons(self, rng, desk, ask, rows):
+    def reasons(self, rng, desk, asked, ask, rows):
         levels = ask.levels_of(rows)
         for id in rng.sample(sorted(rows), min(3, len(rows))):
-            found = pictures.why(desk, ask.text, id)
-            self.assertEqual(sorted(row["id"] for row in found["rows"]), sorted(ask.dominators(rows, id)), ask.text)
+            found = pictures.why(desk, asked, id)
+            self.assertEqual(sorted(row["id"] for row in found["rows"]), sorted(ask.dominators(rows, id)), asked)
             if not ask.equal_in:        # the rows that such a clause leaves out have the level of the first one here
-                self.assertEqual([(row["level"], row["id"]) for row in found["rows"]], sorted((levels[row["id"]], row["id"]) for row in found["rows"]), ask.text)
+                self.assertEqual([(row["level"], row["id"]) for row in found["rows"]], sorted((levels[row["id"]], row["id"]) for row in found["rows"]), asked)
             self.assertEqual((found["row"]["id"], found["count"]), (id, len(found["rows"])))
+
+    def test_rows_of_a_database_take_nothing_beside_the_question(self):
+        with tempfile.TemporaryDirectory() as folder, closing(sqlite3.connect(f"{folder}/offers.db", isolation_level=None)) as db:
+            db.execute("create table offers (id integer primary key, price int)")
+            db.execute("insert into offers values (7, 60), (8, 90)")
+            with FollowedDesk(prefq.Frame.follow(db, "offers")) as desk:
+                self.assertEqual([row["id"] for row in pictures.picture(desk, pictures.Asked("best low(price)"))["best"]], [7])
+                self.assertEqual([row["id"] for row in pictures.why(desk, pictures.Asked("best low(price)"), 8)["rows"]], [7])
+                for asked in (pictures.Asked("best low(price)", where="price > 60"), pictures.Asked("best low(price)", top="1")):
+                    with self.refuses(prefq.Refused, "is not there for a frame that follows"):
+                        pictures.picture(desk, asked)
 
 
 if __name__ == "__main__":

@@ -184,6 +184,23 @@ class Pictures(Served):
                 self.assertEqual(replied[0], status)
                 self.assertIn(said, replied[1]["error"])
 
+    def test_what_is_asked_beside_the_question(self):
+        with self.served() as server:
+            for beside, found, asked in [({"top": "1"}, [(1, 1)], ["Price (EUR)", "Distance"]), ({"top": "3"}, [(1, 1), (1, 2), (1, 4)], ["Price (EUR)", "Distance"]),
+                                         ({"where": "Opened is not missing and Distance > 100"}, [(1, 1), (2, 3)], ["Price (EUR)", "Distance", "Opened"]),
+                                         ({"where": "Hotel = 'Alpine'", "top": "2"}, [(1, 2)], ["Price (EUR)", "Distance", "Hotel"]), ({"where": "", "top": ""}, [(1, 1), (1, 2), (1, 4), (2, 3)], ["Price (EUR)", "Distance"])]:
+                status, shown = picture(server, **beside)
+                self.assertEqual((status, [(row["level"], row["id"]) for row in shown["best"]], shown["asked"], shown["count"]), (200, found, asked, 4), beside)
+                lines = get(server, f"/answer.csv?{urlencode({'question': QUESTION, **beside})}")[1].decode().splitlines()
+                self.assertEqual([tuple(map(int, line.split(",")[:2])) for line in lines[1:]], found)
+            for beside, place, question, said in [({"where": "Distanze > 1"}, 0, "Distanze > 1", "no column 'Distanze'"), ({"where": "Distance >"}, 10, "Distance >", ""), ({"top": "0"}, None, None, "top is 0"),
+                                                  ({"top": "1001"}, None, None, "top is 1001"), ({"top": "-1"}, None, None, "top is '-1'"), ({"top": "some"}, None, None, "top is 'some'")]:
+                status, shown = picture(server, **beside)
+                self.assertEqual((status, shown.get("place"), shown.get("question")), (400, place, question), shown)
+                self.assertIn(said, shown["error"])
+            self.assertEqual(ask(server, "GET", f"/why?{urlencode({'question': QUESTION, 'where': 'Distance < 900', 'id': 1})}")[1]["error"], "row 1 does not meet the condition")
+            self.assertEqual([row["id"] for row in picture(server, 'best low("Price (EUR)" / Distance)', where='"Price (EUR)" is not missing')[1]["best"]], [2])
+
     def test_ranks_are_those_of_the_values(self):
         records = [{"Hotel": name, "Price (EUR)": price, "Distance": distance, "Opened": None}
                    for name, price, distance in [("b", "5", 2**53 + 1), ("A", None, 2**53), ("a", "-90071992547409.93", -1), ("", "90071992547409.93", None), ("b", "5.00", 2**53 + 1)]]

@@ -5,18 +5,21 @@ answer of a picture are those of one version.
 """
 import threading
 from types import MappingProxyType
-from typing import Any, Callable, Dict, Iterable, List, Mapping, NamedTuple, Optional, Tuple, TypeVar
+from typing import Any, Callable, Dict, Iterable, List, Mapping, NamedTuple, Optional, Sequence, Tuple, TypeVar
 
 from .columns import Column, listed
 from .errors import Ended, Refused
 from .frame import Frame
 from .hints import unknown_column
 from .kinds import Kind, Texts
+from .loading import Encoded
+from .moment import Moment
 from .opened import is_outgrown, moved_columns, size_of_code_books, wider_kinds
-from .questions import Question, read_question
-from .selection import without_twins
+from .query import Query
+from .questions import Question
+from .selection import Selection, first_rows, picked, query_of, reading, without_twins
 from .table import Table
-from .translate import columns_in, plan
+from .translate import Plan, columns_in, plan
 
 Numbers = Tuple[int, ...]
 Result = TypeVar("Result")
@@ -165,23 +168,27 @@ class Desk:
                 raise Ended("the desk was closed", "closed")
             return self.version
 
-    def read(self, text: str) -> Question:
+    def read(self, text: str, selection: Selection = Selection()) -> Question:
         """The tree of a question, which is refused where it is wrong."""
-        return read_question(text, self._named.get, list(self._named))
+        return selection.read(text, self._named.get, list(self._named))
 
-    def picture(self, text: str) -> Picture:
-        """The rows and the answer to a question at one version."""
+    def picture(self, text: str, selection: Selection = Selection()) -> Picture:
+        """The rows and the answer to a question, and to what is asked beside it, at one version."""
         with self._changed:
-            question, columns = self.read(text), self.columns
-            planned = plan(text, question, self._names)
-            try:
-                query = self.table.query(planned.text)
-            except Refused as why:
-                raise planned.refusal(why) from None
+            question, columns = self.read(text, selection), self.columns
+            planned = plan(text, question, self._names) if selection.is_answered_by(question, columns) else None
+            query = self._query(planned) if planned else None
             version, rows = self.version, dict(self._rows)
+        if planned is None or query is None:
+            return computed_picture(text, selection, version, columns, list(rows.values()))
         with query:
-            best = [Found(row.level, *rows[row.id]) for row in without_twins(query.answer(), planned)]
-        return Picture(version, columns, list(rows.values()), best, columns_in(question), planned.unknown)
+            some = first_rows(without_twins(query.answer(), planned), planned, selection.top)
+        return Picture(version, columns, list(rows.values()), [Found(row.level, *rows[row.id]) for row in some], columns_in(question), planned.unknown)
+
+    def _query(self, planned: Plan) -> Query:
+        """Begins a query of the table."""
+        with planned.refusing():
+            return self.table.query(planned.text)
 
     def _encoded(self, values: Mapping[str, Any], before: Mapping[str, int]) -> Numbers:
         """The numbers of a row; those from before where no value is given. Texts come last, so that one that is refused with another value leaves nothing behind."""
@@ -261,3 +268,25 @@ class Desk:
         self.table = Table(self.table.columns, [row.numbers for row in rows])
         self._rows = dict(enumerate(rows, 1))
         self._at = {row.id: at for at, row in self._rows.items()}
+
+
+def computed_picture(text: str, selection: Selection, version: int, columns: List[Column], rows: List[Held]) -> Picture:
+    """The picture of a question for which something is computed over the rows, as a condition or an expression."""
+    moment = moment_of(columns, rows)
+    read = reading(text, selection, moment)
+    with query_of(read) as query:
+        found = picked(query.answer(), read, selection, moment)
+    best = [Found(row.level, *rows[row.id - 1]) for row in found]
+    named = {column.name: column for column in columns}
+    return Picture(version, columns, rows, best, [named[name] for name in selection.names(text, moment.names)], tuple(read.unknown))
+
+
+def moment_of(columns: Sequence[Column], rows: Sequence[Held]) -> Moment:
+    """The rows of a picture as those of a moment, counted from 1."""
+    names = [column.name for column in columns]
+
+    def load(name: str) -> Encoded:
+        place = names.index(name)
+        return columns[place], [row.numbers[place] for row in rows]
+
+    return Moment(names, load, called=lambda number: rows[number - 1].id)

@@ -5,7 +5,8 @@ from typing import Any, Callable, Dict, List, Mapping, Optional, Sequence
 from .columns import Column
 from .desk import Desk, Found, Held, Picture
 from .errors import Ended, Refused
-from .follow import Followed
+from .follow import FOLLOWED, Followed
+from .selection import Selection
 
 PAUSE = 0.1     # seconds between two looks at the database
 CLIENTS = 2     # that a picture needs of each table
@@ -56,8 +57,9 @@ class FollowedDesk(Desk):
     def delete(self, id: int, *, seen: Optional[int] = None) -> Dict[str, Any]:
         raise changed_elsewhere()
 
-    def picture(self, text: str) -> Picture:
-        """The rows and the answer to a question at one version."""
+    def picture(self, text: str, selection: Selection = Selection()) -> Picture:
+        """The rows and the answer to a question at one version. What is asked beside it is refused."""
+        selection.mode_alone(FOLLOWED)
         found = self._frame.snapshot(text)
         wrong = next((key for key in found.rows if not isinstance(key, int)), None)
         if wrong is not None:

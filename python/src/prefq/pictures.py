@@ -1,20 +1,19 @@
 """Pictures as JSON: the answer as a table, and all rows as points of a scatter plot."""
 import datetime
 import json
+import re
 import threading
+from dataclasses import replace
 from decimal import Decimal
-from typing import Any, Callable, Dict, Iterable, List, Optional, Sequence, Tuple, TypeVar
+from typing import Any, Callable, Dict, Iterable, List, NamedTuple, Optional, Sequence, Tuple, TypeVar
 
 from .answer import Answer
 from .checks import LEAST
 from .columns import Column, spelled
-from .desk import Desk, Held, Numbers
+from .desk import Desk, Held, Numbers, moment_of
 from .errors import Refused
 from .kept import Kept
 from .kinds import Booleans, Choices, Clock, Dates, Texts
-from .loading import Encoded
-from .moment import Moment
-from .questions import read_question
 from .records import Record
 from .selection import Selection, reading
 from .why import dominators
@@ -22,8 +21,23 @@ from .why import dominators
 MOST_BEST = 500         # rows of an answer that are sent; a page is no place for more
 MOST_OTHERS = 2000      # other rows that are drawn
 MOST_AT_ONCE = 2        # pictures that are made at a time: more of them would hold up changes, and be made no sooner
+NUMBER = re.compile(r"\d{1,18}")
 DAY = datetime.date(1970, 1, 1).toordinal()
 Result = TypeVar("Result")
+
+
+class Asked(NamedTuple):
+    """What a page asks: a question, and beside it a condition and how many rows, as texts."""
+
+    question: str
+    where: Optional[str] = None
+    top: Optional[str] = None
+
+    def selection(self) -> Selection:
+        """What is asked beside the question."""
+        if self.top and not NUMBER.fullmatch(self.top):
+            raise ValueError(f"top is {self.top!r}: no whole number")
+        return Selection.of(where=self.where or None, top=int(self.top) if self.top else None)
 
 
 def about(desk: Desk, title: str, questions: Sequence[str], editable: bool) -> Dict[str, Any]:
@@ -33,20 +47,20 @@ def about(desk: Desk, title: str, questions: Sequence[str], editable: bool) -> D
     return {"title": title, "columns": columns, "questions": list(questions), "editable": editable}
 
 
-def picture(desk: Desk, question: str, axes: Sequence[Optional[str]] = (None, None)) -> Dict[str, Any]:
+def picture(desk: Desk, asked: Asked, axes: Sequence[Optional[str]] = (None, None)) -> Dict[str, Any]:
     """The rows and the answer at one version. Axes are names of columns; those that are not given are the first two of the question that are no texts."""
-    seen = desk.picture(question)
+    seen = desk.picture(asked.question, asked.selection())
     columns = seen.columns
     x, y = chosen(columns, seen.asked, axes)
     label = next((place for place, column in enumerate(columns) if isinstance(column.kind, (Texts, Choices))), None)
-    groups = Groups.of(question, columns, seen.best)
+    groups = Groups.of(asked.question, columns, seen.best)
     shown = seen.best[:MOST_BEST]
     best = [{"id": row.id, "level": row.level, "cells": texts(columns, row.numbers), "ranks": places, "group": groups.place(row), "x": at(columns, row, x), "y": at(columns, row, y)}
             for row, places in zip(shown, ranks(columns, [row.numbers for row in shown]))]
     among = {row.id for row in seen.best}
     others = sample([row for row in seen.rows if row.id not in among])
     points = [[row.id, at(columns, row, x), at(columns, row, y), "" if label is None else texts(columns, row.numbers)[label], groups.place(row)] for row in others]
-    return {"version": seen.version, "question": question, "count": len(seen.rows), "found": len(seen.best), "best": best, "others": points, "groups": groups.names,
+    return {"version": seen.version, **asked._asdict(), "count": len(seen.rows), "found": len(seen.best), "best": best, "others": points, "groups": groups.names,
             "notes": list(seen.notes), "asked": [column.name for column in seen.asked], "axes": [None if axis is None else columns[axis].name for axis in (x, y)]}
 
 
@@ -64,7 +78,7 @@ class Groups:
     @staticmethod
     def of(question: str, columns: Sequence[Column], rows: Iterable[Any]) -> "Groups":
         """Those of a question over these columns."""
-        by = read_question(question, named(columns).get, list(named(columns))).by
+        by = Selection().read(question, named(columns).get, list(named(columns))).by
         return Groups(columns, [columns.index(column) for column in by], rows)
 
     def _key(self, row: Any) -> Numbers:
@@ -75,33 +89,29 @@ class Groups:
         return self._numbers.get(self._key(row))
 
 
-def answer(desk: Desk, question: str) -> Answer:
+def answer(desk: Desk, asked: Asked) -> Answer:
     """The whole answer at one version."""
-    seen = desk.picture(question)
+    seen = desk.picture(asked.question, asked.selection())
     names = [column.name for column in seen.columns]
     values = (zip(names, (column.decode(number) for column, number in zip(seen.columns, row.numbers))) for row in seen.best)
-    return Answer(question, seen.columns, [Record(pairs, id=row.id, level=row.level) for row, pairs in zip(seen.best, values)])
+    return Answer(asked.question, seen.columns, [Record(pairs, id=row.id, level=row.level) for row, pairs in zip(seen.best, values)])
 
 
-def why(desk: Desk, question: str, id: int) -> Dict[str, Any]:
+def why(desk: Desk, asked: Asked, id: int) -> Dict[str, Any]:
     """A row and the rows that are better than it, at one version."""
-    seen = desk.picture(question)
-    place = next((place for place, row in enumerate(seen.rows) if row.id == id), None)
-    if place is None:
+    seen = desk.picture(asked.question, asked.selection())
+    number = next((number for number, row in enumerate(seen.rows, 1) if row.id == id), None)
+    if number is None:
         raise Refused(f"no such row {id}", "client", 7)
-    found = dominators(reading(question, Selection(), moment_of(seen.columns, seen.rows)), place)
-    rows = [{"id": seen.rows[better].id, "level": level, "cells": texts(seen.columns, seen.rows[better].numbers)} for better, level in found[:MOST_BEST]]
-    return {"version": seen.version, "row": {"id": id, "cells": texts(seen.columns, seen.rows[place].numbers)}, "rows": rows, "count": len(found),
+    moment = moment_of(seen.columns, seen.rows)
+    read = reading(asked.question, replace(asked.selection(), top=None), moment)
+    place = moment.place(number)
+    if place is None:
+        raise Refused(f"row {id} does not meet the condition", "arguments")
+    found = [(level, seen.rows[moment.id(better + 1) - 1]) for better, level in dominators(read, place)]
+    rows = [{"id": row.id, "level": level, "cells": texts(seen.columns, row.numbers)} for level, row in found[:MOST_BEST]]
+    return {"version": seen.version, "row": {"id": id, "cells": texts(seen.columns, seen.rows[number - 1].numbers)}, "rows": rows, "count": len(found),
             "asked": [column.name for column in seen.asked]}
-
-
-def moment_of(columns: Sequence[Column], rows: Sequence[Held]) -> Moment:
-    """The rows of a picture, counted from 1."""
-    def load(name: str) -> Encoded:
-        place = list(named(columns)).index(name)
-        return columns[place], [row.numbers[place] for row in rows]
-
-    return Moment(list(named(columns)), load, called=lambda number: rows[number - 1].id)
 
 
 def named(columns: Iterable[Column]) -> Dict[str, Column]:
@@ -118,14 +128,14 @@ class Shown:
         self._kept: Kept[str] = Kept()
         desk.subscribe(self._kept.drop)
 
-    def get(self, question: str, axes: Sequence[Optional[str]]) -> Tuple[int, str]:
+    def get(self, asked: Asked, axes: Sequence[Optional[str]]) -> Tuple[int, str]:
         """The version of the picture as it is now, and the picture as JSON."""
         def made() -> Tuple[int, str]:
             with self._making:
-                found = picture(self._desk, question, axes)
+                found = picture(self._desk, asked, axes)
                 return found["version"], json.dumps(found)
 
-        return self._kept.get((question, *(axis or "" for axis in axes)), self._desk.version, made)
+        return self._kept.get((asked, *(axis or "" for axis in axes)), self._desk.version, made)
 
     def made(self, make: Callable[..., Result], *words: Any) -> Result:
         """What is made of the desk and these beside pictures, and as seldom at a time."""

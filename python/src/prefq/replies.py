@@ -2,6 +2,7 @@
 
     GET /about                   the columns, and questions to begin with
     GET /picture?question=..     the answer and the other rows at one version, as JSON; &x=..&y=.. choose the axes
+                                 &where=.. is a condition, and &top=.. how many rows are wanted, here and in the next three
     GET /answer.csv?question=..  the whole answer as comma-separated values
     GET /why?question=..&id=7    the rows that are better than one, each with its level
     GET /events?question=..      pictures as server-sent events, at once and after each change; the last one is `event: refused` where the question is, and
@@ -31,6 +32,7 @@ from .desk import Changed, Desk
 from .errors import Error, Refused
 from .hosts import Hosts
 from .kinds import Choices, Texts
+from .pictures import NUMBER, Asked
 
 PAGE = Path(__file__).with_name("page")
 SCRIPTS = ("page.js", "edit.js", "plot.js", "parts.js", "speech.js", "table.js", "legend.js", "scales.js", "stairs.js", "why.js", "builder.js")
@@ -47,7 +49,6 @@ SECONDS_REQUEST = 10.0      # from the first byte of a request to its last
 SIGN_OF_LIFE = ": nothing has changed\n\n"
 COME_AGAIN = "retry: 1000\n\n"      # milliseconds, where the stream breaks
 ROW = re.compile(r"/rows/(\d{1,18})")
-NUMBER = re.compile(r"\d{1,18}")
 
 
 class Wrong(Exception):
@@ -97,8 +98,8 @@ class Route(NamedTuple):
 class Watch:
     """A browser that watches: it is sent a picture, and another one after each change. In its `with` block it counts among those that watch."""
 
-    def __init__(self, site: "Site", question: str, axes: Sequence[Optional[str]]) -> None:
-        self._site, self._question, self._axes = site, question, axes
+    def __init__(self, site: "Site", asked: Asked, axes: Sequence[Optional[str]]) -> None:
+        self._site, self._asked, self._axes = site, asked, axes
         self.seen: Optional[int] = None     # the version of the picture that was made last
 
     def __enter__(self) -> "Watch":
@@ -113,7 +114,7 @@ class Watch:
         """The event for the picture as it is now, and whether it is the last one, as where the question is refused."""
         first = "" if self.seen else COME_AGAIN
         try:
-            self.seen, picture = self._site.shown.get(self._question, self._axes)
+            self.seen, picture = self._site.shown.get(self._asked, self._axes)
         except (Error, TypeError, ValueError) as why:
             # Browsers ask again where a stream ends. Those that hear that it was refused do not.
             name = "failed" if isinstance(why, Error) and not isinstance(why, Refused) else "refused"
@@ -148,18 +149,19 @@ class Site:
         if request.path == "/about":
             return Route(lambda _: as_json(200, self.about))
         question = request.given("question")
-        asked = (self.about["questions"][0] if question is None else question, [request.given(axis) for axis in ("x", "y")])
+        asked = Asked(self.about["questions"][0] if question is None else question, request.given("where"), request.given("top"))
+        axes = [request.given(axis) for axis in ("x", "y")]
         if request.path == "/picture":
-            return Route(lambda _: Reply(200, "application/json", self.shown.get(*asked)[1].encode()), makes_picture=True)
+            return Route(lambda _: Reply(200, "application/json", self.shown.get(asked, axes)[1].encode()), makes_picture=True)
         if request.path == "/answer.csv":
-            return Route(lambda _: Reply(200, "text/csv; charset=utf-8", self.shown.made(pictures.answer, asked[0]).to_csv().encode()), makes_picture=True)
+            return Route(lambda _: Reply(200, "text/csv; charset=utf-8", self.shown.made(pictures.answer, asked).to_csv().encode()), makes_picture=True)
         if request.path == "/why":
             id = request.given("id") or ""
             if not NUMBER.fullmatch(id):
                 raise Wrong(400, "id is that of a row, a whole number")
-            return Route(lambda _: as_json(200, self.shown.made(pictures.why, asked[0], int(id))), makes_picture=True)
+            return Route(lambda _: as_json(200, self.shown.made(pictures.why, asked, int(id))), makes_picture=True)
         if request.path == "/events":
-            return Watch(self, *asked)
+            return Watch(self, asked, axes)
         raise Wrong(404, f"there is no {request.path}")
 
     def _post(self, request: Request) -> Route:

@@ -9,6 +9,7 @@ import {fillTable, namePlace} from "./table.js";
 import {showWhy} from "./why.js";
 
 const EXCERPT = 72;
+const BESIDE = ["where", "top"];       // what is asked beside the question
 const NAMED = 3;        // rows of the answer that are named in a message
 const AGAIN = 3000;     // milliseconds until a server that refused to be watched is asked again
 let about, picture, stream;
@@ -36,6 +37,7 @@ async function begin() {
 function restore() {
   const asked = new URLSearchParams(location.search);
   $("question").value = asked.get("question") || about.questions[0];
+  for (const field of BESIDE) $(field).value = asked.get(field) ?? "";
   for (const axis of ["x", "y"]) $(axis).value = about.columns.some(column => column.axis && column.name === asked.get(axis)) ? asked.get(axis) : "";
   listen();
 }
@@ -48,7 +50,7 @@ function ask() {
 
 function asked() {
   const found = new URLSearchParams({question: $("question").value.trim().replace(/\s*\n\s*/g, " ")});
-  for (const axis of ["x", "y"]) if ($(axis).value) found.set(axis, $(axis).value);
+  for (const field of [...BESIDE, "x", "y"]) if ($(field).value.trim()) found.set(field, $(field).value.trim());
   return found;
 }
 
@@ -62,7 +64,7 @@ function listen() {
   });
   stream.addEventListener("refused", event => {
     event.target.close();
-    refuse(JSON.parse(event.data), query.get("question"));
+    refuse(JSON.parse(event.data), query);
   });
   let failure = "", broken = false;
   // Where the server was started anew, its columns and rows may be others.
@@ -82,12 +84,22 @@ function state(text) {
   $("state").textContent = text;
 }
 
-function refuse(reason, question) {
-  $("question").setAttribute("aria-invalid", "true");
+// What is refused is the question, the condition, which is the text that has the place then, or how many rows are wanted.
+function refuse(reason, query) {
+  const field = reason.question === query.get("where") ? "where" : reason.error.startsWith("top is") ? "top" : "question";
+  mark(field);
   $("refusal").replaceChildren(element("p", {textContent: reason.error}));
-  if (Number.isInteger(reason.place)) $("refusal").append(pointed(question, reason.place));
+  if (Number.isInteger(reason.place)) $("refusal").append(pointed(query.get(field), reason.place));
   $("refusal").hidden = false;
   $("state").textContent = "The question is refused; the picture is that of the question before.";
+}
+
+// Marks the field that is refused, if one is.
+function mark(refused) {
+  for (const field of ["question", ...BESIDE]) {
+    if (field === refused) $(field).setAttribute("aria-invalid", "true");
+    else $(field).removeAttribute("aria-invalid");
+  }
 }
 
 // The question with a caret below its character, the number `place`; of a long one the part around it.
@@ -102,10 +114,10 @@ function pointed(question, place) {
 function show(received) {
   const before = picture, text = summary(received), notes = received.notes.length ? `Note: ${received.notes.join("; ")}` : "";
   picture = received;
-  $("question").removeAttribute("aria-invalid");
+  mark(null);
   $("refusal").hidden = true;
   $("state").textContent = `Live, version ${received.version}`;
-  const news = before?.question === received.question ? changes(before.best, received.best) : [];
+  const news = before && ["question", ...BESIDE].every(part => before[part] === received[part]) ? changes(before.best, received.best) : [];
   if (text !== $("summary").textContent || notes !== $("notes").textContent || news.length) speak("answer", [text, notes, ...news].join(" "));
   $("summary").textContent = text;
   $("notes").textContent = notes;
@@ -113,11 +125,12 @@ function show(received) {
   redraw();
 }
 
-function summary({best, found, count}) {
+function summary({best, found, count, where, top}) {
   const levels = Math.max(0, ...best.map(row => row.level)), first = best.filter(row => row.level === 1).length;
   const more = found > best.length ? `, of which the first ${counted(best.length)} are shown, and all are in the download` : "";
   const split = levels > 1 ? `: ${counted(first)} in the first level, ${counted(found - first)} behind it` : "";
-  return `${counted(found)} of ${counted(count)} rows are in the answer${more}${split}.`;
+  const beside = [...(where ? [` Only rows where ${where} count.`] : []), ...(top ? [` ${top} rows are wanted.`] : [])];
+  return `${counted(found)} of ${counted(count)} rows are in the answer${more}${split}.${beside.join("")}`;
 }
 
 // Which rows came into the answer, and which left it.
