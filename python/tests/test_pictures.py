@@ -8,7 +8,7 @@ import random
 import sqlite3
 import tempfile
 import unittest
-from contextlib import closing
+from contextlib import closing, contextmanager
 
 import prefq
 import random_frames
@@ -75,16 +75,29 @@ class Pictures(TestCase):
                 self.assertEqual([(row["level"], row["id"]) for row in found["rows"]], sorted((levels[row["id"]], row["id"]) for row in found["rows"]), asked)
             self.assertEqual((found["row"]["id"], found["count"]), (id, len(found["rows"])))
 
-    def test_rows_of_a_database_take_nothing_beside_the_question(self):
+    def test_ids_that_a_browser_has_no_number_for_are_texts(self):
+        keys = [-2**62 - 1, 2**53 - 1, 2**53 + 1, 2**63 - 1]
+        with self.offers((key, price) for price, key in enumerate(keys, 1)) as desk:
+            shown = pictures.picture(desk, pictures.Asked("top_level 2 low(price)"))
+            self.assertEqual([row["id"] for row in shown["best"]] + [point[0] for point in shown["others"]], [str(keys[0]), keys[1], str(keys[2]), str(keys[3])])
+            found = pictures.why(desk, pictures.Asked("best low(price)"), keys[3])
+            self.assertEqual((found["row"]["id"], [row["id"] for row in found["rows"]]), (str(keys[3]), [str(keys[0]), keys[1], str(keys[2])]))
+
+    @contextmanager
+    def offers(self, rows):
+        """The desk of a table of a database with these keys and prices."""
         with tempfile.TemporaryDirectory() as folder, closing(sqlite3.connect(f"{folder}/offers.db", isolation_level=None)) as db:
             db.execute("create table offers (id integer primary key, price int)")
-            db.execute("insert into offers values (7, 60), (8, 90)")
+            db.executemany("insert into offers values (?, ?)", rows)
             with FollowedDesk(prefq.Frame.follow(db, "offers")) as desk:
-                self.assertEqual([row["id"] for row in pictures.picture(desk, pictures.Asked("best low(price)"))["best"]], [7])
-                self.assertEqual([row["id"] for row in pictures.why(desk, pictures.Asked("best low(price)"), 8)["rows"]], [7])
-                for asked in (pictures.Asked("best low(price)", where="price > 60"), pictures.Asked("best low(price)", top="1")):
-                    with self.refuses(prefq.Refused, "is not there for a frame that follows"):
-                        pictures.picture(desk, asked)
+                yield desk
+
+    def test_rows_of_a_database_take_nothing_beside_the_question(self):
+        with self.offers([(7, 60), (8, 90)]) as desk:
+            self.assertEqual([row["id"] for row in pictures.picture(desk, pictures.Asked("best low(price)"))["best"]], [7])
+            for asked in (pictures.Asked("best low(price)", where="price > 60"), pictures.Asked("best low(price)", top="1")):
+                with self.refuses(prefq.Refused, "is not there for a frame that follows"):
+                    pictures.picture(desk, asked)
 
 
 if __name__ == "__main__":

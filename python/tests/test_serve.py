@@ -179,7 +179,7 @@ class Pictures(Served):
             self.assertEqual((status, found["version"], found["row"], found["count"], found["asked"]), (200, 1, {"id": 3, "cells": ["Garden", "80.00", "1200", "1999-01-31"]}, 1, ["Price (EUR)", "Distance"]))
             self.assertEqual(found["rows"], [{"id": 1, "level": 1, "cells": ["Quay <b>", "59.90", "900", "2001-05-01"]}])
             for query, status, said in [({"question": "best lo", "id": 1}, 400, "lo"), ({"question": QUESTION, "id": 9}, 404, "no such row 9"), ({"question": QUESTION}, 400, "id is"),
-                                        ({"question": QUESTION, "id": "-1"}, 400, "id is"), ({"question": QUESTION, "id": "9" * 40}, 400, "id is")]:
+                                        ({"question": QUESTION, "id": "-1"}, 404, "no such row -1"), ({"question": QUESTION, "id": "1.0"}, 400, "id is"), ({"question": QUESTION, "id": "9" * 40}, 400, "id is")]:
                 replied = ask(server, "GET", f"/why?{urlencode(query)}")
                 self.assertEqual(replied[0], status)
                 self.assertIn(said, replied[1]["error"])

@@ -5,7 +5,7 @@ import re
 import threading
 from dataclasses import replace
 from decimal import Decimal
-from typing import Any, Callable, Dict, Iterable, List, NamedTuple, Optional, Sequence, Tuple, TypeVar
+from typing import Any, Callable, Dict, Iterable, List, NamedTuple, Optional, Sequence, Tuple, TypeVar, Union
 
 from .answer import Answer
 from .checks import LEAST
@@ -22,6 +22,7 @@ MOST_BEST = 500         # rows of an answer that are sent; a page is no place fo
 MOST_OTHERS = 2000      # other rows that are drawn
 MOST_AT_ONCE = 2        # pictures that are made at a time: more of them would hold up changes, and be made no sooner
 NUMBER = re.compile(r"\d{1,18}")
+ID = re.compile(r"-?\d{1,19}")
 DAY = datetime.date(1970, 1, 1).toordinal()
 Result = TypeVar("Result")
 
@@ -55,11 +56,11 @@ def picture(desk: Desk, asked: Asked, axes: Sequence[Optional[str]] = (None, Non
     label = next((place for place, column in enumerate(columns) if isinstance(column.kind, (Texts, Choices))), None)
     groups = Groups.of(asked.question, columns, seen.best)
     shown = seen.best[:MOST_BEST]
-    best = [{"id": row.id, "level": row.level, "cells": texts(columns, row.numbers), "ranks": places, "group": groups.place(row), "x": at(columns, row, x), "y": at(columns, row, y)}
+    best = [{"id": id_of(row), "level": row.level, "cells": texts(columns, row.numbers), "ranks": places, "group": groups.place(row), "x": at(columns, row, x), "y": at(columns, row, y)}
             for row, places in zip(shown, ranks(columns, [row.numbers for row in shown]))]
     among = {row.id for row in seen.best}
     others = sample([row for row in seen.rows if row.id not in among])
-    points = [[row.id, at(columns, row, x), at(columns, row, y), "" if label is None else texts(columns, row.numbers)[label], groups.place(row)] for row in others]
+    points = [[id_of(row), at(columns, row, x), at(columns, row, y), "" if label is None else texts(columns, row.numbers)[label], groups.place(row)] for row in others]
     return {"version": seen.version, **asked._asdict(), "count": len(seen.rows), "found": len(seen.best), "best": best, "others": points, "groups": groups.names,
             "notes": list(seen.notes), "asked": [column.name for column in seen.asked], "axes": [None if axis is None else columns[axis].name for axis in (x, y)]}
 
@@ -109,8 +110,8 @@ def why(desk: Desk, asked: Asked, id: int) -> Dict[str, Any]:
     if place is None:
         raise Refused(f"row {id} does not meet the condition", "arguments")
     found = [(level, seen.rows[moment.id(better + 1) - 1]) for better, level in dominators(read, place)]
-    rows = [{"id": row.id, "level": level, "cells": texts(seen.columns, row.numbers)} for level, row in found[:MOST_BEST]]
-    return {"version": seen.version, "row": {"id": id, "cells": texts(seen.columns, seen.rows[number - 1].numbers)}, "rows": rows, "count": len(found),
+    rows = [{"id": id_of(row), "level": level, "cells": texts(seen.columns, row.numbers)} for level, row in found[:MOST_BEST]]
+    return {"version": seen.version, "row": {"id": id_of(seen.rows[number - 1]), "cells": texts(seen.columns, seen.rows[number - 1].numbers)}, "rows": rows, "count": len(found),
             "asked": [column.name for column in seen.asked]}
 
 
@@ -172,6 +173,11 @@ def at(columns: Sequence[Column], row: Any, axis: Optional[int]) -> Any:
     if isinstance(value, float):
         return value if abs(value) < 1e300 else None        # what has no place on a scale
     return float(value) if isinstance(value, Decimal) else value
+
+
+def id_of(row: Any) -> Union[int, str]:
+    """The id of a row, as a text where the numbers of browsers do not have it."""
+    return row.id if abs(row.id) < 2**53 else str(row.id)
 
 
 def texts(columns: Sequence[Column], numbers: Numbers) -> List[str]:

@@ -32,7 +32,7 @@ from .desk import Changed, Desk
 from .errors import Error, Refused
 from .hosts import Hosts
 from .kinds import Choices, Texts
-from .pictures import NUMBER, Asked
+from .pictures import ID, NUMBER, Asked
 
 PAGE = Path(__file__).with_name("page")
 SCRIPTS = ("page.js", "edit.js", "plot.js", "parts.js", "speech.js", "table.js", "legend.js", "scales.js", "stairs.js", "why.js", "builder.js")
@@ -157,7 +157,7 @@ class Site:
             return Route(lambda _: Reply(200, "text/csv; charset=utf-8", self.shown.made(pictures.answer, asked).to_csv().encode()), makes_picture=True)
         if request.path == "/why":
             id = request.given("id") or ""
-            if not NUMBER.fullmatch(id):
+            if not ID.fullmatch(id):
                 raise Wrong(400, "id is that of a row, a whole number")
             return Route(lambda _: as_json(200, self.shown.made(pictures.why, asked, int(id))), makes_picture=True)
         if request.path == "/events":

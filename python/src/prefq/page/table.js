@@ -46,8 +46,8 @@ function isMatch(row) {
 function inOrder(rows) {
   if (sorted.way === "none") return rows;
   const sign = sorted.way === "ascending" ? 1 : -1;
-  const place = row => sorted.by === LEVEL ? row.level : sorted.by === ID ? row.id : row.ranks[sorted.by];
-  const compare = (a, b) => a === null || b === null ? (a === null) - (b === null) : sign * (a - b);
+  const place = row => sorted.by === LEVEL ? row.level : sorted.by === ID ? BigInt(row.id) : row.ranks[sorted.by];
+  const compare = (a, b) => a === null || b === null ? (a === null) - (b === null) : sign * ((a > b) - (a < b));
   return [...rows].sort((a, b) => compare(place(a), place(b)));
 }
 
