@@ -71,7 +71,7 @@ class Browser:
             raise AssertionError(f"{code}: {result['exceptionDetails'].get('exception', {}).get('description', result['exceptionDetails'])}")
         return result["result"].get("value")
 
-    def until(self, code, seconds=20):
+    def until(self, code, seconds=60):
         """Waits until an expression of the page is true, and returns it."""
         end = time.monotonic() + seconds
         while time.monotonic() < end:

@@ -122,10 +122,10 @@ class Paper(Designed):
         self.browser.until("document.querySelectorAll('#rows tbody tr').length === 8")
         with self.seen(720, 1000, dark=True, media="print"):
             self.assertEqual(self.browser.js("[...document.querySelectorAll('button:not(.sort), select, input, a')].filter(part => part.checkVisibility()).map(part => part.outerHTML)"), [])
-            self.assertEqual((self.style("body", "backgroundColor"), self.style(".scroll", "overflow"), self.style(".scroll", "maxHeight"), self.style("thead", "display")),
+            self.assertEqual((self.style("body", "backgroundColor"), self.style("section .scroll", "overflow"), self.style("section .scroll", "maxHeight"), self.style("thead", "display")),
                              ("rgb(255, 255, 255)", "visible", "none", "table-header-group"))
-            self.assertEqual(self.browser.js("[document.documentElement.scrollWidth, document.querySelector('.scroll').scrollWidth <= document.querySelector('.scroll').clientWidth]"), [720, True])
-            self.assertEqual(self.browser.js("document.querySelector('.scroll').scrollHeight - document.querySelector('.scroll').clientHeight"), 0)
+            self.assertEqual(self.browser.js("[document.documentElement.scrollWidth, document.querySelector('section .scroll').scrollWidth <= document.querySelector('section .scroll').clientWidth]"), [720, True])
+            self.assertEqual(self.browser.js("document.querySelector('section .scroll').scrollHeight - document.querySelector('section .scroll').clientHeight"), 0)
             self.assertIn("low(Distance)", self.browser.js("document.getElementById('question').checkVisibility() && document.getElementById('question').value"))
 
     def test_a_long_answer_takes_several_sheets(self):
@@ -185,19 +185,19 @@ class Tables(Designed):
     def places(self):
         """How far the name and the buttons of the last row are from both ends of the table's box."""
         return self.browser.js("""(() => {
-            const box = document.querySelector(".scroll"), at = box.getBoundingClientRect(), row = document.querySelector("#rows tbody tr:last-child");
+            const box = document.querySelector("section .scroll"), at = box.getBoundingClientRect(), row = document.querySelector("#rows tbody tr:last-child");
             return [row.querySelector(".name").getBoundingClientRect().left - at.left - box.clientLeft, at.right - box.clientLeft - row.querySelector(".actions").getBoundingClientRect().right].map(Math.round);
         })()""")
 
     def test_the_name_and_the_buttons_stay_at_hand(self):
         for width, height in SIZES:
             with self.seen(width, height):
-                self.assertTrue(self.browser.js("document.querySelector('.scroll').scrollWidth > document.querySelector('.scroll').clientWidth + 100"))
+                self.assertTrue(self.browser.js("document.querySelector('section .scroll').scrollWidth > document.querySelector('section .scroll').clientWidth + 100"))
                 self.assertEqual(self.places()[1], 0, width)
-                self.browser.js("document.querySelector('.scroll').scrollLeft = 1e6")
+                self.browser.js("document.querySelector('section .scroll').scrollLeft = 1e6")
                 self.assertEqual(self.places(), [0, 0], width)
                 self.assertEqual(self.audit(), {})
-                self.browser.js("document.querySelector('.scroll').scrollLeft = 0")
+                self.browser.js("document.querySelector('section .scroll').scrollLeft = 0")
 
     def test_ids_are_shown(self):
         self.assertEqual(self.browser.js("[...document.querySelectorAll('#rows tbody tr')].map(row => row.querySelector('.id').textContent)"), ["3", "1", "4", "2"])
