@@ -5,8 +5,10 @@ import re
 import unittest
 from contextlib import contextmanager
 from pathlib import Path
+from unittest import mock
 
 import prefq
+from prefq.desk import Desk
 from support import TestCase
 from test_page import QUESTION, Paged
 from test_serve import KINDS, ask, served
@@ -411,6 +413,14 @@ class Beside(Designed):
         self.ask_beside()
         page.until("document.getElementById('refusal').hidden")
         self.assertEqual(page.count("#ask [aria-invalid]"), 0)
+
+
+    def test_what_has_no_text_of_its_own_is_said_of_the_question(self):
+        with mock.patch.object(Desk, "picture", side_effect=prefq.Refused("no query more", "client", 3)):
+            self.ask("best low(Distance)")
+            self.browser.until("!document.getElementById('refusal').hidden")
+        self.assertEqual(self.browser.js("[...document.querySelectorAll('#ask [aria-invalid]')].map(part => part.id)"), ["question"])
+        self.assertIn("no query more", self.browser.text("#refusal"))
 
 
 class Messages(Designed):

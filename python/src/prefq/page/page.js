@@ -86,7 +86,7 @@ function state(text) {
 
 // What is refused is the question, the condition, which is the text that has the place then, or how many rows are wanted.
 function refuse(reason, query) {
-  const field = reason.question === query.get("where") ? "where" : reason.error.startsWith("top is") ? "top" : "question";
+  const field = query.has("where") && reason.question === query.get("where") ? "where" : reason.error.startsWith("top is") ? "top" : "question";
   mark(field);
   $("refusal").replaceChildren(element("p", {textContent: reason.error}));
   if (Number.isInteger(reason.place)) $("refusal").append(pointed(query.get(field), reason.place));
