@@ -137,6 +137,7 @@ class Paper(Designed):
             self.browser.until("document.querySelectorAll('#rows tbody tr').length === 200")
             printed = self.browser.call("Page.printToPDF")["data"]
             self.assertGreater(sheets(printed), 3)
+            self.browser.open("about:blank")        # before its server ends
 
 
 def sheets(printed):
@@ -163,6 +164,7 @@ class Numbers(Designed):
         with served(records) as server:
             self.browser.open(f"{server.url}?question=best+low(Distance)")
             self.browser.until("document.getElementById('summary').textContent === '1 of 1,200 rows are in the answer.'")
+            self.browser.open("about:blank")        # before its server ends
 
 
 WIDE = [{"Name": name, **{f"Measure {number}": str(value * number) for number in range(1, 14)}, "Large": large}
