@@ -163,7 +163,7 @@ class Numbers(Designed):
         records = [{"Hotel": "x", "Price (EUR)": number, "Distance": number} for number in range(1200)]
         with served(records) as server:
             self.browser.open(f"{server.url}?question=best+low(Distance)")
-            self.browser.until("document.getElementById('summary').textContent === '1 of 1,200 rows are in the answer.'")
+            self.browser.until("document.getElementById('summary')?.textContent === '1 of 1,200 rows are in the answer.'")
             self.browser.open("about:blank")        # before its server ends
 
 
