@@ -3,20 +3,15 @@ import gc
 import threading
 import time
 from typing import Optional
+from weakref import ref
 
-from .engine import Engine, Holder
+from .engine import Asker, Engine
 from .errors import Refused
 
 SECONDS_TO_WAIT = 60.0
 SECONDS_TO_COLLECTION = 1.0
 MOST_TIME_FOR_COLLECTIONS = 1 / 20
 STEP = 0.005
-
-
-class Asker:
-    """Who has a client for one call."""
-
-    __slots__ = ("__weakref__",)
 
 
 class Clients:
@@ -27,13 +22,10 @@ class Clients:
         self._engine = engine
         self._collects_from = 0.0
 
-    def take(self, query: object, client: Optional[int]) -> Holder:
-        """This client, or any that has no open query, for this query."""
+    def give(self, asker: Asker, client: Optional[int]) -> None:
+        """Gives this client, or any that has no open query, to this asker."""
         begun, pause = time.monotonic(), STEP
-        while True:
-            holder = self._free(query, client)
-            if holder is not None:
-                return holder
+        while not self._is_given(asker, client):
             if client is not None:
                 raise Refused(f"client {client} has an open query", "client", 3)
             waited, waits_for_itself = time.monotonic() - begun, self._all_are_of_this_thread()
@@ -58,18 +50,19 @@ class Clients:
             self._collects_from = end + max(SECONDS_TO_COLLECTION, (end - begun) / MOST_TIME_FOR_COLLECTIONS)
 
     def _all_are_of_this_thread(self) -> bool:
-        return {holder.thread for holder in list(self._engine.queries.values())} == {threading.get_ident()}
+        askers = [held() for held in list(self._engine.queries.values())]
+        return {asker.thread for asker in askers if asker is not None} == {threading.get_ident()}
 
-    def _free(self, query: object, client: Optional[int]) -> Optional[Holder]:
-        """Takes a client that is free now, if there is one."""
+    def _is_given(self, asker: Asker, client: Optional[int]) -> bool:
+        """Gives a client that is free now, if there is one."""
         self._engine.check()
-        queries = self._engine.queries
+        queries, held, asker.thread = self._engine.queries, ref(asker), threading.get_ident()
         if queries:
             self._engine.settle()
         for number in range(1, self._count + 1) if client is None else [client]:
             if number not in queries:
-                holder = Holder(query, number)
-                # With this one step it is taken, and will be given back where nobody has the query any more.
-                if queries.setdefault(number, holder) is holder:
-                    return holder
-        return None
+                asker.client = number
+                # With this one step it is taken, and will be given back where nobody has the asker any more.
+                if queries.setdefault(number, held) is held:
+                    return True
+        return False

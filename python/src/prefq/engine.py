@@ -6,12 +6,12 @@ client; both are right whatever comes between two steps.
 import ctypes
 import os
 import threading
-from ctypes import byref, c_size_t, c_uint32, c_uint64, c_void_p
+from ctypes import c_size_t, c_uint32, c_uint64, c_void_p
 from typing import Any, Callable, Dict, List, Optional, Sequence, Tuple, TypeVar
 from weakref import ref
 
 from .errors import Ended, Error, Refused
-from .library import Change, Refusal, Setup, calls
+from .library import Change, Numbers, Refusal, Setup, calls
 
 Result = TypeVar("Result")
 OK, REFUSED, OUT_OF_MEMORY = 0, -1, -2
@@ -34,27 +34,11 @@ def _count_fork() -> None:
 os.register_at_fork(after_in_child=_count_fork)
 
 
-class Holder(ref):  # type: ignore[type-arg]
-    """Who has an open query: the client, the thread, and a weak reference to the query. `is_wanted` until the query is abandoned, `is_used` within its calls."""
+class Asker:
+    """Who asks a table: its client, and the thread that took it. `is_wanted` until the query is abandoned, `is_used` within its calls."""
 
-    __slots__ = ("client", "thread", "is_wanted", "is_used")
-    client: int
-    thread: int
-    is_wanted: bool
-    is_used: bool
-
-    def __new__(cls, query: Any, client: int) -> "Holder":
-        holder = super().__new__(cls, query)
-        holder.client, holder.thread, holder.is_wanted, holder.is_used = client, threading.get_ident(), True, False
-        return holder
-
-    def __init__(self, query: Any, client: int) -> None:
-        super().__init__(query)  # type: ignore[call-arg]
-
-    @property
-    def is_dropped(self) -> bool:
-        """Whether nobody uses the query any more."""
-        return self() is None or not self.is_wanted and not self.is_used
+    client = thread = 0
+    is_wanted, is_used = True, False
 
 
 class Engine:
@@ -72,10 +56,11 @@ class Engine:
         self._owner, self._forks = os.getpid(), _forks
         self._ended: Optional[Tuple[str, str]] = None
         self.width = len(columns)
+        self._width = c_size_t(self.width)
         self._row = ctypes.c_int64 * self.width
         self._rows: Optional[int] = 0           # None where it has to be counted
         self.lock = threading.RLock()
-        self.queries: Dict[int, Holder] = {}
+        self.queries: Dict[int, "ref[Asker]"] = {}     # by their clients
 
     def __del__(self) -> None:
         # Here alone its memory is given back: whoever is in the middle of a call still has the engine. Other finalizers of the same garbage may still use it.
@@ -89,18 +74,18 @@ class Engine:
     def opened(columns: Sequence[str], values: bytes, rows: int, setup: Setup) -> "Engine":
         """The table of these rows, which are one after the other."""
         engine, header = Engine(columns), ",".join(columns).encode()
-        engine._open(engine._calls.prefq_open, rows, header, len(header), values, rows, len(columns), byref(setup))
+        engine._open(engine._calls.prefq_open, rows, header, len(header), values, rows, len(columns), setup)
         return engine
 
     @staticmethod
     def opened_text(columns: Sequence[str], text: bytes, rows: int, setup: Setup) -> "Engine":
         """The table of rows one to a line."""
         engine, whole = Engine(columns), f"{','.join(columns)}\n".encode() + text
-        engine._open(engine._calls.prefq_open_text, rows, whole, len(whole), byref(setup))
+        engine._open(engine._calls.prefq_open_text, rows, whole, len(whole), setup)
         return engine
 
     def _open(self, call: Any, rows: int, *words: Any) -> None:
-        result = call(*words, byref(self._pointer))
+        result = call(*words, self._pointer)
         self._rows = rows
         if result:
             raise self._wrong(result)
@@ -146,26 +131,26 @@ class Engine:
     def insert(self, values: bytes) -> int:
         """Adds a row, and returns its id."""
         id = c_uint64()
-        self._change(1, self._calls.prefq_insert, values, self.width, byref(id))
+        self._change(1, self._calls.prefq_insert, self._pointer, values, self._width, id)
         return id.value
 
     def insert_many(self, values: bytes, rows: int) -> int:
         """Adds rows, and returns the id of the first."""
         first = c_uint64()
-        self._change(rows, self._calls.prefq_insert_many, values, rows, self.width, byref(first))
+        self._change(rows, self._calls.prefq_insert_many, self._pointer, values, rows, self._width, first)
         return first.value
 
     def update(self, id: int, values: bytes) -> None:
         """Gives a row these values."""
         if self.queries:
             self.settle()
-        result = self._calls.prefq_update(self._pointer, id, values, self.width)
+        result = self._calls.prefq_update(self._pointer, id, values, self._width)
         if result:
             raise self._wrong(result)
 
     def delete(self, id: int) -> None:
         """Deletes a row."""
-        self._change(-1, self._calls.prefq_delete, id)
+        self._change(-1, self._calls.prefq_delete, self._pointer, id)
 
     def commit(self, changes: Sequence[Tuple[str, int, Optional[bytes]]]) -> int:
         """Makes changes at one moment, and returns the id of the first new row, or 0. Each is a verb, an id and values."""
@@ -174,13 +159,13 @@ class Engine:
         for place, (verb, id, _) in enumerate(changes):
             made[place] = Change(VERBS[verb], id, ctypes.cast(kept[place], c_void_p))
         more = sum({"insert": 1, "delete": -1}.get(verb, 0) for verb, _, _ in changes)
-        self._change(more, self._calls.prefq_commit, made, len(changes), self.width, byref(first))
+        self._change(more, self._calls.prefq_commit, self._pointer, made, len(changes), self._width, first)
         return first.value
 
     def get(self, id: int) -> List[int]:
         """The values of a row."""
         values = self._row()
-        result = self._calls.prefq_get(self._pointer, id, values, self.width)
+        result = self._calls.prefq_get(self._pointer, id, values, self._width)
         if result:
             raise self._wrong(result)
         return values[:]
@@ -190,7 +175,7 @@ class Engine:
         room = c_uint32()
         if self.queries:
             self.settle()
-        result = self._calls.prefq_room(self._pointer, byref(room))
+        result = self._calls.prefq_room(self._pointer, room)
         if result:
             raise self._wrong(result)
         return room.value
@@ -212,7 +197,7 @@ class Engine:
             if self.queries:
                 self.settle()
             try:
-                result = call(self._pointer, *words)
+                result = call(*words)
                 if result == OK and self._rows is not None:
                     self._rows += more
             except BaseException:
@@ -227,83 +212,81 @@ class Engine:
         """Abandons the queries that nobody uses any more."""
         self.ours()
         with self.lock:
-            for holder in list(self.queries.values()):
-                if holder.is_dropped:
+            for client, held in list(self.queries.items()):
+                asker = held()
+                if asker is None or not asker.is_wanted and not asker.is_used:
                     # One that has ended before is refused, which does no harm.
-                    self._calls.prefq_abandon(self._pointer, holder.client)
-                    self.give_back(holder)
+                    self._calls.prefq_abandon(self._pointer, client)
+                    if self.queries.get(client) is held:
+                        del self.queries[client]
 
-    def give_back(self, holder: Holder) -> None:
-        """Its query has ended."""
-        if self.queries.get(holder.client) is holder:
-            del self.queries[holder.client]
-
-    def is_open(self, holder: Holder) -> bool:
+    def is_open(self, asker: Asker) -> bool:
         """Whether a query may be used: nobody has abandoned it, and its client has no other one. The collector says that a query is gone before it runs the
         finalizers that may still use it."""
-        return holder.is_wanted and holder() is not None and self.queries.get(holder.client) is holder
+        held = self.queries.get(asker.client)
+        return asker.is_wanted and held is not None and held() is asker
 
-    def begin(self, holder: Holder, question: str, left: c_uint32) -> None:
+    def begin(self, asker: Asker, question: str, left: c_uint32) -> None:
         """Begins a query, of which so many blocks are left then."""
-        self._call_as(holder, self._begin, question, left)
+        self._call_as(asker, self._begin, question, left)
 
-    def scan(self, holder: Holder, blocks: int, left: c_uint32) -> None:
+    def scan(self, asker: Asker, blocks: int, left: c_uint32) -> None:
         """Scans some blocks. How many are left is told by the call itself, so that no interruption can come in between."""
-        self._call_as(holder, self._scan, blocks, left)
+        self._call_as(asker, self._scan, blocks, left)
 
-    def finish(self, holder: Holder) -> bytes:
+    def finish(self, asker: Asker) -> bytes:
         """The rows of the answer one after the other: each is its level, its id and its values. The query has ended then."""
-        return self._call_as(holder, self._finish)
+        return self._call_as(asker, self._finish)
 
-    def _call_as(self, holder: Holder, call: Callable[..., Result], *words: Any) -> Result:
+    def ask(self, asker: Asker, question: str) -> bytes:
+        """The answer to a question, as `finish` has it, by one call: only where that cannot take long."""
+        return self._call_as(asker, self._ask, question)
+
+    def _call_as(self, asker: Asker, call: Callable[..., Result], *words: Any) -> Result:
         """A call of a query, which has its client as long as that takes."""
         if self._forks != _forks:
             self.ours()
         with self.lock:
-            if not self.is_open(holder):
+            if not self.is_open(asker):
                 self.check()
                 raise Refused("this query has ended", "client", 4)
-            if holder.is_used:
+            if asker.is_used:
                 raise Refused("a call of this query is under way in this thread", "client", 3)
             try:
-                holder.is_used = True
-                return call(holder, *words)
+                asker.is_used = True
+                return call(asker, *words)
             finally:
-                holder.is_used = False
+                asker.is_used = False
 
-    def ask(self, holder: Holder, question: str) -> bytes:
-        """The answer to a question, as `finish` has it, by one call: only where that cannot take long."""
-        return self._call_as(holder, self._ask, question)
-
-    def _ask(self, holder: Holder, question: str) -> bytes:
-        text, numbers, count = question.encode(), c_void_p(), c_size_t()
-        result = self._calls.prefq_ask(self._pointer, holder.client, text, len(text), byref(numbers), byref(count))
+    def _ask(self, asker: Asker, question: str) -> bytes:
+        text, numbers, count = question.encode(), Numbers(), c_size_t()
+        result = self._calls.prefq_ask(self._pointer, asker.client, text, len(text), numbers, count)
         if result:
-            self.give_back(holder)
+            del self.queries[asker.client]
             raise self._wrong(result, question)
-        return self._answer(holder, numbers, count)
+        return self._answer(asker, numbers, count)
 
-    def _begin(self, holder: Holder, question: str, left: c_uint32) -> None:
+    def _begin(self, asker: Asker, question: str, left: c_uint32) -> None:
         text = question.encode()
-        result = self._calls.prefq_begin(self._pointer, holder.client, text, len(text), byref(left))
+        result = self._calls.prefq_begin(self._pointer, asker.client, text, len(text), left)
         if result:
-            self.give_back(holder)
+            del self.queries[asker.client]
             raise self._wrong(result, question)
 
-    def _scan(self, holder: Holder, blocks: int, left: c_uint32) -> None:
-        result = self._calls.prefq_scan(self._pointer, holder.client, blocks, byref(left))
+    def _scan(self, asker: Asker, blocks: int, left: c_uint32) -> None:
+        result = self._calls.prefq_scan(self._pointer, asker.client, blocks, left)
         if result:
             raise self._wrong(result)
 
-    def _finish(self, holder: Holder) -> bytes:
-        numbers, count = c_void_p(), c_size_t()
-        result = self._calls.prefq_finish(self._pointer, holder.client, byref(numbers), byref(count))
+    def _finish(self, asker: Asker) -> bytes:
+        numbers, count = Numbers(), c_size_t()
+        result = self._calls.prefq_finish(self._pointer, asker.client, numbers, count)
         if result:
             raise self._wrong(result)
-        return self._answer(holder, numbers, count)
+        return self._answer(asker, numbers, count)
 
-    def _answer(self, holder: Holder, numbers: c_void_p, count: c_size_t) -> bytes:
+    def _answer(self, asker: Asker, numbers: Any, count: c_size_t) -> bytes:
         """A copy of an answer. Until it is made, the client gets no other query."""
-        found = ctypes.string_at(numbers, BYTES * count.value * (2 + self.width)) if count.value else b""
-        self.give_back(holder)
+        found: bytes = numbers[:BYTES * count.value * (2 + self.width)]
+        del self.queries[asker.client]
         return found

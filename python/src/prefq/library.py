@@ -1,7 +1,7 @@
 """Finds the library `libprefq.so`, and has its calls."""
 import ctypes
 import os
-from ctypes import POINTER, Structure, c_char_p, c_int, c_int32, c_int64, c_size_t, c_uint32, c_uint64, c_void_p
+from ctypes import POINTER, Structure, c_char, c_char_p, c_int, c_int32, c_int64, c_size_t, c_uint32, c_uint64, c_void_p
 from functools import lru_cache
 from pathlib import Path
 from typing import Any, Dict, List, Union
@@ -33,22 +33,24 @@ class Change(Structure):
     _fields_ = [("verb", c_int), ("id", c_uint64), ("values", c_void_p)]
 
 
-# The arguments of each call. Arrays, texts and places for results are given by any pointer.
-SETUP = POINTER(Setup)
+# The numbers of an answer, of which a slice is a copy of their bytes.
+Numbers = POINTER(c_char)
+# The arguments of each call. Rows are given by any pointer, and places for results as they are.
+TABLE, ID, NUMBERS, COUNT, LEFT = map(POINTER, (c_void_p, c_uint64, Numbers, c_size_t, c_uint32))
 CALLS: Dict[str, List[Any]] = {
-    "open": [c_char_p, c_size_t, c_void_p, c_size_t, c_size_t, SETUP, c_void_p],
-    "open_text": [c_char_p, c_size_t, SETUP, c_void_p],
-    "insert": [c_void_p, c_void_p, c_size_t, c_void_p],
-    "insert_many": [c_void_p, c_void_p, c_size_t, c_size_t, c_void_p],
+    "open": [c_char_p, c_size_t, c_void_p, c_size_t, c_size_t, POINTER(Setup), TABLE],
+    "open_text": [c_char_p, c_size_t, POINTER(Setup), TABLE],
+    "insert": [c_void_p, c_void_p, c_size_t, ID],
+    "insert_many": [c_void_p, c_void_p, c_size_t, c_size_t, ID],
     "update": [c_void_p, c_uint64, c_void_p, c_size_t],
     "delete": [c_void_p, c_uint64],
-    "commit": [c_void_p, c_void_p, c_size_t, c_size_t, c_void_p],
+    "commit": [c_void_p, POINTER(Change), c_size_t, c_size_t, ID],
     "get": [c_void_p, c_uint64, c_void_p, c_size_t],
-    "room": [c_void_p, c_void_p],
-    "ask": [c_void_p, c_uint32, c_char_p, c_size_t, c_void_p, c_void_p],
-    "begin": [c_void_p, c_uint32, c_char_p, c_size_t, c_void_p],
-    "scan": [c_void_p, c_uint32, c_uint32, c_void_p],
-    "finish": [c_void_p, c_uint32, c_void_p, c_void_p],
+    "room": [c_void_p, LEFT],
+    "ask": [c_void_p, c_uint32, c_char_p, c_size_t, NUMBERS, COUNT],
+    "begin": [c_void_p, c_uint32, c_char_p, c_size_t, LEFT],
+    "scan": [c_void_p, c_uint32, c_uint32, LEFT],
+    "finish": [c_void_p, c_uint32, NUMBERS, COUNT],
     "abandon": [c_void_p, c_uint32],
     "end": [c_void_p],
     "close": [c_void_p],

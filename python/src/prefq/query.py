@@ -4,9 +4,9 @@ from ctypes import c_uint32
 from typing import Callable, List, Optional, Tuple, Type
 
 from .clients import Clients
-from .engine import Engine
+from .engine import Asker, Engine
 from .errors import Ended
-from .rows import Made, Numbers, Row, as_pairs, as_rows, rows_of
+from .rows import Made, Row, as_pairs, as_rows, rows_of
 
 Progress = Callable[[int, int], None]
 # A piece of a scan: an interruption comes behind it, and so do other threads' calls.
@@ -14,7 +14,7 @@ SECONDS_OF_A_PIECE = 0.01
 SECONDS_FOR_OTHERS = 0.000_05
 
 
-class Query:
+class Query(Asker):
     """An open query, which `Table.query` begins. `left` is how many blocks are still to be scanned.
 
     It is abandoned where its `with` block ends without an answer, or where nobody has it any more. An interruption, as by Ctrl-C, comes between two of its
@@ -32,9 +32,8 @@ class Query:
         self._left = c_uint32()
         self._together = 1
         self._engine = engine
-        self._holder = clients.take(self, client)
-        self.client = self._holder.client
-        engine.begin(self._holder, question, self._left)
+        clients.give(self, client)
+        engine.begin(self, question, self._left)
         self._blocks = self.left
 
     def __repr__(self) -> str:
@@ -57,7 +56,7 @@ class Query:
 
     def scan(self) -> int:
         """Scans the next block, and returns how many are left."""
-        self._engine.scan(self._holder, 1, self._left)
+        self._engine.scan(self, 1, self._left)
         return self.left
 
     def answer(self, progress: Optional[Progress] = None) -> List[Row]:
@@ -74,21 +73,21 @@ class Query:
     def abandon(self) -> None:
         """Ends the query without an answer; nothing is done where it has ended. Waits for nothing: the table does it before its next call."""
         if self._is_open:
-            self._holder.is_wanted = False
+            self.is_wanted = False
             self._engine.check()
 
     @property
     def _is_open(self) -> bool:
-        return self._engine.is_open(self._holder)
+        return self._engine.is_open(self)
 
-    def _finish(self, make: Callable[[Numbers], List[Made]]) -> List[Made]:
-        numbers = self._engine.finish(self._holder)
+    def _finish(self, make: Callable[[List[int], int], List[Made]]) -> List[Made]:
+        numbers = self._engine.finish(self)
         return rows_of(numbers, self._engine.width, make)
 
     def scan_piece(self) -> None:
         """Scans as many blocks of those that are left as a piece has time for."""
         begun = time.monotonic()
-        self._engine.scan(self._holder, self._together, self._left)
+        self._engine.scan(self, self._together, self._left)
         taken = time.monotonic() - begun
         if 4 * taken > SECONDS_OF_A_PIECE:
             # Whoever waits for the table gets it now.

@@ -3,7 +3,7 @@ import gc
 import struct
 from array import array
 from collections.abc import Iterable, Mapping, Set
-from itertools import chain, islice
+from itertools import chain, islice, repeat
 from typing import Any, Callable, Iterator, List, NamedTuple, Optional, Sequence, Tuple, TypeVar
 
 from .checks import LEAST, MOST, MOST_ROWS, whole
@@ -12,7 +12,6 @@ from .library import Setup
 from .pauses import let_others_run
 
 Made = TypeVar("Made")
-Numbers = Iterator[Tuple[int, ...]]
 TOGETHER = 256
 ANSWER_PIECE = 4_096        # numbers of an answer
 LOOKED_THROUGH = 16_384
@@ -94,31 +93,35 @@ class Zipped(WholeRows):
         return Engine.opened(columns, found.tobytes(), len(self), setup)
 
 
-def as_rows(numbers: Numbers) -> List[Row]:
-    """The rows of an answer."""
-    new = tuple.__new__         # that of a named tuple is written in Python, and takes longer
-    return [new(Row, (level, id, values)) for level, id, *values in numbers]
+def as_rows(numbers: List[int], width: int) -> List[Row]:
+    """The rows of an answer, of which each is its level, its id and so many values."""
+    # The `new` of a named tuple itself is written in Python, and takes longer.
+    return list(map(tuple.__new__, repeat(Row), zip(numbers[::2 + width], numbers[1::2 + width], _values(numbers, width))))
 
 
-def as_pairs(numbers: Numbers) -> List[Tuple[int, List[int]]]:
+def as_pairs(numbers: List[int], width: int) -> List[Tuple[int, List[int]]]:
     """The same as pairs of an id and its values."""
-    return [(id, values) for _, id, *values in numbers]
+    return list(zip(numbers[1::2 + width], _values(numbers, width)))
 
 
-def rows_of(answer: bytes, width: int, make: Callable[[Numbers], List[Made]]) -> List[Made]:
+def _values(numbers: List[int], width: int) -> List[List[int]]:
+    return [numbers[at:at + width] for at in range(2, len(numbers), 2 + width)]
+
+
+def rows_of(answer: bytes, width: int, make: Callable[[List[int], int], List[Made]]) -> List[Made]:
     """What is made of the level, the id and the values of each row of an answer."""
-    size = BYTES * (2 + width)
-    piece = size * max(1, ANSWER_PIECE // (2 + width))
-    if len(answer) <= piece:
-        return make(struct.iter_unpack(f"{2 + width}q", answer))
+    numbers = memoryview(answer).cast("q")
+    piece = (2 + width) * max(1, ANSWER_PIECE // (2 + width))
+    if len(numbers) <= piece:
+        return make(numbers.tolist(), width)
     rows: List[Made] = []
     looked, collects = 0, gc.isenabled()
     try:
         # Rows are no garbage. Left to itself, the collector looks through all of them again and again while every thread waits; this looks at the new ones.
         gc.disable()
-        for begin in range(0, len(answer), piece):
-            rows += make(struct.iter_unpack(f"{2 + width}q", answer[begin:begin + piece]))
-            if collects and (begin - looked >= BYTES * LOOKED_THROUGH or begin + piece >= len(answer)):
+        for begin in range(0, len(numbers), piece):
+            rows += make(numbers[begin:begin + piece].tolist(), width)
+            if collects and begin - looked >= LOOKED_THROUGH:
                 looked = begin
                 gc.collect(0)
             let_others_run()
@@ -195,7 +198,7 @@ class Packing:
         self._width = len(columns)
         self._pack = struct.Struct(f"{self._width}q").pack
 
-    def __call__(self, row: Any, where: str = "") -> bytes:
+    def packed(self, row: Any, where: str = "") -> bytes:
         """Its values one after the other. What is wrong names its column, behind `where`."""
         if type(row) in LISTS and len(row) == self._width:
             for cell in row:

@@ -2,7 +2,8 @@
 from typing import Any, Iterable, Iterator, List, Optional, Sequence, Tuple, Type, Union
 
 from . import checks
-from .clients import Asker, Clients
+from .clients import Clients
+from .engine import Asker
 from .errors import Ended, Refused
 from .library import Setup
 from .query import Query
@@ -33,7 +34,7 @@ class Table:
     def __init__(self, columns: Iterable[str], rows: Union[Iterable[Values], WholeRows] = (), *, capacity: Optional[int] = None, clients: int = 8, block: int = 1024,
                  window: int = 64) -> None:
         self.columns = checks.names(columns)
-        self._packed = Packing(self.columns)
+        self._packed = Packing(self.columns).packed
         opening = rows if isinstance(rows, WholeRows) else packed(rows, self.columns)
         if capacity is None:
             capacity = min(checks.MOST_ROWS, max(1024, 2 * len(opening)))
@@ -210,7 +211,8 @@ class Table:
                 return query.answer()
         text, asker = checks.text_of_question(question), Asker()
         try:
-            answer = self._engine.ask(self._free.take(asker, None), text)
+            self._free.give(asker, None)
+            answer = self._engine.ask(asker, text)
         except Refused as why:
             raise explained(why, self.columns) from None
         return rows_of(answer, len(self.columns), as_rows)
