@@ -121,7 +121,7 @@ def rows_of(answer: bytes, width: int, make: Callable[[List[int], int], List[Mad
         gc.disable()
         for begin in range(0, len(numbers), piece):
             rows += make(numbers[begin:begin + piece].tolist(), width)
-            if collects and begin - looked >= LOOKED_THROUGH:
+            if collects and (begin - looked >= LOOKED_THROUGH or begin + piece >= len(numbers)):
                 looked = begin
                 gc.collect(0)
             let_others_run()
