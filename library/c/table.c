@@ -86,8 +86,9 @@ prefq_result enter(prefq *table)
     prefq_result result = test_stack();
     if (result != PREFQ_OK)
         return result;
+    /* The last refusal may be that of the call that was interrupted. */
     if (pthread_mutex_lock(&table->lock) == EDEADLK)
-        return not_done(PREFQ_BUSY, "this thread is in the middle of a call on this table");
+        return PREFQ_BUSY;
     table->said.length = 0;
     return table->proved.at != NULL && !atomic_load(&table->is_ending) ? PREFQ_OK : leave(table, ended(table));
 }
@@ -316,6 +317,8 @@ void prefq_close(prefq *table)
     if (is_ours(table)) {
         prefq_end(table);
         pthread_mutex_destroy(&table->lock);
+    } else if (pthread_mutex_trylock(&table->lock) != 0) {
+        return; /* The fork came in the middle of a call: which of its memory is given back already is not known. */
     }
     for (size_t client = 0; client < MOST_CLIENTS; client++)
         free(table->answers[client].numbers);

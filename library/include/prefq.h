@@ -14,7 +14,7 @@
    Threads.   Any thread may call a table, and calls of several threads wait for one another. A thread with less than PREFQ_STACK bytes of stack left is refused
               (PREFQ_ARGUMENTS). Calls ask for memory, so a signal handler makes none; one that has interrupted a call on the same table gets PREFQ_BUSY.
    Processes. A table belongs to the process that opened it. In the child of a fork each call returns PREFQ_ENDED, and prefq_close gives back the arrays of answers
-              alone: the memory of the rows stays as it was, until the child ends.
+              alone, and where the fork came in the middle of a call nothing: the memory of the rows stays as it was, until the child ends.
    The end.   A table that is refused memory in the middle of a call may have to end: then this call returns PREFQ_OUT_OF_MEMORY, and each later one PREFQ_ENDED.
               Nothing is done at the end of the process; a table that is still open does no harm there. */
 #ifndef PREFQ_H
@@ -53,7 +53,7 @@ typedef enum prefq_kind {
     PREFQ_COMMIT = 4,    /* "refused commit NUMBER": the changes of a commit */
     PREFQ_OPENING = 5,   /* "opening refused NUMBER": more rows than the capacity */
     PREFQ_ARGUMENTS = 6, /* an argument that this header does not allow; there is no number */
-    PREFQ_TABLE_END = 7  /* PREFQ_OUT_OF_MEMORY, PREFQ_ENDED or PREFQ_BUSY; there is no number */
+    PREFQ_TABLE_END = 7  /* PREFQ_OUT_OF_MEMORY or PREFQ_ENDED; there is no number */
 } prefq_kind;
 
 /* Why a call did nothing. */
@@ -86,7 +86,8 @@ typedef struct prefq_change {
 /* The version of the library, as "0.3.0". */
 const char *prefq_version(void);
 
-/* Why the last call of this thread that did not return PREFQ_OK did nothing. It stands until the thread's next such call. */
+/* Why the last call of this thread that did not return PREFQ_OK did nothing. It stands until the thread's next such call. PREFQ_BUSY says all by itself, and leaves
+   it: it may be that of the call which was interrupted. */
 const prefq_refusal *prefq_last_refusal(void);
 
 /* Opens a table: its columns are the names in `columns` with commas between them, as "price,dist", and its first rows have the ids 1, 2, 3 and so on. A setup of

@@ -47,9 +47,25 @@ static prefq *open_hotels(void)
 /* ---- memory ---- */
 
 static atomic_long requests, refused_request;
+static prefq *asking;                     /* a table in the middle of whose calls, around each request, */
+static void (*within_calls)(prefq *table); /* this is done */
+
+/* Forks a child that closes this table, and waits for it. */
+static void fork_and_close(prefq *table)
+{
+    int status;
+    pid_t child = fork();
+    if (child == 0) {
+        prefq_close(table);
+        _exit(0);
+    }
+    EXPECT(waitpid(child, &status, 0) == child && status == 0);
+}
 
 static int is_request_refused(void)
 {
+    if (asking != NULL)
+        within_calls(asking);
     return atomic_fetch_add(&requests, 1) + 1 == atomic_load(&refused_request);
 }
 
@@ -72,7 +88,12 @@ void *__wrap_calloc(size_t count, size_t size)
 
 void *__wrap_realloc(void *block, size_t size)
 {
-    return is_request_refused() ? NULL : __real_realloc(block, size);
+    if (is_request_refused())
+        return NULL;
+    void *found = __real_realloc(block, size);
+    if (asking != NULL)
+        within_calls(asking);
+    return found;
 }
 
 /* Makes each call once. What is refused for want of memory leaves the table as it was, or ended; what is done is done. */
@@ -327,6 +348,38 @@ static void test_forks(void)
     prefq_close(table);
 }
 
+static void call_within(prefq *table)
+{
+    uint32_t left;
+    EXPECT(prefq_room(table, &left) == PREFQ_BUSY);
+}
+
+/* A child that is forked where a call gives back memory and asks for more gives back none of it a second time. A call within a call is busy, and leaves what an
+   earlier one was refused with. */
+static void test_calls_around_requests(void)
+{
+    static void (*const each[])(prefq *table) = {fork_and_close, call_within};
+    const int64_t *answer;
+    const char *replies;
+    uint64_t id;
+    size_t count;
+    for (size_t at = 0; at < sizeof each / sizeof *each; at++) {
+        prefq *table = open_hotels();
+        EXPECT(prefq_ask(table, 1, low, sizeof low - 1, &answer, &count) == PREFQ_OK && count == 2);
+        for (int number = 0; number < 20; number++)
+            EXPECT(prefq_insert(table, hotels, 2, &id) == PREFQ_OK);
+        EXPECT(prefq_delete(table, 99) == PREFQ_REFUSED);
+        within_calls = each[at];
+        asking = table;
+        EXPECT(prefq_rows(table, 1, &answer, &count) == PREFQ_OK && count == 23);
+        EXPECT(prefq_lines(table, "as 1 get 1", 10, &replies, &count) == PREFQ_OK);
+        asking = NULL;
+        EXPECT(is_refused(PREFQ_REFUSED, PREFQ_CLIENT, 7, -1, "no such row 99"));
+        fork_and_close(table);
+        prefq_close(table);
+    }
+}
+
 static prefq *interrupted;
 static atomic_int busy_calls;
 
@@ -485,6 +538,7 @@ int main(int count, char **words)
     test_threads();
     test_end_beside_calls();
     test_forks();
+    test_calls_around_requests();
     test_signals();
     test_stacks();
     printf("all calls are as prefq.h says\n");
