@@ -36,7 +36,7 @@ class Change(Structure):
 # The numbers of an answer, of which a slice is a copy of their bytes.
 Numbers = POINTER(c_char)
 # The arguments of each call. Rows are given by any pointer, and places for results as they are.
-TABLE, ID, NUMBERS, COUNT, LEFT = map(POINTER, (c_void_p, c_uint64, Numbers, c_size_t, c_uint32))
+TABLE, ID, NUMBERS, COUNT, LEFT = POINTER(c_void_p), POINTER(c_uint64), POINTER(Numbers), POINTER(c_size_t), POINTER(c_uint32)
 CALLS: Dict[str, List[Any]] = {
     "open": [c_char_p, c_size_t, c_void_p, c_size_t, c_size_t, POINTER(Setup), TABLE],
     "open_text": [c_char_p, c_size_t, POINTER(Setup), TABLE],

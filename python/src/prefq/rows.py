@@ -3,7 +3,7 @@ import gc
 import struct
 from array import array
 from collections.abc import Iterable, Mapping, Set
-from itertools import chain, islice, repeat
+from itertools import chain, islice
 from typing import Any, Callable, Iterator, List, NamedTuple, Optional, Sequence, Tuple, TypeVar
 
 from .checks import LEAST, MOST, MOST_ROWS, whole
@@ -93,34 +93,30 @@ class Zipped(WholeRows):
         return Engine.opened(columns, found.tobytes(), len(self), setup)
 
 
-def as_rows(numbers: List[int], width: int) -> List[Row]:
-    """The rows of an answer, of which each is its level, its id and so many values."""
-    # The `new` of a named tuple itself is written in Python, and takes longer.
-    return list(map(tuple.__new__, repeat(Row), zip(numbers[::2 + width], numbers[1::2 + width], _values(numbers, width))))
+def as_rows(numbers: List[int], size: int) -> List[Row]:
+    """The rows of an answer, each of so many numbers: its level, its id and its values."""
+    new = tuple.__new__         # that of a named tuple is written in Python, and takes longer
+    return [new(Row, (numbers[at], numbers[at + 1], numbers[at + 2:at + size])) for at in range(0, len(numbers), size)]
 
 
-def as_pairs(numbers: List[int], width: int) -> List[Tuple[int, List[int]]]:
+def as_pairs(numbers: List[int], size: int) -> List[Tuple[int, List[int]]]:
     """The same as pairs of an id and its values."""
-    return list(zip(numbers[1::2 + width], _values(numbers, width)))
-
-
-def _values(numbers: List[int], width: int) -> List[List[int]]:
-    return [numbers[at:at + width] for at in range(2, len(numbers), 2 + width)]
+    return [(numbers[at + 1], numbers[at + 2:at + size]) for at in range(0, len(numbers), size)]
 
 
 def rows_of(answer: bytes, width: int, make: Callable[[List[int], int], List[Made]]) -> List[Made]:
     """What is made of the level, the id and the values of each row of an answer."""
-    numbers = memoryview(answer).cast("q")
-    piece = (2 + width) * max(1, ANSWER_PIECE // (2 + width))
+    numbers, size = memoryview(answer).cast("q"), 2 + width
+    piece = size * max(1, ANSWER_PIECE // size)
     if len(numbers) <= piece:
-        return make(numbers.tolist(), width)
+        return make(numbers.tolist(), size)
     rows: List[Made] = []
     looked, collects = 0, gc.isenabled()
     try:
         # Rows are no garbage. Left to itself, the collector looks through all of them again and again while every thread waits; this looks at the new ones.
         gc.disable()
         for begin in range(0, len(numbers), piece):
-            rows += make(numbers[begin:begin + piece].tolist(), width)
+            rows += make(numbers[begin:begin + piece].tolist(), size)
             if collects and (begin - looked >= LOOKED_THROUGH or begin + piece >= len(numbers)):
                 looked = begin
                 gc.collect(0)
