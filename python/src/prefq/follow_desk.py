@@ -5,10 +5,11 @@ from typing import Any, Callable, Dict, List, Mapping, Optional, Sequence
 from .columns import Column
 from .desk import Desk, Found, Held, Picture
 from .errors import Ended, Refused
-from .follow import FOLLOWED, Followed
+from .follow import Followed
 from .selection import Selection
 
 PAUSE = 0.1     # seconds between two looks at the database
+FOLLOWED = "the page of a frame that follows a table of a database"
 CLIENTS = 2     # that a picture needs of each table
 
 
