@@ -59,9 +59,16 @@ class Interrupter:
 
 @lru_cache(maxsize=None)
 def places_of(code):
-    """The offsets of the instructions before which Python may call a signal handler."""
+    """The offsets of the instructions before which Python may call a signal handler. It does so as a part of the call that is over: where only that call is in a `with`
+    or a `try`, what is raised there is handled there, and cannot be raised at the next instruction."""
     instructions = list(dis.get_instructions(code))
-    return {after.offset for before, after in zip(instructions, instructions[1:]) if before.opname in ("CALL", "CALL_FUNCTION_EX", "CALL_KW", "RESUME")}
+    return {after.offset for before, after in zip(instructions, instructions[1:])
+            if before.opname in ("CALL", "CALL_FUNCTION_EX", "CALL_KW", "RESUME") and handler_of(code, before.offset) == handler_of(code, after.offset)}
+
+
+def handler_of(code, offset):
+    """Where what is raised at an instruction is handled; None where it leaves the function."""
+    return next((entry.target for entry in dis._parse_exception_table(code) if entry.start <= offset < entry.end), None)
 
 
 class Holder:
