@@ -145,6 +145,26 @@ class Saved(InAFolder):
         with prefq.Frame.open(self.path) as opened:
             self.assertEqual(opened.get(1), {"x": 2})
 
+    def test_a_path_that_is_not_utf_8(self):
+        path = os.fsdecode(os.fsencode(self.folder) + b"/caf\xe9.prefq")
+        with prefq.Frame.from_records([{"x": 1}]) as frame:
+            frame.save(os.fsencode(self.path))
+            try:
+                frame.save(path)
+            except OSError as why:      # as where the file system has other names alone
+                self.skipTest(str(why))
+        for some in (path, self.path):
+            with prefq.Frame.open(some) as opened:
+                self.assertEqual(opened.get(1), {"x": 1})
+
+    def test_a_folder_in_which_no_file_can_be_made_is_said_by_the_system(self):
+        self.path.write_bytes(b"")
+        with prefq.Frame.from_records([{"x": 1}]) as frame:
+            for error, path in ((FileNotFoundError, self.folder / "hotels" / "all.prefq"), (NotADirectoryError, self.path / "all.prefq")):
+                with self.refuses(error, f"{str(path)!r}"):
+                    frame.save(path)
+        self.assertEqual([path.name for path in self.folder.iterdir()], ["hotels.prefq"])
+
     def test_a_save_that_fails_leaves_what_is_there_and_nothing_else(self):
         self.saved({"x": 1})
         with prefq.Frame.from_records([{"x": 2}]) as frame, unittest.mock.patch("prefq.saved._to_disk", side_effect=OSError("the disk is full")):
@@ -152,20 +172,6 @@ class Saved(InAFolder):
                 frame.save(self.path)
         self.assertEqual([path.name for path in self.folder.iterdir()], ["hotels.prefq"])
         with prefq.Frame.open(self.path) as opened:
-            self.assertEqual(opened.get(1), {"x": 1})
-
-    def test_a_folder_that_is_not_there_is_said_by_the_system(self):
-        with prefq.Frame.from_records([{"x": 1}]) as frame, self.refuses(FileNotFoundError, str(self.folder / "none" / "hotels.prefq")):
-            frame.save(self.folder / "none" / "hotels.prefq")
-
-    def test_a_path_that_is_no_utf_8(self):
-        path = os.fsdecode(os.fsencode(self.folder) + b"/caf\xe9.prefq")
-        with prefq.Frame.from_records([{"x": 1}]) as frame:
-            try:
-                frame.save(path)
-            except OSError as why:      # as where the file system has other names alone
-                self.skipTest(str(why))
-        with prefq.Frame.open(path) as opened:
             self.assertEqual(opened.get(1), {"x": 1})
 
     def test_a_column_with_a_zone_without_a_name_is_refused(self):

@@ -102,11 +102,12 @@ class Contents:
 
 
 def write(path: Path, contents: Contents) -> None:
-    """Has the file at this path hold these contents, and what is there now until then. Where that fails, what is there stays."""
-    target = os.path.realpath(path)
+    """Has the file at this path hold these contents, and what is there now until then. Where that fails, what is there stays; a folder in which no file can be
+    made is the system's own exception, with the path."""
+    target = os.path.realpath(os.fsdecode(path))
     beside = f"{target}.{uuid4().hex}.new"
     try:
-        os.close(os.open(beside, os.O_CREAT | os.O_EXCL | os.O_WRONLY, 0o644))      # so that it is the system that says what is wrong with the path
+        _make(beside, path)
         with closing(sqlite3.connect(beside, isolation_level=None)) as file:
             _fill(file, contents)
         with suppress(FileNotFoundError):
@@ -115,8 +116,16 @@ def write(path: Path, contents: Contents) -> None:
         os.replace(beside, target)
         _to_disk(os.path.dirname(target))
     finally:
-        with suppress(FileNotFoundError):
+        with suppress(FileNotFoundError, NotADirectoryError):
             os.remove(beside)
+
+
+def _make(beside: str, path: Path) -> None:
+    """Makes an empty file beside the one at this path."""
+    try:
+        open(beside, "xb").close()
+    except OSError as why:
+        raise OSError(why.errno, why.strerror, os.fspath(path)) from None
 
 
 def _fill(file: sqlite3.Connection, contents: Contents) -> None:
