@@ -312,10 +312,16 @@ class Refusals(OfSqlite):
         self.db.execute("create table offers (id integer primary key, price)")
         self.db.execute("insert into offers values (1, 5)")
         frame = self.followed()
+        self.db.execute("insert into offers values (9, null)")
         for value, word in (("x", "has values of int and str"), ("5", "has values of int and str"), (b"x", "has values of bytes")):
-            self.db.execute("replace into offers values (2, ?)", (value,))
-            with self.refuses(prefq.Refused, "offers: column 'price'", word, kind="follow"):
+            self.db.execute("replace into offers values (20, ?)", (value,))
+            with self.refuses(prefq.Refused, "offers: key 20, column 'price'", word, kind="follow"):
                 frame.best("best low(price)")
+        self.db.execute("delete from offers where id = 9")
+        self.db.execute("update offers set price = 0.5")
+        self.db.execute("replace into offers values (20, 9007199254740993)")
+        with self.refuses(prefq.Refused, "offers: key 20, column 'price'", "9007199254740993", kind="follow"):
+            frame.best("best low(price)")
         self.db.execute("update offers set price = 'y'")
         self.assertEqual([row.price for row in frame], ["y", "y"])
 

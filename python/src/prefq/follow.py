@@ -7,7 +7,7 @@ import os
 import threading
 import time
 from contextlib import contextmanager
-from typing import Any, Collection, Dict, Iterator, List, Mapping, NamedTuple, Optional, Sequence, Tuple
+from typing import Any, Collection, Iterator, List, Mapping, NamedTuple, Optional, Sequence, Tuple
 
 from .answer import Answer
 from .checks import MOST, whole
@@ -16,8 +16,8 @@ from .dealt import Begun, Dealt, Found, Key, Numbers, ordered
 from .dealt_questions import Asked, AskedOfTables, asked_of, moment_of
 from .errors import Ended, Refused
 from .kept import Kept
-from .kinds import Floats, Whole
-from .loading import check_known, column_of_values, decoded, encoded
+from .keyed_values import column_at_keys, keeps_its_kind
+from .loading import check_known, decoded
 from .preferences import Asked as AskedFor, Operand, text_asked
 from .questions import read_question
 from .records import Record
@@ -31,8 +31,6 @@ Cells = Sequence[Any]
 TRIES = 3           # how often a call reads the table anew where its own were refused memory
 PAUSE = 0.002       # seconds between two looks at a place that is waited for
 MOST_ROWS_KEPT = 2000       # of one of the answers that are kept while the rows stay as they are
-# Of which values a kind was taken; another one was taken of texts.
-TYPES: Dict[Any, Any] = {Whole: int, Floats: (int, float)}
 
 
 class Unchanged:
@@ -111,6 +109,10 @@ class Source:
         """Ends the connection."""
         raise NotImplementedError
 
+    def withdraw(self) -> None:
+        """The same where no frame was made: what was added to the database for it is removed."""
+        self.close()
+
 
 class Followed:
     """A frame that follows a table of a database, which `Frame.follow` makes. Any thread may call it.
@@ -131,7 +133,6 @@ class Followed:
     """
 
     def __init__(self, source: Source, kinds: Mapping[str, str], options: Mapping[str, Any]) -> None:
-        check_known(list(kinds), source.columns)
         self.at = 0
         self.version = 0        # how often the rows have changed
         self._source, self._kinds, self._options = source, dict(kinds), dict(options)
@@ -141,13 +142,15 @@ class Followed:
         self._is_closed = False
         # Whether the rows are those of the table at that place. They are not while they change, nor where that was interrupted.
         self._is_whole = False
+        self._is_followed = False       # whether the source says what has changed since these rows: not where it has read others, which were refused
         self._dealt: Optional[Dealt] = None
         self._kept: Kept[Answered] = Kept(Answered.is_small)
         try:
+            check_known(list(kinds), source.columns)
             with self._alone():
                 self._read_everything()
         except BaseException:
-            source.close()
+            source.withdraw()
             raise
 
     def __enter__(self) -> "Followed":
@@ -198,17 +201,16 @@ class Followed:
 
     @property
     def clients(self) -> int:
-        """How many questions may be open at once."""
+        """How many questions may be under way at once."""
         return self._tables.tables[0].clients
 
     def now(self) -> int:
         """The place behind all that the database has committed: with `at_least=frame.now()` a question sees what was committed before."""
         with self._alone():
-            place = self._source.now()
+            place = self._source.now() if self._is_followed else None
             if place is None:
                 self._read_everything()
-                return self.at
-            return place
+            return self.at if place is None else place
 
     def refresh(self) -> int:
         """Takes in what the database has committed, and returns the place."""
@@ -367,7 +369,7 @@ class Followed:
 
     def _catch_up(self) -> None:
         """Takes in what has changed, or everything."""
-        changes = self._source.changes(self.at) if self._is_whole and not self._tables.is_outgrown() else None
+        changes = self._source.changes(self.at) if self._is_whole and self._is_followed and not self._tables.is_outgrown() else None
         if changes is None or not self._take(changes):
             self._read_everything()
 
@@ -413,22 +415,22 @@ class Followed:
 
     def _read_everything(self) -> None:
         """Reads the table, and opens tables with its rows in place of those before. Until then these stay as they are."""
+        self._is_followed = False
         found = self._source.everything()
         keys = sorted(found.rows, key=ordered)
         values = list(zip(*(found.rows[key] for key in keys))) or [()] * len(self._source.columns)
         columns = [self._column(name, values[place], found.kinds.get(name), keys) for place, name in enumerate(self._source.columns)]
         dealt = Dealt([column for column, _ in columns], keys, Zipped([numbers for _, numbers in columns]), self._options)
-        self._dealt = dealt
+        self._is_whole = False
+        self._dealt, self.at = dealt, found.place
         self._count_change()
-        self.at, self._is_whole = found.place, True
+        self._is_whole = self._is_followed = True
 
     def _column(self, name: str, values: Sequence[Any], own: Optional[Column], keys: Sequence[Key]) -> Tuple[Column, Sequence[int]]:
         """A column of these values: of the kind that is given for it, or that it has by itself, or else of the kind of its values."""
         column = Column(name, self._kinds[name]) if name in self._kinds else own
         try:
-            return column_of_values(name, values, None) if column is None else (column, encoded(column, values))
-        except (TypeError, ValueError) as why:
-            raise Refused(f"{self._source.name}: {_at_its_key(column, values, keys) or why}", "follow") from None
+            return column_at_keys(name, values, column, keys)
         except Refused as why:
             raise Refused(f"{self._source.name}: {why}", "follow") from None
 
@@ -457,22 +459,6 @@ def client_of(connection: Any) -> str:
     """The name of the module that a connection, or its class of the caller's own, comes from; an empty one where it is no connection that is known."""
     modules = [base.__module__.partition(".")[0] for base in type(connection).__mro__]
     return next((name for name in ("sqlite3", "psycopg2", "psycopg") if name in modules), "")
-
-
-def keeps_its_kind(column: Column, cell: Any) -> bool:
-    """Whether a column whose kind was taken from its values has the same one with this value."""
-    return cell is None or not column.grows or isinstance(cell, TYPES.get(type(column.kind), str))
-
-
-def _at_its_key(column: Optional[Column], values: Sequence[Any], keys: Sequence[Key]) -> str:
-    """What is wrong with the first of these values that a column does not take, with the key of its row."""
-    for key, value in zip(keys, values):
-        try:
-            if column is not None:
-                column.encode(value)
-        except (TypeError, ValueError) as why:
-            return f"key {key!r}, {why}"
-    return ""
 
 
 def _records(columns: Sequence[Column], rows: Sequence[Tuple[Optional[int], Any, Numbers]]) -> List[Record]:

@@ -4,8 +4,8 @@ There is one note for each key, with the number of its last change, so the notes
 all that was committed before, since SQLite has one writer at a time; so what is seen up to a number is what was seen at one moment.
 """
 import sqlite3
-from contextlib import closing, contextmanager
-from typing import Any, Dict, Iterator, Mapping, Optional, Sequence, Tuple
+from contextlib import closing
+from typing import Any, Callable, Dict, Iterator, List, Mapping, Optional, Sequence, Tuple, TypeVar
 from urllib.parse import quote
 
 from .columns import Column
@@ -16,8 +16,12 @@ from .hints import nearest, unknown_column
 from .kinds import Floats, Texts, Whole
 from .loading import chosen
 
+Result = TypeVar("Result")
 # What SQLite makes of a declared type, by the first of these words in it, and the kind of such a column where all of its values are missing.
 AFFINITIES: Tuple[Tuple[str, Any], ...] = (("int", Whole), ("char", Texts), ("clob", Texts), ("text", Texts), ("real", Floats), ("floa", Floats), ("doub", Floats))
+CHANGES = "prefq_changes"
+TRIGGERS = ("prefq_insert", "prefq_update", "prefq_delete")
+OF_NO_USER = ("sqlite_", f"{CHANGES}:")
 NOTES = "create table {notes} (number integer primary key autoincrement, key unique)"
 NOTE = "delete from {notes} where key = {row}.{key}; insert into {notes} (key) values ({row}.{key});"
 NEW_KEY = "delete from {notes} where key = new.{key} and not new.{key} = old.{key} collate binary; " \
@@ -28,13 +32,12 @@ class SqliteSource(Source):
     """A table of a file of SQLite, by a connection of its own."""
 
     def __init__(self, connection: sqlite3.Connection, table: str, key: str, columns: Optional[Sequence[str]]) -> None:
-        self._db = sqlite3.connect(f"file:{quote(path_of(connection, table))}?mode=rw", uri=True, isolation_level=None, check_same_thread=False)
+        self._db = connected_as(connection)
         try:
-            with self._transaction():
-                self.name = self._canonical(table)
-                self._key, self._schema = key, -1
-                there = self._declared()
-                self._check_key(there)
+            self._key, self._schema, self._has_added = key, -1, False
+            self.name = at_one_moment(self._db, lambda: table_named(self._db, table))
+            check_meaning(connection, self.name)
+            there = at_one_moment(self._db, self._found)
             self.columns = chosen([name for name in there if name != key or columns is not None], columns)
             self._followed = {name: there[name] for name in (key, *self.columns)}
             self._objects = self._own_objects()
@@ -43,56 +46,51 @@ class SqliteSource(Source):
             raise
 
     def everything(self) -> Everything:
-        self._install()
-        with self._transaction():
-            self._check_columns()
-            if not self._has_objects():
-                raise Refused(f"what follows table {self.name!r} was dropped while it was read: ask again", "follow")
-            rows = self._db.execute(f"select {self._names('')} from {identifier(self.name)}").fetchall()
-            place, self._schema = self._last(), self._version()
-        return Everything(place, self._kinds(), {self._checked(row[0]): row[1:] for row in rows})
+        if not at_one_moment(self._db, self._is_installed):
+            at_one_moment(self._db, self._install, "begin immediate")
+        return at_one_moment(self._db, self._everything)
 
     def changes(self, since: int) -> Optional[Changes]:
-        with self._transaction():
-            if self._version() != self._schema:     # Which rows are others now is not to be seen.
-                return None
-            place = self._last()
-            if place == since:
-                return Changes(place, False, {})
-            if place < since:       # of a copy from before
-                return None
-            notes, table, key = map(identifier, (self._notes, self.name, self._key))
-            found = self._db.execute(f"select n.key, {self._names('t.')} from {notes} n left join {table} t on t.{key} = n.key where n.number > ?", (since,)).fetchall()
-            [count] = self._db.execute(f"select count(*) from {table}").fetchone()
-        if any(noted is None for noted, *_ in found):      # which no row is found by
-            return None
-        return Changes(place, False, dict(self._changed(found)), count)
+        return at_one_moment(self._db, lambda: self._changes(since))
 
     def now(self) -> Optional[int]:
-        with self._transaction():
-            return self._last() if self._version() == self._schema else None
+        return at_one_moment(self._db, self._place)
 
     def close(self) -> None:
         self._db.close()
 
-    @contextmanager
-    def _transaction(self, begin: str = "begin") -> Iterator[None]:
-        """What is read in the block is read at one moment; what is not committed in it is undone. An interruption leaves no transaction open: it may come right
-        behind the begin, and amid the end."""
+    def withdraw(self) -> None:
         try:
-            self._roll_back()
-            self._db.execute(begin)
-            yield
+            if self._has_added:
+                at_one_moment(self._db, lambda: remove(self._db, self.name, self._key), "begin immediate")
         finally:
-            try:
-                self._roll_back()
-            except BaseException:
-                self._roll_back()
-                raise
+            self.close()
 
-    def _roll_back(self) -> None:
-        if self._db.in_transaction:
-            self._db.execute("rollback")
+    def _everything(self) -> Everything:
+        self._check_table()
+        if not self._has_objects():
+            raise Refused(f"what follows table {self.name!r} was dropped while it was read: ask again", "follow")
+        rows = self._rows(f"select {self._names('')} from {identifier(self.name)}")
+        found = Everything(self._last(), self._kinds(), {self._checked(row[0]): row[1:] for row in rows})
+        self._schema = self._version()
+        return found
+
+    def _changes(self, since: int) -> Optional[Changes]:
+        place = self._place()
+        if place is None or place < since:      # of a copy from before
+            return None
+        if place == since:
+            return Changes(place, False, {})
+        notes, table, key = map(identifier, (self._notes, self.name, self._key))
+        found = self._rows(f"select n.key, {self._names('t.')} from {notes} n left join {table} t on t.{key} = n.key where n.number > ?", since)
+        if any(noted is None for noted, *_ in found):
+            return None
+        [(count,)] = self._rows(f"select count(*) from {table}")
+        return Changes(place, False, dict(self._changed(found)), count)
+
+    def _place(self) -> Optional[int]:
+        """The last number; None where the schema is another one, after which SQLite does not say which values are what they were, nor whether all was noted."""
+        return self._last() if self._version() == self._schema else None
 
     def _changed(self, found: Sequence[Sequence[Any]]) -> Iterator[Tuple[Key, Optional[Cells]]]:
         """The rows that are changed. By the table's own comparison another key may be equal to the one that is noted: then the noted one has gone."""
@@ -110,36 +108,27 @@ class SqliteSource(Source):
     # ---- the schema ----
 
     def _version(self) -> int:
-        return int(self._db.execute("pragma schema_version").fetchone()[0])
+        return int(self._rows("pragma schema_version")[0][0])
 
-    def _canonical(self, table: str) -> str:
-        """The name of the table as it is spelled in the file."""
-        some = "select name, type, sql from sqlite_master where type in ('table', 'view')"
-        found = self._db.execute(f"{some} and name = ? collate nocase", (table,)).fetchone()
-        if found is None:
-            near = nearest(table, [name for name, _, _ in self._db.execute(some) if not name.startswith(("sqlite_", "prefq_"))])
-            raise Refused(f"there is no table {table!r}" + (f"; did you mean {near!r}?" if near else ""), "follow")
-        if found[1] == "view" or found[2].lower().startswith("create virtual"):
-            raise Refused(f"{found[0]!r} is a {'view' if found[1] == 'view' else 'virtual table'}, whose rows no trigger sees: follow the table that has them", "follow")
-        return str(found[0])
-
-    def _declared(self) -> Dict[str, str]:
-        """The types of the columns as they are declared, by their names."""
-        return {name: declared.lower() for _, name, declared, *_, hidden in self._db.execute(f"pragma table_xinfo({identifier(self.name)})") if hidden != 1}
+    def _found(self) -> Dict[str, str]:
+        """The types of the columns, of which the key is one."""
+        there = types_of(self._db, self.name)
+        self._check_key(there)
+        return there
 
     def _check_key(self, there: Mapping[str, str]) -> None:
         if self._key not in there:
             raise Refused(unknown_column(self._key, list(there)), "follow")
         table = identifier(self.name)
-        primary = [name for _, name, *_, place, _ in self._db.execute(f"pragma table_xinfo({table})") if place]
-        unique = [name for _, name, is_unique, _, is_partial in self._db.execute(f"pragma index_list({table})") if is_unique and not is_partial]
-        keys = [primary, *([row[2] for row in self._db.execute(f"pragma index_info({identifier(name)})")] for name in unique)]
+        primary = [name for _, name, *_, place, _ in self._rows(f"pragma table_xinfo({table})") if place]
+        unique = [name for _, name, is_unique, _, is_partial in self._rows(f"pragma index_list({table})") if is_unique and not is_partial]
+        keys = [primary, *([row[2] for row in self._rows(f"pragma index_info({identifier(name)})")] for name in unique)]
         if [self._key] not in keys:
             raise Refused(f"several rows of table {self.name!r} may have the same {self._key!r}: a key is the primary key, or unique", "follow")
 
-    def _check_columns(self) -> None:
+    def _check_table(self) -> None:
         """Refuses a table whose columns that are followed are not those that they were, or whose key is none any more."""
-        there = self._declared()
+        there = types_of(self._db, self.name)
         for name, declared in self._followed.items():
             if there.get(name) != declared:
                 now = f"has the type {there[name]!r} now, and had {declared!r}" if name in there else "is not there any more"
@@ -152,7 +141,7 @@ class SqliteSource(Source):
         for name in self.columns:
             kind = next((kind for word, kind in AFFINITIES if word in self._followed[name]), None)
             some = f"select 1 from {identifier(self.name)} where {identifier(name)} is not null limit 1"
-            if kind is not None and self._db.execute(some).fetchone() is None:
+            if kind is not None and not self._rows(some):
                 found[name] = Column(name, kind())
                 found[name].grows = True
         return found
@@ -161,7 +150,7 @@ class SqliteSource(Source):
 
     @property
     def _notes(self) -> str:
-        return f"prefq_changes:{self.name}:{self._key}"
+        return f"{CHANGES}:{self.name}:{self._key}"
 
     def _own_objects(self) -> Dict[str, str]:
         """The names of what is added, with how it is made."""
@@ -174,54 +163,69 @@ class SqliteSource(Source):
         return made
 
     def _there(self) -> Dict[str, str]:
-        """What is there by these names. SQLite writes the first words in capitals."""
+        """What is there by these names."""
         marks = ", ".join("?" * len(self._objects))
-        found = self._db.execute(f"select name, sql from sqlite_master where name in ({marks})", list(self._objects)).fetchall()
-        return {name: sql.replace("CREATE TABLE ", "create table ", 1).replace("CREATE TRIGGER ", "create trigger ", 1) for name, sql in found if sql}
+        found = self._rows(f"select name, sql from sqlite_master where name in ({marks})", *self._objects)
+        return {name: as_made(sql) for name, sql in found if sql}
 
     def _has_objects(self) -> bool:
         return self._there() == self._objects
 
+    def _is_installed(self) -> bool:
+        self._check_table()
+        return self._has_objects()
+
     def _install(self) -> None:
         """Adds the table of notes and the triggers, unless they are there. What has one of their names and is another thing is refused, and stays."""
-        with self._transaction():
-            self._check_columns()
-            if self._has_objects():
-                return
-        with self._transaction("begin immediate"):
-            self._check_columns()
-            there = self._there()
-            for name, sql in self._objects.items():
-                if there.get(name, sql) != sql:
-                    raise Refused(f"{name!r} is there already, and is not what follows table {self.name!r}: drop it, or give it another name", "follow")
-                if name not in there:
-                    self._db.execute(sql)
-            self._db.execute("commit")
+        self._check_table()
+        there = self._there()
+        for name, sql in self._objects.items():
+            if there.get(name, sql) != sql:
+                raise Refused(f"{name!r} is there already, and is not what follows table {self.name!r}: drop it, or give it another name", "follow")
+            if name not in there:
+                self._db.execute(sql)
+        if there:       # What was changed while some of them were missing is noted nowhere: a note without a key stands for any rows.
+            self._db.execute(f"insert into {identifier(self._notes)} (key) values (null)")
+        self._db.execute("commit")
+        self._has_added = not there
 
-    def remove(self) -> None:
-        """Removes what was added to the file."""
-        with self._transaction("begin immediate"):
-            for name in [name for name, sql in self._there().items() if sql == self._objects[name]]:
-                self._db.execute(f"drop {'table' if name == self._notes else 'trigger'} {identifier(name)}")
-            self._db.execute("commit")
+    def _rows(self, statement: str, *values: Any) -> List[Any]:
+        return rows_of(self._db, statement, *values)
 
     def _last(self) -> int:
-        return int(self._db.execute(f"select max(number) from {identifier(self._notes)}").fetchone()[0] or 0)
+        return int(self._rows(f"select max(number) from {identifier(self._notes)}")[0][0] or 0)
 
     def _names(self, of: str) -> str:
         return ", ".join(of + identifier(name) for name in (self._key, *self.columns))
 
 
-def path_of(connection: sqlite3.Connection, table: str) -> bytes:
-    """The file in which a connection has a table of this name, whatever it makes of rows and texts."""
-    cursor = connection.cursor()
-    cursor.row_factory = None
-    if cursor.execute("select 1 from sqlite_temp_master where name = ? collate nocase", (table,)).fetchone():
-        raise Refused(f"{table!r} is a temporary table of this connection, which no other one reads", "follow")
-    [path] = cursor.execute("select cast(file as blob) from pragma_database_list where name = 'main'").fetchone()
-    if not path:
-        raise Refused("a database in memory has no file that another connection reads", "follow")
-    return bytes(path)
+def at_one_moment(db: sqlite3.Connection, call: Callable[[], Result], begin: str = "begin") -> Result:
+    """What a call finds in a transaction, which has ended then, whatever is raised and wherever."""
+    try:
+        try:
+            end_transaction(db)     # where a call before was interrupted, and so was its end
+            db.execute(begin)
+            return call()
+        finally:
+            end_transaction(db)
+    finally:
+        end_transaction(db)         # where the end above was interrupted
+
+
+def rows_of(db: sqlite3.Connection, statement: str, *values: Any) -> List[Any]:
+    """The rows of a statement, which has ended then: one that has not locks the file, also behind its transaction."""
+    cursor = db.cursor()
+    try:
+        cursor.row_factory = None
+        return cursor.execute(statement, values).fetchall()
+    finally:
+        cursor.close()
+
+
+def end_transaction(db: sqlite3.Connection) -> None:
+    """Takes back what is not committed."""
+    if db.in_transaction:
+        db.execute("rollback")
 
 
 def identifier(name: str) -> str:
@@ -229,7 +233,77 @@ def identifier(name: str) -> str:
     return '"' + name.replace('"', '""') + '"'
 
 
+def connected_as(connection: sqlite3.Connection) -> sqlite3.Connection:
+    """Another connection to the file of this one, whatever the caller makes of rows and texts there."""
+    [(path,)] = rows_of(connection, "select cast(file as blob) from pragma_database_list where name = 'main'")
+    if not path:
+        raise Refused("a database in memory has no file that another connection reads", "follow")
+    return sqlite3.connect(f"file:{quote(path)}?mode=rw", uri=True, isolation_level=None, check_same_thread=False)
+
+
+def check_meaning(connection: sqlite3.Connection, table: str) -> None:
+    """Refuses a name that means a temporary table, which no other connection sees."""
+    if rows_of(connection, "select 1 from sqlite_temp_master where type in ('table', 'view') and name = ? collate nocase", table):
+        raise Refused(f"{table!r} means a temporary table or view of this connection, which no other one sees: drop it, or follow by another connection", "follow")
+
+
+def table_named(db: sqlite3.Connection, table: str) -> str:
+    """The name of a table as it is spelled in the file."""
+    rows = [row for row in rows_of(db, "select name, type, sql from sqlite_master where type in ('table', 'view')") if not row[0].startswith(OF_NO_USER)]
+    found = next((row for row in rows if folded(row[0]) == folded(table)), None)
+    if found is None:
+        near = nearest(table, [name for name, _, _ in rows])
+        raise Refused(f"there is no table {table!r}" + (f"; did you mean {near!r}?" if near else ""), "follow")
+    if found[1] == "view" or found[2].lower().startswith("create virtual"):
+        raise Refused(f"{found[0]!r} is a {'view' if found[1] == 'view' else 'virtual table'}, whose rows no trigger sees: follow the table that has them", "follow")
+    return str(found[0])
+
+
+def types_of(db: sqlite3.Connection, table: str) -> Dict[str, str]:
+    """The types of the columns as they are declared, by their names."""
+    return {name: declared.lower() for _, name, declared, *_, hidden in rows_of(db, f"pragma table_xinfo({identifier(table)})") if hidden != 1}
+
+
+def folded(name: str) -> bytes:
+    """What names of SQLite are compared by: the letters of ASCII in small."""
+    return name.encode(errors="surrogatepass").lower()
+
+
+def as_made(statement: str) -> str:
+    """A statement as it was given, of which SQLite writes the first words in capitals."""
+    return statement.replace("CREATE TABLE ", "create table ", 1).replace("CREATE TRIGGER ", "create trigger ", 1)
+
+
 def unfollow(connection: sqlite3.Connection, table: str, key: str = "id") -> None:
-    """Removes from a file of SQLite what `Frame.follow` has added there for this table."""
-    with closing(SqliteSource(connection, table, key, None)) as source:
-        source.remove()
+    """Removes from a file of SQLite what `Frame.follow` has added there for this table, also what was added under a name that it had before, and where there is
+    no table by this name any more."""
+    with closing(connected_as(connection)) as db:
+        at_one_moment(db, lambda: remove(db, table, key), "begin immediate")
+
+
+def remove(db: sqlite3.Connection, table: str, key: str) -> None:
+    """Removes what was added for a table. Where there is nothing, a table or a key that is not there is refused."""
+    found = added(db, table, key)
+    if not found:
+        there = types_of(db, table_named(db, table))
+        if key not in there:
+            raise Refused(unknown_column(key, list(there)), "follow")
+    for kind, name in found:
+        db.execute(f"drop {kind} {identifier(name)}")
+    db.execute("commit")
+
+
+def added(db: sqlite3.Connection, table: str, key: str) -> List[Tuple[str, str]]:
+    """What was added for a table, by its name or by one that it had before: the triggers, and then the notes, each with what it is."""
+    there = [(kind, name, of, name.partition(":")) for kind, name, of, sql in
+             rows_of(db, "select type, name, tbl_name, sql from sqlite_master where type in ('table', 'trigger') order by type desc") if is_ours(name, sql)]
+    of_table = {whose for kind, _, of, (_, _, whose) in there
+                if folded(whose) == folded(f"{table}:{key}") or kind == "trigger" and folded(of) == folded(table) and whose.endswith(f":{key}")}
+    return [(kind, name) for kind, name, _, (_, _, whose) in there if whose in of_table]
+
+
+def is_ours(name: str, statement: str) -> bool:
+    """Whether this was added to follow a table: the notes, or a trigger that writes there, whatever its table and its key are called by now."""
+    what, _, whose = name.partition(":")
+    notes = identifier(f"{CHANGES}:{whose}")
+    return what == CHANGES and as_made(statement) == NOTES.format(notes=notes) or what in TRIGGERS and f"insert into {notes} (key)" in statement

@@ -1,0 +1,295 @@
+"""What may happen to a table of SQLite that is followed beside the changes of its rows: another schema, another follower, an interruption."""
+import os
+import random
+import signal
+import sqlite3
+import unittest
+from contextlib import closing
+
+import prefq
+from prefq.follow_sqlite import unfollow
+from test_follow import SEED, OfSqlite
+from test_interruptions import Interrupter, Interruption
+
+ROOMS = "create table rooms (id integer primary key, price int, dist int)"
+QUESTION = "best low(price)"
+DROPS_COLUMNS = unittest.skipIf(sqlite3.sqlite_version_info < (3, 35), "this SQLite drops no column")
+TIMERS = 150
+
+
+class OfRooms(OfSqlite):
+    def rooms(self, *rows, schema=ROOMS):
+        """A frame that follows rooms with these rows."""
+        self.db.execute(schema)
+        self.insert(*rows)
+        return self.followed("rooms")
+
+    def insert(self, *rows):
+        self.db.executemany(f"insert into rooms values ({', '.join('?' * len(rows[0]))})", rows)
+
+    def are(self, frame, *rows):
+        """The frame has these rows, and so has the table."""
+        self.assertEqual([(row.id, *row.values()) for row in frame.rows()], list(rows))
+        self.assertEqual(self.db.execute("select * from rooms order by id").fetchall(), list(rows))
+
+
+class Schemas(OfRooms):
+    @DROPS_COLUMNS
+    def test_a_column_that_is_dropped_and_added_again(self):
+        frame = self.rooms((1, 10, 3), (2, 20, 4))
+        self.db.execute("alter table rooms drop column dist")
+        self.db.execute("alter table rooms add column dist int default 5")
+        place = frame.now()
+        self.assertEqual(frame.best("best low(dist)", at_least=place).ids, [1, 2])
+        self.are(frame, (1, 10, 5), (2, 20, 5))
+
+    def test_columns_whose_names_are_swapped(self):
+        frame = self.rooms((1, 10, 3), (2, 20, 4))
+        for old, new in (("price", "other"), ("dist", "price"), ("other", "dist")):
+            self.db.execute(f"alter table rooms rename column {old} to {new}")
+        self.assertEqual(frame.get(1), {"price": 3, "dist": 10})
+
+    def test_a_table_that_is_made_anew_before_another_follower_comes(self):
+        frame = self.rooms((1, 10, 3), (2, 20, 4))
+        self.db.execute("drop table rooms")
+        self.db.execute(ROOMS)
+        self.insert((1, 99, 3), (3, 5, 3))
+        other = self.followed("rooms")
+        self.assertGreater(other.at, frame.at)
+        self.assertEqual(frame.best(QUESTION, at_least=other.at).ids, [3])
+        self.are(frame, (1, 99, 3), (3, 5, 3))
+
+    def test_changes_between_unfollow_and_another_follower(self):
+        frame = self.rooms((1, 10, 3), (2, 20, 4))
+        self.insert((10, 30, 0), (11, 30, 0), (12, 30, 0))
+        self.assertEqual(frame.refresh(), 3)
+        unfollow(self.db, "rooms")
+        self.db.execute("update rooms set price = 1 where id = 2")
+        other = self.followed("rooms")
+        for number in range(5):
+            self.db.execute("update rooms set price = 40 where id = ?", (10 + number % 3,))
+        rows = [(1, 10, 3), (2, 1, 4), (10, 40, 0), (11, 40, 0), (12, 40, 0)]
+        self.are(other, *rows)
+        self.are(frame, *rows)
+
+    def test_now_is_a_place_of_what_the_table_is_now(self):
+        for is_followed_again in (False, True):
+            with self.subTest(is_followed_again=is_followed_again):
+                self.db.execute("drop table if exists rooms")
+                frame = self.rooms((1, 10, 3), (2, 20, 4))
+                self.insert((3, 30, 0))
+                frame.refresh()
+                unfollow(self.db, "rooms")
+                self.db.execute("update rooms set price = 1 where id = 2")
+                if is_followed_again:
+                    self.followed("rooms")
+                self.assertEqual(frame.best(QUESTION, at_least=frame.now()).ids, [2])
+                self.db.execute("drop table rooms")
+                self.db.execute(ROOMS)
+                self.insert((5, 5, 0))
+                self.assertEqual(frame.best(QUESTION, at_least=frame.now()).ids, [5])
+
+    @DROPS_COLUMNS
+    def test_another_schema_beside_a_value_that_is_refused(self):
+        frame = self.rooms((1, 10, 3), (2, 20, 4))
+        self.db.execute("alter table rooms drop column dist")
+        self.db.execute("alter table rooms add column dist int default 5")
+        self.db.execute("update rooms set price = 'dear' where id = 2")
+        with self.refuses(prefq.Refused, "rooms: ", kind="follow"):
+            frame.rows()
+        self.assertEqual(frame.best(QUESTION, at_least=frame.at).ids, [1])
+        self.db.execute("update rooms set price = 2 where id = 2")
+        self.assertEqual(frame.best(QUESTION, at_least=frame.now()).ids, [2])
+        self.are(frame, (1, 10, 5), (2, 2, 5))
+
+    def test_a_key_that_is_null_beside_a_row_that_is_replaced(self):
+        frame = self.rooms(("a", 1, 10), ("b", 2, 20), schema="create table rooms (id text primary key, place int unique, price int)")
+        self.db.execute("replace into rooms values (null, 1, 5)")
+        with self.refuses(prefq.Refused, "table 'rooms' has a row with the key None", kind="follow"):
+            frame.rows()
+        self.db.execute("delete from rooms where id is null")
+        self.are(frame, ("b", 2, 20))
+
+    def test_a_key_that_is_unique_no_more(self):
+        self.db.execute("create table rooms (id integer, price int)")
+        self.db.execute("create unique index by_id on rooms (id)")
+        self.insert((1, 10), (2, 20))
+        frame = self.followed("rooms")
+        self.db.execute("drop index by_id")
+        self.insert((1, 5))
+        with self.refuses(prefq.Refused, "several rows of table 'rooms' may have the same 'id'", kind="follow"):
+            frame.rows()
+        self.db.execute("delete from rooms where price = 5")
+        self.db.execute("create unique index by_id on rooms (id)")
+        self.are(frame, (1, 10), (2, 20))
+
+
+class Names(OfRooms):
+    def added(self):
+        """The names of what was added to the file."""
+        return [name for name, in self.db.execute("select name from sqlite_master where name like 'prefq%' and type in ('table', 'trigger')")]
+
+    def test_what_was_added_under_a_name_from_before_goes_with_unfollow(self):
+        for name in ("rooms", "beds"):
+            with self.subTest(unfollow=name):
+                self.db.execute("drop table if exists beds")
+                self.rooms((1, 10, 3))
+                self.db.execute("alter table rooms rename to beds")
+                self.followed("beds")
+                self.assertEqual(len(self.added()), 8)
+                unfollow(self.db, name)
+                unfollow(self.db, "beds")
+                self.assertEqual(self.added(), [])
+
+    def test_what_was_added_for_a_table_or_a_key_that_has_gone(self):
+        self.rooms((1, 10, 3))
+        self.db.execute("alter table rooms rename column id to number")
+        unfollow(self.db, "Rooms")
+        self.assertEqual(self.added(), [])
+        self.db.execute("alter table rooms rename column number to id")
+        self.followed("rooms")
+        self.db.execute("drop table rooms")
+        unfollow(self.db, "rooms")
+        self.assertEqual(self.added(), [])
+        with self.refuses(prefq.Refused, "there is no table 'rooms'", kind="follow"):
+            unfollow(self.db, "rooms")
+
+    def test_unfollow_leaves_what_is_another_thing(self):
+        self.rooms((1, 10, 3))
+        self.db.execute("create table beds (id integer primary key, price int)")
+        self.followed("beds")
+        self.db.execute("create trigger \"prefq_insert:rooms:price\" after insert on rooms begin select 1; end")
+        unfollow(self.db, "rooms")
+        unfollow(self.db, "rooms")
+        self.assertEqual(len(self.added()), 4 + 1)
+        with self.refuses(prefq.Refused, "no column 'idd'; did you mean id?", kind="follow"):
+            unfollow(self.db, "rooms", key="idd")
+
+    def test_names_that_differ_in_capitals_beyond_ascii_are_two(self):
+        for name, price in (("\xc9", 10), ("\xe9", 77)):
+            self.db.execute(f"create table {name} (id integer primary key, price int)")
+            self.db.execute(f"insert into {name} values (1, ?)", (price,))
+        self.assertEqual([self.followed(name).get(1).price for name in ("\xc9", "\xe9")], [10, 77])
+        with self.refuses(prefq.Refused, "there is no table '\\ud800'", kind="follow"):
+            self.followed("\ud800")
+
+    def test_a_name_that_means_a_temporary_table(self):
+        self.db.execute(ROOMS)
+        self.db.execute("create temp table Rooms (id integer primary key, price int)")
+        with self.refuses(prefq.Refused, "'rooms' means a temporary table", kind="follow"):
+            self.followed("rooms")
+        self.assertEqual(self.added(), [])
+
+    def test_a_hint_is_a_table_of_the_users_own(self):
+        self.rooms((1, 10, 3))
+        for name, hint in (("sqlite_sequences", ""), ("room", "; did you mean 'rooms'?")):
+            with self.assertRaises(prefq.Refused) as caught:
+                self.followed(name)
+            self.assertEqual(str(caught.exception), f"there is no table {name!r}{hint}")
+
+    def test_a_connection_whose_texts_are_bytes_to_a_path_that_is_not_utf_8(self):
+        path = os.fsdecode(os.fsencode(self.path) + b"caf\xe9")
+        try:
+            open(path, "xb").close()
+        except OSError as why:      # as where the file system has other names alone
+            self.skipTest(str(why))
+        with closing(sqlite3.connect(path, isolation_level=None)) as db:
+            db.execute(ROOMS)
+            db.execute("insert into rooms values (1, 10, 3)")
+            db.text_factory = bytes
+            with prefq.Frame.follow(db, "rooms") as frame:
+                self.assertEqual(frame.get(1).price, 10)
+
+    def test_a_frame_that_is_refused_leaves_nothing(self):
+        self.db.execute("create table rooms (id integer primary key, price)")
+        self.db.execute("insert into rooms values (1, x'00')")
+        for options in ({}, {"kinds": {"price": "nonsense"}}, {"kinds": {"prize": "text"}}):
+            with self.subTest(options=options):
+                with self.assertRaises(prefq.Error if not options else (ValueError, prefq.Error)):
+                    self.followed("rooms", **options)
+                self.assertEqual(self.added(), [])
+
+
+class Interruptions(OfRooms):
+    def interrupted(self, call, step=1):
+        """Interrupts a call at each place, or at some of them, one after the other, until it ends. The interruption is there until the next one."""
+        for place in range(1, 10_000, step):
+            interrupter = Interrupter(place)
+            try:
+                interrupter.runs(call)
+            except Interruption:
+                yield interrupter.where
+            else:
+                return
+
+    def test_a_call_that_is_interrupted_leaves_no_transaction(self):
+        frame, number = self.rooms((1, 10, 3), (2, 20, 4)), 0
+        self.insert((3, 5, 3))
+        for where in self.interrupted(frame.now):
+            number += 1
+            with self.subTest(where=where):
+                self.assertFalse(frame._source._db.in_transaction)
+                self.db.execute("update rooms set price = ? where id = 3", (number,))
+                self.assertEqual(frame.get(3).price, number)
+        self.assertGreater(number, 5)
+
+    def test_triggers_that_are_interrupted_are_added_or_not(self):
+        frame, number = self.rooms((1, 10, 3), (2, 20, 4)), 0
+        unfollow(self.db, "rooms")
+        for where in self.interrupted(frame.refresh, step=17):
+            number += 1
+            with self.subTest(where=where):
+                self.assertFalse(frame._source._db.in_transaction)
+                self.db.execute("update rooms set price = ? where id = 2", (number,))
+                self.assertEqual(frame.get(2).price, number)
+                unfollow(self.db, "rooms")
+        self.assertGreater(number, 5)
+
+
+@unittest.skipUnless(hasattr(signal, "setitimer"), "no timers here")
+class Signals(OfRooms):
+    def setUp(self):
+        super().setUp()
+        self.addCleanup(signal.signal, signal.SIGALRM, signal.signal(signal.SIGALRM, interrupt))
+
+    def interrupted(self, seconds, call):
+        """Whether this call is interrupted after so many seconds."""
+        try:
+            signal.setitimer(signal.ITIMER_REAL, seconds)
+            try:
+                call()
+            finally:
+                signal.setitimer(signal.ITIMER_REAL, 0)
+        except Interruption:
+            return True
+        return False
+
+    def test_amid_a_begin_that_waits_for_another_transaction(self):
+        frame = self.rooms((1, 10, 3), (2, 20, 4))
+        unfollow(self.db, "rooms")
+        with closing(self.connection()) as other:
+            other.execute("begin immediate")
+            self.assertTrue(self.interrupted(0.3, lambda: self.refused_or_not(frame)))
+            other.execute("rollback")
+        self.insert((3, 5, 3))
+        self.assertEqual(frame.best(QUESTION).ids, [3])
+
+    def refused_or_not(self, frame):
+        """An interruption is handled once SQLite no longer waits for the other transaction."""
+        try:
+            frame.best(QUESTION)
+        except sqlite3.OperationalError:
+            pass
+
+    def test_at_random_places_no_transaction_stays_open(self):
+        chance, frame, count = random.Random(SEED), self.rooms((1, 10, 3), (2, 20, 4)), 0
+        self.db.execute("pragma busy_timeout = 100")
+        for number in range(TIMERS):
+            count += self.interrupted(chance.uniform(1e-5, 2e-3), lambda: frame.best(QUESTION))
+            self.db.execute("update rooms set price = ? where id = 1", (number,))
+            self.assertEqual(frame.get(1).price, number)
+        self.assertGreater(count, 0)
+
+
+def interrupt(*_):
+    raise Interruption
