@@ -85,7 +85,7 @@ class Beside(test_follow.OfSqlite):
 
     def test_why_of_a_row_that_too_many_dominate(self):
         for frame in self.frames:
-            with unittest.mock.patch("prefq.why.MOST_ROWS", 5), self.refuses(prefq.Refused, "6 rows dominate this one, and 5 are compared at most", kind="parts"):
+            with unittest.mock.patch("prefq.why.MOST_ROWS", 5), self.refuses(prefq.Refused, "6 rows dominate the row, and 5 are compared at most", kind="parts"):
                 frame.why(6, QUESTION)
 
     def test_at_a_place(self):

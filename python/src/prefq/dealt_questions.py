@@ -9,10 +9,10 @@ from typing import Iterator, List, Sequence, Tuple
 from .checks import MOST_ROWS
 from .columns import Column
 from .dealt import Begun, Dealt, Found, Key, Numbers, ordered
-from .errors import Refused
 from .loading import Encoded
 from .moment import Moment
 from .once import ask_once
+from .parts import SHRINKS, RowsLeft
 from .questions import Question
 from .rows import Row, Zipped
 from .selection import Selection, answered, picked, reading
@@ -36,6 +36,7 @@ class AskedOfTables(Asked):
 
     def __init__(self, dealt: Dealt, text: str, question: Question, selection: Selection = Selection()) -> None:
         self.columns = dealt.columns
+        self._count = len(dealt)
         self._text, self._selection = text, selection
         self._twins = [dealt.columns.index(column) for column in [*(base.column for base in clause_of(question.term)), *question.by]] if question.distinct else None
         plain = replace(question, distinct=False)
@@ -64,13 +65,13 @@ class AskedOfTables(Asked):
         return [found[row.id - 1] for row in picked(rows, read, self._selection, moment)]
 
     def _merged(self, rows: List[Found]) -> List[Found]:
-        """The answer over the rows that the tables' answers have together. Refused where more of them are left than one table holds."""
+        """The answer over the rows that the tables' answers have together. Refused where more of them are left than one table holds, and another pass has no use."""
         while len(rows) > MOST_ROWS:
-            pieces = [rows[begin:begin + MOST_ROWS] for begin in range(0, len(rows), MOST_ROWS)]
-            fewer = [row for piece in pieces for row in self._asked_of(piece, self._text_of_parts)]
-            if len(fewer) == len(rows):
-                raise Refused(f"{len(rows)} rows are left after each table was asked, and one table holds {MOST_ROWS}: too few rows dominate others. Put what matters "
-                              "most before an &, leave out columns or groups, or ask for fewer levels", "parts")
+            count = -(-len(rows) // MOST_ROWS)
+            # They are dealt out in turn, so that rows of all tables meet in each piece.
+            fewer = [row for number in range(count) for row in self._asked_of(rows[number::count], self._text_of_parts)]
+            if len(fewer) > max(MOST_ROWS, SHRINKS * len(rows)):
+                raise RowsLeft(len(fewer), self._count)
             rows = fewer
         return self._asked_of(rows, self._plan.text)
 

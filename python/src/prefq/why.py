@@ -15,13 +15,19 @@ LEVELS = 1000
 def dominators(read: Reading, target: int) -> List[Tuple[int, Optional[int]]]:
     """The places, from 0, of the rows that dominate the one at this place, each with its level (None behind level 1000), in order of level, then place.
 
-    What dominates a row that dominates the target is among them too, so their levels are those that they have among all rows.
+    What dominates a row that dominates the target is among them too, so their levels are those that they have among all rows. More of them than one table holds
+    are `Refused`.
     """
     found = better(read, target)
-    if len(found) > MOST_ROWS:
-        raise Refused(f"{len(found)} rows dominate this one, and {MOST_ROWS} are compared at most", "parts")
+    check_count(len(found), "the row")
     levels = levels_of(found, *terms_lists(read), read.term)
     return sorted(((place, levels.get(place)) for place in found), key=lambda pair: (pair[1] or LEVELS + 1, pair[0]))
+
+
+def check_count(count: int, called: str) -> None:
+    """Refuses more rows that dominate one, which is called so, than one table holds."""
+    if count > MOST_ROWS:
+        raise Refused(f"{count} rows dominate {called}, and {MOST_ROWS} are compared at most", "parts")
 
 
 def better(read: Reading, target: int) -> List[int]:

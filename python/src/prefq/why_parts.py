@@ -5,7 +5,6 @@ from functools import partial as with_words
 from typing import Any, Callable, Dict, List, NamedTuple, Optional, Sequence, Tuple
 
 from .answer import Answer
-from .checks import MOST_ROWS
 from .errors import Refused
 from .partial import Partial, together
 from .parts import Asked, Job, in_partition, records_of, waited_for
@@ -13,7 +12,7 @@ from .partition import Source, called
 from .selection import Reading
 from .sources import Opened, opened
 from .widening import Segment
-from .why import LEVELS, better
+from .why import LEVELS, better, check_count
 from .why import dominators as dominators_in
 
 CHANGED = "a partition is another one than it was when the row was looked for: ask again"
@@ -101,8 +100,7 @@ def dominators(job: Rivalry, sources: Sequence[Any], map: Callable[..., Any], id
     items: List[Any] = [(source, target, id - 1 - first) for source, first in zip(sources, firsts)]
     [found] = map(together, [list(map(job.rivals, items))])
     left = waited_for(found)
-    if len(left) > MOST_ROWS:
-        raise Refused(f"{len(left)} rows dominate row {id}, and {MOST_ROWS} are compared at most", "parts")
+    check_count(len(left), f"row {id}")
     rivals, *_ = job.among(target, replace(left, places=[place + 1 for place in left.places]), id)
     levels = dict(rivals.dominators())
     left = left.kept([at for at, place in enumerate(left.places) if place + 1 in levels])
