@@ -52,15 +52,30 @@ class Pages(test_follow.OfSqlite):
         with FollowedDesk(self.followed("rooms", key="code")) as rooms, self.refuses(prefq.Refused, "there is a row with the key 'a'", kind="follow"):
             rooms.picture("best low(price)")
 
-    def test_a_frame_that_is_closed_below_its_page(self):
+    def test_who_watches_is_woken_where_the_table_cannot_be_read_and_where_it_can_again(self):
+        desk = self.desk((1, "x", 1, 1))
+        seen = desk.picture("best low(price)").version
+        self.db.execute("insert into offers values (2, 'y', 'dear', 1)")
+        broken = desk.wait(seen, 60)
+        self.assertGreater(broken, seen)
+        with self.refuses(prefq.Refused, "offers: key 2", kind="follow"):
+            desk.picture("best low(price)")
+        self.db.execute("delete from offers where id = 2")
+        self.assertGreater(desk.wait(broken, 60), broken)
+        self.assertEqual([row.id for row in desk.picture("best low(price)").rows], [1])
+
+    def test_a_frame_that_is_closed_closes_its_page(self):
         desk = self.desk((1, "x", 1, 1))
         desk._frame.close()
-        with self.refuses(prefq.Ended, kind="closed"):
+        with self.refuses(prefq.Ended, "the desk was closed", kind="closed"):
             desk.wait(desk.version, 60)
+        self.assertTrue(desk.is_closed)
 
-    def test_a_frame_with_one_client_is_no_frame_for_a_page(self):
-        with self.refuses(prefq.Refused, "follow the table with clients=2 or more", kind="arguments"):
-            self.desk((1, "x", 1, 1), clients=1)
+    def test_a_frame_of_one_client_is_no_page(self):
+        with self.refuses(prefq.Refused, "a picture asks 2 questions at once: follow the table with clients=2 or more", kind="arguments"):
+            FollowedDesk(self.offers((1, "x", 1, 1), clients=1))
+        with FollowedDesk(self.followed(clients=2)) as desk:
+            self.assertEqual([row.id for row in desk.picture("best low(price)").best], [1])
 
     def test_a_page_that_is_closed(self):
         desk = self.desk((1, "x", 1, 1))

@@ -96,7 +96,7 @@ class Pictures(TestCase):
         with self.offers([(7, 60), (8, 90)]) as desk:
             self.assertEqual([row["id"] for row in pictures.picture(desk, pictures.Asked("best low(price)"))["best"]], [7])
             for asked in (pictures.Asked("best low(price)", where="price > 60"), pictures.Asked("best low(price)", top="1")):
-                with self.refuses(prefq.Refused, "is not there for a frame that follows"):
+                with self.refuses(prefq.Refused, "is not there for the page of a frame that follows a table of a database"):
                     pictures.picture(desk, asked)
 
 

@@ -10,7 +10,7 @@ from .selection import Selection
 
 PAUSE = 0.1     # seconds between two looks at the database
 FOLLOWED = "the page of a frame that follows a table of a database"
-CLIENTS = 2     # that a picture needs of each table
+QUESTIONS_OF_A_PICTURE = 2
 
 
 class FollowedDesk(Desk):
@@ -28,13 +28,15 @@ class FollowedDesk(Desk):
     """
 
     def __init__(self, frame: Followed) -> None:
-        if frame.clients < CLIENTS:
-            raise Refused(f"a page asks for all rows and for an answer at once: follow the table with clients={CLIENTS} or more", "arguments")
+        if frame.clients < QUESTIONS_OF_A_PICTURE:
+            raise Refused(f"a picture asks {QUESTIONS_OF_A_PICTURE} questions at once: follow the table with clients={QUESTIONS_OF_A_PICTURE} or more", "arguments")
         self._frame = frame
         self._changed = threading.Condition()
         self._closed = False
         self._subscribed: List[Callable[[], None]] = []
         self._end = threading.Event()
+        self._is_readable = True
+        self._turns = 0         # how often the table could be read no more, or again
         self._show(frame.version, frame.columns)
         threading.Thread(target=self._follow, daemon=True).start()
 
@@ -61,6 +63,7 @@ class FollowedDesk(Desk):
     def picture(self, text: str, selection: Selection = Selection()) -> Picture:
         """The rows and the answer to a question at one version. What is asked beside it is refused."""
         selection.mode_alone(FOLLOWED)
+        turns = self._turns     # of a version from before, where it changes meanwhile
         found = self._frame.snapshot(text)
         wrong = next((key for key in found.rows if not isinstance(key, int)), None)
         if wrong is not None:
@@ -68,29 +71,37 @@ class FollowedDesk(Desk):
         self._see(found.version, found.columns)
         rows = [Held(int(key), tuple(numbers)) for key, numbers in found.rows.items()]
         best = [Found(row.level, int(row.key), tuple(row.numbers)) for row in found.best]
-        return Picture(found.version, list(found.columns), rows, best, list(found.asked), tuple(found.unknown))
+        return Picture(found.version + turns, list(found.columns), rows, best, list(found.asked), tuple(found.unknown))
 
     def _follow(self) -> None:
-        """Wakes those who watch where the rows have changed. What cannot be read is said to who asks for a picture."""
+        """Wakes those who watch where the rows have changed, cannot be read any more, or can be read again. Why they cannot is said to who asks for a picture."""
         while not self._end.wait(PAUSE):
             try:
                 self._frame.refresh()
-            except Ended as why:
-                if why.kind == "closed":
-                    self.close()
-                    return
-            except Exception:
-                continue
-            self._see(self._frame.version, self._frame.columns)
+            except Exception as why:
+                if isinstance(why, Ended) and why.kind == "closed":
+                    return self.close()
+                self._turn(False)
+            else:
+                self._turn(True)
+                self._see(self._frame.version, self._frame.columns)
+
+    def _turn(self, is_readable: bool) -> None:
+        with self._changed:
+            if is_readable != self._is_readable:
+                self._is_readable = is_readable
+                self._turns += 1
+                self.version += 1
+                self._wake()
 
     def _see(self, version: int, columns: Sequence[Column]) -> None:
         with self._changed:
-            if version > self.version:
+            if version + self._turns > self.version:
                 self._show(version, columns)
                 self._wake()
 
     def _show(self, version: int, columns: Sequence[Column]) -> None:
-        self.version = version
+        self.version = version + self._turns
         self.columns = list(columns)
         self._named = {column.name: column for column in self.columns}
 

@@ -116,8 +116,8 @@ class Watch:
         try:
             self.seen, picture = self._site.shown.get(self._asked, self._axes)
         except (Error, TypeError, ValueError) as why:
-            # Browsers ask again where a stream ends. Those that hear that it was refused do not.
-            name = "failed" if isinstance(why, Error) and not isinstance(why, Refused) else "refused"
+            # Browsers ask again where a stream ends. Those that hear that it was refused do not; but what a database has may be mended there.
+            name = "failed" if isinstance(why, Error) and (not isinstance(why, Refused) or why.kind == "follow") else "refused"
             return f"{first}event: {name}\ndata: {json.dumps(reason(why))}\n\n", True
         return f"{first}data: {picture}\n\n", False
 
