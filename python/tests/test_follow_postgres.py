@@ -22,7 +22,7 @@ import random_following
 import random_frames
 from plain import Ask, Low, Pareto
 from prefq.decoding import Layout, Log, place_of
-from prefq.follow import UNCHANGED
+from prefq.follow_source import UNCHANGED
 from random_following import KEY, TABLE, Store, quoted
 from support import TestCase
 

@@ -12,7 +12,7 @@ from dataclasses import dataclass
 from typing import Any, Dict, Iterator, List, Mapping, Optional, Sequence, Tuple
 
 from .dealt import Key
-from .follow import UNCHANGED
+from .follow_source import UNCHANGED
 
 NAME = r'(?:"(?:[^"]|"")*"|[^"\s.,:\[\]]+)'
 HEAD = re.compile(rf"table (?P<tables>{NAME}\.{NAME}(?:, {NAME}\.{NAME})*): (?P<verb>INSERT|UPDATE|DELETE|TRUNCATE):")

@@ -4,17 +4,16 @@ A source (`follow_sqlite`, `follow_postgres`) reads the table as of a place in t
 place. The frame makes these changes at one moment, so that a question sees whole transactions, and all of those up to a place that is known.
 """
 import os
-import threading
 import time
 from contextlib import contextmanager
-from typing import Any, Collection, Iterator, List, Mapping, NamedTuple, Optional, Sequence, Tuple
+from typing import Any, Iterator, List, Mapping, NamedTuple, Optional, Sequence, Tuple
 
 from .answer import Answer
-from .checks import MOST, whole
 from .columns import Column
 from .dealt import Begun, Dealt, Found, Key, Numbers, ordered
 from .dealt_questions import Asked, AskedOfTables, asked_of, moment_of
 from .errors import Ended, Refused
+from .follow_source import UNCHANGED, Cells, Changes, Source
 from .kept import Kept
 from .keyed_values import column_at_keys, keeps_its_kind
 from .loading import check_known, decoded
@@ -24,38 +23,14 @@ from .records import Record
 from .rows import Zipped
 from .selection import Names, Selection, reading
 from .translate import columns_in
+from .turns import Turns
 from .warned import warn_of
 from .why import dominators
 
-Cells = Sequence[Any]
 TRIES = 3           # how often a call reads the table anew where its own were refused memory
 PAUSE = 0.002       # seconds between two looks at a place that is waited for
 MOST_ROWS_KEPT = 2000       # of one of the answers that are kept while the rows stay as they are
-
-
-class Unchanged:
-    """What stands for a value that is what it was."""
-
-
-UNCHANGED = Unchanged()
-
-
-class Everything(NamedTuple):
-    """A table as of a place: the kinds that its columns have by themselves, where they have, and the values of its rows by their keys."""
-
-    place: int
-    kinds: Mapping[str, Column]
-    rows: Mapping[Key, Cells]
-
-
-class Changes(NamedTuple):
-    """What has changed up to a place: whether all rows were deleted at first; the values of rows that are new or others, and None for those that have gone; and
-    how many rows there are then, where the source cannot say for sure which ones have gone."""
-
-    place: int
-    is_cleared: bool
-    rows: Mapping[Key, Optional[Cells]]
-    total: Optional[int] = None
+INTERRUPTS = 0.05   # seconds between two interruptions of a call that waits for others
 
 
 class Snapshot(NamedTuple):
@@ -83,37 +58,6 @@ class Answered(NamedTuple):
         return len(self.rows) <= MOST_ROWS_KEPT
 
 
-class Source:
-    """A table of a database. Its calls are made one after the other."""
-
-    name = ""
-    columns: Tuple[str, ...] = ()
-
-    def everything(self) -> Everything:
-        """The table as it is now. What cannot be followed is refused."""
-        raise NotImplementedError
-
-    def changes(self, since: int) -> Optional[Changes]:
-        """What has changed since this place; None where everything has to be read."""
-        raise NotImplementedError
-
-    def now(self) -> Optional[int]:
-        """The place behind all that is committed; None where everything has to be read."""
-        raise NotImplementedError
-
-    def place(self, given: Any) -> int:
-        """A place as it was given."""
-        return whole(given, "at_least", 0, MOST)
-
-    def close(self) -> None:
-        """Ends the connection."""
-        raise NotImplementedError
-
-    def withdraw(self) -> None:
-        """The same where no frame was made: what was added to the database for it is removed."""
-        self.close()
-
-
 class Followed:
     """A frame that follows a table of a database, which `Frame.follow` makes. Any thread may call it.
 
@@ -137,8 +81,8 @@ class Followed:
         self.version = 0        # how often the rows have changed
         self._source, self._kinds, self._options = source, dict(kinds), dict(options)
         self._owner = os.getpid()
-        self._lock = threading.RLock()
-        self._is_called = False         # by the thread that has the lock
+        # Whose turn it is with the tables never waits for the database; who talks with that takes a turn with the tables in the middle.
+        self._with_tables, self._with_source = Turns(), Turns()
         self._is_closed = False
         # Whether the rows are those of the table at that place. They are not while they change, nor where that was interrupted.
         self._is_whole = False
@@ -147,8 +91,7 @@ class Followed:
         self._kept: Kept[Answered] = Kept(Answered.is_small)
         try:
             check_known(list(kinds), source.columns)
-            with self._alone():
-                self._read_everything()
+            self._catch_up()
         except BaseException:
             source.withdraw()
             raise
@@ -174,15 +117,18 @@ class Followed:
         return f"<prefq.Followed {self._source.name}: {'closed' if self._is_closed else f'{len(self._tables)} rows at {self.at}'}>"
 
     def close(self) -> None:
-        """Ends the frame and its connection; the same again does nothing. What the database has for it there stays (docs/PYTHON.md)."""
+        """Ends the frame and its connection, and calls that wait; the same again does nothing. What the database has for it there stays (docs/PYTHON.md)."""
         if not self._is_ours():
             return
-        with self._lock:
-            if not self._is_closed:
-                self._is_closed = True
-                if self._dealt is not None:
-                    self._dealt.close()
-                self._source.close()
+        with self._with_tables.lock:
+            self._is_closed = True
+            if self._dealt is not None:
+                self._dealt.close()
+        while self._with_source.is_of_another():
+            self._source.interrupt()
+            time.sleep(INTERRUPTS)
+        with self._with_source.lock:
+            self._source.close()
 
     @property
     def columns(self) -> Tuple[Column, ...]:
@@ -206,7 +152,7 @@ class Followed:
 
     def now(self) -> int:
         """The place behind all that the database has committed: with `at_least=frame.now()` a question sees what was committed before."""
-        with self._alone():
+        with self._talking():
             place = self._source.now() if self._is_followed else None
             if place is None:
                 self._read_everything()
@@ -316,34 +262,50 @@ class Followed:
 
     @contextmanager
     def _alone(self) -> Iterator[None]:
-        """One call after the other. A signal handler in the middle of one makes none."""
-        if not self._is_ours():
-            raise Ended(f"this frame belongs to process {self._owner}: follow the table again in each process", "process")
-        with self._lock:
-            if self._is_closed:
-                raise Ended("the frame was closed", "closed")
-            if self._is_called:
-                raise Refused("a call is under way in this thread", "client")
-            self._is_called = True
+        """A turn with the tables."""
+        self._check_process()
+        with self._with_tables.taken():
+            self._check_open()
+            yield
+
+    @contextmanager
+    def _talking(self, until: Optional[float] = None) -> Iterator[None]:
+        """A turn with the source, which may wait for others until then. What the end of the frame interrupts has ended."""
+        self._check_process()
+        with self._with_source.taken(until):
+            self._check_open()
+            self._source.until = until
             try:
                 yield
-            finally:
-                self._is_called = False
+            except Exception:
+                self._check_open()
+                raise
 
-    def _surviving(self, call: Any, is_there: bool = False) -> Any:
+    def _check_process(self) -> None:
+        if not self._is_ours():
+            raise Ended(f"this frame belongs to process {self._owner}: follow the table again in each process", "process")
+
+    def _check_open(self) -> None:
+        if self._is_closed:
+            raise Ended("the frame was closed", "closed")
+
+    def _surviving(self, call: Any, is_there: bool = False, until: Optional[float] = None) -> Any:
         """A call of the tables once they have what is committed, or as they are where that `is_there`. Where one has ended, as for want of memory, everything
         is read anew."""
+        self._check_process()
         for last in [False] * TRIES + [True]:
-            with self._alone():
-                try:
-                    if not is_there or not self._is_whole:
-                        self._catch_up()
-                    return call(self._tables)
-                except Ended:
-                    self._is_whole = False
-                    if last:
-                        raise
-        raise AssertionError
+            try:
+                if not is_there:
+                    self._catch_up(until)
+                with self._alone():
+                    if self._is_whole:
+                        return call(self._tables)
+                    is_there = False
+            except Ended:
+                self._is_whole = False
+                if last or self._is_closed:
+                    raise
+        raise Refused(f"{self._source.name} was read {TRIES + 1} times, and other calls of this frame were interrupted each time: ask again", "follow")
 
     def _answered(self, begin: Any, answer: Any, is_there: bool = False) -> Any:
         """What is begun by one call, and answered while others go on."""
@@ -360,22 +322,30 @@ class Followed:
     def _wait(self, place: int, seconds: float) -> None:
         """Waits until the rows are those of this place or a later one."""
         end = time.monotonic() + seconds
-        while not (self._is_whole and self.at >= place):
-            if self.refresh() >= place:
+        while not self._is_at(place):
+            if self._surviving(lambda _: self.at, until=end) >= place:
                 return
             if time.monotonic() >= end:
                 raise Refused(f"{self._source.name} is at {self.at}, and not at {place} after {seconds:g} seconds", "follow")
             time.sleep(PAUSE)
 
-    def _catch_up(self) -> None:
-        """Takes in what has changed, or everything."""
-        changes = self._source.changes(self.at) if self._is_whole and self._is_followed and not self._tables.is_outgrown() else None
-        if changes is None or not self._take(changes):
-            self._read_everything()
+    def _is_at(self, place: int) -> bool:
+        with self._alone():
+            return self._is_whole and self.at >= place
+
+    def _catch_up(self, until: Optional[float] = None) -> None:
+        """Takes in what has changed, or everything. Calls with a place that is there go on while the database is waited for."""
+        with self._talking(until):
+            changes = self._source.changes(self.at) if self._is_whole and self._is_followed and not self._tables.is_outgrown() else None
+            if changes is None or not self._take(changes):
+                self._read_everything()
 
     def _take(self, changes: Changes) -> bool:
         """Makes these changes; False where everything has to be read: a kind that was taken from the values has to be another one, or rows have gone unseen."""
-        dealt = self._tables
+        with self._alone():
+            return self._change(self._tables, changes)
+
+    def _change(self, dealt: Dealt, changes: Changes) -> bool:
         try:
             rows = {key: None if cells is None else self._numbers(dealt, key, cells) for key, cells in changes.rows.items()}
         except (TypeError, ValueError):
@@ -421,10 +391,15 @@ class Followed:
         values = list(zip(*(found.rows[key] for key in keys))) or [()] * len(self._source.columns)
         columns = [self._column(name, values[place], found.kinds.get(name), keys) for place, name in enumerate(self._source.columns)]
         dealt = Dealt([column for column, _ in columns], keys, Zipped([numbers for _, numbers in columns]), self._options)
-        self._is_whole = False
-        self._dealt, self.at = dealt, found.place
-        self._count_change()
-        self._is_whole = self._is_followed = True
+        try:
+            with self._alone():
+                self._is_whole = False
+                self._dealt, self.at = dealt, found.place
+                self._count_change()
+                self._is_whole = self._is_followed = True
+        finally:
+            if self._dealt is not dealt:
+                dealt.close()
 
     def _column(self, name: str, values: Sequence[Any], own: Optional[Column], keys: Sequence[Key]) -> Tuple[Column, Sequence[int]]:
         """A column of these values: of the kind that is given for it, or that it has by itself, or else of the kind of its values."""
@@ -435,30 +410,9 @@ class Followed:
             raise Refused(f"{self._source.name}: {why}", "follow") from None
 
 
-def source_of(connection: Any, table: str, key: str, columns: Optional[Sequence[str]], kinds: Collection[str]) -> Source:
-    """The table of the database that a connection is of; some of its columns are given kinds."""
-    for what, name in ((table, "table"), (key, "key")):
-        if not isinstance(what, str):
-            raise TypeError(f"{name} is {what!r}: not a name")
-    client = client_of(connection)
-    if client == "sqlite3":
-        from .follow_sqlite import SqliteSource
-        return SqliteSource(connection, table, key, columns)
-    if client in ("psycopg2", "psycopg"):
-        from .follow_postgres import PostgresSource
-        return PostgresSource(connection, table, key, columns, kinds)
-    raise TypeError(f"connection is of type {type(connection).__name__}: not a connection of sqlite3, psycopg2 or psycopg")
-
-
 def missing_row(key: Key) -> Refused:
     """What is said of a row that is not there."""
     return Refused(f"no such row {key!r}", "client", 7)
-
-
-def client_of(connection: Any) -> str:
-    """The name of the module that a connection, or its class of the caller's own, comes from; an empty one where it is no connection that is known."""
-    modules = [base.__module__.partition(".")[0] for base in type(connection).__mro__]
-    return next((name for name in ("sqlite3", "psycopg2", "psycopg") if name in modules), "")
 
 
 def _records(columns: Sequence[Column], rows: Sequence[Tuple[Optional[int], Any, Numbers]]) -> List[Record]:

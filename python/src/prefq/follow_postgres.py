@@ -14,7 +14,7 @@ from .columns import Column
 from .decoding import WHOLE, Layout, Log, place_of
 from .dealt import Key
 from .errors import Refused
-from .follow import UNCHANGED, Cells, Changes, Everything, Source, client_of
+from .follow_source import UNCHANGED, Cells, Changes, Everything, Source, client_of
 from .hints import unknown_column
 from .infer import kind_of_texts
 from .kinds import Booleans, Clock, Dates, Decimals, Floats, Kind, Texts, Times, Whole

@@ -11,7 +11,7 @@ from urllib.parse import quote
 from .columns import Column
 from .dealt import Key
 from .errors import Refused
-from .follow import Cells, Changes, Everything, Source
+from .follow_source import Cells, Changes, Everything, Source
 from .hints import nearest, unknown_column
 from .kinds import Floats, Texts, Whole
 from .loading import chosen

@@ -6,7 +6,8 @@ from .answer import Answer
 from .checks import MOST_ROWS
 from .columns import Column, listed
 from .errors import Refused
-from .follow import Followed, source_of
+from .follow import Followed
+from .follow_source import source_of
 from .frame_query import FrameQuery
 from .hasse import Hasse, ranked
 from .kinds.forms import Form
