@@ -79,9 +79,9 @@ class Server:
         self.process.send_signal(2)     # a fast shutdown
         self.process.wait()
 
-    def connected(self, module=None):
+    def connected(self, module=None, **options):
         """A connection, each of whose statements is a transaction, unless it says begin."""
-        found = (module or clients()[0]).connect(host=self.folder, user="postgres", dbname="postgres")
+        found = (module or clients()[0]).connect(**{"host": self.folder, "user": "postgres", "dbname": "postgres", **options})
         found.autocommit = True
         return found
 

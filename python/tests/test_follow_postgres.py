@@ -78,6 +78,9 @@ class Lines(TestCase):
         self.assertEqual(self.rows(insert, f"UPDATE: id[integer]:1 {cells}"), {1: ["y", "{1}"]})
         self.assertEqual(self.rows(insert, f"UPDATE: old-key: id[integer]:1 new-tuple: id[integer]:2 {cells}"), {1: None, 2: ["y", "{1}"]})
         self.assertIsNone(self.rows(f"UPDATE: old-key: id[integer]:1 new-tuple: id[integer]:2 {cells}"))
+        self.assertEqual(self.rows(f"UPDATE: old-key: id[integer]:1 new-tuple: id[integer]:unchanged-toast-datum {cells}"), {1: ["y", UNCHANGED]})
+        for line in ("UPDATE: id[integer]:unchanged-toast-datum", "UPDATE: old-key: id[integer]:unchanged-toast-datum new-tuple: id[integer]:1"):
+            self.assertIsNone(self.rows(f"{line} {cells}"))
         self.assertEqual(self.rows("INSERT: id[integer]:1 hotel[text]:'unchanged-toast-datum' \"a b\"[integer[]]:null"), {1: ["unchanged-toast-datum", None]})
 
     def test_what_is_not_as_it_is_known(self):

@@ -19,6 +19,7 @@ HEAD = re.compile(rf"table (?P<tables>{NAME}\.{NAME}(?:, {NAME}\.{NAME})*): (?P<
 CELL = re.compile(rf""" (?P<name>{NAME})\[(?P<type>(?:"(?:[^"]|"")*"|[^"])*?)\]:(?P<value>B?'(?:[^']|'')*'|[^\s']+)""", re.DOTALL)
 OLD, NEW = " old-key:", " new-tuple:"
 WHOLE = ("smallint", "integer", "bigint")
+TRUTHS = {"t": "true", "f": "false"}        # which lines have as words
 
 
 class NotUnderstood(ValueError):
@@ -41,12 +42,14 @@ class Layout:
         return int(text) if self.types[self.key] in WHOLE else text
 
     def cell(self, name: str, text: Optional[str]) -> Optional[str]:
-        """A value of a column as its kind reads it; None where it is missing. NaN is missing in every frame."""
+        """A value that the output function of a column's type gives, as its kind reads it; None where it is missing. NaN is missing in every frame."""
         declared = self.types[name]
-        if text is not None and declared == "character":        # whose blanks at the end mean nothing
-            return text.rstrip(" ")
         if text is None or text == "NaN" and declared in ("numeric", "real", "double precision"):
             return None
+        if declared == "character":
+            return text.rstrip(" ")     # The type does not count them, and fills a value up with them.
+        if declared == "boolean":
+            return TRUTHS.get(text, text)
         return text[:-3] + "Z" if declared == "timestamp with time zone" and text.endswith("+00") else text
 
 
@@ -81,12 +84,12 @@ class Log:
             return
         old, new = rest.split(NEW, 1) if verb == "UPDATE" and rest.startswith(OLD) else ("", rest)
         cells = dict(_cells(new, self._layout.types))
-        before = self._key(dict(_cells(old[len(OLD):], self._layout.types))) if old else None
-        key = before if before is not None and cells.get(self._layout.key) is UNCHANGED else self._key(cells)
+        # A long key that stays as it is stands in what is said of the old row alone.
+        before = self._key(dict(_cells(old[len(OLD):], self._layout.types))) if old else self._key(cells)
+        key = before if cells.get(self._layout.key) is UNCHANGED else self._key(cells)
         if verb == "DELETE":
             self.rows[key] = None
             return
-        before = key if before is None else before
         self._write(key, before, [cells[name] if cells.get(name) is UNCHANGED else self._layout.cell(name, cells[name]) for name in self._followed(cells)])
 
     def _followed(self, cells: Mapping[str, Any]) -> Sequence[str]:
@@ -95,9 +98,10 @@ class Log:
         return self._layout.columns
 
     def _key(self, cells: Mapping[str, Any]) -> Key:
-        if cells.get(self._layout.key, UNCHANGED) is UNCHANGED:
-            raise NotUnderstood("a row has no key")
-        return self._layout.key_of(cells[self._layout.key])
+        key = cells.get(self._layout.key)
+        if key is UNCHANGED:
+            raise NotUnderstood("a key is unchanged, and nothing is said of the row that it was")
+        return self._layout.key_of(key)
 
     def _write(self, key: Key, before: Key, values: List[Any]) -> None:
         """A row has these values, of which those that are unchanged stand in what was said of it before, or are those of the row that it was."""
@@ -131,11 +135,12 @@ def _cells(text: str, types: Mapping[str, str]) -> Iterator[Tuple[str, Any]]:
 
 
 def _value(text: str) -> Any:
+    """What the output function of its type gives for a value, which a line has in quotes, but for numbers and truths, and behind a B where it is of bits."""
     if text == "unchanged-toast-datum":
         return UNCHANGED
     if text == "null":
         return None
-    return text[text.index("'") + 1:-1].replace("''", "'") if text.startswith(("'", "B'")) else text
+    return text[text.index("'") + 1:-1].replace("''", "'") if text.endswith("'") else text
 
 
 def place_of(text: str) -> int:

@@ -4,9 +4,11 @@ The slot is a temporary one. It ends with its connection, so a frame that is kil
 another frame reads the table anew.
 """
 import sys
-from contextlib import contextmanager
+import time
+from concurrent.futures import ThreadPoolExecutor, wait
+from contextlib import contextmanager, suppress
 from datetime import timezone
-from typing import Any, Collection, Dict, Iterator, List, NamedTuple, Optional, Sequence, Tuple
+from typing import Any, Collection, Dict, Iterator, List, Optional, Sequence, Tuple
 from uuid import uuid4
 
 from .checks import MOST, whole
@@ -23,71 +25,64 @@ from .loading import chosen
 
 OLDEST = 130_000
 TRIES = 3
-IDLE = 0            # the status of a connection without a transaction
 SETTINGS = {"datestyle": "ISO, YMD", "timezone": "UTC", "extra_float_digits": "1", "synchronous_commit": "on"}
 KINDS: Dict[str, Any] = {"real": Floats, "double precision": Floats, "boolean": Booleans, "date": Dates, "timestamp without time zone": Times,
                          "time without time zone": Clock, "text": Texts, "character varying": Texts, "character": Texts, "uuid": Texts, "name": Texts,
                          **dict.fromkeys(WHOLE, Whole)}
 KEYS = (*WHOLE, "text", "character varying", "uuid", "name")
 KINDS_OF_TABLES = {"v": "a view", "m": "a materialized view", "p": "a partitioned table", "f": "a foreign table"}
-FIND = """select c.oid, c.relkind, c.relpersistence, c.relreplident, pg_relation_filenode(c.oid), quote_ident(n.nspname) || '.' || quote_ident(c.relname),
+FIND = """select c.oid, c.relkind, c.relpersistence, c.relreplident, quote_ident(n.nspname) || '.' || quote_ident(c.relname),
     exists (select from pg_inherits where inhparent = c.oid), row_security_active(c.oid)
     from pg_class c join pg_namespace n on n.oid = c.relnamespace where c.oid = coalesce(to_regclass(quote_ident(%s)), to_regclass(%s))"""
-COLUMNS = """select attname, format_type(atttypid, null), format_type(atttypid, atttypmod), typtype, attnum from pg_attribute a join pg_type t on t.oid = atttypid
+COLUMNS = """select attname, format_type(atttypid, null), format_type(atttypid, atttypmod), typtype from pg_attribute a join pg_type t on t.oid = atttypid
     where attrelid = %s and attnum > 0 and not attisdropped order by attnum"""
 INDEXES = """select attname, indisprimary, indisreplident, attnotnull from pg_index join pg_attribute on attrelid = indrelid and attnum = indkey[0]
-    where indrelid = %s and indisunique and indisvalid and indnkeyatts = 1 and indpred is null"""
-
-
-class Declared(NamedTuple):
-    """The type of a column: plain, with its sizes, and what sort of type it is."""
-
-    plain: str
-    sized: str
-    sort: str
-
-
-class Shape(NamedTuple):
-    """What is another one where rows have changed without a line of the log: the file that has them, and the numbers of the columns that are followed."""
-
-    node: int
-    numbers: Tuple[int, ...]
+    where indrelid = %s and indisunique and indimmediate and indisvalid and indnkeyatts = 1 and indpred is null"""
+# Each change of a table, of its schema, its columns, its keys and the words of its enums writes a row of the catalog anew, by a transaction of another number.
+SCHEMA = """select 'table', 0, xmin::text from pg_class where oid = %(oid)s
+    union all select 'schema', n.oid::bigint, n.xmin::text from pg_namespace n join pg_class c on n.oid = c.relnamespace where c.oid = %(oid)s
+    union all select 'column', attnum::bigint, xmin::text from pg_attribute where attrelid = %(oid)s
+    union all select 'word', e.oid::bigint, e.xmin::text from pg_enum e where enumtypid in
+        (select unnest(array[t.oid, t.typelem]) from pg_attribute join pg_type t on t.oid = atttypid where attrelid = %(oid)s)
+    union all select 'key', indexrelid::bigint, xmin::text from pg_index where indrelid = %(oid)s and indisunique order by 1, 2"""
+Schema = List[Tuple[Any, ...]]
 
 
 class PostgresSource(Source):
     """A table of a database of PostgreSQL, by a connection of its own."""
 
     def __init__(self, connection: Any, table: str, key: str, columns: Optional[Sequence[str]], kinds: Collection[str]) -> None:
-        check_no_change_is_open(connection)
         self._connect_again = connector(connection)
         # By it the name is that of the same table as for the connection that was given.
         self._settings = {**SETTINGS, "search_path": search_path(connection)}
         self._table, self._key = table, key
         self._slot, self._given = "", -1
+        self._schema: Schema = []       # of the rows that were given
         self._db = self._connected()
         try:
             self._check_server()
-            self._oid, node, self.name, replident = self._found()
-            there, numbers = self._there()
+            self._oid, self.name, replident = self._found()
+            there = self._there()
             self._check_key(there, replident)
             self.columns = chosen([name for name in there if name != key or columns is not None], columns)
             self._declared = {name: there[name] for name in (key, *self.columns)}
-            self._shape = Shape(node, tuple(numbers[name] for name in self._declared))
             self._check_kinds(kinds)
-            self._layout = Layout(self.name, key, self.columns, {name: declared.plain for name, declared in self._declared.items()})
+            self._layout = Layout(self.name, key, self.columns, {name: plain for name, (plain, _, _) in self._declared.items()})
         except BaseException:
             self._db.close()
             raise
 
     def everything(self) -> Everything:
         with self._talking():
+            self._connect_if_closed()
             for _ in range(TRIES):
+                schema = self._checked()
                 self._begin_slot()
                 rows = self._snapshot()
                 log = self._log(self._brought_to_disk())
-                found = self._with(rows, log)
-                if found is not None:
-                    self._given = log.place
+                found = with_log(rows, log)
+                if found is not None and self._checked() == schema:
+                    self._given, self._schema = log.place, schema
                     return Everything(log.place, self._kinds(list(found.values())), found)
         raise Refused(f"table {self.name} was changed {TRIES} times while it was read: ask again", "follow")
 
@@ -104,12 +99,15 @@ class PostgresSource(Source):
 
     def now(self) -> int:
         with self._talking():
-            if self._db.closed:
-                self._db = self._connected()
+            self._connect_if_closed()
             return self._brought_to_disk()
 
     def place(self, given: Any) -> int:
         return place_of(given) if isinstance(given, str) else whole(given, "at_least", 0, MOST)
+
+    def interrupt(self) -> None:
+        with suppress(Exception):       # Then the connection has ended.
+            self._db.cancel()
 
     def close(self) -> None:
         self._db.close()
@@ -136,6 +134,10 @@ class PostgresSource(Source):
         self._slot = ""
         return db
 
+    def _connect_if_closed(self) -> None:
+        if self._db.closed:
+            self._db = self._connected()
+
     def _rows(self, sql: str, *values: Any) -> List[Tuple[Any, ...]]:
         cursor = self._db.cursor()
         cursor.execute(sql, values)
@@ -151,14 +153,27 @@ class PostgresSource(Source):
 
     def _begin_slot(self) -> None:
         """A new slot, whose begin waits for the transactions that write. What is read from one that is there may not be seen by others yet, nor by a snapshot."""
-        if self._db.closed:
-            self._db = self._connected()
         if self._slot:
             self._rows("select pg_drop_replication_slot(%s)", self._slot)
             self._slot = ""
         name = f"prefq_{uuid4().hex}"
-        self._rows("select pg_create_logical_replication_slot(%s, 'test_decoding', true)", name)
+        self._wait_for("select pg_create_logical_replication_slot(%s, 'test_decoding', true)", name)
         self._slot = name
+
+    def _wait_for(self, sql: str, *values: Any) -> None:
+        """Runs a statement that waits for others by a thread, so that signals get in meanwhile, and an end of the time."""
+        with ThreadPoolExecutor(1) as pool:
+            running = pool.submit(self._rows, sql, *values)
+            try:
+                is_late = not wait([running], None if self.until is None else max(0.0, self.until - time.monotonic())).done
+            finally:
+                if not running.done():
+                    self._db.cancel()
+        if is_late:
+            self._db.close()
+            raise Refused(f"table {self.name} has to be read anew, and transactions that write, for whose end this waits, have not ended meanwhile",
+                          "follow")
+        running.result()
 
     def _log(self, flushed: int) -> Log:
         """What is committed and was not read before; its place is at least the one that was flushed before."""
@@ -170,38 +185,19 @@ class PostgresSource(Source):
 
     def _snapshot(self) -> Dict[Key, List[Any]]:
         """The rows at one moment, behind the begin of the slot. Who holds the table's lock sees the columns that the rows have."""
-        self._checked()
         cursor = self._db.cursor()
-        cursor.execute("begin isolation level repeatable read read only")
+        cursor.execute("begin isolation level read committed read only")
         try:
-            cursor.execute(f"lock table {self.name} in access share mode")
-            self._shape = self._checked()
-            cursor.execute(f"select {', '.join(self._written(name) for name in (self._key, *self.columns))} from {self.name}")
+            # Takes the lock, for which a right to one column is enough.
+            cursor.execute(f"select from only {self.name} where false")
+            self._checked()
+            cursor.execute(f"select {', '.join(map(output, (self._key, *self.columns)))} from only {self.name}")
             rows = cursor.fetchall()
         except Refused:
             cursor.execute("rollback")
             raise
         cursor.execute("rollback")
         return {self._layout.key_of(row[0]): [self._layout.cell(name, text) for name, text in zip(self.columns, row[1:])] for row in rows}
-
-    def _written(self, name: str) -> str:
-        """A column as the log writes it: as its type puts values out, but for true and false."""
-        column = identifier(name)
-        if self._declared[name].plain == "boolean":
-            return f"{column}::text"
-        return f"case when {column} is not distinct from null then null else format('%s', {column}) end"
-
-    def _with(self, rows: Dict[Key, List[Any]], log: Log) -> Optional[Dict[Key, Cells]]:
-        """Rows with what the log says; None where that is not clear."""
-        found: Dict[Key, Cells] = {} if log.is_cleared else dict(rows)
-        for key, values in log.rows.items():
-            if values is None:
-                found.pop(key, None)
-            elif UNCHANGED in values and key not in found:
-                return None
-            else:
-                found[key] = [old if value is UNCHANGED else value for value, old in zip(values, found.get(key, values))]
-        return found if log.is_clear and self._is_as_it_was() else None
 
     # ---- the schema ----
 
@@ -212,59 +208,64 @@ class PostgresSource(Source):
         if level != "logical":
             raise Refused(f"the server has wal_level = {level}: a table is followed with wal_level = logical, which needs a restart of the server", "follow")
 
-    def _found(self) -> Tuple[int, int, str, str]:
+    def _found(self) -> Tuple[int, str, str]:
+        """The table that has the name now, its whole name, and by what the log says which row is changed."""
         rows = self._rows(FIND, self._table, self._table)
         if not rows:
             raise Refused(f"there is no table {self._table!r}", "follow")
-        oid, kind, persistence, replident, node, name, has_heirs, is_secured = rows[0]
+        oid, kind, persistence, replident, name, has_heirs, has_row_security = rows[0]
         if kind != "r":
             raise Refused(f"{name} is {KINDS_OF_TABLES.get(kind, 'no table')}, whose rows the log does not have: follow the table that has them", "follow")
         if persistence != "p":
             raise Refused(f"{name} is {'a temporary' if persistence == 't' else 'an unlogged'} table, whose rows the log does not have", "follow")
         if has_heirs:
-            raise Refused(f"there are tables that inherit from {name}, whose rows are among its own and not in its log: follow the tables that have them", "follow")
-        if is_secured:
-            raise Refused(f"which rows of {name} this user may see is said by its row security, and the log has all of them: follow it as a user whom that does not "
-                          "concern", "follow")
-        return oid, node, name, replident
+            raise Refused(f"{name} has tables that inherit from it, whose rows the log has as theirs: follow each by itself", "follow")
+        if has_row_security:
+            raise Refused(f"{name} has row security for this user, and the log has all rows: follow it as a user who sees them all", "follow")
+        return oid, name, replident
 
-    def _there(self) -> Tuple[Dict[str, Declared], Dict[str, int]]:
-        """The columns with their types, and with their numbers."""
-        rows = self._rows(COLUMNS, self._oid)
-        return {name: Declared(*types) for name, *types, _ in rows}, {name: number for name, *_, number in rows}
+    def _there(self) -> Dict[str, Tuple[str, str, str]]:
+        """The columns with their types: plain, with their sizes, and what sort of type it is."""
+        return {name: (plain, sized, sort) for name, plain, sized, sort in self._rows(COLUMNS, self._oid)}
 
-    def _check_key(self, there: Dict[str, Declared], replident: str) -> None:
+    def _check_key(self, there: Dict[str, Tuple[str, str, str]], replident: str) -> None:
         if self._key not in there:
             raise Refused(unknown_column(self._key, list(there)), "follow")
-        if there[self._key].plain not in KEYS:
-            raise Refused(f"column {self._key!r} has the type {there[self._key].plain}: a key is a whole number or a text", "follow")
+        if there[self._key][0] not in KEYS:
+            raise Refused(f"column {self._key!r} has the type {there[self._key][0]}: a key is a whole number or a text", "follow")
         # By what the log says which row it is: the primary key, another index, or all columns, of which the key then has to be filled.
         place = {"d": 0, "i": 1, "f": 2}.get(replident)
         if place is None or not any(name == self._key and fits[place] for name, *fits in self._rows(INDEXES, self._oid)):
             raise Refused(f"the log does not say by {self._key!r} which row of {self.name} is changed: make it the primary key, or the replica identity", "follow")
 
-    def _checked(self) -> Shape:
-        """The table as it is now, whose columns that are followed, and whose key, are as they were; else they are refused."""
-        oid, node, name, replident = self._found()
+    def _checked(self) -> Schema:
+        """The schema of the table, whose columns that are followed, and whose key, are as they were; else they are refused."""
+        oid, name, replident = self._found()
         if (oid, name) != (self._oid, self.name):
             raise Refused(f"table {self.name} is another one now. Follow it again", "follow")
-        there, numbers = self._there()
+        there = self._there()
         for column, declared in self._declared.items():
             if there.get(column) != declared:
-                now = f"has the type {there[column].sized} now, and had {declared.sized}" if column in there else "is not there any more"
+                now = f"has the type {there[column][1]} now, and had {declared[1]}" if column in there else "is not there any more"
                 raise Refused(f"table {self.name} was changed: column {column!r} {now}. Follow it again", "follow")
         self._check_key(there, replident)
-        return Shape(node, tuple(numbers[column] for column in self._declared))
+        return self._schema_of(oid)
+
+    def _schema_of(self, oid: int) -> Schema:
+        cursor = self._db.cursor()
+        cursor.execute(SCHEMA, {"oid": oid})
+        return list(cursor.fetchall())
 
     def _is_as_it_was(self) -> bool:
-        """Whether no change of the schema has changed the rows, which the log does not say."""
-        return self._checked() == self._shape
+        """Whether the schema is that of the rows that were given: else these may be others, or have other keys, of which the log says nothing."""
+        oid, _, _ = self._found()
+        return self._schema_of(oid) == self._schema
 
     def _kinds(self, rows: Sequence[Cells]) -> Dict[str, Column]:
         """The kinds of the columns by their types."""
         found: Dict[str, Column] = {}
         for place, name in enumerate(self.columns):
-            kind = kind_of(self._declared[name])
+            kind = self._kind(*self._declared[name])
             texts = [] if kind is not None else list(dict.fromkeys(row[place] for row in rows if row[place] is not None))
             found[name] = Column(name, kind or (kind_of_texts(texts) if texts else Whole()))
         return found
@@ -272,21 +273,32 @@ class PostgresSource(Source):
     def _check_kinds(self, given: Collection[str]) -> None:
         """Refuses a column whose type has no kind, where none is given."""
         for name in self.columns:
-            declared = self._declared[name]
-            if name not in given and declared.plain != "numeric" and kind_of(declared) is None:
-                raise Refused(f"column {name!r} has the type {declared.plain}, which no kind reads by itself: leave it out by columns=[..], or give it one, as "
+            plain, sized, sort = self._declared[name]
+            if name not in given and plain != "numeric" and self._kind(plain, sized, sort) is None:
+                raise Refused(f"column {name!r} has the type {plain}, which no kind reads by itself: leave it out by columns=[..], or give it one, as "
                               f"kinds={{{name!r}: 'text'}}", "follow")
 
+    def _kind(self, plain: str, sized: str, sort: str) -> Optional[Kind]:
+        """The kind of a type; None for numbers of any number of decimals, and for what only a kind that is given reads."""
+        if plain == "numeric" and sized != plain:
+            decimals = int(sized.rstrip(")").partition(",")[2] or 0)
+            return Decimals(decimals) if 0 <= decimals <= MOST_DECIMALS else None
+        if plain == "timestamp with time zone":
+            return Times(timezone.utc)
+        return Texts() if sort == "e" else KINDS[plain]() if plain in KINDS else None
 
-def kind_of(declared: Declared) -> Optional[Kind]:
-    """The kind of a type; None for numbers of any number of decimals, and for what only a kind that is given reads."""
-    plain, sized, sort = declared
-    if plain == "numeric" and sized != plain:
-        decimals = int(sized.rstrip(")").partition(",")[2] or 0)
-        return Decimals(decimals) if 0 <= decimals <= MOST_DECIMALS else None
-    if plain == "timestamp with time zone":
-        return Times(timezone.utc)
-    return Texts() if sort == "e" else KINDS[plain]() if plain in KINDS else None
+
+def with_log(rows: Dict[Key, List[Any]], log: Log) -> Optional[Dict[Key, Cells]]:
+    """Rows with what the log says; None where that is not clear."""
+    found: Dict[Key, Cells] = {} if log.is_cleared else dict(rows)
+    for key, values in log.rows.items():
+        if values is None:
+            found.pop(key, None)
+        elif UNCHANGED in values and key not in found:
+            return None
+        else:
+            found[key] = [old if value is UNCHANGED else value for value, old in zip(values, found.get(key, values))]
+    return found if log.is_clear else None
 
 
 def connector(connection: Any) -> Any:
@@ -300,27 +312,23 @@ def connector(connection: Any) -> Any:
     return lambda: module.connect(**parameters)
 
 
-def check_no_change_is_open(connection: Any) -> None:
-    """Refuses a connection with a transaction that has written: a slot would wait for its end, which the caller could not bring about meanwhile."""
-    if connection.info.transaction_status != IDLE and asked(connection, "select txid_current_if_assigned()") is not None:
-        raise Refused("this connection has a transaction that is open and has written, for whose end it would be waited here: commit it first", "follow")
-
-
 def search_path(connection: Any) -> str:
-    """In which schemas a connection looks for a table. Where it has no transaction, it has none afterwards."""
-    was_idle = connection.info.transaction_status == IDLE
-    found = str(asked(connection, "select current_setting('search_path')"))
+    """In which schemas a connection looks for a table. Where it has no transaction, it has none afterwards; one that has written is refused."""
+    was_idle = connection.info.transaction_status == 0
+    cursor = connection.cursor()
+    cursor.execute("select current_setting('search_path') as path, txid_current_if_assigned() is not null as has_written")
+    row = cursor.fetchone()
     if was_idle and not connection.autocommit:
         connection.rollback()
-    return found
+    path, has_written = row.values() if isinstance(row, dict) else row
+    if has_written:
+        raise Refused("the connection has a transaction that has written, and whose end has to be waited for: commit first", "follow")
+    return str(path)
 
 
-def asked(connection: Any, sql: str) -> Any:
-    """The one value that a query gives, whatever the connection makes of rows."""
-    cursor = connection.cursor()
-    cursor.execute(sql)
-    row = cursor.fetchone()
-    return next(iter(row.values())) if isinstance(row, dict) else row[0]
+def output(name: str) -> str:
+    """A column as the output function of its type gives it, by which the log has it too: a cast to text gives another text for some types."""
+    return f"case num_nulls({identifier(name)}) when 0 then format('%s', {identifier(name)}) end"
 
 
 def identifier(name: str) -> str:
