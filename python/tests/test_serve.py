@@ -332,7 +332,7 @@ class OfADesk(TestCase):
     def test_texts_alone(self):
         with Desk(prefq.Frame.from_records([{"Hotel": "b'"}, {"Hotel": "a"}])) as desk, Server(desk) as server:
             self.assertEqual(server.site.about["questions"], ["best pos(Hotel, 'b''')"])
-            shown = pictures.picture(desk, server.site.about["questions"][0])
+            shown = pictures.picture(desk, pictures.Asked(server.site.about["questions"][0]))
             self.assertEqual(([row["cells"] for row in shown["best"]], shown["axes"]), ([["b'"]], [None, None]))
 
     def test_a_large_table_is_sampled(self):
