@@ -239,6 +239,18 @@ class Places(OfSqlite):
 
 
 class Refusals(OfSqlite):
+    def test_what_is_no_key_and_no_number_of_seconds(self):
+        frame = self.offers((1, "a", 60, 5))
+        for id in (True, 1.0, [1], None):
+            for call in (lambda: frame.get(id), lambda: frame.why(id, QUESTION)):
+                with self.subTest(id=id), self.refuses(TypeError, f"id is {id!r}, of type {type(id).__name__}"):
+                    call()
+        for wait, error in (("x", TypeError), (None, TypeError), (True, TypeError), (-1, ValueError), (float("nan"), ValueError)):
+            for place in (None, 0, 9):
+                with self.subTest(wait=wait, place=place), self.refuses(error, "wait is"):
+                    frame.best(QUESTION, at_least=place, wait=wait)
+        self.assertEqual(frame.get(1).price, 60)
+
     def refused(self, *words, table="offers", **options):
         before = self.db.execute("select name, sql from sqlite_master").fetchall()
         with self.refuses(prefq.Refused, *words, kind="follow"):

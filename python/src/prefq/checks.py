@@ -2,6 +2,7 @@
 import operator
 import re
 from collections.abc import Iterable
+from numbers import Real
 from typing import Any, Tuple
 
 from .errors import Refused
@@ -27,6 +28,16 @@ def whole(value: Any, what: str, least: int, most: int) -> int:
     if not least <= number <= most:
         raise ValueError(f"{what} is {number}: not from {least} to {most}")
     return number
+
+
+def seconds(value: Any, what: str) -> float:
+    """The value as a number of seconds, of which there may be infinitely many."""
+    if isinstance(value, bool) or not isinstance(value, Real):
+        raise TypeError(f"{what} is {value!r}, of type {type(value).__name__}: not a number of seconds")
+    found = float(value)
+    if not found >= 0:
+        raise ValueError(f"{what} is {found:g}: not a number of seconds from 0")
+    return found
 
 
 def names(columns: Any) -> Tuple[str, ...]:

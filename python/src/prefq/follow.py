@@ -9,6 +9,7 @@ from contextlib import contextmanager
 from typing import Any, Iterator, List, Mapping, NamedTuple, Optional, Sequence, Tuple
 
 from .answer import Answer
+from .checks import LEAST, MOST, seconds, whole
 from .columns import Column
 from .dealt import Begun, Dealt, Found, Key, Numbers, ordered
 from .dealt_questions import Asked, AskedOfTables, asked_of, moment_of
@@ -165,11 +166,13 @@ class Followed:
 
     def get(self, id: Key) -> Record:
         """The row with this key."""
+        key = key_given(id)
+
         def found(dealt: Dealt) -> Record:
-            numbers = dealt.get(id)
+            numbers = dealt.get(key)
             if numbers is None:
-                raise missing_row(id)
-            return _records(dealt.columns, [(None, id, numbers)])[0]
+                raise missing_row(key)
+            return _records(dealt.columns, [(None, key, numbers)])[0]
 
         row: Record = self._surviving(found)
         return row
@@ -194,8 +197,9 @@ class Followed:
     def answer(self, question: str, selection: Selection, *, at_least: Any = None, wait: float = 60.0) -> Answer:
         """The same with what is asked beside the question."""
         place = None if at_least is None else self._source.place(at_least)
+        longest = seconds(wait, "wait")
         if place is not None:
-            self._wait(place, wait)
+            self._wait(place, longest)
 
         version, at = self._surviving(lambda _: (self.version, self.at), is_there=place is not None)
 
@@ -236,7 +240,7 @@ class Followed:
 
     def why(self, id: Key, question: AskedFor, *, where: Optional[Operand] = None, by: Names = None) -> Answer:
         """The rows that dominate this one in a question: those because of which it is not in the answer, among those that meet the condition `where`."""
-        text, selection = text_asked(question), Selection.of(where=where, by=by)
+        text, selection, id = text_asked(question), Selection.of(where=where, by=by), key_given(id)
 
         def begun(dealt: Dealt) -> Tuple[Dealt, Begun, int]:
             return dealt, dealt.begin_all(), self.at
@@ -408,6 +412,11 @@ class Followed:
             return column_at_keys(name, values, column, keys)
         except Refused as why:
             raise Refused(f"{self._source.name}: {why}", "follow") from None
+
+
+def key_given(id: Any) -> Key:
+    """A key as it was given."""
+    return id if isinstance(id, str) else whole(id, "id", LEAST, MOST)
 
 
 def missing_row(key: Key) -> Refused:
