@@ -210,6 +210,26 @@ class Names(OfRooms):
                 self.assertEqual(self.added(), [])
 
 
+class Connections(OfRooms):
+    @unittest.skipUnless(os.path.isdir("/proc/self/fd"), "no list of open files here")
+    def test_a_frame_that_nothing_refers_to_is_closed_at_once(self):
+        self.db.execute(ROOMS)
+        self.insert((1, 10, 3))
+        before = self.open_files()
+        for options in ({}, {"kinds": {"prize": "text"}}):
+            for _ in range(3):
+                try:
+                    prefq.Frame.follow(self.db, "rooms", **options).best(QUESTION)
+                except prefq.Refused:
+                    pass
+                self.assertEqual(self.open_files(), before)
+
+    def open_files(self):
+        """How many of the file of the rooms."""
+        links = [os.path.join("/proc/self/fd", name) for name in os.listdir("/proc/self/fd")]
+        return sum(os.path.realpath(link) == os.path.realpath(self.path) for link in links)
+
+
 class Interruptions(OfRooms):
     def interrupted(self, call, step=1):
         """Interrupts a call at each place, or at some of them, one after the other, until it ends. The interruption is there until the next one."""

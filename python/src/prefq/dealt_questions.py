@@ -65,7 +65,7 @@ class AskedOfTables(Asked):
         return [found[row.id - 1] for row in picked(rows, read, self._selection, moment)]
 
     def _merged(self, rows: List[Found]) -> List[Found]:
-        """The answer over the rows that the tables' answers have together. Refused where more of them are left than one table holds, and another pass has no use."""
+        """The answer over the rows that the tables' answers have together. Refused where too many are left, and another pass has no use."""
         while len(rows) > MOST_ROWS:
             count = -(-len(rows) // MOST_ROWS)
             # They are dealt out in turn, so that rows of all tables meet in each piece.

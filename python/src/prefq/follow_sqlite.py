@@ -3,7 +3,9 @@
 There is one note for each key, with the number of its last change, so the notes take no more room than the keys do. A transaction's numbers are those behind
 all that was committed before, since SQLite has one writer at a time; so what is seen up to a number is what was seen at one moment.
 """
+import os
 import sqlite3
+import weakref
 from contextlib import closing
 from typing import Any, Callable, Dict, Iterator, List, Mapping, Optional, Sequence, Tuple, TypeVar
 from urllib.parse import quote
@@ -33,6 +35,8 @@ class SqliteSource(Source):
 
     def __init__(self, connection: sqlite3.Connection, table: str, key: str, columns: Optional[Sequence[str]]) -> None:
         self._db = connected_as(connection)
+        # A connection and its statements are a cycle, so that where nothing refers to the frame only the collector would close it.
+        weakref.finalize(self, close_in, os.getpid(), self._db).atexit = False
         try:
             self._key, self._schema, self._has_added = key, -1, False
             self.name = at_one_moment(self._db, lambda: table_named(self._db, table))
@@ -239,6 +243,12 @@ def connected_as(connection: sqlite3.Connection) -> sqlite3.Connection:
     if not path:
         raise Refused("a database in memory has no file that another connection reads", "follow")
     return sqlite3.connect(f"file:{quote(path)}?mode=rw", uri=True, isolation_level=None, check_same_thread=False)
+
+
+def close_in(process: int, db: sqlite3.Connection) -> None:
+    """Closes a connection in the process that has opened it."""
+    if os.getpid() == process:
+        db.close()
 
 
 def check_meaning(connection: sqlite3.Connection, table: str) -> None:
