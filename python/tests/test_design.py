@@ -2,6 +2,7 @@
 import base64
 import json
 import re
+import time
 import unittest
 from contextlib import contextmanager
 from pathlib import Path
@@ -71,6 +72,13 @@ class Designed(Paged):
         """Writes a value into a field, as a person does."""
         self.browser.fill(selector, value)
         self.browser.js(f"document.querySelector({json.dumps(selector)}).dispatchEvent(new Event('input', {{bubbles: true}}))")
+
+    def until(self, holds):
+        """Waits until this holds, as where points are on their way."""
+        end = time.monotonic() + 60
+        while not holds():
+            self.assertLess(time.monotonic(), end)
+            time.sleep(0.05)
 
     def until_version(self, version):
         self.browser.until(f"document.getElementById('state').textContent === 'Live, version {version}'")
@@ -336,7 +344,7 @@ class Outliers(Designed):
         self.server.desk.update(62, {"Price (EUR)": "0.5"})
         self.until_version(2)
         self.browser.until("!document.getElementById('legend').textContent.includes('logarithm')")
-        self.assertGreater(self.across(), 0.05)
+        self.until(lambda: self.across() > 0.05)
         ticks = self.browser.js("[...document.querySelectorAll('#plot text')].map(text => text.textContent)")
         self.assertTrue({"0.1", "10", "1K", "100K", "1M"} <= set(ticks), ticks)
 

@@ -76,7 +76,9 @@ class Threads(TestCase):
                     answers.append(why.number)
 
             self.assertEqual(all_of(8, work), [])
-            self.assertEqual(sorted(answers, key=str), [4] * 7 + [[1, 2, 3, 6]])
+            # The others find that it has ended, or that another one has scanned its last block.
+            *refused, answer = sorted(answers, key=str)
+            self.assertEqual((len(refused), {*refused} - {4, 5}, answer), (7, set(), [1, 2, 3, 6]))
 
     def test_more_queries_than_clients(self):
         with hotels(clients=2, block=16) as table:
