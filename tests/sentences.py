@@ -15,8 +15,8 @@ from pathlib import Path
 TOP = Path(__file__).resolve().parent.parent
 MOST_WORDS = 40
 MEAN_BELOW = 22
-# Two are made by programs, and two are still to be shortened.
-LEFT_OUT = {"DEFINITIONS.md", "EDITS.md", "PYTHON.md", "SCALE.md"}
+# Two are made by programs.
+LEFT_OUT = {"DEFINITIONS.md", "EDITS.md"}
 FENCED = re.compile(r"^ *```.*?^ *```$", re.MULTILINE | re.DOTALL)
 NO_SENTENCE = re.compile(r"^(#.*|\|.*|!\[.*|    .*)$", re.MULTILINE)
 ITEM = re.compile(r"^ *(?:[-*]|\d+\.) +", re.MULTILINE)
