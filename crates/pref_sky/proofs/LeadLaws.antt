@@ -251,7 +251,7 @@ module _ (order : OwnOrder) (lead : Lead) (entries : List Entry) (leads : LeadAm
       (sym (same_group q.group a.row b.row) ∙ group) same
 
   -- of two that are the same in their product the one that dominates has no bit that the other lacks
-  Signs : Type 0
+  pub Signs : Type 0
   Signs = (a b : Entry) → Among a entries → Among b entries → is_same (by_product (chains_of lead) a.row b.row) ≡ true → own_order order a b ≡ true → is_within (rule_of lead a) (rule_of lead b) ≡ true
 
   -- so where the scales suit the question

@@ -329,7 +329,7 @@ module _ (over first second third : Entry → Entry → Bool) (all : List Entry)
             | inl ahead ↦
                 let over_m : over e m ≡ true =
                 led.ahead e m (among x x_inside) (among j j_inside) (ahead_of_level first second third led.first_is_chain led.second_is_chain led.third_is_chain m next_one e level ahead) in
-                absurd (both_ways (over e m) over_m (alike.below m ∙ swept.strict.irreflexive m))
+                absurd (both_ways (over e m) (alike.below m ∙ swept.strict.irreflexive m) over_m)
             | inr here ↦ here
           ]
 

@@ -77,6 +77,7 @@ fn chosen_chains<'a>(
     leading: &Leading<'a>,
     entries: &[Entry],
 ) -> Result<Vec<&'a Chain>, AllocError>
+    requires { All AreInRow leading.now.chains.now }
     ensures lead { IfOk result (λ chosen. (q : Question) → Leads q leading.now.chains.now leading.now.behind.now → LeadAmong q entries.now (map (λ chain. chain.now) chosen.items)) }
     ensures same { IfOk result (λ chosen. (chosen.items ≡ []) ⊎ SameInProduct entries.now leading.now.chains.now (map (λ chain. chain.now) chosen.items)) }
 {
