@@ -92,12 +92,14 @@ class Pictures(TestCase):
             with FollowedDesk(prefq.Frame.follow(db, "offers")) as desk:
                 yield desk
 
-    def test_rows_of_a_database_take_nothing_beside_the_question(self):
-        with self.offers([(7, 60), (8, 90)]) as desk:
-            self.assertEqual([row["id"] for row in pictures.picture(desk, pictures.Asked("best low(price)"))["best"]], [7])
-            for asked in (pictures.Asked("best low(price)", where="price > 60"), pictures.Asked("best low(price)", top="1")):
-                with self.refuses(prefq.Refused, "is not there for the page of a frame that follows a table of a database"):
-                    pictures.picture(desk, asked)
+    def test_rows_of_a_database_are_asked_as_a_frame_is(self):
+        with self.offers([(7, 60), (8, 90), (9, 60)]) as desk:
+            for asked, ids in ((pictures.Asked("best low(price)"), [7, 9]), (pictures.Asked("best low(price)", where="price > 60"), [8]), (pictures.Asked("best low(price)", top="1"), [7]),
+                               (pictures.Asked("best high(price / 2)"), [8])):
+                found = pictures.picture(desk, asked)
+                self.assertEqual(([row["id"] for row in found["best"]], found["count"], found["asked"]), (ids, 3, ["price"]))
+            with self.refuses(prefq.Refused, "no column 'prise'"):
+                pictures.picture(desk, pictures.Asked("best low(price)", where="prise > 1"))
 
 
 if __name__ == "__main__":

@@ -9,8 +9,7 @@ from typing import Iterator, List, Sequence, Tuple
 from .checks import MOST_ROWS
 from .columns import Column
 from .dealt import Begun, Dealt, Found, Key, Numbers, ordered
-from .loading import Encoded
-from .moment import Moment
+from .moment import Moment, moment_of
 from .once import ask_once
 from .parts import SHRINKS, RowsLeft
 from .questions import Question
@@ -59,7 +58,7 @@ class AskedOfTables(Asked):
 
     def _first(self, found: List[Found]) -> List[Found]:
         """The first rows of the answer that are wanted."""
-        moment = moment_of(self.columns, [(row.key, row.numbers) for row in found])
+        moment = moment_of_pairs(self.columns, [(row.key, row.numbers) for row in found])
         read = reading(self._text, self._selection, moment)
         rows = [Row(row.level, number, list(values)) for number, (row, values) in enumerate(zip(found, zip(*read.lists)), 1)]
         return [found[row.id - 1] for row in picked(rows, read, self._selection, moment)]
@@ -94,7 +93,7 @@ class AskedOfRows(Asked):
 
     def answer(self) -> List[Found]:
         pairs = list(self._begun.pairs().items())
-        moment = moment_of(self.columns, pairs)
+        moment = moment_of_pairs(self.columns, pairs)
         read = reading(self._text, self._selection, moment)
         self.unknown = read.unknown
         return [Found(row.level, *pairs[row.id - 1]) for row in picked(answered(read, None, {}), read, self._selection, moment)]
@@ -109,14 +108,9 @@ def asked_of(dealt: Dealt, text: str, selection: Selection) -> Asked:
     return AskedOfRows(dealt, text, selection)
 
 
-def moment_of(columns: Sequence[Column], rows: Sequence[Tuple[Key, Numbers]]) -> Moment:
+def moment_of_pairs(columns: Sequence[Column], pairs: Sequence[Tuple[Key, Numbers]]) -> Moment:
     """Rows of these columns as they are at one moment, which messages call by their keys."""
-    places = {column.name: place for place, column in enumerate(columns)}
-
-    def load(name: str) -> Encoded:
-        return columns[places[name]], [numbers[places[name]] for _, numbers in rows]
-
-    return Moment(list(places), load, called=lambda number: repr(rows[number - 1][0]))
+    return moment_of(columns, [numbers for _, numbers in pairs], lambda number: repr(pairs[number - 1][0]))
 
 
 def _first_of_twins(rows: Sequence[Found], places: Sequence[int]) -> Iterator[Found]:

@@ -12,8 +12,7 @@ from .errors import Ended, Refused
 from .frame import Frame
 from .hints import unknown_column
 from .kinds import Kind, Texts
-from .loading import Encoded
-from .moment import Moment
+from .moment import Moment, moment_of
 from .opened import is_outgrown, moved_columns, size_of_code_books, wider_kinds
 from .query import Query
 from .questions import Question
@@ -272,7 +271,7 @@ class Desk:
 
 def computed_picture(text: str, selection: Selection, version: int, columns: List[Column], rows: List[Held]) -> Picture:
     """The picture of a question for which something is computed over the rows, as a condition or an expression."""
-    moment = moment_of(columns, rows)
+    moment = moment_of_picture(columns, rows)
     read = reading(text, selection, moment)
     with query_of(read) as query:
         found = picked(query.answer(), read, selection, moment)
@@ -281,12 +280,6 @@ def computed_picture(text: str, selection: Selection, version: int, columns: Lis
     return Picture(version, columns, rows, best, [named[name] for name in selection.names(text, moment.names)], tuple(read.unknown))
 
 
-def moment_of(columns: Sequence[Column], rows: Sequence[Held]) -> Moment:
+def moment_of_picture(columns: Sequence[Column], rows: Sequence[Held]) -> Moment:
     """The rows of a picture as those of a moment, counted from 1."""
-    names = [column.name for column in columns]
-
-    def load(name: str) -> Encoded:
-        place = names.index(name)
-        return columns[place], [row.numbers[place] for row in rows]
-
-    return Moment(names, load, called=lambda number: rows[number - 1].id)
+    return moment_of(columns, [row.numbers for row in rows], lambda number: rows[number - 1].id)

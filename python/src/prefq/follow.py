@@ -12,18 +12,16 @@ from .answer import Answer
 from .checks import LEAST, MOST, seconds, whole
 from .columns import Column
 from .dealt import Begun, Dealt, Found, Key, Numbers, ordered
-from .dealt_questions import Asked, AskedOfTables, asked_of, moment_of
+from .dealt_questions import Asked, asked_of, moment_of_pairs
 from .errors import Ended, Refused
 from .follow_source import UNCHANGED, Cells, Changes, Source
 from .kept import Kept
 from .keyed_values import column_at_keys, keeps_its_kind
 from .loading import check_known, decoded
 from .preferences import Asked as AskedFor, Operand, text_asked
-from .questions import read_question
 from .records import Record
 from .rows import Zipped
 from .selection import Names, Selection, reading
-from .translate import columns_in
 from .turns import Turns
 from .warned import warn_of
 from .why import dominators
@@ -225,11 +223,11 @@ class Followed:
         found: Tuple[int, Answered] = self._answered(begun, answered, is_there=True)
         return found
 
-    def snapshot(self, question: str) -> Snapshot:
-        """All rows and the answer to a question at one moment, as numbers."""
+    def snapshot(self, question: str, selection: Selection = Selection()) -> Snapshot:
+        """All rows and the answer to a question, with what is asked beside it, at one moment, as numbers."""
         def begun(dealt: Dealt) -> Tuple[int, Sequence[Column], Asked, Begun]:
-            read = read_question(question, dealt.by_name.get, dealt.names, None)
-            return self.version, columns_in(read), AskedOfTables(dealt, question, read), dealt.begin_all()
+            asked = asked_of(dealt, question, selection)
+            return self.version, [dealt.by_name[name] for name in selection.names(question, dealt.names)], asked, dealt.begin_all()
 
         def answered(begun: Tuple[int, Sequence[Column], Asked, Begun]) -> Snapshot:
             version, columns, asked, everything = begun
@@ -246,7 +244,7 @@ class Followed:
             return dealt, dealt.begin_all(), self.at
 
         dealt, at, pairs = self._answered(begun, lambda begun: (begun[0], begun[2], list(begun[1].pairs().items())))
-        moment = moment_of(dealt.columns, pairs)
+        moment = moment_of_pairs(dealt.columns, pairs)
         read = reading(text, selection, moment)
         number = next((number for number, (key, _) in enumerate(pairs, 1) if key == id), None)
         place = None if number is None else moment.place(number)

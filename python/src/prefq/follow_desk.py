@@ -9,7 +9,6 @@ from .follow import Followed
 from .selection import Selection
 
 PAUSE = 0.1     # seconds between two looks at the database
-FOLLOWED = "the page of a frame that follows a table of a database"
 QUESTIONS_OF_A_PICTURE = 2
 
 
@@ -61,10 +60,9 @@ class FollowedDesk(Desk):
         raise changed_elsewhere()
 
     def picture(self, text: str, selection: Selection = Selection()) -> Picture:
-        """The rows and the answer to a question at one version. What is asked beside it is refused."""
-        selection.mode_alone(FOLLOWED)
+        """The rows and the answer to a question, with what is asked beside it, at one version."""
         turns = self._turns     # of a version from before, where it changes meanwhile
-        found = self._frame.snapshot(text)
+        found = self._frame.snapshot(text, selection)
         wrong = next((key for key in found.rows if not isinstance(key, int)), None)
         if wrong is not None:
             raise Refused(f"there is a row with the key {wrong!r}: a page shows rows whose keys are whole numbers", "follow")

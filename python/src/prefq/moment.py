@@ -72,3 +72,13 @@ class Moment:
 
     def _total(self) -> int:
         return max((len(numbers) for _, numbers in self._loaded.values()), default=0)
+
+
+def moment_of(columns: Sequence[Column], rows: Sequence[Sequence[int]], called: Callable[[int], Any]) -> Moment:
+    """Rows as numbers of these columns, which are all at hand. `called` gives what messages call a row by its number, from 1 on."""
+    places = {column.name: place for place, column in enumerate(columns)}
+
+    def load(name: str) -> Encoded:
+        return columns[places[name]], [row[places[name]] for row in rows]
+
+    return Moment(list(places), load, called=called)

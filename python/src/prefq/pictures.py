@@ -10,7 +10,7 @@ from typing import Any, Callable, Dict, Iterable, List, NamedTuple, Optional, Se
 from .answer import Answer
 from .checks import LEAST
 from .columns import Column, spelled
-from .desk import Desk, Held, Numbers, moment_of
+from .desk import Desk, Held, Numbers, moment_of_picture
 from .errors import Refused
 from .kept import Kept
 from .kinds import Booleans, Choices, Clock, Dates, Texts
@@ -104,7 +104,7 @@ def why(desk: Desk, asked: Asked, id: int) -> Dict[str, Any]:
     number = next((number for number, row in enumerate(seen.rows, 1) if row.id == id), None)
     if number is None:
         raise Refused(f"no such row {id}", "client", 7)
-    moment = moment_of(seen.columns, seen.rows)
+    moment = moment_of_picture(seen.columns, seen.rows)
     read = reading(asked.question, replace(asked.selection(), top=None), moment)
     place = moment.place(number)
     if place is None:

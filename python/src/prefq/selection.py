@@ -50,13 +50,6 @@ class Selection:
             raise Refused("ties= says which rows of the last level are among the first ones: it needs top=", "arguments")
         return Selection(mode, None if where is None else text_of_operand(where), top, None if ties is None else text_preferred(ties), names_of(by))
 
-    def mode_alone(self, what: str) -> Optional[Mode]:
-        """The mode, where nothing else is asked beside the question: what is, `what` does not have."""
-        for name, given in (("where", self.where), ("top", self.top), ("ties", self.ties), ("by", self.by)):
-            if given not in (None, ()):
-                raise Refused(f"{name}= is not there for {what}", "arguments")
-        return self.mode
-
     def grouped(self, names: Sequence[str]) -> "Selection":
         """The same in groups of rows that are equal in these columns."""
         if self.by:
