@@ -18,6 +18,9 @@ chain_in_turn f g first second = grind (arith)
 pub level_above : {E : Type 0} (f : E → E → Bool) → IsChain f → (a b c : E) → are_level f a b ≡ true → f c a ≡ f c b
 level_above f chain a b c level = grind (arith, level, chain.between c a b, chain.between c b a)
 
+pub level_below : {E : Type 0} (f : E → E → Bool) → IsChain f → (a b c : E) → are_level f a b ≡ true → f a c ≡ f b c
+level_below f chain a b c level = grind (arith, level, chain.between a c b, chain.between b c a)
+
 -- what passes a filter stays in order
 pub filter_in_order : {E : Type 0} (before : E → E → Bool) (p : E → Bool) (xs : List E) → IsInOrder before xs → IsInOrder before (filter p xs)
 filter_in_order before p [] h = h

@@ -1,15 +1,15 @@
 -- What leads some entries in order makes their order one that a sweep can go by: groups first, and within a group by the product of three chains.
 use Rattle.pref_sky.proofs.Common.{◌≡◌, ◌≤◌, ◌&&◌, ◌||◌, ◌⊎◌, ◌∷◌, ◌++◌, ◌∙◌, ℕ, ℤ, Bool, true, false, not, List, [], inl, inr, refl, sym, ap, arith, length, nat_lt, and_from, and_parts, both_ways}
 use Rattle.pref_sky.proofs.Common.{false_from_ne_true, or_cases}
-use Rattle.pref_sky.proofs.Common.{AreInOrder, Among, Entry, IsChain, OwnOrder, Question, StandAlike, Suit, are_level, better_in, by_chain, by_row, comes_before, comes_first, earlier_in}
+use Rattle.pref_sky.proofs.Common.{All, AreInOrder, Among, Entry, IsChain, OwnOrder, Question, StandAlike, Suit, are_level, better_in, by_chain, by_row, comes_before, comes_first, earlier_in}
 use Rattle.pref_sky.proofs.Common.{entry_at, get_or, in_same_group, in_turn, is_better, is_same, is_worse}
 use Rattle.pref_sky.proofs.Common.{order_of, order_of_stays_in_groups, own_order}
 use Rattle.pref_sky.proofs.ChainLaws.{chain_in_turn, chain_of_entries, earlier_chain, keys_chain, same_group, same_in, worse_in}
 use Rattle.pref_sky.proofs.ItemsLaws.{suit_tells}
 use Rattle.pref_sky.proofs.ListLaws.{among_place}
 use Rattle.pref_sky.proofs.OwnOrders.{own_is_strict, stands_behind}
-use Rattle.pref_sky.specs.ChosenChains.{LeadAmong}
-use Rattle.pref_sky.specs.Leads.{LeadsSweep, chain_at, chains_of, first_of, mark_of, second_of, third_of}
+use Rattle.pref_sky.specs.ChosenChains.{LeadAmong, SameInProduct}
+use Rattle.pref_sky.specs.Leads.{LeadsSweep, chain_at, chains_of, first_of, mark_of, rule_of, second_of, third_of}
 use Rattle.pref_sky.specs.Held.{AreHeld}
 use Rattle.pref_sky.specs.Sweep.{AreLed, AreSwept, are_level_in, is_ahead}
 use Rattle.pref_sky.specs.declared.lead.Lead.{Lead}
@@ -17,9 +17,11 @@ use Rattle.pref_term.proofs.ChainLaws.{chain-append}
 use Rattle.pref_term.proofs.ExtensionLaws.{ask_alike, ask_extended, ask_same, chain_decided}
 use Rattle.pref_term.proofs.KeyLaws.{key_law}
 use Rattle.pref_term.specs.Extension.{all_keys, ask_keys, group_keys}
-use Rattle.pref_term.specs.LeadingChains.{by_product, joined}
+use Rattle.pref_term.proofs.SignatureLaws.{signed_by_keys}
+use Rattle.pref_term.specs.LeadingChains.{Leads, by_product, joined}
 use Rattle.pref_term.specs.Preference.{low}
-use Rattle.pref_term.specs.Question.{over}
+use Rattle.pref_term.specs.Question.{over, twins}
+use Rattle.pref_term.specs.Signatures.{IsBy, is_within}
 use Rattle.pref_term.specs.TwinLaws.{twins_alike}
 use Rattle.pref_term.specs.Walk.{in_priority, in_product, is_neither}
 use Rattle.pref_term.specs.declared.key.Key.{Key}
@@ -248,12 +250,34 @@ module _ (order : OwnOrder) (lead : Lead) (entries : List Entry) (leads : LeadAm
       ∙ and_from (are_level (earlier_in q.group) a.row b.row) (are_level_in (better_in (chain_at lead 0)) (better_in (chain_at lead 1)) (better_in (chain_at lead 2)) a.row b.row)
       (sym (same_group q.group a.row b.row) ∙ group) same
 
-  pub leads_sweep : AreInOrder order entries → Suit (order_of order.ask) lead.scales → AreHeld (own_order order) order.cut (mark_of lead) entries → LeadsSweep order lead entries
-  leads_sweep ordered suit held = record { swept = swept ordered; signed = suit_tells (order_of order.ask) lead.scales suit; keyed = keyed; held = held }
+  -- of two that are the same in their product the one that dominates has no bit that the other lacks
+  pub Signs : Type 0
+  Signs = (a b : Entry) → Among a entries → Among b entries → is_same (by_product (chains_of lead) a.row b.row) ≡ true → own_order order a b ≡ true → is_within (rule_of lead a) (rule_of lead b) ≡ true
 
--- no scales suit each question
-pub none_suits : (q : Question) → Suit (order_of q) []
-none_suits q = record { over = λ a b h. refl; twin = λ a b h. refl }
+  -- so where the scales suit the question
+  pub signs_by_suit : Suit (order_of order.ask) lead.scales → Signs
+  unfolding Signs
+  signs_by_suit suit a b m n same h = suit_tells (order_of order.ask) lead.scales suit a b h
+
+  -- and where they are by the keys that are behind the chains that lead it, and the product of these is the same
+  pub signs_behind : (all : List (List Key)) (keys : List Key) → Leads order.ask all keys → SameInProduct entries all (chains_of lead) → All (IsBy keys) lead.scales → Signs
+  unfolding Signs
+  signs_behind all keys question same by a b m n level h =
+      let either : (over order.ask a.row b.row || twins order.ask a.row b.row) ≡ true = grind (arith, h) in
+      signed_by_keys keys lead.scales a.row b.row (question.behind a.row b.row (sym (ap is_same (same a b m n)) ∙ level) either) by
+
+  level_in_product : (a b : Entry) → are_level_in (first_of order lead) (second_of order lead) (third_of order lead) a b ≡ true → is_same (by_product (chains_of lead) a.row b.row) ≡ true
+  level_in_product a b level =
+      let x = better_in (chain_at lead 0) in
+      let y = better_in (chain_at lead 1) in
+      let z = better_in (chain_at lead 2) in
+      same_is a.row b.row
+      ∙ (and_parts (are_level (earlier_in order.ask.group) a.row b.row) (are_level_in x y z a.row b.row) (sym (level_in_group (earlier_in order.ask.group) x y z a.row b.row) ∙ level)).1
+
+  pub leads_sweep : AreInOrder order entries → Signs → AreHeld (own_order order) order.cut (mark_of lead) entries → LeadsSweep order lead entries
+  unfolding Signs
+  leads_sweep ordered signs held =
+      record { swept = swept ordered; signed = λ a b m n level h. signs a b m n (level_in_product a b level) h; keyed = keyed; held = held }
 
 -- ---- how an entry stands to another
 

@@ -2,6 +2,7 @@
 use Rattle.pref_sky.proofs.Common.{◌≡◌, ℕ, suc, ◌<◌, ◌≤◌, ◌+◌, ◌-◌, Bool, true, false, not, ◌&&◌, ◌⊎◌, inl, inr, List, [], ◌∷◌, ◌++◌, refl, sym, ◌∙◌, ap, subst, arith, length, get_or, take, drop, ◌^◌}
 use Rattle.pref_sky.proofs.Common.{Vec, Global, length-take, length-drop, get_or-take, get_or-drop, take-append-drop}
 use Rattle.pref_sky.proofs.Common.{All, both_ways, and_from, and_right, cases_Bool, or_cases, cases_eq, cases_lt, false_from_ne_true, Entry, entry_at, Item, IsItem, Among, StandAlike, IsChain, IsInOrder}
+use Rattle.pref_sky.proofs.ChainLaws.{level_above, level_below}
 use Rattle.pref_sky.proofs.ListLaws.{among_all, among_place, any_from, place_of, in_either, in_left, in_right, in_order_at, in_order_back, in_order_front, in_order_joined, in_order_with}
 use Rattle.pref_sky.proofs.Merges.{comes_after, unbeaten_over}
 use Rattle.pref_sky.specs.Sweep.{AreSwept, IsAskedOf, IsClass, IsKept, IsMember, IsOneMore, IsSameLevel, StandsFor, are_level_in, is_ahead, is_at}
@@ -24,6 +25,11 @@ one_ahead f s t first second third m c e ahead in_first in_second in_third =
 better_is_ahead : {E : Type 0} (f s t : E → E → Bool) → IsChain s → IsChain t → (c e : E) → f e c ≡ false → s c e ≡ true → t c e ≡ true → is_ahead f s t c e ≡ true
 better_is_ahead f s t second third c e no_worse in_second in_third =
     grind (arith, second.strict.transitive e c e, second.strict.irreflexive e, third.strict.transitive e c e, third.strict.irreflexive e)
+
+-- what is ahead of one is ahead of one that is level with it
+ahead_of_level : {E : Type 0} (f s t : E → E → Bool) → IsChain f → IsChain s → IsChain t → (a b c : E) → are_level_in f s t a b ≡ true → is_ahead f s t c b ≡ true → is_ahead f s t c a ≡ true
+ahead_of_level f s t first second third a b c level ahead =
+    grind (arith, level_above f first a b c, level_below f first a b c, level_above s second a b c, level_below s second a b c, level_above t third a b c, level_below t third a b c)
 
 -- one step is the last that is no worse in the second chain, or none is: so it is asked at once
 pub one_asked : (over second : Entry → Entry → Bool) (all : List Entry) (steps : List ℕ) (e : Entry) (answer : Bool) → length steps ≡ 1 → answer ≡ over (entry_at all (get_or steps 0 0)) e
@@ -307,9 +313,25 @@ module _ (over first second third : Entry → Entry → Bool) (all : List Entry)
     found_one x m above = over_by_member i n x.place i (stands.kept_within x m).0 (omega (arith, inside)) above
 
     -- and something is found where a member is over it
-    module _ (signed : (a b : Entry) → over a b ≡ true → is_within (rule a) (rule b) ≡ true) (of_class : IsClass first second third all class i) where
+    module _ (signed : (a b : Entry) → Among a all → Among b all → are_level_in first second third a b ≡ true → over a b ≡ true → is_within (rule a) (rule b) ≡ true)
+        (of_class : IsClass first second third all class i) where
       abbrev pub is_over : Item → Bool
       is_over x = is_within x.signature (rule next_one) && over (entry_at all x.place) next_one
+
+      -- what is alike to one that is level with it, and is over it, is level with it too: else it were over the other
+      level_too : (x j : ℕ) → x < length all → j < length all → StandAlike over (entry_at all x) (entry_at all j) → are_level_in first second third (entry_at all j) next_one ≡ true
+          → over (entry_at all x) next_one ≡ true → are_level_in first second third (entry_at all x) next_one ≡ true
+      level_too x j x_inside j_inside alike level above =
+          let e = entry_at all x in
+          let m = entry_at all j in
+          let led = swept.led in
+          elim (or_cases (is_ahead first second third e next_one) (are_level_in first second third e next_one) (led.decided e next_one (among x x_inside) (among i inside) above)) [
+            | inl ahead ↦
+                let over_m : over e m ≡ true =
+                led.ahead e m (among x x_inside) (among j j_inside) (ahead_of_level first second third led.first_is_chain led.second_is_chain led.third_is_chain m next_one e level ahead) in
+                absurd (both_ways (over e m) (alike.below m ∙ swept.strict.irreflexive m) over_m)
+            | inr here ↦ here
+          ]
 
       -- one that is level with it in all chains is alike to one that is kept in the class
       one_over : (j : ℕ) → IsMember over all i n j → over (entry_at all j) next_one ≡ true → are_level_in first second third (entry_at all j) next_one ≡ true
@@ -319,7 +341,10 @@ module _ (over first second third : Entry → Entry → Bool) (all : List Entry)
           let w = stands.kept_cover j from member in
           let x = w.1.0 in
           let over_it : over (entry_at all x.place) next_one ≡ true = w.1.2.below next_one ∙ above in
-          let within : is_within x.signature (rule next_one) ≡ true = ap (λ (signature : ℕ). is_within signature (rule next_one)) (stands.kept_within x w.1.1).1.signed ∙ signed (entry_at all x.place) next_one over_it in
+          let of_all = stands.kept_within x w.1.1 in
+          let level_x = level_too x.place j of_all.1.within (omega (arith, member.0, inside)) w.1.2 level over_it in
+          let within : is_within x.signature (rule next_one) ≡ true =
+          ap (λ (signature : ℕ). is_within signature (rule next_one)) of_all.1.signed ∙ signed (entry_at all x.place) next_one (among x.place of_all.1.within) (among i inside) level_x over_it in
           (w.0, (x, w.1.1, and_from (is_within x.signature (rule next_one)) (over (entry_at all x.place) next_one) within over_it))
 
       -- of those that were of this level none is over one that was held too, of this level or of one above

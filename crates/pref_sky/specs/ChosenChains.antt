@@ -11,9 +11,13 @@ use Rattle.pref_term.specs.declared.key.Key.{Key}
 use Rattle.pref_sky.specs.Members.{Among}
 use Rattle.pref_sky.specs.declared.entry.Entry.{Entry}
 
+-- among these entries the product of some chains is that of others
+abbrev pub SameInProduct : List Entry → List (List Key) → List (List Key) → Type 0
+SameInProduct entries chains others = (a b : Entry) → Among a entries → Among b entries → by_product others a.row b.row ≡ by_product chains a.row b.row
+
 -- among these entries some chains say what others say: in their product, and one after the other
 pub record SayTheSame (entries : List Entry) (chains others : List (List Key)) : Type 0 where
-  pub in_product : (a b : Entry) → Among a entries → Among b entries → by_product others a.row b.row ≡ by_product chains a.row b.row
+  pub in_product : SameInProduct entries chains others
   pub in_turn : (a b : Entry) → Among a entries → Among b entries → by_chain (joined others) a.row b.row ≡ by_chain (joined chains) a.row b.row
 
 -- among these entries of a group the product of these chains decides where it sees a difference, and the chains one after the other lead the order of the question's keys

@@ -1,11 +1,13 @@
 //! What leads the order of entries in a sweep: up to three chains, whose product decides wherever it sees a difference.
 
-ghost use Rattle.std.specs.Prelude.{◌≡◌, ◌&&◌, suc, true, false, All, IfOk, get_or, map};
+ghost use Rattle.std.specs.Prelude.{◌≡◌, ◌&&◌, ◌⊎◌, [], suc, true, false, All, IfOk, get_or, map};
 ghost use Rattle.pref_term.specs.Chains.{AreInRow, by_chain};
 ghost use Rattle.pref_term.specs.Extension.{ask_keys};
+ghost use Rattle.pref_term.specs.LeadingChains.{Leads};
+ghost use Rattle.pref_term.specs.Question.{Question};
 ghost use Rattle.pref_term.specs.Order.{StandAlike, is_same};
 ghost use Rattle.pref_sky.specs.Chains.{better_in, earlier_in, in_turn, tells_none_apart};
-ghost use Rattle.pref_sky.specs.ChosenChains.{LeadAmong, SayTheSame};
+ghost use Rattle.pref_sky.specs.ChosenChains.{LeadAmong, SameInProduct, SayTheSame};
 ghost use Rattle.pref_sky.specs.Held.{AreHeld};
 ghost use Rattle.pref_sky.specs.OwnOrders.{AreInOrder, own_order};
 ghost use Rattle.pref_sky.specs.Sweep.{are_level_in};
@@ -13,10 +15,10 @@ ghost use Rattle.pref_sky.specs.Sweep.{are_level_in};
 use crate::entry::Entry;
 use crate::grouped::compare_groups;
 use crate::own_order::OwnOrder;
-use crate::signatures::scales_of;
+use crate::signatures::{scales_behind, scales_of};
 use crate::sweep::Standing;
 use pref_table::Row;
-use pref_term::{Chain, Relation, Scales, in_same_group};
+use pref_term::{Chain, Leading, Relation, Scales, in_same_group};
 use std::alloc::{AllocError, Global};
 use std::cmp::Ordering;
 
@@ -28,7 +30,7 @@ const MOST: usize = 3;
 pub(crate) struct Lead<'a> {
     /// The chains whose product leads it, at most three.
     pub(crate) chains: Vec<&'a Chain>,
-    /// By which entries are signed that are the same in all chains.
+    /// By which entries are signed that are the same in all chains: of two of these the better one has no bit that the other lacks.
     pub(crate) scales: Scales,
     /// The levels of which these entries were when they were held already, from 1 on; 0 of one that is new.
     pub(crate) held: Vec<u32>,
@@ -72,12 +74,14 @@ fn telling_chains<'a>(
 /// entries apart, and none where these are more than three too.
 fn chosen_chains<'a>(
     alloc: Global,
-    order: &'a OwnOrder,
+    leading: &Leading<'a>,
     entries: &[Entry],
 ) -> Result<Vec<&'a Chain>, AllocError>
-    ensures { IfOk result (λ chosen. LeadAmong order.now.ask entries.now (map (λ chain. chain.now) chosen.items)) }
+    requires { All AreInRow leading.now.chains.now }
+    ensures lead { IfOk result (λ chosen. (q : Question) → Leads q leading.now.chains.now leading.now.behind.now → LeadAmong q entries.now (map (λ chain. chain.now) chosen.items)) }
+    ensures same { IfOk result (λ chosen. (chosen.items ≡ []) ⊎ SameInProduct entries.now leading.now.chains.now (map (λ chain. chain.now) chosen.items)) }
 {
-    let chains = order.ask.leading_chains();
+    let chains = leading.chains;
     if chains.len() <= MOST {
         return all_chains(alloc, chains);
     }
@@ -117,11 +121,12 @@ impl<'a> Lead<'a> {
         requires held { AreHeld (own_order order.now) order.now.cut (λ place. get_or held.items place 0) entries.now }
         ensures { IfOk result (λ lead. LeadsSweep order.now lead entries.now) }
     {
-        let chains = chosen_chains(alloc, order, entries)?;
+        let leading = order.ask.leading();
+        let chains = chosen_chains(alloc, &leading, entries)?;
         let scales = if chains.is_empty() {
             scales_of(alloc, &order.ask, entries)?
         } else {
-            Scales::none()
+            scales_behind(alloc, &leading, entries)?
         };
         Ok(Lead {
             chains,

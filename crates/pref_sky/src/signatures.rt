@@ -1,14 +1,15 @@
 //! Signatures of entries, by which most pairs are decided without a comparison.
 
-ghost use Rattle.std.specs.Prelude.{◌≡◌, IfOk};
+ghost use Rattle.std.specs.Prelude.{◌≡◌, All, IfOk};
 ghost use Rattle.pref_sky.specs.Items.{AreItems, entries_at, signature_by};
 ghost use Rattle.pref_term.specs.AskOrder.{order_of};
-ghost use Rattle.pref_term.specs.Signatures.{Suit};
+ghost use Rattle.pref_term.specs.Chains.{AreInRow};
+ghost use Rattle.pref_term.specs.Signatures.{IsBy, Suit};
 
 use crate::entry::Entry;
 use crate::item::Item;
 use pref_table::Row;
-use pref_term::{Ask, Dominance, Scales};
+use pref_term::{Ask, Dominance, Leading, Scales};
 use std::alloc::{AllocError, Global};
 
 /// The fewest entries for which scales are made: fewer are compared in less time.
@@ -18,6 +19,15 @@ const FEWEST: usize = 16;
 /// about as evenly.
 const SAMPLE: usize = 128;
 
+/// Rows of these entries, evenly spread.
+fn sample_of(alloc: Global, entries: &[Entry]) -> Result<Vec<Row>, AllocError> {
+    let mut sample = Vec::new(alloc);
+    for entry in entries.iter().step_by(entries.len() / SAMPLE + 1) {
+        sample.push(entry.row)?;
+    }
+    Ok(sample)
+}
+
 /// Scales that suit a question, for entries like these, of which evenly spread ones are looked at; none where they are few.
 pub(crate) fn scales_of(alloc: Global, ask: &Ask, entries: &[Entry]) -> Result<Scales, AllocError>
     ensures { IfOk result (λ scales. Suit (order_of ask.now) scales) }
@@ -25,16 +35,25 @@ pub(crate) fn scales_of(alloc: Global, ask: &Ask, entries: &[Entry]) -> Result<S
     if entries.len() < FEWEST {
         return Ok(Scales::none());
     }
-    let mut sample: Vec<Row> = Vec::new(alloc);
-    for entry in entries.iter().step_by(entries.len() / SAMPLE + 1) {
-        sample.push(entry.row)?;
+    let sample = sample_of(alloc, entries)?;
+    ask.scales(alloc, &sample)
+}
+
+/// Scales for entries like these that are the same in the chains that lead a question; none where they are few, or these chains decide
+/// alone.
+pub(crate) fn scales_behind(
+    alloc: Global,
+    leading: &Leading,
+    entries: &[Entry],
+) -> Result<Scales, AllocError>
+    requires { AreInRow leading.now.behind.now }
+    ensures { IfOk result (λ scales. All (IsBy leading.now.behind.now) scales) }
+{
+    if leading.decides_alone() || entries.len() < FEWEST {
+        return Ok(Scales::none());
     }
-    let scales = ask.scales(alloc, &sample)?;
-    if ask.suits(&scales) {
-        Ok(scales)
-    } else {
-        Ok(Scales::none())
-    }
+    let sample = sample_of(alloc, entries)?;
+    leading.scales(alloc, &sample)
 }
 
 /// Scales that suit the order: those of its question, where it is one.

@@ -45,7 +45,7 @@ fn items_of_level(
     Ok(items)
 }
 
-/// The levels of some entries, and the scales by which the sweep signed them.
+/// The levels of some entries, and scales that suit their order.
 #[derive(Drop)]
 struct Leveled {
     found: Vec<Ranked>,
@@ -192,7 +192,13 @@ impl Pruned {
         let held = levels_among(alloc, &self.entries, &self.levels, &entries)?;
         let lead = Lead::of(alloc, &self.order, &entries, held)?;
         let found = find_levels(alloc, &self.order, &lead, &entries)?;
-        let Lead { scales, .. } = lead;
+        // Where chains lead, the order itself finds an entry of the last level that may dominate another.
+        let Lead { chains, scales, .. } = lead;
+        let scales = if chains.is_empty() {
+            scales
+        } else {
+            Scales::none()
+        };
         Ok(Leveled { found, scales })
     }
 

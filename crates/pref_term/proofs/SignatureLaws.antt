@@ -6,6 +6,8 @@ use Rattle.pref_term.proofs.Common.{keyed, leading, is_better, is_same, Preferen
 use Rattle.pref_term.proofs.Common.{signature, twins_alike, by_scores, in_priority, in_product, walked, Key, Relation}
 use Rattle.pref_term.specs.RelationLaws.{priority-better, priority-same, product-better, product-same, scores-better, scores-same}
 use Rattle.pref_term.specs.Walk.{directed}
+use Rattle.pref_term.specs.Keys.{IsNoGreater}
+use Rattle.pref_term.specs.Question.{over, twins}
 use Rattle.pref_term.specs.Signatures.{IsBy}
 use Rattle.pref_term.specs.declared.signature.scale.Scale.{Scale}
 use Rattle.pref_term.proofs.KeyLaws.{directed_priority, directed_product, directed_reverse, key_law}
@@ -15,43 +17,47 @@ use Rattle.std.proofs.Common.{rules}
 
 -- ---- rows of which the first is better, or the same
 
-abbrev fits : Relation → Bool
+abbrev pub fits : Relation → Bool
 fits r = is_better r || is_same r
 
 product_fits : (r s : Relation) → fits (in_product r s) ≡ true → (fits r ≡ true) × (fits s ≡ true)
 product_fits r s h = (grind (arith, product-better r s, product-same r s), grind (arith, product-better r s, product-same r s))
 
-priority_fits : (r s : Relation) → fits (in_priority r s) ≡ true → fits r ≡ true
+pub priority_fits : (r s : Relation) → fits (in_priority r s) ≡ true → fits r ≡ true
 priority_fits r s h = grind (arith, priority-better r s, priority-same r s)
 
 scores_fit : (x y : ℤ) → fits (by_scores x y) ≡ true → int_lt y x ≡ false
 scores_fit x y h = grind (arith, ints, scores-better x y, scores-same x y)
 
--- the second row has no smaller key
-Keeps : List ℤ → List ℤ → Key → Type 0
-Keeps a b k = int_lt (keyed k b) (keyed k a) ≡ false
-
-keep : (p : Preference) (s : Bool) (a b : List ℤ) → fits (directed s p a b) ≡ true → All (Keeps a b) (leading p s)
-unfolding Keeps
-keep (scored t) s a b h = grind (arith, All-cons, Keeps, scores_fit, key_law, All-nil)
+pub keep : (p : Preference) (s : Bool) (a b : List ℤ) → fits (directed s p a b) ≡ true → All (IsNoGreater a b) (leading p s)
+unfolding IsNoGreater
+keep (scored t) s a b h = grind (arith, All-cons, IsNoGreater, scores_fit, key_law, All-nil)
 keep (pareto p q) s a b h =
     let parts = product_fits (directed s p a b) (directed s q a b) (sym (ap fits (directed_product s p q a b)) ∙ h) in
-    All-append (Keeps a b) (leading p s) (leading q s) (keep p s a b parts.0) (keep q s a b parts.1)
+    All-append (IsNoGreater a b) (leading p s) (leading q s) (keep p s a b parts.0) (keep q s a b parts.1)
 keep (prior p q) s a b h = keep p s a b (priority_fits (directed s p a b) (directed s q a b) (sym (ap fits (directed_priority s p q a b)) ∙ h))
 keep (reverse p) s a b h = keep p (not s) a b (ap fits (directed_reverse s p a b) ∙ h)
 
 -- ---- a scale
 
 -- where the second row has no smaller key, it reaches each mark that the first reaches
-reached : (k : Key) (marks : List ℕ) (a b : List ℤ) → Keeps a b k
+reached : (k : Key) (marks : List ℕ) (a b : List ℤ) → IsNoGreater a b k
     → Implied (map (λ mark. not (int_lt (keyed k a) (pos mark))) marks) (map (λ mark. not (int_lt (keyed k b) (pos mark))) marks)
-unfolding Keeps
+unfolding IsNoGreater
 reached k marks a b keeps = grind (arith, implied_map, ints)
 
-suiting : (keys : List Key) (scale : Scale) (a b : List ℤ) → All (Keeps a b) keys → IsBy keys scale → Implied (bits_by scale a) (bits_by scale b)
-suiting keys scale a b keeps by = reached scale.key scale.marks.items a b (All-contains (Keeps a b) keys scale.key keeps by.key)
+suiting : (keys : List Key) (scale : Scale) (a b : List ℤ) → All (IsNoGreater a b) keys → IsBy keys scale → Implied (bits_by scale a) (bits_by scale b)
+suiting keys scale a b keeps by = reached scale.key scale.marks.items a b (All-contains (IsNoGreater a b) keys scale.key keeps by.key)
 
 -- ---- the law
+
+-- rows that are in the order of some keys are so by their signatures, if the scales are by these keys
+pub signed_by_keys : (keys : List Key) (scales : List Scale) (a b : List ℤ) → All (IsNoGreater a b) keys → All (IsBy keys) scales → is_within (signature scales a) (signature scales b) ≡ true
+signed_by_keys keys scales a b kept by = search (rules, signed_within, implied_flat, suiting)
+
+-- a row that dominates another, or is its twin, is better, or the same
+pub fits_asked : (q : Question) (a b : List ℤ) → (over q a b || twins q a b) ≡ true → fits (walked q.preference a b) ≡ true
+fits_asked q a b h = grind (arith, walked_better q.preference a b, twins_alike q a b, walked_same q.preference a b)
 
 -- scales by keys that lead an ask's preference suit its order
 pub suiting_cuts : (q : Question) (scales : List Scale) → All (IsBy (leading q.preference false)) scales → Suit (order_of q) scales
@@ -61,4 +67,4 @@ suiting_cuts q scales suit = record {
 }
   where
     within : (a b : List ℤ) → fits (walked q.preference a b) ≡ true → is_within (signature scales a) (signature scales b) ≡ true
-    within a b h = search (rules, signed_within, implied_flat, suiting, keep)
+    within a b h = signed_by_keys (leading q.preference false) scales a b (keep q.preference false a b h) suit

@@ -1,5 +1,5 @@
 -- Keys: a number for each row by which a base term or its converse ranks rows; less is better. (this project)
-use Rattle.std.specs.Prelude.{◌^◌, ◌-◌, ◌-ℤ◌, ◌+ℤ◌, ℤ, pos, Bool, true, false, not, ◌&&◌, List, [], ◌∷◌, ◌++◌}
+use Rattle.std.specs.Prelude.{◌≡◌, ◌^◌, ◌-◌, ◌-ℤ◌, ◌+ℤ◌, ℤ, int_lt, pos, Bool, true, false, not, ◌&&◌, List, [], ◌∷◌, ◌++◌}
 use Rattle.pref_term.specs.Better.{cell, outside, sets_before}
 use Rattle.pref_term.specs.Preference.{Base, low, high, around, between, one_of, layered, Preference, scored, pareto, prior, reverse}
 use Rattle.pref_term.specs.Walk.{by_scores, in_product}
@@ -36,6 +36,10 @@ key_for (layered col sets) turned = record { col = col; score = Sets sets; turne
 -- the row with the smaller key is better
 abbrev pub by_key : Key → List ℤ → List ℤ → Relation
 by_key k a b = by_scores (keyed k a) (keyed k b)
+
+-- the first row has no greater key than the second
+unfoldable pub IsNoGreater : List ℤ → List ℤ → Key → Type 0
+IsNoGreater a b k = int_lt (keyed k b) (keyed k a) ≡ false
 
 -- the keys that lead a preference, or its converse: those of each part of a product, and of a priority those of its first part
 abbrev pub leading : Preference → Bool → List Key

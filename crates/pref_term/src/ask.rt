@@ -2,7 +2,7 @@
 ghost use Rattle.std.specs.Prelude.{◌≡◌, ◌<◌, true, All, IfOk};
 ghost use Rattle.pref_term.specs.Better.{in_same_group};
 
-use crate::chain::{Chain, Lead};
+use crate::chain::{Chain, Lead, Leading};
 use crate::dominance::Dominance;
 use crate::key::Key;
 use crate::keys::{
@@ -38,6 +38,8 @@ pub struct Ask {
     flat: bool,
     // The chains that lead the term.
     chains: Vec<Chain>,
+    // Of rows that are the same in these chains the better one has no greater one of these keys.
+    behind: Vec<Key>,
     // The keys of the groups and of all base terms, in order and without repeats.
     in_order: Vec<Key>,
     group: Vec<usize>,
@@ -63,7 +65,7 @@ impl Model for Ask {
 
     ghost invariant = { λ a. IsAsk (record { preference = preference_of a.term; group = a.group.items; mode = a.mode; distinct = a.distinct })
         × (a.keys.items ≡ leading (preference_of a.term) false) × (a.flat ≡ is_product (preference_of a.term))
-        × Leads (record { preference = preference_of a.term; group = a.group.items; mode = a.mode; distinct = a.distinct }) a.chains.items
+        × Leads (record { preference = preference_of a.term; group = a.group.items; mode = a.mode; distinct = a.distinct }) a.chains.items a.behind.items
         × IsShortened (ask_keys (record { preference = preference_of a.term; group = a.group.items; mode = a.mode; distinct = a.distinct })) a.in_order.items };
 }
 
@@ -75,6 +77,7 @@ impl Drop for Ask {
             keys: _,
             flat: _,
             chains: _,
+            behind: _,
             in_order: _,
             group: _,
             mode: _,
@@ -107,15 +110,16 @@ impl Ask {
         requires { IsAsk (record { preference = preference_of term; group = group.items; mode = mode; distinct = distinct }) }
         ensures { IfOk result (λ ask. ask ≡ record { preference = preference_of term; group = group.items; mode = mode; distinct = distinct }) }
     {
-        let keys = leading_keys(alloc, &term)?;
+        let keys = leading_keys(alloc, &term, false)?;
         let flat = is_product(&term);
-        let chains = Lead::of(alloc, &term, false)?.chains;
+        let Lead { chains, behind, .. } = Lead::of(alloc, &term, false)?;
         let in_order = keys_in_order(alloc, &group, &term)?;
         Ok(Ask {
             term,
             keys,
             flat,
             chains,
+            behind,
             in_order,
             group,
             mode,
@@ -183,10 +187,13 @@ impl Ask {
     ///
     /// `low(a) * low(b)` is a product of two chains. `low(a) & (low(b) * low(c))` is led by the chains `low(a) & low(b)` and
     /// `low(a) & low(c)`, and `(low(a) * low(b)) & low(c)` by `low(a)` and `low(b)`.
-    pub fn leading_chains(&self) -> &[Chain]
-        ensures { Leads self.now result.now }
+    pub fn leading(&self) -> Leading<'_>
+        ensures { Leads self.now result.chains.now result.behind.now }
     {
-        self.chains.as_slice()
+        Leading {
+            chains: self.chains.as_slice(),
+            behind: self.behind.as_slice(),
+        }
     }
 
     /// How the first row compares with the second one in the order of all keys: by the first column of the group in which the two differ,
@@ -199,17 +206,11 @@ impl Ask {
         compare_in_chain(&self.in_order, a, b)
     }
 
-    /// Whether rows that are signed by these scales can be distinguished by their signatures: a row that dominates another, or is its twin,
-    /// has no bit that the other lacks. So where each scale is by the score of a part that leads the term. Takes no memory.
-    pub fn suits(&self, scales: &Scales) -> bool
-        ensures { result ≡ true → Suit (order_of self.now) scales.now }
+    /// Scales by which rows like these are signed: a row that dominates another, or is its twin, has no bit that the other lacks. Good ones
+    /// tell most rows apart. Takes memory for the list, and `Err` is out of memory.
+    pub fn scales(&self, alloc: Global, sample: &[Row]) -> Result<Scales, AllocError>
+        ensures { IfOk result (λ scales. Suit (order_of self.now) scales) }
     {
-        scales.suit(&self.keys)
-    }
-
-    /// Scales for rows like these. Any are right where `suits` says so, and good ones distinguish most rows. Takes memory for the list, and
-    /// `Err` is out of memory.
-    pub fn scales(&self, alloc: Global, sample: &[Row]) -> Result<Scales, AllocError> {
         scales_for(alloc, &self.keys, sample)
     }
 

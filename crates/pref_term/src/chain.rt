@@ -1,21 +1,23 @@
 //! Chains, and the product of chains that leads a term.
-ghost use Rattle.std.specs.Prelude.{◌≡◌, ◌++◌, [], ◌∷◌, false, true, Bool, Contains, IfOk, OnOk};
+ghost use Rattle.std.specs.Prelude.{◌≡◌, ◌++◌, [], ◌∷◌, false, true, All, Bool, Contains, IfOk, OnOk};
 ghost use Rattle.pref_term.specs.Chains.{AreInRow, by_chain, is_chain};
 ghost use Rattle.pref_term.specs.Extension.{all_keys};
 ghost use Rattle.pref_term.specs.LeadingChains.{AreBoth, IsLedBy, each_behind};
 ghost use Rattle.pref_term.specs.Preference.{Preference, pareto, preference_of, prior};
+ghost use Rattle.pref_term.specs.Signatures.{IsBy};
 ghost use Rattle.pref_term.specs.declared.relation.Relation.TheVariants.{Neither};
 
 use crate::key::Key;
-use crate::keys::{compare_in_chain, push_all, push_copies};
+use crate::keys::{compare_in_chain, leading_keys, push_all, push_copies};
 use crate::relation::Relation;
+use crate::signature::{Scales, scales_for};
 use crate::term::Term;
 use pref_table::Row;
 use std::alloc::{AllocError, Global};
 use std::marker::Model;
 
-/// The most chains that one chain is put before, since each takes a copy of its keys.
-const MOST: usize = 16;
+/// The most chains that one chain is put before: the product of more leads no sweep.
+const MOST: usize = 3;
 
 /// A chain: a list of keys, numbers without sign that each row has and of which less is better. The first key in which two
 /// rows differ decides between them. Contracts see the list.
@@ -60,6 +62,31 @@ impl Chain {
         push_copies(alloc, &mut keys, before)?;
         push_copies(alloc, &mut keys, &self.keys)?;
         Ok(Chain { keys })
+    }
+}
+
+/// What leads a question: the product of some chains, and keys that count where rows are the same in it.
+///
+/// Of such rows the better one, or the same, has no greater one of these keys.
+#[derive(Clone, Copy)]
+pub struct Leading<'a> {
+    /// The chains. Where their product sees a difference between two rows of a group, it decides.
+    pub chains: &'a [Chain],
+    pub(crate) behind: &'a [Key],
+}
+
+impl Leading<'_> {
+    /// Whether no key counts where rows are the same in these chains.
+    pub fn decides_alone(&self) -> bool {
+        self.behind.is_empty()
+    }
+
+    /// Scales by the keys that are behind the chains, for rows like these. Takes memory for the list, and `Err` is out of memory.
+    pub fn scales(&self, alloc: Global, sample: &[Row]) -> Result<Scales, AllocError>
+        requires { AreInRow self.now.behind.now }
+        ensures { IfOk result (λ scales. All (IsBy self.now.behind.now) scales) }
+    {
+        scales_for(alloc, self.behind, sample)
     }
 }
 
@@ -124,78 +151,109 @@ fn is_chain(term: &Term) -> bool
 #[derive(Drop)]
 pub(crate) struct Lead {
     pub(crate) chains: Vec<Chain>,
+    // Of rows that are the same in these chains the better one has no greater one of these keys.
+    pub(crate) behind: Vec<Key>,
     // Whether their product is all that the term says.
     is_whole: bool,
 }
 
 impl Lead {
-    /// No chain.
-    fn none(alloc: Global) -> Lead
-        ensures chains { result.chains.items ≡ [] }
-        ensures whole { result.is_whole ≡ false }
+    /// No chain: behind none are the keys that lead the term, or its converse.
+    fn none(alloc: Global, term: &Term, turned: bool) -> Result<Lead, AllocError>
+        ensures { IfOk result (λ lead. IsLedBy (preference_of term.now) turned lead.chains.items lead.behind.items lead.is_whole) }
     {
-        Lead {
+        Ok(Lead {
             chains: Vec::new(alloc),
+            behind: leading_keys(alloc, term, turned)?,
             is_whole: false,
-        }
+        })
     }
 
     /// A chain that is all that a term says.
     fn one(alloc: Global, chain: Chain) -> Result<Lead, AllocError>
-        ensures { IfOk result (λ lead. (lead.chains.items ≡ chain ∷ []) × (lead.is_whole ≡ true)) }
+        ensures { IfOk result (λ lead. (lead.chains.items ≡ chain ∷ []) × (lead.behind.items ≡ []) × (lead.is_whole ≡ true)) }
     {
         let mut chains = Vec::new(alloc);
         chains.push(chain)?;
         Ok(Lead {
             chains,
+            behind: Vec::new(alloc),
             is_whole: true,
         })
     }
 
-    /// The chains of two products, where both are whole, in one.
-    fn product(alloc: Global, first: Lead, second: Lead) -> Result<Lead, AllocError>
-        ensures { IfOk result (λ lead. (p q : Preference) (turned : Bool) → IsLedBy p turned first.chains.items first.is_whole → IsLedBy q turned second.chains.items second.is_whole
-            → IsLedBy (pareto p q) turned lead.chains.items lead.is_whole) }
+    /// The chains of a product of two terms in one, where those of each are the whole.
+    fn product(
+        alloc: Global,
+        term: &Term,
+        turned: bool,
+        first: Lead,
+        second: Lead,
+    ) -> Result<Lead, AllocError>
+        ensures { IfOk result (λ lead. (p q : Preference) → preference_of term.now ≡ pareto p q → IsLedBy p turned first.chains.items first.behind.items first.is_whole
+            → IsLedBy q turned second.chains.items second.behind.items second.is_whole → IsLedBy (preference_of term.now) turned lead.chains.items lead.behind.items lead.is_whole) }
     {
         if !first.is_whole || !second.is_whole {
-            return Ok(Lead::none(alloc));
+            return Lead::none(alloc, term, turned);
         }
         let mut chains = first.chains;
         push_others(&mut chains, second.chains)?;
         Ok(Lead {
             chains,
+            behind: Vec::new(alloc),
             is_whole: true,
         })
     }
 
-    /// This chain before each of the others, or alone where these are very many.
-    fn behind(alloc: Global, first: Chain, second: Lead) -> Result<Lead, AllocError>
-        ensures { IfOk result (λ lead. (p q : Preference) (turned : Bool) → is_chain p ≡ true → first ≡ all_keys p turned → IsLedBy q turned second.chains.items second.is_whole
-            → IsLedBy (prior p q) turned lead.chains.items lead.is_whole) }
+    /// These chains, or none where they are many.
+    fn few(self, alloc: Global, term: &Term, turned: bool) -> Result<Lead, AllocError>
+        ensures { IfOk result (λ lead. IsLedBy (preference_of term.now) turned self.chains.items self.behind.items self.is_whole
+            → IsLedBy (preference_of term.now) turned lead.chains.items lead.behind.items lead.is_whole) }
     {
-        if second.chains.len() > MOST {
-            return Ok(Lead::one(alloc, first)?.of_more());
+        if self.chains.len() > MOST {
+            return Lead::none(alloc, term, turned);
         }
+        Ok(self)
+    }
+
+    /// This chain before each of those that lead the second part of a priority.
+    fn behind(alloc: Global, first: Chain, second: Lead) -> Result<Lead, AllocError>
+        ensures { IfOk result (λ lead. (p q : Preference) (turned : Bool) → is_chain p ≡ true → first ≡ all_keys p turned
+            → IsLedBy q turned second.chains.items second.behind.items second.is_whole → IsLedBy (prior p q) turned lead.chains.items lead.behind.items lead.is_whole) }
+    {
         let chains = each_behind(alloc, first, &second.chains)?;
         Ok(Lead {
             chains,
+            behind: second.behind,
             is_whole: second.is_whole,
         })
     }
 
-    /// The same chains, where they lead the first part of a term.
-    fn of_more(self) -> Lead
-        ensures { (p q : Preference) (turned : Bool) → IsLedBy p turned self.chains.items self.is_whole → IsLedBy (prior p q) turned result.chains.items result.is_whole }
+    /// The chains that lead the first part of a priority lead all of it. Where they are the whole of it, the second part is behind them.
+    fn before(self, alloc: Global, second: &Term, turned: bool) -> Result<Lead, AllocError>
+        ensures { IfOk result (λ lead. (p : Preference) → IsLedBy p turned self.chains.items self.behind.items self.is_whole
+            → IsLedBy (prior p (preference_of second.now)) turned lead.chains.items lead.behind.items lead.is_whole) }
     {
-        Lead {
-            chains: self.chains,
+        let Lead {
+            chains,
+            behind,
+            is_whole,
+        } = self;
+        let behind = if is_whole {
+            leading_keys(alloc, second, turned)?
+        } else {
+            behind
+        };
+        Ok(Lead {
+            chains,
+            behind,
             is_whole: false,
-        }
+        })
     }
 
     /// The chains that lead a term, or its converse. Takes memory for their lists of keys, and for the sets.
     pub(crate) fn of(alloc: Global, term: &Term, turned: bool) -> Result<Lead, AllocError>
-        ensures { IfOk result (λ lead. IsLedBy (preference_of term.now) turned lead.chains.items lead.is_whole) }
+        ensures { IfOk result (λ lead. IsLedBy (preference_of term.now) turned lead.chains.items lead.behind.items lead.is_whole) }
     {
         if is_chain(term) {
             return Lead::one(alloc, Chain::of(alloc, term, turned)?);
@@ -204,20 +262,18 @@ impl Lead {
             Term::Pareto(p, q) => {
                 let first = Lead::of(alloc, p, turned)?;
                 let second = Lead::of(alloc, q, turned)?;
-                Lead::product(alloc, first, second)
+                Lead::product(alloc, term, turned, first, second)
             }
             Term::Prior(p, q) => {
-                if is_chain(p) {
-                    let first = Chain::of(alloc, p, turned)?;
-                    let second = Lead::of(alloc, q, turned)?;
-                    Lead::behind(alloc, first, second)
-                } else {
-                    let first = Lead::of(alloc, p, turned)?;
-                    Ok(first.of_more())
+                if !is_chain(p) {
+                    return Lead::of(alloc, p, turned)?.before(alloc, q, turned);
                 }
+                let first = Chain::of(alloc, p, turned)?;
+                let second = Lead::of(alloc, q, turned)?.few(alloc, q, turned)?;
+                Lead::behind(alloc, first, second)
             }
             Term::Reverse(p) => Lead::of(alloc, p, !turned),
-            _ => Ok(Lead::none(alloc)),
+            _ => Lead::none(alloc, term, turned),
         }
     }
 }

@@ -17,11 +17,15 @@ use std::alloc::{AllocError, Global};
 
 /// The keys that lead a term: those of each part of a product, and of a priority those of its first part. No better row has a greater
 /// one. Takes memory for the list and for the sets, once.
-pub(crate) fn leading_keys(alloc: Global, term: &Term) -> Result<Vec<Key>, AllocError>
-    ensures { IfOk result (λ keys. keys.items ≡ leading (preference_of term.now) false) }
+pub(crate) fn leading_keys(
+    alloc: Global,
+    term: &Term,
+    turned: bool,
+) -> Result<Vec<Key>, AllocError>
+    ensures { IfOk result (λ keys. keys.items ≡ leading (preference_of term.now) turned) }
 {
     let mut keys = Vec::new(alloc);
-    push_leading(alloc, &mut keys, term, false)?;
+    push_leading(alloc, &mut keys, term, turned)?;
     Ok(keys)
 }
 
@@ -134,13 +138,6 @@ pub(crate) fn keys_in_order(
     let mut keys = group_keys(alloc, group)?;
     push_all(alloc, &mut keys, term, false)?;
     without_repeats(alloc, keys)
-}
-
-/// Whether this is one of the keys.
-pub(crate) fn contains(keys: &[Key], key: &Key) -> bool
-    ensures { result ≡ true → Contains keys.now key.now }
-{
-    keys.contains(key)
 }
 
 /// Whether the term has no priority in it, so that its leading keys are its whole order, and no sets. A product with sets is walked: its

@@ -23,7 +23,7 @@ mod token;
 mod walk;
 
 pub use ask::{Ask, Mode};
-pub use chain::Chain;
+pub use chain::{Chain, Leading};
 pub use dominance::Dominance;
 pub use fault::TermFault;
 pub use keys::in_same_group;

@@ -24,7 +24,7 @@ pub(crate) use choose::scales_for;
 pub use scales::Scales;
 
 /// Whether the second signature has each bit that the first one has. If not, the first row neither dominates the second
-/// nor is its twin, by any order that the scales of both suit ([`Ask::suits`](crate::Ask::suits)).
+/// nor is its twin, by any order that the scales of both suit.
 #[inline(always)]
 pub fn is_within(a: u64, b: u64) -> bool
     ensures { result ≡ is_within a b }

@@ -92,7 +92,7 @@ fn is_copied(rt: &impl Abort, alloc: Global, question: &[u8]) -> Result<bool, Fa
     let schema = columns(alloc)?;
     let ask = read_ask(alloc, &schema, question)?;
     let copied = copied_in_the_end(rt, alloc, &ask);
-    Ok(copied == ask && copied.leading_chains().len() == ask.leading_chains().len())
+    Ok(copied == ask && copied.leading().chains.len() == ask.leading().chains.len())
 }
 
 #[test]

@@ -44,12 +44,6 @@ fn scales_of(alloc: Global, rows: &[Row], text: &[u8]) -> Result<Scales, Fail> {
     Ok(ask_over(alloc, &XY, text)?.scales(alloc, rows)?)
 }
 
-/// Whether a question suits the scales that another one makes from these rows.
-fn suits_scales_of(alloc: Global, rows: &[Row], text: &[u8], other: &[u8]) -> Result<bool, Fail> {
-    let scales = scales_of(alloc, rows, other)?;
-    Ok(ask_over(alloc, &XY, text)?.suits(&scales))
-}
-
 /// Of all pairs of these rows the signature of the first is within that of the second just where the first is not worse.
 fn check_pairs(rt: &impl Abort, text: &str, ask: &Ask, scales: &Scales, rows: &[Row]) {
     for first in rows {
@@ -62,7 +56,7 @@ fn check_pairs(rt: &impl Abort, text: &str, ask: &Ask, scales: &Scales, rows: &[
     }
 }
 
-/// A question suits the scales that it makes from a sample, and they tell the rows apart as its leading part does.
+/// The scales that a question makes from a sample tell the rows apart as its leading part does.
 fn check_signatures(
     rt: &impl Abort,
     alloc: Global,
@@ -71,8 +65,6 @@ fn check_signatures(
     rows: &[Row],
 ) -> Result<(), Fail> {
     let (question, leading) = (text.as_bytes(), leading.as_bytes());
-    let suits = suits_scales_of(alloc, sample, question, question)?;
-    assert_same(rt, text, suits, true);
     let scales = scales_of(alloc, sample, question)?;
     let part = ask_over(alloc, &XY, leading)?;
     check_pairs(rt, text, &part, &scales, rows);
@@ -99,43 +91,42 @@ fn few_values_are_distinguished(rt: HostRuntime) -> Result<(), Fail> {
     check_leading_parts(&rt, rt.alloc(), &rows, &LEADING_PARTS)
 }
 
-const TAKERS: [(&str, &str, bool); 17] = [
-    ("best low(x) * low(y)", "best low(y)", true),
-    ("best low(x) & low(y)", "best low(x)", true),
-    ("best low(x) & low(y)", "best low(y)", false),
-    ("best low(x)", "best high(x)", false),
-    ("best -low(x)", "best low(x)", false),
-    ("best -(low(x) * -low(y))", "best low(y)", true),
-    ("best between(x, 1, 1)", "best around(x, 1)", true),
-    ("best around(x, 1)", "best around(x, 2)", false),
-    ("best low(x) by y", "best -low(y)", false),
-    ("best low(x) by y", "best low(x) by x", true),
-    ("best low(x)", "best low(x) by y", true),
-    ("best low(x)", "best pos(x, 1)", false),
-    ("best pos(x, 1) * low(y)", "best pos(x, 1)", true),
-    ("best -pos(x, 1)", "best pos(x, 1)", false),
-    ("best pos(x, 1)", "best pos(x, 0)", false),
-    ("best layered(x, {1}) & low(y)", "best pos(x, 1)", true),
-    ("best layered(x, {1}, {0})", "best pos(x, 1)", false),
+/// Questions, and what decides between rows that are the same in the chains that lead them; nothing where these decide alone.
+const PARTS_BEHIND: [(&str, Option<&str>); 6] = [
+    ("best low(x) * high(y)", None),
+    ("best low(x) & high(y)", None),
+    ("best (low(x) * high(x)) & high(y)", Some("best high(y)")),
+    ("best -((low(x) * high(x)) & high(y))", Some("best low(y)")),
+    ("best (low(x) * high(x)) & (low(y) * high(y))", Some("best low(y) * high(y)")),
+    (
+        "best low(x) & (low(y) * high(y) * around(y, 0) * pos(y, 1))",
+        Some("best low(y) * high(y) * around(y, 0) * pos(y, 1)"),
+    ),
 ];
 
-/// Two questions each, and whether the first takes the scales that the second makes from these rows.
-fn check_takers(
+/// The scales behind the chains of a question tell apart the rows that are the same in these, as what stands behind does.
+fn check_behind(
     rt: &impl Abort,
     alloc: Global,
     rows: &[Row],
-    cases: &[(&str, &str, bool)],
+    (text, behind): (&str, Option<&str>),
 ) -> Result<(), Fail> {
-    for (text, other, wanted) in cases {
-        let found = suits_scales_of(alloc, rows, text.as_bytes(), other.as_bytes())?;
-        assert_same(rt, (*text, *other), found, *wanted);
+    let ask = ask_over(alloc, &XY, text.as_bytes())?;
+    let leading = ask.leading();
+    assert_same(rt, text, leading.decides_alone(), behind.is_none());
+    if let Some(behind) = behind {
+        let part = ask_over(alloc, &XY, behind.as_bytes())?;
+        let scales = leading.scales(alloc, rows)?;
+        check_pairs(rt, text, &part, &scales, rows);
     }
     Ok(())
 }
 
-/// Whether a question takes the scales of another.
 #[test]
-fn scales_of_other_questions(rt: HostRuntime) -> Result<(), Fail> {
+fn what_is_behind_the_chains_is_signed(rt: HostRuntime) -> Result<(), Fail> {
     let rows = small_rows(rt.alloc())?;
-    check_takers(&rt, rt.alloc(), &rows, &TAKERS)
+    for case in &PARTS_BEHIND {
+        check_behind(&rt, rt.alloc(), &rows, *case)?;
+    }
+    Ok(())
 }

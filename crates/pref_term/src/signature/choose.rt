@@ -1,5 +1,7 @@
 //! Scales for an ask, from a sample of rows. Any marks on scales of leading parts are right, so nothing about them is proved.
-ghost use Rattle.std.specs.Prelude.{◌<◌, All, IfOk, OnOk};
+ghost use Rattle.std.specs.Prelude.{◌<◌, All, Contains, List, IfOk, OnOk};
+ghost use Rattle.pref_term.specs.Signatures.{IsBy};
+ghost use Rattle.pref_term.specs.declared.key.Key.{Key};
 
 use crate::key::Key;
 use crate::signature::scale::Scale;
@@ -62,7 +64,8 @@ fn push_key(
     requires column { key.now.col < 16 }
     requires shares { 0 < shares }
     requires within { All (λ scale. scale.key.col < 16) scales.old.items }
-    ensures { OnOk result (All (λ scale. scale.key.col < 16) scales.new.items) }
+    ensures within { OnOk result (All (λ scale. scale.key.col < 16) scales.new.items) }
+    ensures by { OnOk result ((keys : List Key) → Contains keys key.now → All (IsBy keys) scales.old.items → All (IsBy keys) scales.new.items) }
 {
     let numbers = numbers_of(alloc, key, sample)?;
     if numbers.len() > 1 {
@@ -77,6 +80,7 @@ fn push_key(
 /// marks divide it into equal shares. Takes memory for a key's numbers and for the scales.
 pub(crate) fn scales_for(alloc: Global, keys: &[Key], sample: &[Row]) -> Result<Scales, AllocError>
     requires { All (λ key. key.col < 16) keys.now }
+    ensures { IfOk result (λ scales. All (IsBy keys.now) scales) }
 {
     let varying = count_varying(alloc, keys, sample)?;
     let shares = BITS / varying.max(1);

@@ -1,9 +1,8 @@
 //! Scales: the bits that a signature has of one key.
-ghost use Rattle.std.specs.Prelude.{◌≡◌, ◌<◌, int_lt, map, not, pos, true};
-ghost use Rattle.pref_term.specs.Signatures.{IsBy, bits_by, signed_onto};
+ghost use Rattle.std.specs.Prelude.{◌≡◌, ◌<◌, int_lt, map, not, pos};
+ghost use Rattle.pref_term.specs.Signatures.{bits_by, signed_onto};
 
 use crate::key::Key;
-use crate::keys::contains;
 use pref_table::Row;
 
 /// Some bits of a signature: for each mark, whether the row reaches it, which is whether its key is no less.
@@ -31,12 +30,5 @@ impl Scale {
         ensures { result ≡ signed_onto word (bits_by self.now row.now) }
     {
         reached_onto(word, self.key.of(row), &self.marks)
-    }
-
-    /// Whether it is by one of these keys.
-    pub(super) fn is_by(&self, keys: &[Key]) -> bool
-        ensures { result ≡ true → IsBy keys.now self.now }
-    {
-        contains(keys, &self.key)
     }
 }

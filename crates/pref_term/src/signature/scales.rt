@@ -1,8 +1,7 @@
 //! Lists of scales, by which rows are signed.
 ghost use Rattle.std.specs.Prelude.{◌≡◌, ◌<◌, true, All, List, []};
-ghost use Rattle.pref_term.specs.Signatures.{IsBy, signature};
+ghost use Rattle.pref_term.specs.Signatures.{signature};
 
-use crate::key::Key;
 use crate::signature::scale::Scale;
 use pref_table::Row;
 use std::marker::Model;
@@ -11,9 +10,8 @@ use std::marker::Model;
 /// row's signature.
 ///
 /// Signatures by the same scales can be compared by [`is_within`](crate::is_within), which spares most comparisons of rows
-/// where [`Ask::suits`](crate::Ask::suits) says that the scales suit the order. Scales are made by
-/// [`Ask::scales`](crate::Ask::scales). Contracts see their list; which scales these are can be seen in
-/// no answer.
+/// where the scales suit the order, as those of [`Ask::scales`](crate::Ask::scales) do. Contracts see their list; which scales
+/// these are can be seen in no answer.
 #[derive(Drop)]
 pub struct Scales {
     scales: Option<Vec<Scale>>,
@@ -77,17 +75,5 @@ impl Scales {
             bits = scale.sign_onto(bits, row);
         }
         bits
-    }
-
-    /// Whether each is by one of these keys.
-    pub(crate) fn suit(&self, keys: &[Key]) -> bool
-        ensures { result ≡ true → All (IsBy keys.now) self.now }
-    {
-        for scale in self.as_slice() {
-            if !scale.is_by(keys) {
-                return false;
-            }
-        }
-        true
     }
 }

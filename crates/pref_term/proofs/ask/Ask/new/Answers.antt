@@ -11,6 +11,6 @@ invariant_of-result c =
       c.requires,
       c.in_ok-keys.ensures {u = tt},
       c.is_product-flat.ensures,
-      leading_lead q lead.chains.items lead.is_whole c.requires (c.in_ok-chains.ensures {u = tt}),
+      leading_lead q lead.chains.items lead.behind.items lead.is_whole c.requires (c.in_ok-chains.ensures {u = tt}),
       subst (λ (columns : List ℕ). IsShortened (group_keys columns ++ all_keys p false) c.in_ok-in_order.in_order.items) c.deref.ensures.value (c.in_ok-in_order.ensures {u = tt}),
     )
