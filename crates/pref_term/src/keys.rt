@@ -17,11 +17,7 @@ use std::alloc::{AllocError, Global};
 
 /// The keys that lead a term: those of each part of a product, and of a priority those of its first part. No better row has a greater
 /// one. Takes memory for the list and for the sets, once.
-pub(crate) fn leading_keys(
-    alloc: Global,
-    term: &Term,
-    turned: bool,
-) -> Result<Vec<Key>, AllocError>
+pub(crate) fn leading_keys(alloc: Global, term: &Term, turned: bool) -> Result<Vec<Key>, AllocError>
     ensures { IfOk result (λ keys. keys.items ≡ leading (preference_of term.now) turned) }
 {
     let mut keys = Vec::new(alloc);
