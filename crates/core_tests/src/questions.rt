@@ -11,9 +11,9 @@ mod signatures;
 
 use crate::same::assert_same;
 use pref_table::{Row, Schema, TableFault};
+use pref_term::engine::in_same_group;
 use pref_term::{
-    Ask, Dominance, Mode, Numbers, Relation, Term, TermFault, better, compare, in_same_group,
-    read_ask, same,
+    Ask, Dominance, Mode, Numbers, Relation, Term, TermFault, better, compare, read_ask, same,
 };
 use std::alloc::{AllocError, Global};
 use std::process::Abort;

@@ -3,9 +3,8 @@ mod numbers;
 mod refusals;
 
 use crate::same::assert_same;
-use pref_table::{
-    Row, Schema, TableFault, blanks_length, is_name_byte, read_row, read_table, signed_number,
-};
+use pref_table::engine::{blanks_length, is_name_byte, signed_number};
+use pref_table::{Row, Schema, TableFault, read_row, read_table};
 use std::alloc::{AllocError, Global};
 use std::process::Abort;
 use std::test::Fail;

@@ -6,7 +6,7 @@ ghost use Rattle.pref_table.specs.Number.{after_blanks, is_blank};
 ghost use Rattle.pref_script.specs.Reading.{HasNoNumber, IsDigitsWord};
 ghost use Rattle.pref_script.specs.Words.{after_word, lone_id, word_number, word_of};
 
-use pref_table::blanks_length;
+use pref_table::engine::blanks_length;
 
 fn is_blank_byte(byte: u8) -> bool
     ensures { result ≡ is_blank byte }

@@ -28,7 +28,7 @@ ghost use Rattle.pref_share.specs.Book.{ops_of, pages};
 
 use crate::entry::Entry;
 use logbook::{Gain, Opening, Pen, Pens, Plain, Play, Rule, Seen, Start, Word};
-use pref_core::Planned;
+use pref_core::engine::Planned;
 use std::marker::{Brand, Model};
 
 /// The rule of the book.

@@ -19,7 +19,8 @@ use crate::history::Prefix;
 use crate::page::Page;
 use crate::published::StoreReader;
 use crate::publisher::Publisher;
-use pref_core::{Query, Setup};
+use pref_core::Setup;
+use pref_core::engine::Query;
 use std::marker::Model;
 
 /// A beginning of the history, which one client hands to others. Contracts see its operations.

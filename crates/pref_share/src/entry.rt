@@ -1,6 +1,6 @@
 //! The entries of a board's book.
 
-use pref_core::Op;
+use pref_core::engine::Op;
 
 /// An entry of a page. No value of it is made.
 pub struct Entry {

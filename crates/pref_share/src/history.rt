@@ -10,7 +10,7 @@ ghost use Rattle.pref_share.specs.Openings.{IsLegalFrom, MayFollow};
 use crate::book::{BoardBrand, BoardName, Entries, Witness};
 use crate::page::Page;
 use logbook::Pens;
-use pref_core::Planned;
+use pref_core::engine::Planned;
 use std::marker::{Model, PhantomData};
 
 /// The whole history. Who has it alone may add to it, and only the calls of clients whose pages are lent. Contracts see its

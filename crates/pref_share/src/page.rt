@@ -9,7 +9,7 @@ ghost use Rattle.pref_share.specs.Book.{word_of, pages, history_page, count_by, 
 use crate::book::{Entries, Law, MakePen, NoTrade, PageWord, ShowWhole, Witness, WriteOp, Writing};
 use crate::entry::Entry;
 use logbook::{Offer, Pen, Pens, Word};
-use pref_core::Planned;
+use pref_core::engine::Planned;
 use std::marker::Model;
 
 /// A page of the book, with the right to write on it: who has it knows all that stands there. It is eight bytes. Contracts see its

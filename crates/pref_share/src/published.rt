@@ -8,7 +8,7 @@ use atomic_table::{Join, Split};
 use crossbeam_utils::rule::{Outcome, Protocol};
 use left_right::writer::Writer;
 use left_right::{Absorb, reader};
-use pref_core::{BoxedOp, Store};
+use pref_core::engine::{BoxedOp, Store};
 use std::alloc::AllocError;
 
 /// A store, and the witness of the history that made it.

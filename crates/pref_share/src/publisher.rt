@@ -30,7 +30,8 @@ use crate::published::{
     GiveView, OpenStep, PublishStep, Published, Stamp, StoreReader, StoreWriter, TakeView,
 };
 use core::mem::replace_with;
-use pref_core::{BoxedCall, BoxedOp, CoreFault, Index, Outcome, Planned, SlotList, Store};
+use pref_core::CoreFault;
+use pref_core::engine::{BoxedCall, BoxedOp, Index, Outcome, Planned, SlotList, Store};
 use std::alloc::{AllocError, Global};
 use std::marker::Model;
 use std::mem::ManuallyDrop;

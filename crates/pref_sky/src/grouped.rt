@@ -7,7 +7,7 @@ ghost use Rattle.pref_sky.specs.Chains.{IsInOrder, earlier_in};
 
 use crate::entry::Ranked;
 use pref_table::Row;
-use pref_term::in_same_group;
+use pref_term::engine::in_same_group;
 use std::alloc::{AllocError, Global};
 use std::cmp::Ordering;
 

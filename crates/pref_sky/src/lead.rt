@@ -18,7 +18,8 @@ use crate::own_order::OwnOrder;
 use crate::signatures::{scales_behind, scales_of};
 use crate::sweep::Standing;
 use pref_table::Row;
-use pref_term::{Chain, Leading, Relation, Scales, in_same_group};
+use pref_term::Relation;
+use pref_term::engine::{Chain, Leading, Scales, in_same_group};
 use std::alloc::{AllocError, Global};
 use std::cmp::Ordering;
 

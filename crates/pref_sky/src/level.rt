@@ -25,7 +25,7 @@ use crate::entry::Entry;
 use crate::item::Item;
 use crate::lead::Lead;
 use crate::own_order::OwnOrder;
-use pref_term::is_within;
+use pref_term::engine::is_within;
 use std::alloc::{AllocError, Global};
 
 /// What is kept of a level.

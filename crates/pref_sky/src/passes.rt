@@ -26,7 +26,8 @@ ghost use Rattle.pref_sky.specs.declared.item.Item.{Item};
 
 use crate::entry::Entry;
 use crate::item::{Item, compare_items};
-use pref_term::{Dominance, Relation, is_within};
+use pref_term::engine::is_within;
+use pref_term::{Dominance, Relation};
 use std::alloc::{AllocError, Global};
 
 /// The place of the first item, from one on, whose signature leaves open how it compares with what has this one.

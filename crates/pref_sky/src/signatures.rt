@@ -9,7 +9,8 @@ ghost use Rattle.pref_term.specs.Signatures.{IsBy, Suit};
 use crate::entry::Entry;
 use crate::item::Item;
 use pref_table::Row;
-use pref_term::{Ask, Dominance, Leading, Scales};
+use pref_term::engine::{Leading, Scales};
+use pref_term::{Ask, Dominance};
 use std::alloc::{AllocError, Global};
 
 /// The fewest entries for which scales are made: fewer are compared in less time.

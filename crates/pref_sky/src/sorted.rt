@@ -17,7 +17,7 @@ use crate::lead::Lead;
 use crate::merging::{levels_among, merge_all};
 use crate::own_order::OwnOrder;
 use crate::sweep::find_levels;
-use pref_term::{Scales, in_same_group, is_within};
+use pref_term::engine::{Scales, in_same_group, is_within};
 use std::alloc::{AllocError, Global};
 
 /// The fewest entries that come before the lists are merged.

@@ -12,7 +12,12 @@ mod table;
 
 pub use fault::TableFault;
 pub use line::read_row;
-pub use number::{blanks_length, signed_number};
 pub use row::Row;
-pub use schema::{Schema, is_name_byte};
+pub use schema::Schema;
 pub use table::read_table;
+
+/// What the readers of questions and scripts share with that of tables: blanks, numbers and the bytes of names.
+pub mod engine {
+    pub use crate::number::{blanks_length, signed_number};
+    pub use crate::schema::is_name_byte;
+}

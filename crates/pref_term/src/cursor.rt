@@ -5,7 +5,7 @@ ghost use Rattle.std.specs.Prelude.{◌≡◌, ◌≤◌, length};
 use crate::fault::TermFault;
 use crate::front::{Token, first_token};
 use crate::token::Sign;
-use pref_table::blanks_length;
+use pref_table::engine::blanks_length;
 
 /// A place in a text.
 #[derive(Clone, Copy)]

@@ -7,7 +7,7 @@ ghost use Rattle.pref_table.specs.Names as names;
 ghost use Rattle.pref_term.specs.SeenTokens.{seen, IsFront};
 
 use crate::token::Sign;
-use pref_table::is_name_byte;
+use pref_table::engine::is_name_byte;
 
 /// A token, with its bytes where it has a choice of them.
 #[derive(Clone, Copy)]

@@ -23,13 +23,18 @@ mod token;
 mod walk;
 
 pub use ask::{Ask, Mode};
-pub use chain::{Chain, Leading};
 pub use dominance::Dominance;
 pub use fault::TermFault;
-pub use keys::in_same_group;
 pub use read::read_ask;
 pub use relation::Relation;
 pub use shown::show;
-pub use signature::{Scales, is_within};
 pub use term::{NumberSets, Numbers, Term};
 pub use walk::{better, compare, same};
+
+/// What the search for the best rows needs of a question, beside what callers use: its groups, the chains that lead it and the scales by
+/// which its rows are signed.
+pub mod engine {
+    pub use crate::chain::{Chain, Leading};
+    pub use crate::keys::in_same_group;
+    pub use crate::signature::{Scales, is_within};
+}

@@ -5,7 +5,7 @@ ghost use Rattle.std.specs.Str.{all_ascii_digits};
 ghost use Rattle.std.specs.Str.Parse.{digits_value};
 ghost use Rattle.pref_term.specs.Question.{is_count};
 
-use pref_table::signed_number;
+use pref_table::engine::signed_number;
 
 /// The most levels or rows that a question asks for.
 const MOST: i64 = 1000;

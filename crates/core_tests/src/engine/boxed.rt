@@ -2,7 +2,8 @@
 
 use super::fixtures::value_of;
 use crate::same::assert_same;
-use pref_core::{BoxedCall, BoxedCommit, BoxedOp, Call, Change, Commit, Store};
+use pref_core::engine::{BoxedCall, BoxedOp, Call, Store};
+use pref_core::{BoxedCommit, Change, Commit};
 use pref_table::Schema;
 use std::alloc::Global;
 use std::process::Abort;

@@ -2,7 +2,8 @@
 
 use super::fixtures::with_store;
 use crate::same::assert_same;
-use pref_core::{Call, CoreFault, Store};
+use pref_core::CoreFault;
+use pref_core::engine::{Call, Store};
 use pref_table::{Row, Schema};
 use std::process::Abort;
 use std::test::Fail;

@@ -1,7 +1,8 @@
 //! Runs that are compared with their replies, and small stores and machines.
 
 use crate::same::assert_same;
-use pref_core::{Call, Machine, Reply, Setup, Store, replay};
+use pref_core::engine::{Call, Store};
+use pref_core::{Machine, Reply, Setup, replay};
 use pref_table::Schema;
 use std::alloc::Global;
 use std::fmt::Debug;

@@ -3,7 +3,7 @@ ghost use Rattle.std.specs.Prelude.{IfOk, OnOk};
 ghost use Rattle.pref_core.specs.Indexes.{IsIndexOf};
 
 use crate::same::assert_same;
-use pref_core::{Call, Index, Outcome, Store};
+use pref_core::engine::{Call, Index, Outcome, Store};
 use pref_table::Schema;
 use std::alloc::Global;
 use std::process::Abort;

@@ -2,7 +2,7 @@
 
 use super::fixtures::{call_of, value_of, with_store};
 use crate::same::assert_same;
-use pref_core::Store;
+use pref_core::engine::Store;
 use pref_table::Schema;
 use std::process::Abort;
 use std::test::Fail;

@@ -2,7 +2,8 @@
 
 use super::fixtures::with_store;
 use crate::same::assert_same;
-use pref_core::{Call, Change, Commit, CoreFault, Op, Outcome, QueryState, Store};
+use pref_core::engine::{Call, Op, Outcome, QueryState, Store};
+use pref_core::{Change, Commit, CoreFault};
 use pref_table::{Row, Schema};
 use std::alloc::Global;
 use std::process::Abort;

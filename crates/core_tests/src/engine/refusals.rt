@@ -8,10 +8,8 @@ ghost use Rattle.pref_core.specs.Scans.{NextIsNew};
 
 use super::fixtures::{check_reply, opened_machine, with_machine};
 use crate::same::assert_same;
-use pref_core::{
-    Act, Change, Commit, Committed, CoreFault, Event, Index, LentCall, Machine, Query, Reply,
-    StepFault, Store,
-};
+use pref_core::engine::{Index, LentCall, Query, Store};
+use pref_core::{Act, Change, Commit, Committed, CoreFault, Event, Machine, Reply, StepFault};
 use pref_sky::Ranked;
 use pref_table::{Row, Schema};
 use pref_term::{Ask, read_ask};

@@ -2,7 +2,8 @@
 use super::{XY, ask_over, row_over};
 use crate::same::assert_same;
 use pref_table::Row;
-use pref_term::{Ask, Dominance, Relation, Scales, is_within};
+use pref_term::engine::{Scales, is_within};
+use pref_term::{Ask, Dominance, Relation};
 use std::alloc::Global;
 use std::process::Abort;
 use std::test::Fail;
@@ -97,7 +98,10 @@ const PARTS_BEHIND: [(&str, Option<&str>); 6] = [
     ("best low(x) & high(y)", None),
     ("best (low(x) * high(x)) & high(y)", Some("best high(y)")),
     ("best -((low(x) * high(x)) & high(y))", Some("best low(y)")),
-    ("best (low(x) * high(x)) & (low(y) * high(y))", Some("best low(y) * high(y)")),
+    (
+        "best (low(x) * high(x)) & (low(y) * high(y))",
+        Some("best low(y) * high(y)"),
+    ),
     (
         "best low(x) & (low(y) * high(y) * around(y, 0) * pos(y, 1))",
         Some("best low(y) * high(y) * around(y, 0) * pos(y, 1)"),

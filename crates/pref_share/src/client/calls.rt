@@ -15,10 +15,8 @@ use crate::client::{Asking, Client};
 use crate::fault::{BeginFault, ShareFault};
 use crate::history::Prefix;
 use crate::page::Page;
-use pref_core::{
-    BoxedCall, BoxedCommit, Call, Change, Commit, Committed, CoreFault, LentCall, Outcome, Query,
-    QueryState,
-};
+use pref_core::engine::{BoxedCall, Call, LentCall, Outcome, Query, QueryState};
+use pref_core::{BoxedCommit, Change, Commit, Committed, CoreFault};
 use pref_sky::Ranked;
 use pref_table::Row;
 use pref_term::Ask;

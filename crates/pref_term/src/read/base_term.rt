@@ -11,7 +11,8 @@ use crate::fault::TermFault;
 use crate::front::Token;
 use crate::term::{NumberSets, Numbers, Term};
 use crate::token::Sign;
-use pref_table::{Schema, signed_number};
+use pref_table::Schema;
+use pref_table::engine::signed_number;
 use std::alloc::Global;
 
 /// A thing that was read, with the place behind it, or the fault.
