@@ -93,11 +93,15 @@ fn few_values_are_distinguished(rt: HostRuntime) -> Result<(), Fail> {
 }
 
 /// Questions, and what decides between rows that are the same in the chains that lead them; nothing where these decide alone.
-const PARTS_BEHIND: [(&str, Option<&str>); 6] = [
+const PARTS_BEHIND: [(&str, Option<&str>); 7] = [
     ("best low(x) * high(y)", None),
     ("best low(x) & high(y)", None),
     ("best (low(x) * high(x)) & high(y)", Some("best high(y)")),
     ("best -((low(x) * high(x)) & high(y))", Some("best low(y)")),
+    (
+        "best (low(x) * high(x)) & high(y) & low(y)",
+        Some("best high(y)"),
+    ),
     (
         "best (low(x) * high(x)) & (low(y) * high(y))",
         Some("best low(y) * high(y)"),
