@@ -1,5 +1,5 @@
 //! Chains, and the product of chains that leads a term.
-ghost use Rattle.std.specs.Prelude.{◌≡◌, ◌++◌, [], ◌∷◌, false, true, All, Bool, Contains, IfOk, OnOk};
+ghost use Rattle.std.specs.Prelude.{◌≡◌, ◌++◌, [], ◌∷◌, false, true, All, Bool, Contains, IfOk, OnOk, length};
 ghost use Rattle.pref_term.specs.Chains.{AreInRow, by_chain, is_chain};
 ghost use Rattle.pref_term.specs.Extension.{all_keys};
 ghost use Rattle.pref_term.specs.LeadingChains.{AreBoth, IsLedBy, each_behind};
@@ -77,7 +77,9 @@ pub struct Leading<'a> {
 
 impl Leading<'_> {
     /// Whether no key counts where rows are the same in these chains.
-    pub fn decides_alone(&self) -> bool {
+    pub fn decides_alone(&self) -> bool
+        ensures { result ≡ (length self.now.behind.now == 0) }
+    {
         self.behind.is_empty()
     }
 
