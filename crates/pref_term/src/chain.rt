@@ -1,5 +1,5 @@
 //! Chains, and the product of chains that leads a term.
-ghost use Rattle.std.specs.Prelude.{◌≡◌, ◌++◌, [], ◌∷◌, false, true, All, Bool, Contains, IfOk, OnOk, length};
+ghost use Rattle.std.specs.Prelude.{◌≡◌, ◌++◌, [], ◌∷◌, ◌==◌, false, true, All, Bool, Contains, IfOk, OnOk, length};
 ghost use Rattle.pref_term.specs.Chains.{AreInRow, by_chain, is_chain};
 ghost use Rattle.pref_term.specs.Extension.{all_keys};
 ghost use Rattle.pref_term.specs.LeadingChains.{AreBoth, IsLedBy, each_behind};
