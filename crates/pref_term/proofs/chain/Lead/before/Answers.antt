@@ -1,4 +1,4 @@
-use Rattle.pref_term.proofs.Common.{◌≡◌, ◌∙◌, ap, false, List, Key, preference_of, prior, subst, sym}
+use Rattle.pref_term.proofs.Common.{◌∙◌, ap, false, List, Key, preference_of, prior, subst, sym}
 use Rattle.std.proofs.Common.{Global, Vec}
 use Rattle.pref_term.specs.LeadingChains.{IsLedBy}
 use Rattle.pref_term.proofs.LeadingLaws.{part_leads, whole_leads}

@@ -1,4 +1,4 @@
-use Rattle.pref_term.proofs.Common.{◌≡◌, ◌++◌, ◌∷◌, ◌∙◌, [], ap, All, All-same, Key, List, subst, sym}
+use Rattle.pref_term.proofs.Common.{◌∙◌, ap, All-same, List, subst, sym}
 use Rattle.std.proofs.Common.{Global, Vec}
 use Rattle.std.proofs.lemmas.List.Elements.{All-push}
 use Rattle.std.specs.Prelude.{Contains}

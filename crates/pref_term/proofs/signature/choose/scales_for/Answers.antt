@@ -1,4 +1,4 @@
-use Rattle.pref_term.proofs.Common.{◌∙◌, All-same, Key, List, subst, sym}
+use Rattle.pref_term.proofs.Common.{All-same, subst, sym}
 use Rattle.std.proofs.lemmas.List.Elements.{Contains-get_or}
 use Rattle.std.specs.Prelude.{Contains}
 use Rattle.pref_term.specs.Signatures.{IsBy}
