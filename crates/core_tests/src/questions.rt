@@ -1,4 +1,5 @@
 //! Questions that are read, refused and asked, by their texts.
+mod built;
 mod chains;
 mod distinct;
 mod equal;

@@ -24,3 +24,4 @@ pub mod ShownLemmas
 pub mod ShownTokens
 pub mod ShowLaw
 pub mod ClauseLaw
+pub mod BuiltLemmas

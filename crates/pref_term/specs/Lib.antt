@@ -3,6 +3,7 @@ pub mod Columns
 pub mod Writable
 pub mod Better
 pub mod Question
+pub mod Built
 pub mod Order
 pub mod OrderLaws
 pub mod TwinLaws

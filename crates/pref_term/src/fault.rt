@@ -1,4 +1,4 @@
-//! Why a text is no question.
+//! Why a text is no question, and why parts make none.
 
 use thiserror::Error;
 
@@ -30,6 +30,32 @@ pub enum TermFault {
     #[error("no min or max")]
     NoMinOrMax,
     /// There was no memory for the ask.
+    #[error("out of memory")]
+    OutOfMemory,
+}
+
+/// Why parts make no question. A column counts from 0; beside a range or a set it is that of the base term that has it.
+#[derive(Clone, Copy, Debug, PartialEq, Eq, Error)]
+pub enum AskFault {
+    /// A column above 15, in the term or in the group.
+    #[error("column {col} is above 15")]
+    ColumnRange { col: usize },
+    /// A range that ends before it begins.
+    #[error("the range of column {col} ends before it begins")]
+    EmptyRange { col: usize },
+    /// A set without numbers.
+    #[error("a set of column {col} is empty")]
+    EmptySet { col: usize },
+    /// A layered term without sets.
+    #[error("the layers of column {col} have no set")]
+    NoSets { col: usize },
+    /// A count outside 1 to 1000.
+    #[error("count {count} is not 1 to 1000")]
+    BadCount { count: u32 },
+    /// A term that no skyline clause means, where of equal rows one was to be kept.
+    #[error("no skyline clause means this term")]
+    NotSkyline,
+    /// There was no memory for the question.
     #[error("out of memory")]
     OutOfMemory,
 }

@@ -5,6 +5,7 @@
 #![tactic(auto)]
 
 mod ask;
+mod built;
 mod chain;
 mod cursor;
 mod dominance;
@@ -24,7 +25,7 @@ mod walk;
 
 pub use ask::{Ask, Mode};
 pub use dominance::Dominance;
-pub use fault::TermFault;
+pub use fault::{AskFault, TermFault};
 pub use read::read_ask;
 pub use relation::Relation;
 pub use shown::show;

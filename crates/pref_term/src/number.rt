@@ -8,7 +8,7 @@ ghost use Rattle.pref_term.specs.Question.{is_count};
 use pref_table::engine::signed_number;
 
 /// The most levels or rows that a question asks for.
-const MOST: i64 = 1000;
+pub(crate) const MOST: i64 = 1000;
 
 /// The count that the digits name, where it is from 1 to 1000.
 pub(crate) fn count_value(digits: &[u8]) -> Option<u32>

@@ -1,0 +1,25 @@
+use Rattle.pref_term.proofs.Common.{rules, ℕ, List, ◌<◌, All, true, refl, subst, preference_of, Best}
+use Rattle.pref_term.specs.Built.{Refuses}
+use Rattle.pref_term.proofs.BuiltLemmas.{made, parts, parts_ask, refused_exit}
+use Rattle.pref_term.proofs.ask.Ask.distinct_skyline.Goals as goal
+
+pub returns-in_err-check_parts : goal.returns-in_err-check_parts
+returns-in_err-check_parts c =
+    refused_exit _ _ _ c.from_residual.ensures.1
+    (subst (λ (group : List ℕ). Refuses c.in_err-check_parts.field-0.0 (parts (preference_of c.args.term) group Best true)) c.deref.ensures.value (c.in_err-check_parts.ensures {u = tt} true))
+
+pub new-requires : goal.new-requires
+new-requires c =
+    let found = c.in_ok-check_parts.ensures {u = tt} in
+    parts_ask (preference_of c.args.term) c.args.group.items Best true
+    (found.0, found.1, subst (All (λ col. col < 16)) c.deref.ensures.value found.2, found.3)
+    (λ _. record { mode = refl; preference = search rules })
+
+pub returns : goal.returns
+returns c =
+    let found = c.in_ok-check_parts.ensures {u = tt} in
+    made c.map_err.result (parts (preference_of c.args.term) c.args.group.items Best true)
+    (parts_ask (preference_of c.args.term) c.args.group.items Best true
+    (found.0, found.1, subst (All (λ col. col < 16)) c.deref.ensures.value found.2, found.3)
+    (λ _. record { mode = refl; preference = search rules }))
+    (search rules)

@@ -1,0 +1,35 @@
+-- Why parts make no question, each fault with what it says. (this project; the limits are those of the question texts)
+use Rattle.std.specs.Prelude.{◌≡◌, ◌≤◌, ◌⊎◌, ℕ, List, [], true, false, int_lt, Contains}
+use Rattle.pref_term.specs.Preference.{Base, one_of, Preference, scored, pareto, prior, reverse, between, layered}
+use Rattle.pref_term.specs.Columns.{column}
+use Rattle.pref_term.specs.Question.{Question, IsAsk, IsSkyline, cut_of, is_count}
+use Rattle.pref_term.specs.declared.fault.AskFault.{AskFault}
+use Rattle.pref_term.specs.declared.fault.AskFault.TheVariants.{ColumnRange, EmptyRange, EmptySet, NoSets, BadCount, NotSkyline, OutOfMemory}
+
+-- what the fault says of a base term is so
+abbrev pub IsFlawOf : AskFault → Base → Type 0
+IsFlawOf (ColumnRange col) b = (col ≡ column b) × (16 ≤ col)
+IsFlawOf (EmptyRange col) (between at left right) = (col ≡ at) × (int_lt right left ≡ true)
+IsFlawOf (EmptySet col) (one_of at set) = (col ≡ at) × (set ≡ [])
+IsFlawOf (EmptySet col) (layered at sets) = (col ≡ at) × Contains sets []
+IsFlawOf (NoSets col) (layered at sets) = (col ≡ at) × (sets ≡ [])
+IsFlawOf _ _ = ⊥
+
+-- it is so of a base term of the preference
+abbrev pub IsFlawIn : AskFault → Preference → Type 0
+IsFlawIn f (scored b) = IsFlawOf f b
+IsFlawIn f (pareto p q) = IsFlawIn f p ⊎ IsFlawIn f q
+IsFlawIn f (prior p q) = IsFlawIn f p ⊎ IsFlawIn f q
+IsFlawIn f (reverse p) = IsFlawIn f p
+
+-- it is so of a column of the group
+abbrev pub IsGroupFlaw : AskFault → List ℕ → Type 0
+IsGroupFlaw (ColumnRange col) group = Contains group col × (16 ≤ col)
+IsGroupFlaw _ group = ⊥
+
+-- the parts make no question for this reason; where they make one, memory ran out
+abbrev pub Refuses : AskFault → Question → Type 0
+Refuses (BadCount count) q = (count ≡ cut_of q.mode) × (is_count count ≡ false)
+Refuses NotSkyline q = (q.distinct ≡ true) × (IsSkyline q → ⊥)
+Refuses OutOfMemory q = IsAsk q
+Refuses f q = IsFlawIn f q.preference ⊎ IsGroupFlaw f q.group

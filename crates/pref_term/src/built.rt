@@ -1,0 +1,204 @@
+//! Questions that are built from their parts.
+ghost use Rattle.std.specs.Prelude.{◌≡◌, ◌≢◌, ◌≤◌, ◌<◌, [], Bool, true, false, int_lt, All, FitsSigned, MatchResult};
+ghost use Rattle.std.specs.Int.{w64};
+ghost use Rattle.pref_term.specs.Built.{IsFlawIn, IsFlawOf, IsGroupFlaw, Refuses};
+ghost use Rattle.pref_term.specs.Columns.{ReadsBelow};
+ghost use Rattle.pref_term.specs.Preference.{layered, preference_of};
+ghost use Rattle.pref_term.specs.Question.{IsAsk, IsClause, IsCount, IsDimension, cut_of, is_count};
+ghost use Rattle.pref_term.specs.Writable.{IsWritable, IsWritableSet};
+
+use crate::ask::{Ask, Mode};
+use crate::fault::AskFault;
+use crate::number::MOST;
+use crate::term::{NumberSets, Numbers, Term};
+use std::alloc::Global;
+
+/// How many columns a row has.
+const COLUMNS: usize = 16;
+
+impl Ask {
+    ghost use Rattle.pref_term.specs.declared.ask.Mode.TheVariants.{Best};
+
+    /// A question of these parts, with the limits of [`read_ask`](crate::read_ask): the term, the columns that group the rows, and how many
+    /// of the best are wanted. Columns count from 0. Of equal rows all are kept.
+    ///
+    /// Refused for the first of these that is so: a base term, from left to right, has a column above 15 ([`AskFault::ColumnRange`]), a range
+    /// that ends before it begins (`EmptyRange`), a set without numbers (`EmptySet`) or layers without a set (`NoSets`); a column of the group
+    /// is above 15 (`ColumnRange`); a count is not 1 to 1000 (`BadCount`); memory ran out (`OutOfMemory`). A refusal leaves nothing: the parts
+    /// are let go.
+    ///
+    /// Nestings are not counted. What compares rows goes down the term, so a deeper one than a text can spell takes more stack. Takes memory as
+    /// `read_ask` does, for the keys and the chains that lead the term, and goes over the term and its sets once more.
+    ///
+    /// ```text
+    /// // best low(price) * low(dist) by city, over the columns price, dist and city
+    /// let price = Box::new(alloc, Term::Low { col: 0 })?;
+    /// let dist = Box::new(alloc, Term::Low { col: 1 })?;
+    /// let ask = Ask::of(alloc, Term::Pareto(price, dist), vec![in alloc; 2]?, Mode::Best)?;
+    /// ```
+    pub fn of(alloc: Global, term: Term, group: Vec<usize>, mode: Mode) -> Result<Ask, AskFault>
+        // Made exactly where the parts are a question, unless memory ran out.
+        ensures { MatchResult result
+            (λ ask. IsAsk ask × (ask ≡ record { preference = preference_of term; group = group.items; mode = mode; distinct = false }))
+            (λ fault. Refuses fault (record { preference = preference_of term; group = group.items; mode = mode; distinct = false })) }
+    {
+        check_parts(&term, &group, mode)?;
+        Ask::new(alloc, term, group, mode, false).map_err(|_| AskFault::OutOfMemory)
+    }
+
+    /// A skyline clause that keeps one of equal rows, as its word `distinct` asks: the product of its MIN and MAX columns as a term, and its
+    /// DIFF columns.
+    ///
+    /// The term is `Low`, `High` or a product that groups to the left, and each second part of it is `Low` or `High`. Refused as [`Ask::of`]
+    /// is, and behind the columns for another term ([`AskFault::NotSkyline`]). Leaves and takes what `Ask::of` does.
+    ///
+    /// ```text
+    /// // skyline of distinct price min
+    /// let ask = Ask::distinct_skyline(alloc, Term::Low { col: 0 }, Vec::new(alloc))?;
+    /// ```
+    pub fn distinct_skyline(alloc: Global, term: Term, group: Vec<usize>) -> Result<Ask, AskFault>
+        ensures { MatchResult result
+            (λ ask. IsAsk ask × (ask ≡ record { preference = preference_of term; group = group.items; mode = Best; distinct = true }))
+            (λ fault. Refuses fault (record { preference = preference_of term; group = group.items; mode = Best; distinct = true })) }
+    {
+        check_parts(&term, &group, Mode::Best)?;
+        if !is_clause(&term) {
+            return Err(AskFault::NotSkyline);
+        }
+        Ask::new(alloc, term, group, Mode::Best, true).map_err(|_| AskFault::OutOfMemory)
+    }
+}
+
+/// Looks for the first fault of these parts.
+fn check_parts(term: &Term, group: &[usize], mode: Mode) -> Result<(), AskFault>
+    ensures { MatchResult result
+        (λ _. ReadsBelow 16 (preference_of term.now) × IsWritable (preference_of term.now) × All (λ col. col < 16) group.now × IsCount (cut_of mode))
+        (λ fault. (distinct : Bool) → Refuses fault (record { preference = preference_of term.now; group = group.now; mode = mode; distinct = distinct })) }
+{
+    check_term(term)?;
+    check_group(group)?;
+    check_count(mode)
+}
+
+fn check_column(col: usize) -> Result<(), AskFault>
+    ensures { MatchResult result (λ _. col < 16) (λ fault. (fault ≡ AskFault.ColumnRange col) × (16 ≤ col)) }
+{
+    if col < COLUMNS {
+        Ok(())
+    } else {
+        Err(AskFault::ColumnRange { col })
+    }
+}
+
+fn check_range(col: usize, left: i64, right: i64) -> Result<(), AskFault>
+    ensures { MatchResult result (λ _. int_lt right left ≡ false) (λ fault. (fault ≡ AskFault.EmptyRange col) × (int_lt right left ≡ true)) }
+{
+    if right < left {
+        Err(AskFault::EmptyRange { col })
+    } else {
+        Ok(())
+    }
+}
+
+/// Reads each number, since what is read is known to be of 64 bits.
+fn read_numbers(numbers: &[i64])
+    ensures { All (FitsSigned w64) numbers.now }
+{
+    for number in numbers {
+        let _number = *number;
+    }
+}
+
+fn check_set(col: usize, set: &Numbers) -> Result<(), AskFault>
+    ensures { MatchResult result (λ _. IsWritableSet set.now) (λ fault. (fault ≡ AskFault.EmptySet col) × (set.now ≡ [])) }
+{
+    let numbers = set.as_slice();
+    if numbers.is_empty() {
+        return Err(AskFault::EmptySet { col });
+    }
+    read_numbers(numbers);
+    Ok(())
+}
+
+fn check_sets(col: usize, sets: &NumberSets) -> Result<(), AskFault>
+    ensures { MatchResult result (λ _. (sets.now ≢ []) × All IsWritableSet sets.now) (λ fault. IsFlawOf fault (layered col sets.now)) }
+{
+    if sets.as_slice().is_empty() {
+        return Err(AskFault::NoSets { col });
+    }
+    for set in sets.as_slice() {
+        check_set(col, set)?;
+    }
+    Ok(())
+}
+
+/// Looks for the first base term from the left that no question has.
+fn check_term(term: &Term) -> Result<(), AskFault>
+    ensures { MatchResult result (λ _. ReadsBelow 16 (preference_of term.now) × IsWritable (preference_of term.now)) (λ fault. IsFlawIn fault (preference_of term.now)) }
+{
+    match term {
+        Term::Low { col } | Term::High { col } => check_column(*col),
+        Term::Around { col, centre } => {
+            // Read, as the numbers of a set are.
+            let _centre = *centre;
+            check_column(*col)
+        }
+        Term::Between { col, left, right } => {
+            check_column(*col)?;
+            check_range(*col, *left, *right)
+        }
+        Term::Pos { col, set } => {
+            check_column(*col)?;
+            check_set(*col, set)
+        }
+        Term::Layered { col, sets } => {
+            check_column(*col)?;
+            check_sets(*col, sets)
+        }
+        Term::Pareto(p, q) | Term::Prior(p, q) => {
+            check_term(p)?;
+            check_term(q)
+        }
+        Term::Reverse(p) => check_term(p),
+    }
+}
+
+fn check_group(group: &[usize]) -> Result<(), AskFault>
+    ensures { MatchResult result (λ _. All (λ col. col < 16) group.now) (λ fault. IsGroupFlaw fault group.now) }
+{
+    for col in group {
+        check_column(*col)?;
+    }
+    Ok(())
+}
+
+fn check_count(mode: Mode) -> Result<(), AskFault>
+    ensures { MatchResult result (λ _. IsCount (cut_of mode)) (λ fault. (fault ≡ AskFault.BadCount (cut_of mode)) × (is_count (cut_of mode) ≡ false)) }
+{
+    let (Mode::TopLevel(count) | Mode::AtLeast(count)) = mode else {
+        return Ok(());
+    };
+    if count < 1 || i64::from(count) > MOST {
+        Err(AskFault::BadCount { count })
+    } else {
+        Ok(())
+    }
+}
+
+/// Whether the term is the left-grouped product of orders by one column that a skyline clause means.
+fn is_clause(term: &Term) -> bool
+    ensures yes { result ≡ true → IsClause (preference_of term.now) }
+    ensures no { result ≡ false → IsClause (preference_of term.now) → ⊥ }
+{
+    match term {
+        Term::Pareto(p, q) => is_clause(p) && is_dimension(q),
+        _ => is_dimension(term),
+    }
+}
+
+fn is_dimension(term: &Term) -> bool
+    ensures yes { result ≡ true → IsDimension (preference_of term.now) }
+    ensures no { result ≡ false → IsDimension (preference_of term.now) → ⊥ }
+{
+    matches!(term, Term::Low { .. } | Term::High { .. })
+}
