@@ -18,17 +18,11 @@ fn high_y() -> Term {
 }
 
 fn pareto(alloc: Global, first: Term, second: Term) -> Result<Term, AllocError> {
-    Ok(Term::Pareto(
-        Box::new(alloc, first)?,
-        Box::new(alloc, second)?,
-    ))
+    Ok(Term::Pareto(Box::new(alloc, first)?, Box::new(alloc, second)?))
 }
 
 fn prior(alloc: Global, first: Term, then: Term) -> Result<Term, AllocError> {
-    Ok(Term::Prior(
-        Box::new(alloc, first)?,
-        Box::new(alloc, then)?,
-    ))
+    Ok(Term::Prior(Box::new(alloc, first)?, Box::new(alloc, then)?))
 }
 
 fn reverse(alloc: Global, part: Term) -> Result<Term, AllocError> {
@@ -124,7 +118,11 @@ fn each_kind_of_term_is_what_its_text_spells(rt: HostRuntime) -> Result<(), Fail
 const COUNTED: [(Mode, &[usize], &str); 5] = [
     (Mode::Best, &[2], "best low(x) by g"),
     (Mode::TopLevel(1), &[], "top_level 1 low(x)"),
-    (Mode::TopLevel(1000), &[1, 2], "top_level 1000 low(x) by y, g"),
+    (
+        Mode::TopLevel(1000),
+        &[1, 2],
+        "top_level 1000 low(x) by y, g",
+    ),
     (Mode::AtLeast(1), &[2, 2], "at_least 1 low(x) by g, g"),
     (Mode::AtLeast(1000), &[], "at_least 1000 low(x)"),
 ];
@@ -193,11 +191,23 @@ fn the_first_base_term_from_the_left_decides(rt: HostRuntime) -> Result<(), Fail
 
 const REFUSED: [(&[usize], Mode, AskFault); 6] = [
     (&[0, 16], Mode::Best, AskFault::ColumnRange { col: 16 }),
-    (&[99, 16], Mode::TopLevel(0), AskFault::ColumnRange { col: 99 }),
+    (
+        &[99, 16],
+        Mode::TopLevel(0),
+        AskFault::ColumnRange { col: 99 },
+    ),
     (&[], Mode::TopLevel(0), AskFault::BadCount { count: 0 }),
-    (&[], Mode::TopLevel(1001), AskFault::BadCount { count: 1001 }),
+    (
+        &[],
+        Mode::TopLevel(1001),
+        AskFault::BadCount { count: 1001 },
+    ),
     (&[15], Mode::AtLeast(0), AskFault::BadCount { count: 0 }),
-    (&[], Mode::AtLeast(u32::MAX), AskFault::BadCount { count: u32::MAX }),
+    (
+        &[],
+        Mode::AtLeast(u32::MAX),
+        AskFault::BadCount { count: u32::MAX },
+    ),
 ];
 
 #[test]
@@ -234,7 +244,10 @@ const MESSAGES: [(AskFault, &str); 7] = [
         "the range of column 2 ends before it begins",
     ),
     (AskFault::EmptySet { col: 0 }, "a set of column 0 is empty"),
-    (AskFault::NoSets { col: 0 }, "the layers of column 0 have no set"),
+    (
+        AskFault::NoSets { col: 0 },
+        "the layers of column 0 have no set",
+    ),
     (AskFault::BadCount { count: 0 }, "count 0 is not 1 to 1000"),
     (AskFault::NotSkyline, "no skyline clause means this term"),
     (AskFault::OutOfMemory, "out of memory"),
