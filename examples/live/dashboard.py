@@ -35,11 +35,11 @@ def producer(table, name, chance):
 
 def picture(rows, others):
     """The skyline as red dots with a line through them, other tickets as grey ones."""
-    def place(values):
-        return f"{values[0] * WIDTH // 10},{HEIGHT - values[1] * HEIGHT // 66}"
-    line = " ".join(place(row.values) for row in sorted(rows, key=lambda row: row.values))
-    dots = [("#aaa", values) for values in others] + [("#c00", row.values) for row in rows]
-    circles = "".join('<circle cx="{}" cy="{}" r="4" fill="{}"/>'.format(*place(values).split(","), colour) for colour, values in dots)
+    def place(row):
+        return f"{row.severity * WIDTH // 10},{HEIGHT - row.minutes * HEIGHT // 66}"
+    line = " ".join(place(row) for row in sorted(rows, key=lambda row: (row.severity, row.minutes)))
+    dots = [("#aaa", row) for row in others] + [("#c00", row) for row in rows]
+    circles = "".join('<circle cx="{}" cy="{}" r="4" fill="{}"/>'.format(*place(row).split(","), colour) for colour, row in dots)
     return f'<svg xmlns="http://www.w3.org/2000/svg" width="{WIDTH}" height="{HEIGHT}"><polyline points="{line}" fill="none" stroke="#c00"/>{circles}</svg>\n'
 
 
@@ -53,8 +53,8 @@ def main(folder=None):
                         next(change)
                 skyline = query.answer()
             with table.query(QUESTION.replace("best", "top_level 1000")) as query:
-                others = [row.values for row in query.answer() if row.level > 1]
-            print(f"picture {number}:", *(f"ticket {row.id} has severity {row.values[0]} for {row.values[1]} minutes;" for row in skyline))
+                others = [row for row in query.answer() if row.level > 1]
+            print(f"picture {number}:", *(f"ticket {row.id} has severity {row.severity} for {row.minutes} minutes;" for row in skyline))
             if folder:
                 Path(folder, f"picture-{number}.svg").write_text(picture(skyline, others))
 

@@ -2,6 +2,7 @@
 import csv
 import io
 import json
+import pickle
 import tempfile
 import unittest
 from pathlib import Path
@@ -12,7 +13,7 @@ from prefq.answer import Answer
 from prefq.columns import Column
 from prefq.records import Record
 from prefq.visible import visible, width
-from support import TestCase
+from support import QUESTION, SKYLINE, TestCase, hotels
 
 TEXTS = ["a\rb", "\r", "a\nb", "a\r\nb", '"', ",", " x ", "\x1b[31mred", "\t", "plain"]
 
@@ -147,6 +148,31 @@ class Answers(TestCase):
     def test_each_control_sign_is_visible(self):
         for number in [*range(0x20), *range(0x7f, 0xa0), 0xd800, 0xdfff, 0x202e, 0x2066]:
             self.assertTrue(visible(chr(number)).isprintable(), number)
+
+
+class OfATable(TestCase):
+    """A table of whole numbers answers as a frame does."""
+
+    def test_each_way_to_ask_a_table_gives_an_answer(self):
+        with hotels() as table, hotels(block=2, capacity=16) as pieces:
+            with table.query(QUESTION) as query:
+                answers = [table.best(QUESTION), pieces.best(QUESTION), query.answer(), pickle.loads(pickle.dumps(table.best(QUESTION)))]
+        for answer in answers:
+            self.assertIsInstance(answer, Answer)
+            self.assertEqual((answer.ids, answer.levels, answer.names, answer.question), (SKYLINE, [1] * 4, ["price", "dist"], QUESTION))
+            self.assertEqual(answer.to_csv(), "level,id,price,dist\n1,1,50,8\n1,2,60,5\n1,3,80,2\n1,6,100,1\n")
+
+    def test_the_other_rows_of_a_table_are_drawn(self):
+        with hotels() as table:
+            answer = table.best(QUESTION)
+            self.assertIn("other rows (3)", answer.to_svg())
+        self.assertNotIn("other rows", answer.to_svg())     # They ended with the table.
+
+    def test_columns_of_a_table_that_are_called_as_a_row_has_it(self):
+        with prefq.Table(["level", "id", "values"], [[-2**63, 2**63 - 1, 7]]) as table:
+            answer = table.best("best low(id)")
+        self.assertEqual((answer[0].level, answer[0].id, dict(answer[0])), (1, 1, {"level": -2**63, "id": 2**63 - 1, "values": 7}))
+        self.assertEqual(answer.to_csv(), ".level,.id,level,id,values\n1,1,-9223372036854775808,9223372036854775807,7\n")
 
 
 if __name__ == "__main__":

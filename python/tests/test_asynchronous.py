@@ -66,9 +66,9 @@ class Tasks(TestCase):
                             id = chance.choice(sorted(mine))
                             self.assertEqual(await table.get(id), mine[id])
                         else:
-                            best = [row for row in await table.best("best low(value) by task") if row.values[0] == number]
+                            best = [row for row in await table.best("best low(value) by task") if row.task == number]
                             least = min(value for _, value in mine.values())
-                            self.assertEqual({row.id: row.values for row in best}, {id: values for id, values in mine.items() if values[1] == least})
+                            self.assertEqual({row.id: list(row.values()) for row in best}, {id: values for id, values in mine.items() if values[1] == least})
                         done += 1
                     return mine
                 rows = await asyncio.gather(*(work(number) for number in range(20)))

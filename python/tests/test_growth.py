@@ -184,7 +184,7 @@ class WhileOthersAsk(TestCase):
                 frame.insert({"price": "0.5"})
                 frame.delete(2)
                 query.scan()
-                self.assertEqual([row.values[0] for row in query.answer()], [50])
+                self.assertEqual([row.c0 for row in query.answer()], [50])
             del query
             self.assertIsNot(frame.table, old)
             engine = weakref.ref(old._engine)

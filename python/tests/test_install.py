@@ -12,7 +12,7 @@ from environments import install, new_python, run
 from support import TestCase
 
 PACKAGE = Path(__file__).resolve().parent.parent
-ASK = "import prefq; print(prefq.find_library()); print(prefq.Table(['a', 'b'], [[1, 2], [0, 3]]).best('best low(a)'))"
+ASK = "import prefq; print(prefq.find_library()); print(*prefq.Table(['a', 'b'], [[1, 2], [0, 3]]).best('best low(a)'))"
 
 
 class Install(TestCase):
@@ -38,7 +38,7 @@ class Install(TestCase):
         status, said = install(python, PACKAGE, **self.built)
         self.assertEqual(status, 0, said)
         status, said = run(python, "-c", ASK)
-        self.assertEqual((status, said), (0, f"{self.room}/new/lib/python{sys.version_info[0]}.{sys.version_info[1]}/site-packages/prefq/lib/libprefq.so\n[Row(level=1, id=2, values=[0, 3])]\n"))
+        self.assertEqual((status, said), (0, f"{self.room}/new/lib/python{sys.version_info[0]}.{sys.version_info[1]}/site-packages/prefq/lib/libprefq.so\n<level 1 id 2: {{'a': 0, 'b': 3}}>\n"))
         self.assertEqual(run(python, "-m", "prefq", "--help")[0], 0)
         command = python.with_name("prefq")
         self.assertEqual(run(command, "--version"), (0, f"prefq {prefq.__version__}\n"))
@@ -51,7 +51,7 @@ class Install(TestCase):
         status, said = run(command, "live", PREFQ_PROGRAM=str(command))
         self.assertEqual((status, said.partition(". ")[0]), (1, f"prefq: {command} is the command of the Python package, and not the program"))
         status, said = run(python, "-c", ASK, PREFQ_LIBRARY=self.library)
-        self.assertEqual((status, said), (0, f"{self.library}\n[Row(level=1, id=2, values=[0, 3])]\n"))
+        self.assertEqual((status, said), (0, f"{self.library}\n<level 1 id 2: {{'a': 0, 'b': 3}}>\n"))
 
     def build(self, call, **setting):
         """What a call of the build backend prints."""

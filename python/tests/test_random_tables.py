@@ -138,7 +138,7 @@ class Tables(TestCase):
     def same(self, answer, asked, rows):
         found = asked.answer({id: dict(zip(COLUMNS, values)) for id, values in rows.items()})
         self.assertEqual([(row.level, row.id) for row in answer], found, asked.text)
-        self.assertEqual([tuple(row.values) for row in answer], [rows[id] for _, id in found])
+        self.assertEqual([tuple(row.values()) for row in answer], [rows[id] for _, id in found])
 
 
 if __name__ == "__main__":

@@ -72,7 +72,6 @@ class Calls(TestCase):
             query.abandon()
             self.assertIn("ended", repr(query))
         self.assertIn("closed", repr(table))
-        self.assertEqual(repr(prefq.Row(1, 2, [3])), "Row(level=1, id=2, values=[3])")
 
     def test_a_table_is_not_copied(self):
         with hotels() as table:
@@ -105,8 +104,9 @@ class Opening(TestCase):
 class Questions(TestCase):
     def test_an_answer(self):
         with hotels() as table:
-            rows = table.best(QUESTION)
-            self.assertEqual([(row.level, row.id, row.values) for row in rows], [(1, id, HOTELS[id - 1]) for id in SKYLINE])
+            answer = table.best(QUESTION)
+            self.assertEqual([(row.level, row.id, [row.price, row["dist"]]) for row in answer], [(1, id, HOTELS[id - 1]) for id in SKYLINE])
+            self.assertEqual(answer, [dict(zip(table.columns, HOTELS[id - 1])) for id in SKYLINE])
             self.assertEqual([(row.level, row.id) for row in table.best("at_least 3 low(price)")], [(1, 1), (2, 2), (3, 4)])
 
     def test_a_query_sees_its_snapshot(self):

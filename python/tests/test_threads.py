@@ -51,9 +51,9 @@ class Threads(TestCase):
                         id = chance.choice(sorted(mine))
                         self.assertEqual(table.get(id), mine[id])
                     elif kind == "best":
-                        best = [row for row in table.best("best low(value) by thread") if row.values[0] == number]
+                        best = [row for row in table.best("best low(value) by thread") if row.thread == number]
                         least = min(value for _, value in mine.values())
-                        self.assertEqual({row.id: row.values for row in best}, {id: values for id, values in mine.items() if values[1] == least})
+                        self.assertEqual({row.id: list(row.values()) for row in best}, {id: values for id, values in mine.items() if values[1] == least})
                     done.append(kind)
                 done.append(mine)
 

@@ -3,9 +3,9 @@
 >>> import prefq
 >>> with prefq.Table(["price", "dist"], [[50, 8], [80, 2], [90, 9]]) as hotels:
 ...     for row in hotels.best("best low(price) * low(dist)"):
-...         print(row.level, row.id, row.values)
-1 1 [50, 8]
-1 2 [80, 2]
+...         print(row.level, row.id, row.price, row.dist)
+1 1 50 8
+1 2 80 2
 """
 from . import parts
 from .answer import Answer
@@ -22,12 +22,11 @@ from .preferences import Expression, Preference, around, between, empty, expr, h
 from .program import find_program
 from .query import Query
 from .records import Record
-from .rows import Row
 from .select import psel
 from .table import Table
 from .warned import UnknownValue
 
 __version__ = "0.3.0"
 __all__ = ["Answer", "AsyncFrame", "AsyncQuery", "AsyncTable", "Column", "Ended", "Error", "Expression", "Followed", "Frame", "FrameQuery", "Hasse", "LibraryNotFound",
-           "Preference", "ProgramNotFound", "Query", "Record", "Refused", "Row", "Table", "UnknownValue", "around", "between", "empty", "expr", "find_library",
+           "Preference", "ProgramNotFound", "Query", "Record", "Refused", "Table", "UnknownValue", "around", "between", "empty", "expr", "find_library",
            "find_program", "high", "layered", "low", "parts", "pos", "psel", "reverse", "true"]

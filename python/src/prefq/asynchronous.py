@@ -5,11 +5,11 @@ from concurrent.futures import Future, ThreadPoolExecutor
 from functools import partial
 from typing import Any, Callable, Generator, Iterable, List, Optional, Sequence, Tuple, Type, TypeVar, Union
 
+from .answer import Answer
 from .clients import SECONDS_TO_COLLECTION
 from .errors import Ended, Refused
 from .frame import Frame
 from .query import Query
-from .rows import Row
 from .table import Table, Values
 
 Result = TypeVar("Result")
@@ -88,7 +88,8 @@ class AsyncTable(Awaited):
     ...         await hotels.insert([40, 9])
     ...         return await hotels.best("best low(price) & low(dist)")
     >>> asyncio.run(main())
-    [Row(level=1, id=4, values=[40, 9])]
+    level  id  price  dist
+        1   4     40     9
     """
 
     def __init__(self, table: Table, executor: ThreadPoolExecutor) -> None:
@@ -141,7 +142,7 @@ class AsyncTable(Awaited):
         async with self.query(self._table.all_rows) as query:
             return await query.pairs()
 
-    async def best(self, question: str) -> List[Row]:
+    async def best(self, question: str) -> Answer:
         """See `Table.best`. Other tasks' calls may come between the pieces that it scans."""
         async with self.query(question) as query:
             return await query.answer()
@@ -163,7 +164,8 @@ class AsyncQuery:
     ...             await hotels.delete(1)      # after the begin, so the answer still has the row
     ...             return await query.answer()
     >>> asyncio.run(main())
-    [Row(level=1, id=1, values=[50])]
+    level  id  price
+        1   1     50
     """
 
     def __init__(self, table: AsyncTable, question: str) -> None:
@@ -196,7 +198,7 @@ class AsyncQuery:
         """See `Query.scan`."""
         return await self._table._call(self._begun().scan)
 
-    async def answer(self) -> List[Row]:
+    async def answer(self) -> Answer:
         """See `Query.answer`."""
         return await self._finish(self._begun().answer)
 

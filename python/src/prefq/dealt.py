@@ -219,7 +219,7 @@ class Begun:
 
     def answers(self) -> List[List[Found]]:
         """What each table answers; the question has ended then."""
-        return self._of_each(lambda shard, query: [Found(row.level, shard.keys[row.id], row.values) for row in query.answer()])
+        return self._of_each(lambda shard, query: [Found(row.level, shard.keys[row.id], row.values) for row in query.rows()])
 
     def pairs(self) -> Dict[Key, Numbers]:
         """The rows that the tables answer by their keys, in the order of these; the question has ended then."""

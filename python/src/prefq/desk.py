@@ -181,7 +181,7 @@ class Desk:
         if planned is None or query is None:
             return computed_picture(text, selection, version, columns, list(rows.values()))
         with query:
-            some = first_rows(without_twins(query.answer(), planned), planned, selection.top)
+            some = first_rows(without_twins(query.rows(), planned), planned, selection.top)
         return Picture(version, columns, list(rows.values()), [Found(row.level, *rows[row.id]) for row in some], columns_in(question), planned.unknown)
 
     def _query(self, planned: Plan) -> Query:
@@ -274,7 +274,7 @@ def computed_picture(text: str, selection: Selection, version: int, columns: Lis
     moment = moment_of_picture(columns, rows)
     read = reading(text, selection, moment)
     with query_of(read) as query:
-        found = picked(query.answer(), read, selection, moment)
+        found = picked(query.rows(), read, selection, moment)
     best = [Found(row.level, *rows[row.id - 1]) for row in found]
     named = {column.name: column for column in columns}
     return Picture(version, columns, rows, best, [named[name] for name in selection.names(text, moment.names)], tuple(read.unknown))

@@ -44,7 +44,7 @@ class FrameQuery:
 
     def answer(self, progress: Optional[Progress] = None) -> Answer:
         """See `Query.answer`. A value that no row has is warned of (`UnknownValue`)."""
-        rows = self._query.answer(progress)
+        rows = self._query.rows(progress)
         warn_of(self._unknown)
         return self._answered(rows)
 

@@ -12,4 +12,4 @@ def ask_once(columns: Sequence[str], rows: Zipped, question: str, *, progress: O
     settings: Dict[str, Any] = {"clients": 1, "capacity": max(1, len(rows)), **options}
     with Table(columns, rows, **settings) as table:
         with table.query(question) as query:
-            return query.answer(partial(progress, "comparing") if progress else None)
+            return query.rows(partial(progress, "comparing") if progress else None)

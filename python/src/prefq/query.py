@@ -3,12 +3,14 @@ import time
 from ctypes import c_uint32
 from typing import Callable, List, Optional, Tuple, Type
 
+from .answer import Answer
 from .clients import Clients
 from .engine import Asker, Engine
 from .errors import Ended
 from .rows import Made, Row, as_pairs, as_rows, rows_of
 
 Progress = Callable[[int, int], None]
+Answered = Callable[[str, bytes], Answer]       # what makes an answer of a question and of the numbers of its rows
 # A piece of a scan: an interruption comes behind it, and so do other threads' calls.
 SECONDS_OF_A_PIECE = 0.01
 SECONDS_FOR_OTHERS = 0.000_05
@@ -24,11 +26,13 @@ class Query(Asker):
     ...     with hotels.query("best low(price)") as query:
     ...         hotels.delete(1)            # after the begin, so the answer still has the row
     ...         query.answer()
-    [Row(level=1, id=1, values=[50])]
+    level  id  price
+        1   1     50
     """
 
-    def __init__(self, engine: Engine, clients: Clients, question: str, client: Optional[int]) -> None:
+    def __init__(self, engine: Engine, clients: Clients, question: str, client: Optional[int], answered: Answered) -> None:
         self.question = question
+        self._answered = answered
         self._left = c_uint32()
         self._together = 1
         self._engine = engine
@@ -59,16 +63,18 @@ class Query(Asker):
         self._engine.scan(self, 1, self._left)
         return self.left
 
-    def answer(self, progress: Optional[Progress] = None) -> List[Row]:
+    def answer(self, progress: Optional[Progress] = None) -> Answer:
         """The rows of the answer, by level and then by id; scans the blocks that are left first. The query has ended then. `progress` is called with the
         number of blocks that are scanned, and how many there are."""
-        self._scan_all(progress)
-        return self._finish(as_rows)
+        return self._answered(self.question, self._finished(progress))
+
+    def rows(self, progress: Optional[Progress] = None) -> List[Row]:
+        """The same without the names of the columns: rows of a level, an id and values, as `prefq.Frame` makes its answers of them."""
+        return self._made(as_rows, progress)
 
     def pairs(self) -> List[Tuple[int, List[int]]]:
         """The answer as pairs of an id and its values."""
-        self._scan_all(None)
-        return self._finish(as_pairs)
+        return self._made(as_pairs, None)
 
     def abandon(self) -> None:
         """Ends the query without an answer; nothing is done where it has ended. Waits for nothing: the table does it before its next call."""
@@ -80,9 +86,8 @@ class Query(Asker):
     def _is_open(self) -> bool:
         return self._engine.is_open(self)
 
-    def _finish(self, make: Callable[[List[int], int], List[Made]]) -> List[Made]:
-        numbers = self._engine.finish(self)
-        return rows_of(numbers, self._engine.width, make)
+    def _made(self, make: Callable[[List[int], int], List[Made]], progress: Optional[Progress]) -> List[Made]:
+        return rows_of(self._finished(progress), self._engine.width, make)
 
     def scan_piece(self) -> None:
         """Scans as many blocks of those that are left as a piece has time for."""
@@ -94,8 +99,10 @@ class Query(Asker):
             time.sleep(SECONDS_FOR_OTHERS)
         self._together = max(1, min(2 * self._together, int(self._together * SECONDS_OF_A_PIECE / max(taken, 1e-9))))
 
-    def _scan_all(self, progress: Optional[Progress]) -> None:
+    def _finished(self, progress: Optional[Progress]) -> bytes:
+        """The numbers of the answer; scans the blocks that are left first."""
         while self.left:
             self.scan_piece()
             if progress:
                 progress(self._blocks - self.left, self._blocks)
+        return self._engine.finish(self)

@@ -10,6 +10,7 @@ from .checks import LEAST, MOST, MOST_ROWS, whole
 from .engine import BYTES, Engine
 from .library import Setup
 from .pauses import let_others_run
+from .records import Record
 
 Made = TypeVar("Made")
 TOGETHER = 256
@@ -19,12 +20,7 @@ LISTS = (list, tuple)
 
 
 class Row(NamedTuple):
-    """A row of an answer: its level (1 is the best), its id and its values in the order of the columns.
-
-    >>> row = Row(1, 3, [45, 9])
-    >>> row.level, row.id, row.values
-    (1, 3, [45, 9])
-    """
+    """A row of an answer as numbers: its level (1 is the best), its id and its values in the order of the columns."""
 
     level: int
     id: int
@@ -93,15 +89,27 @@ class Zipped(WholeRows):
         return Engine.opened(columns, found.tobytes(), len(self), setup)
 
 
+def as_records(names: Sequence[str], numbers: List[int], size: int) -> List[Record]:
+    """The rows of an answer as records with these names. Each row is so many numbers: its level, its id and its values."""
+    new, records = Record.__new__, []
+    for at in range(0, len(numbers), size):
+        record = new(Record)        # without its `__init__`, which is written in Python, and takes longer
+        record.level, record.id = numbers[at], numbers[at + 1]
+        record.update(zip(names, numbers[at + 2:at + size]))
+        records.append(record)
+    return records
+
+
 def as_rows(numbers: List[int], size: int) -> List[Row]:
-    """The rows of an answer, each of so many numbers: its level, its id and its values."""
+    """The same as plain rows."""
     new = tuple.__new__         # that of a named tuple is written in Python, and takes longer
     return [new(Row, (numbers[at], numbers[at + 1], numbers[at + 2:at + size])) for at in range(0, len(numbers), size)]
 
 
 def as_pairs(numbers: List[int], size: int) -> List[Tuple[int, List[int]]]:
     """The same as pairs of an id and its values."""
-    return [(numbers[at + 1], numbers[at + 2:at + size]) for at in range(0, len(numbers), size)]
+    values = zip(*(numbers[place::size] for place in range(2, size)))
+    return list(zip(numbers[1::size], map(list, values)))
 
 
 def rows_of(answer: bytes, width: int, make: Callable[[List[int], int], List[Made]]) -> List[Made]:

@@ -1,14 +1,19 @@
 """A table of whole numbers that other threads change and ask."""
+from functools import partial
 from typing import Any, Iterable, Iterator, List, Optional, Sequence, Tuple, Type, Union
 
 from . import checks
+from .answer import Answer
 from .clients import Clients
+from .columns import Column
 from .engine import Asker
 from .errors import Ended, Refused
+from .kinds import Whole
 from .library import Setup
 from .query import Query
 from .questions import explained
-from .rows import Packing, Row, WholeRows, as_rows, packed, rows_of
+from .records import Record
+from .rows import Packing, WholeRows, as_records, packed, rows_of
 
 Values = Iterable[int]
 IN_COMMIT = 8
@@ -28,13 +33,17 @@ class Table:
 
     >>> with Table(["price", "dist"], [[50, 8], [80, 2], [90, 9]]) as hotels:
     ...     hotels.best("best low(price) * low(dist)")
-    [Row(level=1, id=1, values=[50, 8]), Row(level=1, id=2, values=[80, 2])]
+    level  id  price  dist
+        1   1     50     8
+        1   2     80     2
     """
 
     def __init__(self, columns: Iterable[str], rows: Union[Iterable[Values], WholeRows] = (), *, capacity: Optional[int] = None, clients: int = 8, block: int = 1024,
                  window: int = 64) -> None:
         self.columns = checks.names(columns)
         self._packed = Packing(self.columns).packed
+        self._as_records = partial(as_records, self.columns)
+        self._columns = tuple(Column(name, Whole()) for name in self.columns)
         opening = rows if isinstance(rows, WholeRows) else packed(rows, self.columns)
         if capacity is None:
             capacity = min(checks.MOST_ROWS, max(1024, 2 * len(opening)))
@@ -190,21 +199,26 @@ class Table:
 
         >>> with Table(["price"], [[50], [80]]) as hotels:
         ...     with hotels.query("best high(price)") as query:
-        ...         query.scan(), query.answer()
-        (0, [Row(level=1, id=2, values=[80])])
+        ...         query.scan(), query.answer().ids
+        (0, [2])
         """
         text = checks.text_of_question(question)
         try:
-            return Query(self._engine, self._free, text, None if client is None else checks.whole(client, "client", 1, self.clients))
+            return Query(self._engine, self._free, text, None if client is None else checks.whole(client, "client", 1, self.clients), self._answered)
         except Refused as why:
             raise explained(why, self.columns) from None
 
-    def best(self, question: str) -> List[Row]:
+    def best(self, question: str) -> Answer:
         """The answer to a question, by level and then by id.
 
         >>> with Table(["price", "dist"], [[50, 8], [80, 2], [90, 9]]) as hotels:
-        ...     hotels.best("top_level 2 low(price) & low(dist)")
-        [Row(level=1, id=1, values=[50, 8]), Row(level=2, id=2, values=[80, 2])]
+        ...     answer = hotels.best("top_level 2 low(price) & low(dist)")
+        >>> answer
+        level  id  price  dist
+            1   1     50     8
+            2   2     80     2
+        >>> answer[1].id, answer[1].price, list(answer[1].values())
+        (2, 80, [80, 2])
         """
         if not self._is_one_block:
             with self.query(question) as query:
@@ -215,7 +229,15 @@ class Table:
             answer = self._engine.ask(asker, text)
         except Refused as why:
             raise explained(why, self.columns) from None
-        return rows_of(answer, len(self.columns), as_rows)
+        return self._answered(text, answer)
+
+    def _answered(self, question: str, numbers: bytes) -> Answer:
+        """An answer, of the numbers of its rows."""
+        return Answer(question, self._columns, rows_of(numbers, len(self.columns), self._as_records), others=self._records)
+
+    def _records(self) -> List[Record]:
+        """All rows as they are now."""
+        return [Record(zip(self.columns, values), id=id) for id, values in self.rows()]
 
 
 def check_changes(changes: Sequence[Any]) -> List[Tuple[str, int, Any]]:
