@@ -13,9 +13,9 @@ from .pauses import let_others_run
 from .records import Record
 
 Made = TypeVar("Made")
+Numbers = Sequence[int]      # a memoryview, of which a slice is no copy
 TOGETHER = 256
 ANSWER_PIECE = 4_096        # numbers of an answer
-LOOKED_THROUGH = 16_384
 LISTS = (list, tuple)
 
 
@@ -89,44 +89,48 @@ class Zipped(WholeRows):
         return Engine.opened(columns, found.tobytes(), len(self), setup)
 
 
-def as_records(names: Sequence[str], numbers: List[int], size: int) -> List[Record]:
+def as_records(names: Sequence[str], numbers: Numbers, _: int) -> List[Record]:
     """The rows of an answer as records with these names. Each row is so many numbers: its level, its id and its values."""
-    new, records = Record.__new__, []
-    for at in range(0, len(numbers), size):
+    new, records, rest = Record.__new__, [], iter(numbers)
+    for level in rest:
         record = new(Record)        # without its `__init__`, which is written in Python, and takes longer
-        record.level, record.id = numbers[at], numbers[at + 1]
-        record.update(zip(names, numbers[at + 2:at + size]))
+        record.level, record.id = level, next(rest)
+        for name in names:
+            record[name] = next(rest)
         records.append(record)
     return records
 
 
-def as_rows(numbers: List[int], size: int) -> List[Row]:
+def as_rows(numbers: Numbers, size: int) -> List[Row]:
     """The same as plain rows."""
     new = tuple.__new__         # that of a named tuple is written in Python, and takes longer
-    return [new(Row, (numbers[at], numbers[at + 1], numbers[at + 2:at + size])) for at in range(0, len(numbers), size)]
+    return [new(Row, row) for row in zip(numbers[::size], numbers[1::size], _values(numbers, size))]
 
 
-def as_pairs(numbers: List[int], size: int) -> List[Tuple[int, List[int]]]:
+def as_pairs(numbers: Numbers, size: int) -> List[Tuple[int, List[int]]]:
     """The same as pairs of an id and its values."""
-    values = zip(*(numbers[place::size] for place in range(2, size)))
-    return list(zip(numbers[1::size], map(list, values)))
+    return list(zip(numbers[1::size], _values(numbers, size)))
 
 
-def rows_of(answer: bytes, width: int, make: Callable[[List[int], int], List[Made]]) -> List[Made]:
+def _values(numbers: Numbers, size: int) -> Iterator[List[int]]:
+    return map(list, zip(*(numbers[place::size] for place in range(2, size))))
+
+
+def rows_of(answer: bytes, width: int, make: Callable[[Numbers, int], List[Made]]) -> List[Made]:
     """What is made of the level, the id and the values of each row of an answer."""
     numbers, size = memoryview(answer).cast("q"), 2 + width
     piece = size * max(1, ANSWER_PIECE // size)
     if len(numbers) <= piece:
-        return make(numbers.tolist(), size)
+        return make(numbers, size)
     rows: List[Made] = []
-    looked, collects = 0, gc.isenabled()
+    collects = gc.isenabled()
     try:
-        # Rows are no garbage. Left to itself, the collector looks through all of them again and again while every thread waits; this looks at the new ones.
+        # Rows are no garbage. Left to itself, the collector looks through all of them again and again while every thread waits; this looks at the new ones,
+        # while they are near to the processor.
         gc.disable()
         for begin in range(0, len(numbers), piece):
-            rows += make(numbers[begin:begin + piece].tolist(), size)
-            if collects and (begin - looked >= LOOKED_THROUGH or begin + piece >= len(numbers)):
-                looked = begin
+            rows += make(numbers[begin:begin + piece], size)
+            if collects:
                 gc.collect(0)
             let_others_run()
     finally:
