@@ -53,8 +53,19 @@ class Interrupter:
             self.left -= 1
             if self.left == 0:
                 self.where = f"{os.path.basename(frame.f_code.co_filename)}, line {frame.f_lineno}"
-                raise Interruption
+                self.interrupts()
         return self
+
+    def interrupts(self):
+        raise Interruption
+
+
+class Handler(Interrupter):
+    """Calls a signal handler there, which returns."""
+
+    def __init__(self, place, handler):
+        super().__init__(place)
+        self.interrupts = handler
 
 
 @lru_cache(maxsize=None)
@@ -190,6 +201,49 @@ class Interrupted(TestCase):
                             self.assertEqual((why.number, name), (4, "scan"))
                     self.assertEqual(said, [3, 4])
                     self.assertEqual([row.id for row in table.best("best low(x)")], [1])
+
+    @unittest.skipIf(sys.version_info < (3, 11), "where Python calls signal handlers is known of 3.11 and later")
+    def test_a_refused_call_of_a_signal_handler_at_each_place_of_a_refused_call(self):
+        """Each has its own reason, though the library keeps that of the last one."""
+        with numbers(3, capacity=3) as table, numbers(5, block=5, capacity=5) as other, other.query("best low(x)") as query:
+            query.scan()
+
+            def handler():
+                with self.refuses(prefq.Refused, "no such row 77", kind="client", number=7):
+                    other.get(77)
+
+            calls = {"no such row 99": lambda: table.get(99), "no such row 98": lambda: table.update(98, [1]), "no such row 97": lambda: table.delete(97),
+                     "no such row 96": lambda: table.commit(("delete", 96)), "full": lambda: table.insert([1]), "full needed 5": lambda: table.insert_many([[1], [2]]),
+                     "no column 'y'": lambda: table.best("best low(y)"), "no column 'z'": lambda: table.query("best low(z)"), "all scanned": query.scan}
+            for text, call in calls.items():
+                with self.subTest(text):
+                    self.handled_at_each_place(call, handler, text)
+            self.assertEqual(len(table), 3)
+
+    def handled_at_each_place(self, call, handler, text):
+        for place in count(1):
+            interrupted = Handler(place, handler)
+            with self.refuses(prefq.Refused, text):
+                interrupted.runs(call)
+            if interrupted.where is None:
+                break
+        self.assertGreater(place, 5)
+
+    @unittest.skipIf(sys.version_info < (3, 11), "where Python calls signal handlers is known of 3.11 and later")
+    def test_a_query_that_a_signal_handler_begins_at_each_place_of_a_settlement(self):
+        """It keeps its client, which is that of a query that nobody uses any more."""
+        for place in count(1):
+            with numbers(5, clients=1) as table:
+                table.query("best low(x)")
+                begun = []
+                interrupted = Handler(place, lambda: begun.append(table.query("best pos(x, 22)")))
+                interrupted.runs(table.room)
+                if not begun:
+                    break
+                with self.subTest(interrupted.where):
+                    self.assertEqual(begun[0].answer().ids, [2])
+                    self.assertEqual(table.best("best high(x)").ids, [5])
+        self.assertGreater(place, 5)
 
     @unittest.skipIf(sys.version_info < (3, 10), "Python before 3.10 may lose a lock itself where the end of a with block is interrupted")
     def test_at_any_moment(self):

@@ -7,6 +7,8 @@ import ctypes
 import os
 import threading
 from ctypes import c_size_t, c_uint32, c_uint64, c_void_p
+from itertools import compress
+from operator import is_
 from typing import Any, Callable, Dict, List, Optional, Sequence, Tuple, TypeVar
 from weakref import ref
 
@@ -32,6 +34,15 @@ def _count_fork() -> None:
 
 
 os.register_at_fork(after_in_child=_count_fork)
+
+
+class _Last(threading.local):
+    """The words of the last call of this thread that the library may have refused."""
+
+    words: Tuple[Any, ...] = ()
+
+
+_last = _Last()
 
 
 class Asker:
@@ -85,10 +96,8 @@ class Engine:
         return engine
 
     def _open(self, call: Any, rows: int, *words: Any) -> None:
-        result = call(*words, self._pointer)
+        self._call(call, *words, self._pointer)
         self._rows = rows
-        if result:
-            raise self._wrong(result)
 
     # ---- the end ----
 
@@ -113,18 +122,38 @@ class Engine:
             self._ended = self._ended or CLOSED
             self._calls.prefq_end(self._pointer)
 
-    def _wrong(self, result: int, question: Optional[str] = None) -> Error:
-        """Why the last call of this thread has done nothing."""
-        if result == REFUSED and self._ended is None:
-            why: Refusal = self._calls.prefq_last_refusal()[0]
-            kind = KINDS[why.kind]
-            return Refused(why.text.decode(errors="replace"), kind, why.number or None, None if why.place < 0 else why.place, question if kind == "term" else None)
+    def _call(self, call: Any, *words: Any, question: Optional[str] = None) -> None:
+        """Makes a call of the library, or raises why it has done nothing."""
+        result = call(*words)
+        if result:
+            self._fail(result, call, words, question)
+
+    def _fail(self, result: int, call: Any, words: Tuple[Any, ...], question: Optional[str] = None) -> None:
+        """Raises why a call with these words has done nothing.
+
+        The library tells that of the last one of a thread alone, which may be that of a signal handler. So a call that is refused is made once more, until no
+        handler's comes before the refusal is read; where it is done then, that counts.
+        """
+        while result == REFUSED and self._ended is None:
+            _last.words = words
+            result = call(*words)
+            if result == OK:
+                return
+            refused = self._refused(question)
+            if result == REFUSED and _last.words is words:
+                raise refused
         if result == OUT_OF_MEMORY:
             # What it has done is not known.
             self._ended = self._ended or OUT_OF_MEMORY_SAID
             self._calls.prefq_end(self._pointer)
         self.check()
-        return Ended(self._calls.prefq_last_refusal()[0].text.decode(errors="replace"), "closed")
+        raise Ended(self._refused(question).args[0], "closed")
+
+    def _refused(self, question: Optional[str]) -> Refused:
+        """Why the last call of this thread was refused."""
+        why: Refusal = self._calls.prefq_last_refusal()[0]
+        kind = KINDS[why.kind]
+        return Refused(why.text.decode(errors="replace"), kind, why.number or None, None if why.place < 0 else why.place, question if kind == "term" else None)
 
     # ---- rows ----
 
@@ -146,7 +175,7 @@ class Engine:
             self.settle()
         result = self._calls.prefq_update(self._pointer, id, values, self._width)
         if result:
-            raise self._wrong(result)
+            self._fail(result, self._calls.prefq_update, (self._pointer, id, values, self._width))
 
     def delete(self, id: int) -> None:
         """Deletes a row."""
@@ -167,7 +196,7 @@ class Engine:
         values = self._row()
         result = self._calls.prefq_get(self._pointer, id, values, self._width)
         if result:
-            raise self._wrong(result)
+            self._fail(result, self._calls.prefq_get, (self._pointer, id, values, self._width))
         return values[:]
 
     def room(self) -> int:
@@ -175,9 +204,7 @@ class Engine:
         room = c_uint32()
         if self.queries:
             self.settle()
-        result = self._calls.prefq_room(self._pointer, room)
-        if result:
-            raise self._wrong(result)
+        self._call(self._calls.prefq_room, self._pointer, room)
         return room.value
 
     @property
@@ -197,14 +224,14 @@ class Engine:
             if self.queries:
                 self.settle()
             try:
-                result = call(*words)
-                if result == OK and self._rows is not None:
+                self._call(call, *words)
+                if self._rows is not None:
                     self._rows += more
+            except Error:
+                raise
             except BaseException:
                 self._rows = None
                 raise
-        if result:
-            raise self._wrong(result)
 
     # ---- queries; each is of a client ----
 
@@ -215,10 +242,17 @@ class Engine:
             for client, held in list(self.queries.items()):
                 asker = held()
                 if asker is None or not asker.is_wanted and not asker.is_used:
-                    # One that has ended before is refused, which does no harm.
-                    self._calls.prefq_abandon(self._pointer, client)
-                    if self.queries.get(client) is held:
-                        del self.queries[client]
+                    self._abandon(client, held)
+
+    def _abandon(self, client: int, held: "ref[Asker]") -> None:
+        """Ends a query, and gives its client back. One that has ended before is refused, which does no harm.
+
+        All of it is one step of iterators that are written in C: between two steps a signal handler may have done the same, and have begun a query of this client.
+        """
+        _last.words = ()
+        is_there = map(is_, map(self.queries.get, (client,)), (held,))
+        abandoned = map(self._calls.prefq_abandon, (self._pointer,), compress((client,), is_there))
+        list(map(self.queries.pop, (client,), abandoned))
 
     def is_open(self, asker: Asker) -> bool:
         """Whether a query may be used: nobody has abandoned it, and its client has no other one. The collector says that a query is gone before it runs the
@@ -259,30 +293,28 @@ class Engine:
                 asker.is_used = False
 
     def _ask(self, asker: Asker, question: str) -> bytes:
-        text, numbers, count = question.encode(), Numbers(), c_size_t()
-        result = self._calls.prefq_ask(self._pointer, asker.client, text, len(text), numbers, count)
-        if result:
-            del self.queries[asker.client]
-            raise self._wrong(result, question)
+        numbers, count = Numbers(), c_size_t()
+        self._call_with(question, asker, self._calls.prefq_ask, numbers, count)
         return self._answer(asker, numbers, count)
 
     def _begin(self, asker: Asker, question: str, left: c_uint32) -> None:
+        self._call_with(question, asker, self._calls.prefq_begin, left)
+
+    def _call_with(self, question: str, asker: Asker, call: Any, *results: Any) -> None:
+        """A call with a question. Where that is refused, the client is free again."""
         text = question.encode()
-        result = self._calls.prefq_begin(self._pointer, asker.client, text, len(text), left)
-        if result:
+        try:
+            self._call(call, self._pointer, asker.client, text, len(text), *results, question=question)
+        except Error:
             del self.queries[asker.client]
-            raise self._wrong(result, question)
+            raise
 
     def _scan(self, asker: Asker, blocks: int, left: c_uint32) -> None:
-        result = self._calls.prefq_scan(self._pointer, asker.client, blocks, left)
-        if result:
-            raise self._wrong(result)
+        self._call(self._calls.prefq_scan, self._pointer, asker.client, blocks, left)
 
     def _finish(self, asker: Asker) -> bytes:
         numbers, count = Numbers(), c_size_t()
-        result = self._calls.prefq_finish(self._pointer, asker.client, numbers, count)
-        if result:
-            raise self._wrong(result)
+        self._call(self._calls.prefq_finish, self._pointer, asker.client, numbers, count)
         return self._answer(asker, numbers, count)
 
     def _answer(self, asker: Asker, numbers: Any, count: c_size_t) -> bytes:
