@@ -124,6 +124,31 @@ class Schemas(OfRooms):
         self.are(frame, (1, 10), (2, 20))
 
 
+class Writes(OfRooms):
+    CHANGES = ["update rooms set price = price + 1 where id = {}", "update rooms set id = {1} where id = {0}", "delete from rooms where id = {}",
+               "insert into rooms values ({}, 5)"]
+
+    def test_a_change_costs_the_same_however_many_rows_were_changed_before(self):
+        for declared in ("integer", "text", ""):
+            with self.subTest(key=declared):
+                self.db.execute("drop table if exists rooms")
+                self.rooms(*((number, 10) for number in range(1000, 1500)), schema=f"create table rooms (id {declared} primary key, price int)")
+                unfollow(self.db, "rooms")
+                self.followed("rooms")
+                few = [self.steps(change, 1100, 2100) for change in self.CHANGES]
+                self.db.execute("update rooms set price = price + 1")
+                many = [self.steps(change, 1200, 2200) for change in self.CHANGES]
+                self.assertLess(max(more - less for less, more in zip(few, many)), 200)
+
+    def steps(self, change, *keys):
+        """How many instructions of SQLite a change takes."""
+        steps = []
+        self.db.set_progress_handler(lambda: steps.append(1), 1)
+        self.db.execute(change.format(*keys))
+        self.db.set_progress_handler(None, 1)
+        return len(steps)
+
+
 class Names(OfRooms):
     def added(self):
         """The names of what was added to the file."""

@@ -25,8 +25,9 @@ CHANGES = "prefq_changes"
 TRIGGERS = ("prefq_insert", "prefq_update", "prefq_delete")
 OF_NO_USER = ("sqlite_", f"{CHANGES}:")
 NOTES = "create table {notes} (number integer primary key autoincrement, key unique)"
-NOTE = "delete from {notes} where key = {row}.{key}; insert into {notes} (key) values ({row}.{key});"
-NEW_KEY = "delete from {notes} where key = new.{key} and not new.{key} = old.{key} collate binary; " \
+# A key is looked up among the notes by their index: with the affinity of the table's own column, which + takes away, all notes would be looked through.
+NOTE = "delete from {notes} where key = +{row}.{key}; insert into {notes} (key) values ({row}.{key});"
+NEW_KEY = "delete from {notes} where key = +new.{key} and not new.{key} = old.{key} collate binary; " \
           "insert into {notes} (key) select new.{key} where not new.{key} = old.{key} collate binary;"
 
 
@@ -87,7 +88,7 @@ class SqliteSource(Source):
             return Changes(place, False, {})
         notes, table, key = map(identifier, (self._notes, self.name, self._key))
         found = self._rows(f"select n.key, {self._names('t.')} from {notes} n left join {table} t on t.{key} = n.key where n.number > ?", since)
-        if any(noted is None for noted, *_ in found):
+        if any(row[0] is None for row in found):
             return None
         [(count,)] = self._rows(f"select count(*) from {table}")
         return Changes(place, False, dict(self._changed(found)), count)
@@ -98,11 +99,12 @@ class SqliteSource(Source):
 
     def _changed(self, found: Sequence[Sequence[Any]]) -> Iterator[Tuple[Key, Optional[Cells]]]:
         """The rows that are changed. By the table's own comparison another key may be equal to the one that is noted: then the noted one has gone."""
-        for noted, key, *cells in found:
+        for row in found:
+            noted, key = row[0], row[1]
             if key is not None:
                 self._checked(key)
             if isinstance(noted, (int, str)):
-                yield noted, cells if type(key) is type(noted) and key == noted else None
+                yield noted, row[2:] if type(key) is type(noted) and key == noted else None
 
     def _checked(self, key: Any) -> Key:
         if isinstance(key, (int, str)):
