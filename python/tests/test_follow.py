@@ -376,7 +376,7 @@ class Survives(OfSqlite):
         for dist in (3, 4):
             self.db.execute("update offers set dist = ?", (dist,))
             engine = frame._dealt.tables[0]._engine
-            engine._calls = Refusing(engine._calls, "prefq_update")
+            engine._calls = Refusing(engine._calls, "prefq_commit")
             self.assertEqual([(row.id, row.dist) for row in frame.best(QUESTION)], [(1, dist)])
             self.assertIsNot(frame._dealt.tables[0]._engine, engine)
 
@@ -398,14 +398,14 @@ class Survives(OfSqlite):
             return unittest.mock.DEFAULT
 
         self.db.execute("update offers set price = 60")
-        with unittest.mock.patch("prefq.dealt.Shard.change", side_effect=handler, return_value=[]):
+        with unittest.mock.patch("prefq.dealt.Shard.update", side_effect=handler, return_value=[]):
             frame.refresh()
         self.assertEqual(said, [True])
 
     def test_changes_that_are_interrupted_are_not_seen_by_halves(self):
         frame = self.offers(*((number, "x", number, 9 - number) for number in range(10)), capacity=4)
         self.db.execute("update offers set price = price + 1")
-        with unittest.mock.patch("prefq.dealt.Shard.change", side_effect=[[], KeyboardInterrupt]):
+        with unittest.mock.patch("prefq.dealt.Shard.update", side_effect=[[], KeyboardInterrupt]):
             with self.assertRaises(KeyboardInterrupt):
                 frame.refresh()
         self.are(frame, *((number, "x", number + 1, 9 - number) for number in range(10)))

@@ -29,7 +29,7 @@ SECONDS = float(os.environ.get("PREFQ_TEST_SECONDS", 3))
 SEED = int(os.environ.get("PREFQ_TEST_SEED", 20260501))
 KEYS, NUMBERS = range(30), range(20)
 FOLLOWERS = 3
-LONGEST = 1.0       # seconds that a follower lives after its begin
+LONGEST = 0.7       # seconds that a follower lives after its begin, or after some answers
 PAUSE = 0.02        # seconds at most between two transactions of a writer
 OFFERS = "create table offers (id integer primary key, hotel text, price integer, dist integer)"
 COLUMNS = ("hotel", "price", "dist")
@@ -230,23 +230,23 @@ class Killed(TestCase):
             paths = [os.path.join(folder, str(number)) for number in range(FOLLOWERS)]
             followers = [self.begun([table.client, json.dumps(table.words), asked, str(chance.random())], path) for path in paths]
             for follower, path in zip(followers, paths):
-                while not os.path.getsize(path) and follower.poll() is None:
-                    time.sleep(0.002)
+                least = chance.choice([0, 0, 1, 10])
+                while len(self.lines(path)) < 1 + least and follower.poll() is None:
+                    time.sleep(0.005)
                 time.sleep(chance.uniform(0, LONGEST))
                 follower.kill()
                 _, why = follower.communicate()
                 self.assertEqual((follower.returncode, why), (-signal.SIGKILL, b""))
-            return sorted(answer for path in paths for answer in self.lines(path))
+            return sorted(json.loads(line) for path in paths for line in self.lines(path)[1:])
 
     def begun(self, words, path):
         with open(path, "wb") as out:
             return subprocess.Popen([sys.executable, "-c", FOLLOWS, *words], stdout=out, stderr=subprocess.PIPE)
 
     def lines(self, path):
-        """The answers of a follower. Of the last line there may be a part."""
+        """What a follower has said. Of the last line there may be a part."""
         with open(path) as file:
-            _, *lines = file.read().split("\n")
-        return map(json.loads, lines[:-1])
+            return file.read().split("\n")[:-1]
 
     def compare(self, table, answers):
         wanted = {}

@@ -3,21 +3,24 @@
 Whoever changes the rows or begins a question holds one lock meanwhile (that of `Followed`), so a question begins on all tables between two changes.
 """
 import os
-from collections import deque
+from array import array
+from collections import defaultdict, deque
 from concurrent.futures import ThreadPoolExecutor
 from contextlib import ExitStack
 from itertools import chain
-from typing import Any, Callable, Deque, Dict, List, Mapping, NamedTuple, Optional, Sequence, Tuple, TypeVar, Union
+from typing import Any, Callable, Deque, Dict, Iterable, List, Mapping, NamedTuple, Optional, Sequence, Tuple, TypeVar, Union
 
 from .checks import MOST_ROWS
 from .columns import Column
+from .engine import BYTES, VERBS
 from .errors import Refused
+from .library import Change
 from .loading import check_width
 from .opened import is_outgrown, size_of_code_books, texts_last
 from .query import Query
 from .reading import check_names
 from .rows import Zipped
-from .table import Table
+from .table import IN_COMMIT, Table
 
 Key = Union[int, str]
 Numbers = Sequence[int]
@@ -25,6 +28,7 @@ Row = TypeVar("Row")
 FULL = ("client", 8)
 # How much of a table rows may fill, which leaves room for their next versions.
 FILLED = 7 / 8
+UPDATE = bytes(Change(VERBS["update"]))
 
 
 class Found(NamedTuple):
@@ -52,14 +56,26 @@ class Shard:
         self.keys.update(zip(inside, keys))
         return inside
 
-    def change(self, rows: Sequence[Tuple[int, Optional[Numbers]]]) -> List[int]:
-        """Gives the rows with these ids these numbers, and deletes those that have none. Returns the ids of those that had to be deleted in place of an update,
-        since the table has no room for their new versions."""
-        moved: List[int] = []
-        for inside, numbers in rows:
-            if numbers is None:
-                self.table.delete(inside)
-            elif not self._update(inside, numbers):
+    def update(self, ids: Sequence[int], rows: Sequence[Numbers]) -> List[int]:
+        """Gives the rows with these ids these numbers. Returns the ids of those that had to be deleted in place of an update, since the table has no room for their
+        new versions."""
+        numbers = array("q", list(chain.from_iterable(rows)))
+        changes, moved = updates(ids, numbers), []
+        for begin in range(0, len(ids), IN_COMMIT):
+            some = slice(begin, begin + IN_COMMIT)
+            try:
+                self.table._engine.update_together(changes[begin], len(ids[some]))
+            except Refused as why:
+                if (why.kind, why.number) != FULL:
+                    raise
+                moved += self._update_each(ids[some], rows[some])
+        return moved
+
+    def _update_each(self, ids: Sequence[int], rows: Sequence[Numbers]) -> List[int]:
+        """The same where there is no room for all of them."""
+        moved = []
+        for inside, numbers in zip(ids, rows):
+            if not self._update(inside, numbers):
                 self.table.delete(inside)
                 moved.append(inside)
         return moved
@@ -73,6 +89,15 @@ class Shard:
                 raise
             return False
         return True
+
+
+def updates(ids: Sequence[int], numbers: "array[int]") -> Any:
+    """The updates of rows with these ids as the library takes them, as long as their numbers stay where they are."""
+    address, size = numbers.buffer_info()
+    changes = array("Q", UPDATE * len(ids))     # of each its verb, the id, and where the numbers are
+    changes[1::3] = array("Q", ids)
+    changes[2::3] = array("Q", range(address, address + BYTES * size, BYTES * size // len(ids)))
+    return (Change * len(ids)).from_buffer(changes)
 
 
 class Dealt:
@@ -121,10 +146,6 @@ class Dealt:
         """Whether the code books may be mostly texts that no row has any more."""
         return is_outgrown(self.columns, self._code_books, len(self))
 
-    def has(self, key: Key) -> bool:
-        """Whether there is a row with this key."""
-        return key in self._places
-
     def get(self, key: Key) -> Optional[Numbers]:
         """The numbers of a row, None where there is none."""
         if key not in self._places:
@@ -132,26 +153,29 @@ class Dealt:
         shard, inside = self._places[key]
         return shard.table.get(inside)
 
-    def change(self, rows: Mapping[Key, Optional[Numbers]]) -> None:
-        """Gives the rows with these keys these numbers, adds those that are not there, and deletes those that have none."""
+    def count_with(self, rows: Iterable[Key], gone: Iterable[Key]) -> int:
+        """How many rows there are once these are written, and those have gone."""
+        return len(self) + sum(key not in self._places for key in rows) - sum(key in self._places for key in gone)
+
+    def change(self, rows: Mapping[Key, Numbers], gone: Iterable[Key] = ()) -> None:
+        """Gives the rows with these keys these numbers, adds those that are not there, and deletes others, which have gone."""
         self._changes += 1
         self._forget()
-        changes: Dict[Shard, List[Tuple[int, Optional[Numbers]]]] = {}
-        for key, numbers in rows.items():
-            if key not in self._places:
-                continue
-            shard, inside = self._places[key]
-            changes.setdefault(shard, []).append((inside, numbers))
-            if numbers is None:
+        for key in gone:
+            if key in self._places:
+                shard, inside = self._places[key]
+                shard.table.delete(inside)
                 self._has_gone(key)
-        for shard, some in changes.items():
-            for inside in shard.change(some):
-                self._has_gone(shard.keys[inside])
-        self._insert({key: numbers for key, numbers in rows.items() if numbers is not None and key not in self._places})
+        there, new = self._by_shards(rows)
+        for shard, (ids, some) in there.items():
+            for key in map(shard.keys.__getitem__, shard.update(ids, some)):
+                self._has_gone(key)
+                new[key] = rows[key]
+        self._insert(new)
 
     def clear(self) -> None:
         """Deletes all rows."""
-        self.change(dict.fromkeys(self._places))
+        self.change({}, list(self._places))
 
     def begin_all(self) -> "Begun":
         """Begins a question on all tables whose answer has all rows. No row may change meanwhile."""
@@ -179,6 +203,19 @@ class Dealt:
         shard = Shard(list(self.below.values()), keys, rows, {"capacity": capacity, **self._options})
         self._shards.append(shard)
         self._places.update((key, (shard, inside)) for inside, key in shard.keys.items())
+
+    def _by_shards(self, rows: Mapping[Key, Numbers]) -> Tuple[Dict[Shard, Tuple[List[int], List[Numbers]]], Dict[Key, Numbers]]:
+        """The rows that are there, as their ids and numbers in each table; and those that are new."""
+        there: Dict[Shard, Tuple[List[int], List[Numbers]]] = defaultdict(lambda: ([], []))
+        new: Dict[Key, Numbers] = {}
+        for (key, numbers), place in zip(rows.items(), map(self._places.get, rows)):
+            if place is None:
+                new[key] = numbers
+                continue
+            ids, some = there[place[0]]
+            ids.append(place[1])
+            some.append(numbers)
+        return there, new
 
     def _insert(self, rows: Mapping[Key, Numbers]) -> None:
         """Adds rows where there is room, and opens further tables for the rest."""

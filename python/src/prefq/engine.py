@@ -191,6 +191,10 @@ class Engine:
         self._change(more, self._calls.prefq_commit, self._pointer, made, len(changes), self._width, first)
         return first.value
 
+    def update_together(self, changes: Change, count: int) -> None:
+        """Makes so many updates at one moment, of which this is the first one, with the others behind it."""
+        self._change(0, self._calls.prefq_commit, self._pointer, changes, count, self._width, c_uint64())
+
     def get(self, id: int) -> List[int]:
         """The values of a row."""
         values = self._row()

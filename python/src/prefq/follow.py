@@ -14,9 +14,9 @@ from .columns import Column
 from .dealt import Begun, Dealt, Found, Key, Numbers, ordered
 from .dealt_questions import Asked, asked_of, moment_of_pairs
 from .errors import Ended, Refused
-from .follow_source import UNCHANGED, Cells, Changes, Source
+from .follow_source import Changes, Source
 from .kept import Kept
-from .keyed_values import column_at_keys, keeps_its_kind
+from .keyed_values import column_at_keys, numbers_of_rows
 from .loading import check_known, decoded
 from .preferences import Asked as AskedFor, Operand, text_asked
 from .records import Record
@@ -349,19 +349,18 @@ class Followed:
 
     def _change(self, dealt: Dealt, changes: Changes) -> bool:
         try:
-            rows = {key: None if cells is None else self._numbers(dealt, key, cells) for key, cells in changes.rows.items()}
+            rows = numbers_of_rows(dealt, {key: cells for key, cells in changes.rows.items() if cells is not None})
         except (TypeError, ValueError):
             return False        # where it is refused, if need be
-        before = 0 if changes.is_cleared else len(dealt)
-        had = {key for key in rows if not changes.is_cleared and dealt.has(key)}
-        if changes.total not in (None, before - len(had) + sum(numbers is not None for numbers in rows.values())):
+        gone = [key for key, cells in changes.rows.items() if cells is None]
+        if changes.total not in (None, dealt.count_with(rows, gone)):
             return False
         self._is_whole = False
         if changes.is_cleared:
             dealt.clear()
-        if rows:
-            dealt.change(rows)
-        if rows or changes.is_cleared:
+        if changes.rows:
+            dealt.change(rows, gone)
+        if changes.rows or changes.is_cleared:
             self._count_change()
         self.at, self._is_whole = changes.place, True
         return True
@@ -369,21 +368,6 @@ class Followed:
     def _count_change(self) -> None:
         self.version += 1
         self._kept.drop()
-
-    def _numbers(self, dealt: Dealt, key: Key, cells: Cells) -> Numbers:
-        """The numbers of a row."""
-        numbers = [0] * len(cells)
-        before = dealt.get(key) if UNCHANGED in cells else None
-        for place in dealt.order:
-            if cells[place] is UNCHANGED:
-                if before is None:
-                    raise ValueError(f"key {key!r} has a value that was never seen")
-                numbers[place] = before[place]
-            elif keeps_its_kind(dealt.columns[place], cells[place]):
-                numbers[place] = dealt.columns[place].encode(cells[place])
-            else:
-                raise TypeError(f"key {key!r} has {cells[place]!r}, for which the column has another kind")
-        return numbers
 
     def _read_everything(self) -> None:
         """Reads the table, and opens tables with its rows in place of those before. Until then these stay as they are."""

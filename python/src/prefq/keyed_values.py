@@ -1,12 +1,13 @@
 """Values of a column with the keys of their rows: the column that takes them, or what is wrong with the first one, said with its key."""
-from typing import Any, Dict, Optional, Sequence, Tuple
+from typing import Any, Collection, Dict, Mapping, Optional, Sequence, Tuple
 
 from .columns import Column
-from .dealt import Key
+from .dealt import Dealt, Key, Numbers
 from .errors import Refused
+from .follow_source import UNCHANGED, Cells, Unchanged
 from .infer import kind_of_values
 from .kinds import Floats, Whole
-from .loading import column_of_values, encoded
+from .loading import column_of_values, encoded, plain_whole_numbers
 
 # Of which values a kind was taken; another one was taken of texts.
 TYPES: Dict[Any, Any] = {Whole: int, Floats: (int, float)}
@@ -22,9 +23,37 @@ def column_at_keys(name: str, values: Sequence[Any], column: Optional[Column], k
         raise Refused(_of_no_kind(name, values, keys) or str(why), "follow") from None
 
 
-def keeps_its_kind(column: Column, cell: Any) -> bool:
-    """Whether a column whose kind was taken from its values has the same one with this value."""
-    return cell is None or not column.grows or isinstance(cell, TYPES.get(type(column.kind), str))
+def numbers_of_rows(dealt: Dealt, rows: Mapping[Key, Cells]) -> Mapping[Key, Numbers]:
+    """The numbers of rows by their values. A value that a column does not take, or for which it would have another kind, is a `ValueError` or a `TypeError`."""
+    cells = list(zip(*rows.values())) or [()] * len(dealt.columns)
+    found = {place: _numbers_of_column(dealt, place, list(rows), cells[place]) for place in dealt.order}
+    return dict(zip(rows, zip(*(found[place] for place in range(len(cells))))))
+
+
+def _numbers_of_column(dealt: Dealt, place: int, keys: Sequence[Key], cells: Sequence[Any]) -> Sequence[int]:
+    column, types = dealt.columns[place], set(map(type, cells))
+    if Unchanged in types:
+        others = iter(_numbers_of_column(dealt, place, keys, [cell for cell in cells if cell is not UNCHANGED]))
+        return [_number_before(dealt, place, key) if cell is UNCHANGED else next(others) for key, cell in zip(keys, cells)]
+    if not _keeps_its_kind(column, types):
+        raise TypeError(f"column {column.name!r} has another kind with these values")
+    numbers = plain_whole_numbers(cells) if type(column.kind) is Whole else None
+    if numbers is None:
+        return encoded(column, cells)
+    column.has_gaps = column.has_gaps or type(None) in types
+    return numbers
+
+
+def _number_before(dealt: Dealt, place: int, key: Key) -> int:
+    before = dealt.get(key)
+    if before is None:
+        raise ValueError(f"key {key!r} has a value that was never seen")
+    return before[place]
+
+
+def _keeps_its_kind(column: Column, types: Collection[type]) -> bool:
+    """Whether a column whose kind was taken from its values has the same one with values of these types."""
+    return not column.grows or all(issubclass(found, (type(None), TYPES.get(type(column.kind), str))) for found in types)
 
 
 def _at_its_key(column: Column, values: Sequence[Any], keys: Sequence[Key]) -> str:
