@@ -1,15 +1,8 @@
-"""Frames that follow a table of SQLite.
-
-The more PREFQ_TEST_COUNT is, the more followers are killed; PREFQ_TEST_SEED begins other places.
-"""
+"""Frames that follow a table of SQLite."""
 import asyncio
 import os
 import pickle
-import random
-import signal
 import sqlite3
-import subprocess
-import sys
 import tempfile
 import threading
 import time
@@ -29,13 +22,6 @@ QUESTIONS = int(os.environ.get("PREFQ_TEST_COUNT", 1000))
 SEED = int(os.environ.get("PREFQ_TEST_SEED", 20260501))
 OFFERS = "create table offers (id integer primary key, hotel text, price integer, dist integer)"
 QUESTION = "best low(price) * low(dist)"
-FOLLOWS = """
-import sqlite3, sys, prefq
-print("begun", flush=True)
-while True:
-    with prefq.Frame.follow(sqlite3.connect(sys.argv[1]), "offers") as frame:
-        frame.best("best low(price) * low(dist)")
-"""
 
 
 class OfSqlite(TestCase):
@@ -336,24 +322,6 @@ class Refusals(OfSqlite):
         self.db.execute("update offers set price = 'y'")
         self.assertEqual([row.price for row in frame], ["y", "y"])
 
-    def test_a_schema_that_is_changed(self):
-        frame = self.offers((1, "Quay", 50, 8))
-        self.db.execute("alter table offers add column stars int")
-        self.db.execute("create table others (x)")
-        self.are_ids(frame, 1)
-        self.db.execute("alter table offers rename column price to cost")
-        for _ in range(2):
-            with self.refuses(prefq.Refused, "table 'offers' was changed: column 'price' is not there any more. Follow it again", kind="follow"):
-                frame.best(QUESTION)
-        self.db.execute("alter table offers rename column cost to price")
-        self.are_ids(frame, 1)
-        self.db.execute("drop table offers")
-        with self.refuses(prefq.Refused, "table 'offers' was changed: column 'id' is not there any more", kind="follow"):
-            frame.best(QUESTION)
-        self.db.execute(OFFERS.replace("price integer", "price text"))
-        with self.refuses(prefq.Refused, "column 'price' has the type 'text' now, and had 'integer'", kind="follow"):
-            frame.best(QUESTION)
-
     def are_ids(self, frame, *ids):
         self.assertEqual(frame.best(QUESTION).ids, list(ids))
 
@@ -439,15 +407,3 @@ class Survives(OfSqlite):
         frame.close()
         with self.refuses(prefq.Ended, "the frame was closed", kind="closed"):
             frame.best(QUESTION)
-
-    def test_followers_that_are_killed_at_random_places(self):
-        chance = random.Random(SEED)
-        frame = self.offers(*((number, "x", number, -number) for number in range(50)))
-        for _ in range(max(1, QUESTIONS // 200)):
-            with subprocess.Popen([sys.executable, "-c", FOLLOWS, str(self.path)], stdout=subprocess.PIPE, start_new_session=True) as follower:
-                follower.stdout.readline()
-                time.sleep(chance.uniform(0, 0.3))
-                self.db.execute("update offers set price = ? where id = ?", (chance.randrange(50), chance.randrange(50)))
-                os.killpg(follower.pid, signal.SIGKILL)
-            self.are(frame, *self.db.execute("select * from offers order by id").fetchall())
-        self.assertEqual(self.db.execute("pragma integrity_check").fetchone(), ("ok",))

@@ -1,15 +1,10 @@
 """Frames that follow a table of PostgreSQL, on a server of the tests' own.
 
-PREFQ_TEST_COUNT is how many questions are asked between random transactions, PREFQ_TEST_SECONDS how long four writers write, and PREFQ_TEST_SEED begins others.
+PREFQ_TEST_COUNT is how many questions are asked between random transactions, and PREFQ_TEST_SEED begins others.
 """
 import datetime
 import os
 import random
-import re
-import signal
-import subprocess
-import sys
-import threading
 import time
 import unittest
 import warnings
@@ -27,19 +22,10 @@ from random_following import KEY, TABLE, Store, quoted
 from support import TestCase
 
 QUESTIONS = int(os.environ.get("PREFQ_TEST_COUNT", 1000))
-SECONDS = float(os.environ.get("PREFQ_TEST_SECONDS", 3))
 SEED = int(os.environ.get("PREFQ_TEST_SEED", 20260501))
 QUESTIONS_OF_A_TABLE = 20
 OFFERS = "create table offers (id integer primary key, hotel text, price integer, dist integer)"
 QUESTION = "best low(price) * low(dist)"
-FOLLOWS = """
-import importlib, sys, prefq
-connect = importlib.import_module(sys.argv[2]).connect
-print("begun", flush=True)
-while True:
-    with prefq.Frame.follow(connect(host=sys.argv[1], user="postgres", dbname="postgres"), "offers") as frame:
-        frame.best("best low(price) * low(dist)")
-"""
 
 
 def setUpModule():
@@ -296,18 +282,6 @@ class Refusals(OfPostgres):
         self.assertEqual(frame.best("best low(price)").ids, [2])
         self.run_sql("vacuum full offers")
         self.are_ids(frame, 2)
-        self.run_sql("alter table offers rename column price to cost")
-        for _ in range(2):
-            with self.refuses(prefq.Refused, "table public.offers was changed: column 'price' is not there any more. Follow it again", kind="follow"):
-                frame.best(QUESTION)
-        self.run_sql("alter table offers rename column cost to price")
-        self.are_ids(frame, 2)
-        self.run_sql("alter table offers alter price type bigint")
-        with self.refuses(prefq.Refused, "column 'price' has the type bigint now, and had integer", kind="follow"):
-            frame.best(QUESTION)
-        self.run_sql("drop table offers")
-        with self.refuses(prefq.Refused, "there is no table 'offers'", kind="follow"):
-            frame.best(QUESTION)
 
     def are_ids(self, frame, *ids):
         self.assertEqual(frame.best("best low(price)").ids, list(ids))
@@ -344,83 +318,6 @@ class Survives(OfPostgres):
         frame._dealt.tables[0].close()
         self.run_sql("insert into offers values (2, 'Ritz', 90, 2)")
         self.assertEqual(frame.best(QUESTION).ids, [1, 2])
-
-    def test_followers_that_are_killed_at_random_places(self):
-        chance = random.Random(SEED)
-        frame = self.offers(*((number, "x", number, -number) for number in range(20)))
-        for _ in range(max(1, QUESTIONS // 200)):
-            words = [sys.executable, "-c", FOLLOWS, self.server.folder, postgres.clients()[0].__name__]
-            with subprocess.Popen(words, stdout=subprocess.PIPE, start_new_session=True) as follower:
-                follower.stdout.readline()
-                time.sleep(chance.uniform(0, 0.3))
-                self.run_sql("update offers set price = %s where id = %s", chance.randrange(50), chance.randrange(20))
-                os.killpg(follower.pid, signal.SIGKILL)
-            self.are_as_in_the_table(frame)
-
-
-class FourWriters(OfPostgres):
-    CELL = re.compile(r"(id|price|dist)\[integer\]:(-?\d+)")
-
-    def test_every_answer_is_that_of_the_table_at_its_place(self):
-        frame = self.offers(*((number, "x", number, number * 7 % 30) for number in range(30)), capacity=16)
-        self.run_sql("select pg_create_logical_replication_slot('second', 'test_decoding')")
-        self.addCleanup(self.run_sql, "select pg_drop_replication_slot('second')")
-        rows = {id: {"price": price, "dist": dist} for id, _, price, dist in self.run_sql("select * from offers")}
-        stop, failures, answers, made = threading.Event(), [], [], []
-        threads = [threading.Thread(target=self.write, args=(SEED + number, stop, failures, made)) for number in range(4)]
-        for thread in threads:
-            thread.start()
-        end = time.monotonic() + SECONDS
-        while time.monotonic() < end and not failures:
-            answer = frame.best(QUESTION)
-            answers.append((answer.at, answer.ids))
-        stop.set()
-        for thread in threads:
-            thread.join()
-        self.assertEqual(failures, [])
-        self.compare(rows, answers)
-        self.are_as_in_the_table(frame)
-        print(f"{len(made)} transactions of four writers, {len(answers)} answers", file=sys.stderr)
-
-    def write(self, seed, stop, failures, made):
-        chance = random.Random(seed)
-        try:
-            with closing(self.server.connected()) as db:
-                while not stop.is_set():
-                    changes = "; ".join(self.change(chance) for _ in range(chance.randrange(1, 6)))
-                    db.cursor().execute(f"begin; lock table offers in row exclusive mode; {changes}; {'commit' if chance.random() < 0.9 else 'rollback'}")
-                    made.append(1)
-                    time.sleep(chance.uniform(0, 0.02))
-        except Exception as why:        # which the test reports
-            if "deadlock" not in str(why):
-                failures.append(why)
-
-    def change(self, chance):
-        key, price, dist = chance.randrange(60), chance.randrange(40), chance.randrange(40)
-        if chance.random() < 0.7:
-            return f"insert into offers values ({key}, 'x', {price}, {dist}) on conflict (id) do update set price = excluded.price, dist = excluded.dist"
-        return f"delete from offers where id = {key}"
-
-    def compare(self, rows, answers):
-        """By a slot of the test's own, whose lines are read in another way."""
-        log = self.run_sql("select lsn::text, data from pg_logical_slot_get_changes('second', null, null)")
-        commits, open_ = [], []
-        for lsn, line in log:
-            if line.startswith("COMMIT"):
-                commits.append((place_of(lsn), open_))
-                open_ = []
-            elif line.startswith("table public.offers: "):
-                open_.append(("DELETE" in line.split(":")[1], {name: int(value) for name, value in self.CELL.findall(line)}))
-        term, at = Pareto("", [Low("price", ""), Low("dist", "")]), 0
-        for place, ids in answers:
-            while at < len(commits) and commits[at][0] <= place:
-                for is_gone, cells in commits[at][1]:
-                    key = cells.pop("id")
-                    rows.pop(key, None)
-                    if not is_gone:
-                        rows[key] = cells
-                at += 1
-            self.assertEqual([id for _, id in Ask("", term, levels=1).answer(rows)], ids)
 
 
 class StoreOfPostgres(Store):

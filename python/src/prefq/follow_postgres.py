@@ -16,7 +16,7 @@ from .columns import Column
 from .decoding import WHOLE, Layout, Log, place_of
 from .dealt import Key
 from .errors import Refused
-from .follow_source import UNCHANGED, Cells, Changes, Everything, Source, client_of
+from .follow_source import UNCHANGED, Cells, Changes, Everything, Source, check_columns, client_of, identifier
 from .hints import unknown_column
 from .infer import kind_of_texts
 from .kinds import Booleans, Clock, Dates, Decimals, Floats, Kind, Texts, Times, Whole
@@ -244,10 +244,7 @@ class PostgresSource(Source):
         if (oid, name) != (self._oid, self.name):
             raise Refused(f"table {self.name} is another one now. Follow it again", "follow")
         there = self._there()
-        for column, declared in self._declared.items():
-            if there.get(column) != declared:
-                now = f"has the type {there[column][1]} now, and had {declared[1]}" if column in there else "is not there any more"
-                raise Refused(f"table {self.name} was changed: column {column!r} {now}. Follow it again", "follow")
+        check_columns(self.name, self._declared, there, lambda declared: declared[1])
         self._check_key(there, replident)
         return self._schema_of(oid)
 
@@ -330,7 +327,3 @@ def output(name: str) -> str:
     """A column as the output function of its type gives it, by which the log has it too: a cast to text gives another text for some types."""
     return f"case num_nulls({identifier(name)}) when 0 then format('%s', {identifier(name)}) end"
 
-
-def identifier(name: str) -> str:
-    """A name as SQL has it, whatever it is."""
-    return '"' + name.replace('"', '""') + '"'

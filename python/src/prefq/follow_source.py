@@ -1,9 +1,10 @@
 """Where a followed frame has its rows from: a table of a database, which is read as of a place in the order of the database's commits."""
-from typing import Any, Collection, Mapping, NamedTuple, Optional, Sequence, Tuple
+from typing import Any, Callable, Collection, Mapping, NamedTuple, Optional, Sequence, Tuple
 
 from .checks import MOST, whole
 from .columns import Column
 from .dealt import Key
+from .errors import Refused
 
 Cells = Sequence[Any]
 
@@ -81,6 +82,19 @@ def source_of(connection: Any, table: str, key: str, columns: Optional[Sequence[
         from .follow_postgres import PostgresSource
         return PostgresSource(connection, table, key, columns, kinds)
     raise TypeError(f"connection is of type {type(connection).__name__}: not a connection of sqlite3, psycopg2 or psycopg")
+
+
+def check_columns(table: str, followed: Mapping[str, Any], there: Mapping[str, Any], shown: Callable[[Any], str]) -> None:
+    """Refuses a table some of whose columns that are followed have gone, or have another type."""
+    for name, declared in followed.items():
+        if there.get(name) != declared:
+            now = f"has the type {shown(there[name])} now, and had {shown(declared)}" if name in there else "is not there any more"
+            raise Refused(f"table {table} was changed: column {name!r} {now}. Follow it again", "follow")
+
+
+def identifier(name: str) -> str:
+    """A name as SQL has it, whatever it is."""
+    return '"' + name.replace('"', '""') + '"'
 
 
 def client_of(connection: Any) -> str:

@@ -13,7 +13,7 @@ from urllib.parse import quote
 from .columns import Column
 from .dealt import Key
 from .errors import Refused
-from .follow_source import Cells, Changes, Everything, Source
+from .follow_source import Cells, Changes, Everything, Source, check_columns, identifier
 from .hints import nearest, unknown_column
 from .kinds import Floats, Texts, Whole
 from .loading import chosen
@@ -134,11 +134,8 @@ class SqliteSource(Source):
 
     def _check_table(self) -> None:
         """Refuses a table whose columns that are followed are not those that they were, or whose key is none any more."""
-        there = types_of(self._db, self.name)
-        for name, declared in self._followed.items():
-            if there.get(name) != declared:
-                now = f"has the type {there[name]!r} now, and had {declared!r}" if name in there else "is not there any more"
-                raise Refused(f"table {self.name!r} was changed: column {name!r} {now}. Follow it again", "follow")
+        there = types_of(self._db, table_named(self._db, self.name))
+        check_columns(repr(self.name), self._followed, there, repr)
         self._check_key(there)
 
     def _kinds(self) -> Dict[str, Column]:
@@ -232,11 +229,6 @@ def end_transaction(db: sqlite3.Connection) -> None:
     """Takes back what is not committed."""
     if db.in_transaction:
         db.execute("rollback")
-
-
-def identifier(name: str) -> str:
-    """A name as SQL has it, whatever it is."""
-    return '"' + name.replace('"', '""') + '"'
 
 
 def connected_as(connection: sqlite3.Connection) -> sqlite3.Connection:
