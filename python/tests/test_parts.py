@@ -300,7 +300,7 @@ class Refusals(unittest.TestCase):
             best([], "best low(price)")
         with self.assertRaises(prefq.Refused) as caught:
             best([Partition(["a", "b"], [[1, 2]]), Partition(["a", "c"], [[1, 2]])], "best low(a)")
-        self.assertIn("different columns: a, b and a, c", str(caught.exception))
+        self.assertIn("different columns: a, b in partition 1 and a, c in partition 2", str(caught.exception))
 
     def test_one_partition_in_place_of_a_list(self):
         class Frame:

@@ -9,6 +9,7 @@ import io
 import os
 import pickle
 import random
+import sqlite3
 import tempfile
 import unittest
 import warnings
@@ -138,7 +139,7 @@ class Together(TestCase):
         ]:
             with self.subTest(columns=columns):
                 self.assertEqual(self.values(*columns), (values, kind))
-        with self.refuses(prefq.Refused, "column 'x' is time in a partition and time(UTC) in a partition", kind="table"):
+        with self.refuses(prefq.Refused, "column 'x' is time in partition 1 and time(UTC) in partition 2", kind="table"):
             self.values([NOON], [NOON.replace(tzinfo=utc)])
 
     def test_times_of_pandas(self):
@@ -148,7 +149,7 @@ class Together(TestCase):
         answer = best([stamps, Partition(["x"], [[NOON]]), Partition(["x"], [[DAY]])], "top_level 9 low(x)")
         self.assertEqual(answer.ids, [4, 3, 1, 2])
         self.assertEqual([row.x for row in answer][:3], [pandas.Timestamp(DAY), pandas.Timestamp(NOON), stamps["x"][0]])
-        with self.refuses(prefq.Refused, "column 'x' is date in a partition, and time in another part"):
+        with self.refuses(prefq.Refused, "column 'x' is date in partition 2, and time in another part"):
             best([stamps, Partition(["x"], [[datetime.date(1, 1, 1)]])], "best low(x)")
 
     def test_code_books_of_their_own(self):
@@ -157,10 +158,52 @@ class Together(TestCase):
         self.assertEqual(self.values(*columns, question="best pos(x, 'nowhere') by x")[0], ["Lyon", "Bern", None, "Köln", "Lyon", "Bern"])
 
     def test_kinds_that_do_not_go_together(self):
-        for columns, said in [(([1], ["Lyon"]), "whole in a partition and text in a partition"), (([True], [1]), "bool in a partition and whole"),
-                              (([DAY], [1]), "date in a partition and whole"), (([datetime.time(1)], [DAY]), "clock in a partition and date")]:
+        for columns, said in [(([1], ["Lyon"]), "whole in partition 1 and text in partition 2"), (([True], [1]), "bool in partition 1 and whole"),
+                              (([DAY], [1]), "date in partition 1 and whole"), (([datetime.time(1)], [None], [DAY]), "clock in partition 1 and date in partition 3")]:
             with self.subTest(columns=columns), self.refuses(prefq.Refused, "column 'x' is ", said, "give it by kinds", kind="table"):
                 best([Partition(["x", "y"], [[value, 1] for value in values]) for values in columns], "best low(y) by x")
+
+    def test_kinds_of_rows_that_come_by_a_cursor_or_as_records(self):
+        """They are called by the part of the rows in which they are."""
+        rows = [[number] for number in range(prefq.checks.MOST_ROWS)] + [["x"], [None]]
+        db = sqlite3.connect(":memory:")
+        self.addCleanup(db.close)
+        db.execute("create table some (x)")
+        db.executemany("insert into some values (?)", rows)
+        for source in (db.execute("select x from some order by rowid"), [{"x": row[0]} for row in rows]):
+            with self.refuses(prefq.Refused, "column 'x' is whole in part 1 (rows 1 to 65536) and text in part 2 (rows 65537 to 65538)", kind="table"):
+                prefq.psel(source, "pos(x, 5)")
+        with self.refuses(ValueError, "part 2 (rows 65537 to 65538): row 1, column 'x' (whole): 'x' is no number"):
+            prefq.psel([{"x": row[0]} for row in rows], "low(x)", kinds={"x": "whole"})
+
+    def test_the_partition_whose_rows_are_refused(self):
+        good = Partition(["x", "n"], [[1, 2]])
+        for other, says in [([[1]], "partition 2: row 1, 1 values: not 2"), ([[1, 2], ["a", 3]], "partition 2: column 'x' has values of int and str"),
+                            ([[1, 2], [2**64, 3]], "partition 2: row 2, column 'x' (whole): 18446744073709551616 does not fit")]:
+            with self.subTest(says), self.refuses((ValueError, prefq.Refused), says):
+                best([good, Partition(["x", "n"], other)], "best low(x)", kinds={"x": "whole"} if "fit" in says else {})
+
+    def test_two_columns_of_one_name(self):
+        """The file or the partition is named, whichever columns the question names."""
+        good, twice = Partition(["x", "n"], [[1, 2]]), Partition(["x", "n", "n"], [[1, 2, 3]])
+        others = [twice] if pandas is None else [twice, pandas.DataFrame(twice.rows, columns=twice.columns)]
+        for other in others:
+            for question in ("best low(x)", "best low(n)"):
+                with self.refuses(prefq.Refused, "partition 2: two columns are called 'n'", kind="table"):
+                    best([good, other], question)
+        with tempfile.TemporaryDirectory() as folder:
+            for name, text in [("a.csv", "x,n\n1,2\n"), ("b.csv", "n,x,n\n1,2,3\n")]:
+                Path(folder, name).write_text(text)
+            for question in ("best low(x)", "best low(n)"):
+                with self.refuses(prefq.Refused, "b.csv: two columns are called 'n', those at places 1 and 3", kind="table"):
+                    best([f"{folder}/a.csv", f"{folder}/b.csv"], question)
+
+    def test_a_column_that_no_question_names(self):
+        """Each partition has it in a kind of its own, too."""
+        some = [Partition(["x", "n"], [[1, value]]) for value in (Decimal("0.5"), 0.25, 3)]
+        self.assertEqual([row.n for row in best(some, "best low(x)")], [0.5, 0.25, 3.0])
+        with self.refuses(prefq.Refused, "column 'n' is whole in partition 2 and text in partition 4", kind="table"):
+            best([Partition(["x", "n"], [[level, value]]) for level, value in [(2, 0), (1, 3), (1, None), (1, "x")]], "best low(x)")
 
     def test_a_part_without_a_value_takes_every_question(self):
         for values, question in [([True, False], "best pos(x, true)"), ([1, 2], "best around(x, 1.5)"), (["Lyon"], "best pos(x, 'Lyon')"), ([NOON], "best low(x)"),
@@ -242,7 +285,7 @@ class Files(TestCase):
         for sources in ([files[0], days], [days, files[0]]):
             answer = best(sources, "best low(x)")
             self.assertEqual({row.opened for row in answer}, {None, DAY})
-        with self.refuses(prefq.Refused, "column 'opened' is text in the files and date in the rows in memory", kind="table"):
+        with self.refuses(prefq.Refused, "column 'opened' is text in partition 1 and date in partition 2", kind="table"):
             best([files[1], days], "best low(x)")
 
     def test_why_beside_a_file_with_nothing_but_words(self):

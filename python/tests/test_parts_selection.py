@@ -106,7 +106,7 @@ class Together(TestCase):
         for beside, says in [({"where": "prise > 5"}, "no column 'prise'; did you mean price?\n    prise > 5\n    ^"), ({"top": 1, "ties": "low(prise)"}, "did you mean price?"),
                              ({"top": 1, "ties": "low(city)"}, "has texts, which have no order"), ({"ties": "low(dist)"}, "it needs top="), ({"by": "citi"}, "did you mean city?"),
                              ({"top": 1, "ties": "best low(dist)"}, "without best, top_level and so on"), ({"where": "city"}, "and a condition is true or false"),
-                             ({"where": "dist / (price - 90) > 0"}, "a partition: row 2 has 0 behind the /")]:
+                             ({"where": "dist / (price - 90) > 0"}, "partition 2: row 2 has 0 behind the /")]:
             with self.subTest(**beside), self.refuses(prefq.Refused, says):
                 best(HOTELS, QUESTION, **beside)
         with self.refuses(ValueError, "top is 0: not from 1 to 1000"):
@@ -164,7 +164,7 @@ class Together(TestCase):
 
     def test_dates_in_one_part_and_times_in_another(self):
         files = self.files("at,left,n\n2026-05-01,2026-05-03,1\n", "at,left,n\n2026-05-01 10:00,2026-05-01 10:05,2\n")
-        with self.refuses(prefq.Refused, "is date in ", "time in ", "a condition would mean something else in each: give the column one kind", kind="table"):
+        with self.refuses(prefq.Refused, "is date in ", "time in ", "a condition or an expression would mean something else in each: give the column one kind", kind="table"):
             best(files, "best low(n)", where="left - at > 100")
         self.assertEqual(best(files, "best low(n)", where="left - at > 400", kinds={"at": "time", "left": "time"}).ids, [1])
 
@@ -186,7 +186,7 @@ class DataFrames(TestCase):
         for others, values in [(pandas.Series([5], dtype="uint64"), [big, 5]), (pandas.Series([float("nan")]), [big, None])]:
             with self.subTest(others.dtype):
                 self.assertEqual([row.n for row in best([pandas.DataFrame({"x": [1], "n": [big]}), pandas.DataFrame({"x": [1], "n": others})], "best low(x)")], values)
-        for others, says in [(pandas.Series([0.5]), "9007199254740993 is no 64-bit float"), (pandas.Series([True]), "column 'n' is whole in the DataFrames with int64 and bool in")]:
+        for others, says in [(pandas.Series([0.5]), "9007199254740993 is no 64-bit float"), (pandas.Series([True]), "column 'n' is whole in partition 1 and bool in partition 2")]:
             with self.subTest(others.dtype), self.refuses(prefq.Refused, says):
                 best([pandas.DataFrame({"x": [1], "n": [big]}), pandas.DataFrame({"x": [1], "n": others})], "best low(x)")
         some = [pandas.DataFrame({"x": [1], "n": [True]}), pandas.DataFrame({"x": [1], "n": [float("nan")]})]

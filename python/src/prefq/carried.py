@@ -66,6 +66,10 @@ class CellRows(Listed):
 class ValueRows(Listed):
     """Rows of Python's values."""
 
+    def form(self, name: str) -> Any:
+        """Each partition has kinds of its own."""
+        return id(self)
+
     @staticmethod
     def column(some: Sequence["ValueRows"], name: str, reading: Reading, ids: Sequence[int]) -> Encoded:
         return column_of_values(name, list(chain.from_iterable(rows.values(name) for rows in some)), reading.kinds, ids)
@@ -88,8 +92,9 @@ class FrameRows(Rows):
         return FrameRows(self.frame.iloc[list(places)])
 
     def form(self, name: str) -> Any:
-        """Of two types pandas would make a third one, in which not each value is the same."""
-        return self.frame[name].dtype
+        """Of two types pandas would make a third one, in which not each value is the same; objects may be of any kind."""
+        dtype = self.frame[name].dtype
+        return id(self) if dtype == object else dtype
 
     @staticmethod
     def column(some: Sequence["FrameRows"], name: str, reading: Reading, ids: Sequence[int]) -> Encoded:
@@ -99,17 +104,19 @@ class FrameRows(Rows):
 
 
 def column_of(rows: Sequence[Rows], name: str, reading: Reading, ids: Iterable[int]) -> Segment:
-    """A column of rows of several sources, in their order, which have these ids: of each kind of source it is read at once, and these are brought together."""
-    some, left = [found for found in rows if len(found)] or rows[:1], iter(ids)
-    runs = [list(run) for _, run in groupby(some, lambda found: (type(found), found.form(name)))]
-    return as_in_a_frame(joined([_segment(run, name, reading, list(islice(left, sum(map(len, run))))) for run in runs]))
+    """A column of rows of all partitions, in their order, which have these ids: of each kind of source it is read at once, and these are brought together."""
+    numbered = list(enumerate(rows, 1))
+    some, left = [pair for pair in numbered if len(pair[1])] or numbered[:1], iter(ids)
+    runs = [list(run) for _, run in groupby(some, lambda pair: (type(pair[1]), pair[1].form(name)))]
+    return as_in_a_frame(joined([_segment(run, name, reading, list(islice(left, sum(len(found) for _, found in run)))) for run in runs]))
 
 
-def _segment(run: Sequence[Rows], name: str, reading: Reading, ids: Sequence[int]) -> Segment:
-    source = type(run[0])
-    what = "the files" if source is CellRows else "the rows in memory" if source is ValueRows else f"the DataFrames with {run[0].form(name)}"
+def _segment(run: Sequence[Tuple[int, Rows]], name: str, reading: Reading, ids: Sequence[int]) -> Segment:
+    """The column of rows of one kind of source, by the numbers of their partitions."""
+    first, last = run[0][0], run[-1][0]
+    source, what = type(run[0][1]), f"partition {first}" if first == last else f"the partitions {first} to {last}"
     has_words = source is CellRows and reading.missing is None
-    return Segment.of(*source.column(run, name, reading, ids), what, is_given=name in reading.kinds, has_words=has_words)
+    return Segment.of(*source.column([found for _, found in run], name, reading, ids), what, is_given=name in reading.kinds, has_words=has_words)
 
 
 def frame_of(rows: Sequence[Any]) -> Any:

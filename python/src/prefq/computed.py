@@ -18,7 +18,6 @@ from .kinds.exact import Exact, Number, Ranked
 from .kinds.numbers import are_in_range
 from .moment import Moment
 from .questions import refuse
-from .translate import unknown_value
 from .widening import Nothing
 
 COMPARE: Dict[str, Callable[[Any, Any], bool]] = {"=": operator.eq, "<>": operator.ne, "<": operator.lt, "<=": operator.le, ">": operator.gt, ">=": operator.ge}
@@ -68,11 +67,6 @@ class Computer:
         self._text, self._moment = text, moment
         # Each value of the text that no row of a column has.
         self.absent: List[Tuple[Column, str]] = []
-
-    @property
-    def unknown(self) -> List[str]:
-        """What is said of each value of the text that no row has."""
-        return [unknown_value(column, text) for column, text in self.absent]
 
     def column(self, node: Node, text: str, place: int) -> Column:
         """The column of an expression, whose name is its text."""

@@ -1,17 +1,16 @@
-"""Conditions over the rows of a part: which of them count, and over which columns that was computed."""
+"""Conditions and expressions over the rows of a part: which rows count, and over which columns that was computed."""
 from dataclasses import dataclass, field
-from functools import partial
 from itertools import product
-from typing import Any, Callable, Dict, Iterator, List, Mapping, Optional, Sequence, Tuple
+from typing import Any, Callable, Dict, Iterable, Iterator, List, Mapping, Optional, Sequence, Tuple
 
 from .columns import Column, listed
 from .errors import Refused
-from .expressions import Comparison, Literal, Named, Node, Operation, read_condition
+from .expressions import Comparison, Literal, Named, Node, Operation, columns_of, read_condition
 from .kinds import Kind, Times
 from .kinds.moments import offset_of
 from .moment import Moment
 from .partial import Absent
-from .questions import Question, names_asked_for
+from .questions import Term
 from .selection import Selection, kept
 from .translate import bases_of, unknown_value
 from .widening import Segment
@@ -33,9 +32,8 @@ def rows_that_meet(condition: str, names: Sequence[Any], column: Callable[[str],
 
     A column whose cells are all words such as n/a may turn out to be one of texts or without values: where that makes a difference, it is `Refused`.
     """
-    texts = [name for name in names if isinstance(name, str)]
-    node = read_condition(condition, column, texts)
-    named = [segments[name] for name in names_asked_for(texts, partial(read_condition, condition, names=texts))]
+    node = read_condition(condition, column, [name for name in names if isinstance(name, str)])
+    named = [segments[name] for name in names_in([node])]
     found: List[Met] = []
     refused = None
     for view in product(*(segment.views() for segment in named)):
@@ -48,8 +46,7 @@ def rows_that_meet(condition: str, names: Sequence[Any], column: Callable[[str],
     if any(list(met.places) != list(found[0].places) for met in found):
         words = [segment.column.name for segment in named if segment.words()]
         raise Refused(f"all cells of {listed(words)} are words such as n/a: say by missing=[..] whether these are missing, or give a kind by kinds={{..}}", "table")
-    moments = {column.name: text for column, text in texts_beside_columns(node) if is_moment_without_a_zone(column.kind, text)}
-    return Met(found[0].places, found[0].absent, tuple(segment.without_rows() for segment in named), moments)
+    return Met(found[0].places, found[0].absent, tuple(segment.without_rows() for segment in named), moments_in([node]))
 
 
 def _met(condition: str, names: Sequence[Any], segments: Dict[str, Segment], count: int) -> Met:
@@ -70,9 +67,16 @@ def texts_beside_columns(node: Node) -> Iterator[Tuple[Column, str]]:
                 yield side.column, other.text
 
 
-def moments_beside_columns(question: Question) -> Dict[str, str]:
-    """By column of times with a zone, a text of a question that names no zone: it is a time of the column's."""
-    pairs = ((base.column, value.text) for base in bases_of(question.term) for values in base.sets for value in values)
+def names_in(nodes: Iterable[Node]) -> List[str]:
+    """The names of the columns of some expressions, each once, in their order."""
+    return list(dict.fromkeys(column.name for node in nodes for column in columns_of(node)))
+
+
+def moments_in(nodes: Iterable[Node], term: Optional[Term] = None) -> Dict[str, str]:
+    """By column of times with a zone, a text beside it in expressions, or in the term of a question, that names no zone: it is a time of the column's."""
+    bases = [] if term is None else bases_of(term)
+    pairs = [(base.column, value.text) for base in bases for values in base.sets for value in values]
+    pairs += [pair for node in nodes for pair in texts_beside_columns(node)]
     return {column.name: text for column, text in pairs if is_moment_without_a_zone(column.kind, text)}
 
 

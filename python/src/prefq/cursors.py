@@ -4,7 +4,8 @@ from typing import Any, Iterator, List, Sequence, Tuple
 
 from .checks import MOST_ROWS
 from .errors import Refused
-from .parts import MERGED, Found, Job, Partition, merged
+from .partition import Numbered, Partition
+from .parts import MERGED, Found, Job, merged
 from .reading import check_names
 
 
@@ -26,13 +27,19 @@ def fetched(cursor: Any, names: Sequence[str]) -> Iterator[List[Sequence[Any]]]:
         yield [[row[name] for name in names] if isinstance(row, Mapping) else tuple(row) for row in rows]
 
 
+def part_of_rows(names: Sequence[str], rows: Sequence[Any], number: int) -> Numbered:
+    """One of the parts of many rows, each but the last of as many as one table holds."""
+    first = (number - 1) * MOST_ROWS
+    return Numbered(Partition(names, rows), f"part {number} (rows {first + 1} to {first + len(rows)})")
+
+
 def found_of(cursor: Any, job: Job) -> Found:
     """The answer over all rows of a query. They come once, so `at_least k` is asked for k levels, which are always enough."""
     names, wanted = names_of(cursor), job.rows_wanted()
     asked = job if wanted is None else job.of_levels(wanted)
     partials = []
-    for rows in fetched(cursor, names):
-        partials.append(asked.part(Partition(names, rows)))
+    for number, rows in enumerate(fetched(cursor, names), 1):
+        partials.append(asked.part(part_of_rows(names, rows, number)))
         if len(partials) == MERGED:
             partials = [asked.merge(partials)]
     return merged(asked, partials or [asked.part(Partition(names, []))], map)

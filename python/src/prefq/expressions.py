@@ -87,10 +87,12 @@ def read_condition(text: str, column: Callable[[str], Optional[Column]], names: 
     return FrameReader(text, column, names, unmade).condition()
 
 
-def names_a_column(node: Node) -> bool:
-    """Whether an expression depends on the row."""
-    parts = node.parts if isinstance(node, Operation) else (node.left, node.right) if isinstance(node, Comparison) else ()
-    return isinstance(node, Named) or any(map(names_a_column, parts))
+def columns_of(node: Node) -> Iterator[Column]:
+    """The columns that an expression names, in its order."""
+    if isinstance(node, Named):
+        yield node.column
+    for part in node.parts if isinstance(node, Operation) else (node.left, node.right) if isinstance(node, Comparison) else ():
+        yield from columns_of(part)
 
 
 class FrameReader(Reader):
@@ -131,10 +133,10 @@ class FrameReader(Reader):
         return Base("pos", column, ((Value("true", token.place),),), token.place)
 
     def _empty(self, token: Token) -> Base:
-        """By a set without values all rows are the same, whatever the column is."""
+        """By a set without values all rows are the same, whatever the column is: the first by name, in whatever order a part has them."""
         self._need("(")
         self._need(")")
-        column = self._column(self._names[0]) if self._names else None
+        column = self._column(min(self._names)) if self._names else None
         if column is None:
             refuse(self._question, token.place, "empty() needs a frame with a column")
         return Base("pos", column, ((),), token.place)
@@ -158,7 +160,7 @@ class FrameReader(Reader):
         return node.column if isinstance(node, Named) else self._make(node, self._question[first.place:last.place + last.length], first.place)
 
     def _check_named(self, node: Node, place: int) -> None:
-        if not names_a_column(node):
+        if next(columns_of(node), None) is None:
             refuse(self._question, place, "an expression names a column")
 
     def _or(self) -> Node:

@@ -31,8 +31,8 @@ class Intersections:
 
     def __init__(self, text: str, moment: Moment) -> None:
         self._text, self._moment = text, moment
-        # What is said of each value of a part that no row has.
-        self.unknown: List[str] = []
+        # Each value of a part that no row of a column has.
+        self.absent: List[Tuple[Column, str]] = []
 
     def replaced(self, question: Question) -> Question:
         """The same question with each `|` as a product."""
@@ -63,7 +63,7 @@ class Intersections:
         columns = terms_columns(part)
         below = [f"c{place}" for place in range(len(columns))]
         asked = plan(self._text, Question("best", 1, part, ()), {id(column): name for column, name in zip(columns, below)})
-        self.unknown += asked.unknown
+        self.absent += asked.absent
         return ranks(Order(asked.text[len("best "):], below, [self._moment.numbers(column) for column in columns]).extension())
 
     def _column(self, name: str, by_part: Sequence[Sequence[int]], number: int) -> Column:

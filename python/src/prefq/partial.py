@@ -6,6 +6,7 @@ from typing import Any, Dict, Iterable, Iterator, List, Mapping, Sequence, Tuple
 
 from .carried import Rows
 from .errors import Refused
+from .moment import Moment
 from .widening import Segment, check_one_line_of_time, check_zones, joined
 
 # The value of a question that no row of a column has, by the column's name and its text, and what is said of it.
@@ -24,8 +25,9 @@ class Partial:
     rows: Tuple[Rows, ...] = ()     # the rows that are left as they came, one source after the other; none where nobody wants them
     absent: Absent = field(default_factory=dict)
     words: Words = field(default_factory=dict)
-    condition: Tuple[Segment, ...] = ()     # the columns of the condition by which rows were left out, without rows
+    computed: Tuple[Segment, ...] = ()      # the columns of the condition and of expressions, without rows
     moments: Mapping[str, str] = field(default_factory=dict)     # by column of times with a zone, a text beside it that names none
+    source: str = "the rows"        # what the first partition is called
 
     def __len__(self) -> int:
         return len(self.places)
@@ -40,11 +42,12 @@ class Partial:
         return replace(self, asked=tuple(segment.at(at) for segment in self.asked), places=array("q", [self.places[index] for index in at]),
                        rows=tuple(_rows_at(self.rows, at)))
 
-    def groups(self, names: Iterable[str]) -> List[Tuple[int, ...]]:
-        """The numbers of each row in these columns."""
-        by_name = {segment.column.name: segment.numbers for segment in self.asked}
-        columns = [by_name[name] for name in names]
-        return list(zip(*columns)) if columns else [()] * len(self)
+    def moment(self) -> Moment:
+        """The rows that are left, which messages call by their numbers, with the columns that are asked."""
+        segments = {segment.column.name: segment for segment in self.asked}
+        moment = Moment(list(segments), lambda name: (segments[name].column, segments[name].numbers), called=lambda number: self.places[number - 1] + 1)
+        moment.has_all_values = False
+        return moment
 
 
 def together(partials: Sequence[Partial]) -> Partial:
@@ -54,14 +57,15 @@ def together(partials: Sequence[Partial]) -> Partial:
         return first
     for other in partials[1:]:
         if set(first.names) != set(other.names):
-            raise Refused(f"partitions have different columns: {', '.join(map(str, first.names))} and {', '.join(map(str, other.names))}", "table")
+            there = [f"{', '.join(map(str, some.names))} in {some.source}" for some in (first, other)]
+            raise Refused(f"partitions have different columns: {' and '.join(there)}", "table")
     places, count = array("q"), 0
     for partial in partials:
         places.extend(count + place for place in partial.places)
         count += partial.count
     moments = {name: text for partial in partials for name, text in partial.moments.items()}
     return Partial(first.names, tuple(_asked(partials, moments)), count, places, tuple(rows for partial in partials for rows in partial.rows), _absent_in_all(partials),
-                   _words_of(partials), tuple(_condition(partials, moments)), moments)
+                   _words_of(partials), tuple(_computed(partials, moments)), moments, first.source)
 
 
 def _asked(partials: Sequence[Partial], moments: Mapping[str, str]) -> Iterator[Segment]:
@@ -69,9 +73,9 @@ def _asked(partials: Sequence[Partial], moments: Mapping[str, str]) -> Iterator[
     return (_joined(segments, moments) for segments in zip(*(partial.asked for partial in partials)))
 
 
-def _condition(partials: Sequence[Partial], moments: Mapping[str, str]) -> Iterator[Segment]:
-    """The columns of the condition, each brought together."""
-    for segments in zip(*(partial.condition for partial in partials)):
+def _computed(partials: Sequence[Partial], moments: Mapping[str, str]) -> Iterator[Segment]:
+    """The columns over which something is computed, each brought together."""
+    for segments in zip(*(partial.computed for partial in partials)):
         check_one_line_of_time(segments)
         yield _joined(segments, moments)
 

@@ -45,12 +45,20 @@ class Reading:
         return Reading(dict(options.get("kinds") or {}), missing, Dialect(**given), form)
 
 
+@dataclass(frozen=True)
+class Numbered:
+    """One of several partitions, with its number, or what else it is called in what is said."""
+
+    source: Any
+    called: str
+
+
 # Any is a DataFrame of pandas.
 Source = Union[Partition, str, "os.PathLike[str]", Any]
 
 
 def partitions_of(partitions: Iterable[Source]) -> List[Source]:
-    """The partitions, where they are a list of some: a single one would be taken for a list of its letters or columns."""
+    """The partitions by their numbers, where they are a list of some: a single one would be taken for a list of its letters or columns."""
     for what, is_one, instead in [("a DataFrame", is_frame, "give a list of DataFrames, or ask it by prefq.psel"),
                                   ("one path", lambda some: isinstance(some, (str, bytes, os.PathLike)), "give a list of partitions"),
                                   ("one partition", lambda some: isinstance(some, Partition), "give a list of partitions")]:
@@ -60,7 +68,12 @@ def partitions_of(partitions: Iterable[Source]) -> List[Source]:
     for number, source in enumerate(found, 1):
         if is_of_dask(source):
             raise TypeError(f"partition {number} is a DataFrame of Dask: give it alone, in place of the list")
-    return [_readable_again(source) for source in found]
+    return [numbered(_readable_again(source), number) for number, source in enumerate(found, 1)]
+
+
+def numbered(source: Source, number: int) -> Source:
+    """A partition that is called by its number; a file is called by its path as it is."""
+    return source if isinstance(source, (str, os.PathLike)) else Numbered(source, f"partition {number}")
 
 
 def is_frame(source: Any) -> bool:
@@ -75,6 +88,8 @@ def is_of_dask(source: Any) -> bool:
 
 def called(source: Source) -> str:
     """What a partition is called in what is said."""
+    if isinstance(source, Numbered):
+        return source.called
     if isinstance(source, (str, os.PathLike)):
         return os.fspath(source)
     return "a partition" if isinstance(source, Partition) else "a DataFrame"

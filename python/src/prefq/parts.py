@@ -11,7 +11,7 @@ level  id  hotel  price  dist
 
 Each partition is asked in a table of its own where the engine runs the function, and the question is asked again of what the partitions have left, eight of them
 at a time, until one table holds it. A partition's result is its columns that the question names as whole numbers with their kinds, and its rows: parts may have a
-column in different kinds, which are brought together in the one that has the values of all (`prefq.widening`).
+column in different kinds, which are brought together in the one that has the values of all (`prefq.widening`). What is computed is computed anew of them each time.
 
 Why that is exact: the level of a row is the length of the longest chain of rows, each of which dominates the next, that ends in it. In a part there are no
 longer chains than in the whole, so a row of the levels 1 to n of the whole is in the levels 1 to n of each part that has it. And such a chain up to its n-th row
@@ -32,25 +32,25 @@ from .answer import Answer
 from .carried import column_of
 from .checks import MOST_IDS, MOST_ROWS, whole
 from .columns import Column
-from .conditions import moments_beside_columns, rows_that_meet
+from .conditions import Met, moments_in, names_in, rows_that_meet
 from .errors import Refused
+from .expressions import Make, Node, unmade
 from .kinds import Texts
 from .loading import decoded
 from .missing import note_of
-from .moment import Moment
 from .once import ask_once
 from .partial import Partial, together
-from .partition import Partition, Reading, Source, called, is_of_dask, partitions_of
+from .partition import Numbered, Partition, Reading, Source, called, is_of_dask, numbered, partitions_of
 from .preferences import Asked as AskedFor
 from .preferences import Operand, text_asked
-from .questions import Question, names_asked_for, read_question
+from .questions import Question, names_asked_for
 from .reading import check_names
 from .records import Record
 from .rows import Row, Zipped
 from .selection import Names, Selection, picked, plan_of_ties, without_twins
 from .selection import Reading as QuestionRead
 from .sources import Opened, opened
-from .translate import Plan, columns_in, plan
+from .translate import unknown_value
 from .undecided import views_of, ways_of
 from .warned import warn_of
 from .widening import Nothing, Segment, Undecided, as_in_a_frame
@@ -87,15 +87,6 @@ class Found:
 
 
 @dataclass(frozen=True)
-class Asked:
-    """A question over the columns of some rows, and what the table below is asked."""
-
-    question: Question
-    plan: Plan
-    columns: Tuple[str, ...]        # as the table below calls them; they are the first ones of those that are asked
-
-
-@dataclass(frozen=True)
 class Job:
     """A question over partitions as three functions that an engine can run anywhere; a job can be pickled, and so can what its methods return.
 
@@ -127,14 +118,15 @@ class Job:
         """What is left of one partition: the first function, to be mapped over all of them."""
         try:
             source = opened(partition, self.reading)
-            left = self._narrowed(self.loaded(source, called(partition)))
+            left = self._narrowed(*self.loaded(source, called(partition)))
             return replace(left, asked=tuple(segment.alone() for segment in left.asked), rows=(source.rows_at(left.places),))
         except (Refused, TypeError, ValueError, csv.Error) as why:
             raise in_partition(why, partition) from None
 
     def merge(self, partials: Sequence[Partial]) -> Partial:
         """What is left of the partitions of these partial results, which follow each other: associative, but their order counts."""
-        return self._narrowed(together(partials))
+        left = together(partials)
+        return self._narrowed(left, self.views(left))
 
     def merge_two(self, first: Partial, second: Partial) -> Partial:
         """`merge` of two, as engines with a reduction of their own want it."""
@@ -144,35 +136,33 @@ class Job:
         """The answer over all partitions."""
         left = together(partials)
         if len(left) > MOST_ROWS:
-            left = self._narrowed(left)
+            left = self._narrowed(left, self.views(left))
         if len(left) > MOST_ROWS:
             raise RowsLeft(len(left), left.count)
         left = replace(left, asked=tuple(map(as_in_a_frame, left.asked)))
         if not left.count:
             return Found(left, [], True)
-        asked = self.asked(left)
-        found = sorted((at, level) for level, at in self._ask(asked, left, range(len(left))))
-        rows = left.kept([at for at, _ in found])
-        levels = [level for _, level in found]
-        whole = Found(rows, levels, self._is_whole(asked.question, rows, levels))
-        return whole if self.selection.top is None or not whole.is_whole else self._first(whole, asked)
+        read = self.read(left)
+        found = sorted((at, level) for level, at in _ask(read, range(len(left))))
+        places, levels = [at for at, _ in found], [level for _, level in found]
+        read = read.at(places)
+        whole = Found(left.kept(places), levels, self._is_whole(read, levels))
+        return whole if self.selection.top is None or not whole.is_whole else self._first(whole, read)
 
-    def _first(self, found: Found, asked: Asked) -> Found:
+    def _first(self, found: Found, read: QuestionRead) -> Found:
         """The first rows of an answer of whole levels: those of which so many are wanted."""
-        segments = {segment.column.name: segment for segment in found.rows.asked}
-        moment = Moment(list(segments), lambda name: (segments[name].column, segments[name].numbers))
-        moment.has_all_values = False
+        moment = found.rows.moment()
         if self.selection.ties is not None:
             plan_of_ties(self.selection.ties, moment.column, moment.names)
-        read = QuestionRead.of(self.question, asked.question, lambda column: segments[column.name].numbers)
         rows = sorted(Row(level, place, list(values)) for place, (level, *values) in enumerate(zip(found.levels, *read.lists), 1))
         levels = {row.id - 1: row.level for row in picked(rows, read, self.selection, moment)}
         return Found(found.rows.kept(sorted(levels)), [levels[place] for place in sorted(levels)], True)
 
-    def loaded(self, source: Opened, what: str) -> Partial:
-        """The rows of a source that meet the condition, with the columns that the question and its ties name."""
+    def loaded(self, source: Opened, what: str) -> Tuple[Partial, List[QuestionRead]]:
+        """The rows of a source that meet the condition, with the columns that the question and its ties name, and what is asked of them."""
         names = [name for name in source.names if isinstance(name, str)]
-        source.load(names_asked_for(names, with_words(self.question_over, names=names), *self.selection.reads_beside(names)))
+        asks = with_words(self.question_over, names=names)
+        source.load(names_asked_for(names, asks, *self.selection.reads_beside(names)))
         segments: Dict[str, Segment] = {}
 
         def column(name: str) -> Optional[Column]:
@@ -180,39 +170,48 @@ class Job:
                 segments[name] = Segment.of(*source.column(name), what, is_given=name in self.reading.kinds, has_words=source.has_words)
             return segments[name].column if name in segments else None
 
-        question = self.question_over(column, names)
+        question, nodes = self._nodes_in(column, names)
         for read in self.selection.reads_beside(names):
             read(column)
-        named = dict.fromkeys([*(found.name for found in columns_in(question)), *self.selection.names_of_ties(names)])
-        asked = tuple(segments[name] for name in named)
+        asked = tuple(segments[name] for name in dict.fromkeys([*names_asked_for(names, asks), *self.selection.names_of_ties(names)]))
         words = {**source.words, **{segment.column.name: segment.words() for segment in asked if segment.words()}}
-        left = Partial(source.names, asked, source.count, range(source.count), words=words)
+        left = Partial(source.names, asked, source.count, range(source.count), words=words, source=what)
         try:
-            planned = self.views(left)[0][0].plan
-            met = None if self.selection.where is None else rows_that_meet(self.selection.where, source.names, column, segments, source.count)
+            met = Met(left.places, {}) if self.selection.where is None else rows_that_meet(self.selection.where, source.names, column, segments, source.count)
+            left = left if self.selection.where is None else left.kept(met.places)
+            views = self.views(left)
         except Refused as why:      # by the values of a column, so it says in which file
             raise Refused(f"{what}: {why.args[0]}", why.kind, why.number, why.place, why.question) from None
-        absent = {**self._absent_in_ties(column, names), **absent_in(planned)}
-        moments = moments_beside_columns(question)
-        if met is None:
-            return replace(left, absent=absent, moments=moments)
-        return replace(left.kept(met.places), absent={**absent, **met.absent}, condition=met.columns, moments={**met.moments, **moments})
+        computed = (*met.columns, *(segments[name].without_rows() for name in names_in(nodes)))
+        absent = {**self._absent_in_ties(column, names), **absent_in(views[0].absent), **met.absent}
+        return replace(left, absent=absent, computed=computed, moments={**met.moments, **moments_in(nodes, question.term)}), views
+
+    def _nodes_in(self, column: Callable[[str], Optional[Column]], names: Sequence[str]) -> Tuple[Question, List[Node]]:
+        """The tree of the question, and the expressions in it."""
+        nodes: List[Node] = []
+
+        def noted(node: Node, text: str, place: int) -> Column:
+            nodes.append(node)
+            return unmade(node, text, place)
+
+        return self.question_over(column, names, noted), nodes
 
     def _absent_in_ties(self, column: Callable[[str], Optional[Column]], names: Sequence[str]) -> Dict[Tuple[str, str], str]:
-        """The values of the ties that no row here has; none where these columns do not take the ties, of which all parts decide together."""
+        """The values of the ties that no row here has in a column, which is none that is computed; none where these columns do not take the ties, of which all parts
+        decide together."""
         try:
-            return {} if self.selection.ties is None else absent_in(plan_of_ties(self.selection.ties, column, names))
+            absent = () if self.selection.ties is None else plan_of_ties(self.selection.ties, column, names).absent
         except Refused:
             return {}
+        return absent_in((found, text) for found, text in absent if column(found.name) is found)
 
-    def views(self, partial: Partial) -> List[Tuple[Asked, Partial]]:
+    def views(self, partial: Partial) -> List[QuestionRead]:
         """What the parts are asked of each way in which these rows may turn out, of which one at least has to take the question. `at_least` counts rows of the
         whole, so parts are asked for levels."""
         found, refused = [], None
         for asked in views_of(partial, self.ways(partial)):
-            view = replace(partial, asked=tuple(asked))
             try:
-                found.append((self.asked(view, levels=self.levels), view))
+                found.append(self.read(replace(partial, asked=tuple(asked)), levels=self.levels))
             except Refused as why:
                 refused = why
         if refused is not None and not found:
@@ -224,44 +223,29 @@ class Job:
         if not any(isinstance(segment.column.kind, Undecided) for segment in partial.asked):
             return [[segment] for segment in partial.asked]
         columns = {segment.column.name: Column(segment.column.name, Nothing()) if isinstance(segment.column.kind, Undecided) else segment.column for segment in partial.asked}
-        question = self.question_over(columns.get, list(columns))
-        return [ways_of(segment, question) for segment in partial.asked]
+        question, nodes = self._nodes_in(columns.get, list(columns))
+        return [ways_of(segment, question, names_in(nodes)) for segment in partial.asked]
 
-    def asked(self, partial: Partial, *, levels: Optional[int] = None) -> Asked:
-        """The question over these rows, or the one that asks for so many levels in its place."""
-        by_name = {segment.column.name: segment.column for segment in partial.asked}
-        question = self.question_over(by_name.get, list(by_name))
-        if levels is not None:
-            question = replace(question, mode="top_level", count=levels)
-        below = {id(column): f"c{place}" for place, column in enumerate(columns_in(question))}
-        return Asked(question, plan(self.question, question, below), tuple(below.values()))
+    def read(self, partial: Partial, *, levels: Optional[int] = None) -> QuestionRead:
+        """The question over these rows, or the one that asks for so many levels in its place. What it computes is computed anew, of the columns as they are here."""
+        return QuestionRead.over(partial.moment(), self.question, self.selection, levels)
 
-    def question_over(self, column: Callable[[str], Optional[Column]], names: Sequence[str]) -> Question:
+    def question_over(self, column: Callable[[str], Optional[Column]], names: Sequence[str], make: Make = unmade) -> Question:
         """The tree of the question, with the groups and as many levels as are wanted."""
-        selection = self.selection
-        return selection.applied(read_question(self.question, column, names, selection.mode), column, names)
+        return self.selection.read(self.question, column, names, make)
 
-    def _narrowed(self, partial: Partial) -> Partial:
+    def _narrowed(self, partial: Partial, views: List[QuestionRead]) -> Partial:
         """Asks for the levels, one table after the other, and again of what is left, while that is more than one table holds and clearly shrinks. What may be left
         by any view stays: a row too many lies behind the levels that are asked for, there as in the whole, and changes none of them."""
-        views = self.views(partial)
         while True:
             pieces, before = _pieces(len(partial)), len(partial)
-            at = sorted({at for piece in pieces for asked, view in views for _, at in self._ask(asked, view, piece)})
-            partial, views = partial.kept(at), [(asked, view.kept(at)) for asked, view in views]
+            at = sorted({at for piece in pieces for view in views for _, at in _ask(view, piece)})
+            partial = partial.kept(at)
             if len(pieces) == 1 or len(partial) > SHRINKS * before:
                 return partial
+            views = [view.at(at) for view in views]
 
-    def _ask(self, asked: Asked, partial: Partial, piece: range) -> List[Tuple[int, int]]:
-        """The level and the number of each row of a piece that answers a question."""
-        if not piece:
-            return []
-        rows = Zipped([segment.numbers[piece.start::piece.step] for segment in partial.asked[:len(asked.columns)]])
-        with asked.plan.refusing():
-            found = ask_once(asked.columns, rows, asked.plan.text)
-        return [(row.level, piece[row.id - 1]) for row in without_twins(found, asked.plan)]
-
-    def _is_whole(self, question: Question, rows: Partial, levels: Sequence[int]) -> bool:
+    def _is_whole(self, read: QuestionRead, levels: Sequence[int]) -> bool:
         """Whether an answer of `at_least k` over the rows that are left is that over all rows.
 
         Let j be `levels`. What is left contains the levels 1 to j of each group of the whole, and these are its own levels 1 to j too. `at_least k` takes the
@@ -277,10 +261,11 @@ class Job:
             return True
         counts: Dict[Tuple[int, ...], int] = {}
         deepest: Dict[Tuple[int, ...], int] = {}
-        for group, level in zip(rows.groups(column.name for column in question.by), levels):
+        groups = list(zip(*read.lists_of(read.plan.by))) or [()] * len(levels)
+        for group, level in zip(groups, levels):
             counts[group] = counts.get(group, 0) + 1
             deepest[group] = max(deepest.get(group, 0), level)
-        return all(deepest[group] < self.levels or deepest[group] == self.levels and counts[group] >= question.count for group in counts)
+        return all(deepest[group] < self.levels or deepest[group] == self.levels and counts[group] >= read.question.count for group in counts)
 
     def tries(self) -> Iterator["Job"]:
         """The jobs to try, in turn: `at_least k` asks for 4, 16, 64 levels and so on, at most k, since k levels hold k rows and mostly a few do."""
@@ -297,7 +282,7 @@ class Job:
     def rows_wanted(self) -> Optional[int]:
         """The count of `at_least`; None where the question is another one, or is refused."""
         try:
-            question = self.question_over(lambda name: Column(name, Nothing()), [])
+            question = self.question_over(lambda name: Column(name, Nothing()), ["x"])
         except Refused:
             return None
         return question.count if question.mode == "at_least" else None
@@ -311,8 +296,8 @@ def best(partitions: Iterable[Source], question: AskedFor, *, where: Optional[Op
     the question names are understood, each in the kind that this partition's values have, or the one of `kinds`; a DataFrame of Dask takes the place of the list,
     and is asked by Dask's own scheduler. `map(function, items)` returns the results in the order of the items, or Dask's futures of them: `map` of a
     `concurrent.futures` or `mpi4py.futures` executor and of a `dask.distributed` client are such functions. Partial results are merged by a tree of further maps,
-    or by `reduce(function of two, results)`, if it is given. `where`, `top`, `ties` and `by` are those of `Frame.best`: the condition is computed in each part,
-    and rows that are equally good come in the order of the partitions. `kinds`, `missing`, `encoding`, `delimiter`, `decimal`, `thousands`, `skip` and
+    or by `reduce(function of two, results)`, if it is given. The question, `where`, `top`, `ties` and `by` are those of `Frame.best`: the condition is computed in
+    each part, and rows that are equally good come in the order of the partitions. `kinds`, `missing`, `encoding`, `delimiter`, `decimal`, `thousands`, `skip` and
     `null_padding` are those of `Frame.from_csv`.
 
     What is wrong with a question, a value or a kind is `Refused`, or a `TypeError` or `ValueError` that names the file. `RowsLeft` says that the answer, or what
@@ -405,15 +390,34 @@ def notes_of(rows: Partial, reading: Reading) -> List[str]:
 def records_of(left: Partial, levels: Sequence[Optional[int]], reading: Reading) -> Tuple[List[Column], List[Record]]:
     """The columns and the records of these rows, which have these levels."""
     by_name = {segment.column.name: segment for segment in left.asked}
-    segments = [by_name.get(name) or column_of(left.rows, name, reading, [place + 1 for place in left.places]) for name in check_names(left.names)]
+    _check_names(left)
+    segments = [by_name.get(name) or column_of(left.rows, name, reading, [place + 1 for place in left.places]) for name in left.names]
     columns = [segment.column for segment in segments]
     values = decoded(columns, list(zip(*(segment.numbers for segment in segments))))
     return columns, [Record(zip(left.names, row), id=place + 1, level=level) for level, place, row in zip(levels, left.places, values)]
 
 
-def absent_in(planned: Plan) -> Dict[Tuple[str, str], str]:
-    """The values of a question that no row has, by column and text, and what is said of each."""
-    return {(found.name, text): said for (found, text), said in zip(planned.absent, planned.unknown)}
+def _check_names(left: Partial) -> None:
+    """Refuses names of columns that records cannot have, with the number of the partition that has them."""
+    for number, rows in enumerate(left.rows, 1):
+        try:
+            check_names(rows.names)
+        except (Refused, TypeError) as why:
+            raise in_partition(why, numbered(None, number)) from None
+
+
+def absent_in(found: Iterable[Tuple[Column, str]]) -> Dict[Tuple[str, str], str]:
+    """What is said of values that no row of a column has, by column and text."""
+    return {(column.name, text): unknown_value(column, text) for column, text in found}
+
+
+def _ask(read: QuestionRead, piece: range) -> List[Tuple[int, int]]:
+    """The level and the number of each row of a piece that answers a question."""
+    if not piece:
+        return []
+    with read.plan.refusing():
+        found = ask_once(read.names, Zipped([numbers[piece.start::piece.step] for numbers in read.lists]), read.plan.text)
+    return [(row.level, piece[row.id - 1]) for row in without_twins(found, read.plan)]
 
 
 def _pieces(count: int) -> List[range]:
@@ -423,8 +427,8 @@ def _pieces(count: int) -> List[range]:
 
 
 def in_partition(why: Exception, partition: Source) -> Exception:
-    """What is wrong with the rows of a file, with its path."""
-    if not isinstance(partition, (str, os.PathLike)) or isinstance(why, Refused) and why.kind != "table" or called(partition) in str(why):
+    """What is wrong with the rows of a file, with its path, or with those of another partition, with its number."""
+    if not isinstance(partition, (str, os.PathLike, Numbered)) or isinstance(why, Refused) and why.kind != "table" or called(partition) in str(why):
         return why
     message = f"{called(partition)}: {why}"
     if isinstance(why, Refused):

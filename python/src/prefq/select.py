@@ -4,14 +4,14 @@ from typing import Any, Dict, List, Mapping, Optional, Sequence
 from .answer import Answer
 from .carried import frame_of
 from .checks import MOST_ROWS, whole
-from .cursors import found_of, is_cursor
+from .cursors import found_of, is_cursor, part_of_rows
 from .errors import Refused
 from .follow import Followed
 from .frame import TABLE_OPTIONS, Frame, mappings
 from .loading import check_known
 from .moment import Moment
 from .options import check_options
-from .partition import Partition, Reading, is_of_dask
+from .partition import Numbered, Reading, is_of_dask
 from .parts import Job, answer_of, found_in
 from .preferences import Asked, Operand, text_preferred
 from .questions import Mode
@@ -72,12 +72,12 @@ def _of_records(frame: Any, text: str, selection: Selection, kinds: Optional[Map
         return opened.answer(text, selection)
 
 
-def _partitions_of(records: Sequence[Any]) -> List[Partition]:
+def _partitions_of(records: Sequence[Any]) -> List[Numbered]:
     """Records as partitions that one table holds each: what one does not have is missing."""
     rows = list(mappings(records))
     names = list(dict.fromkeys(name for row in rows for name in row))
     values = [[row.get(name) for name in names] for row in rows]
-    return [Partition(names, values[begin:begin + MOST_ROWS]) for begin in range(0, len(values), MOST_ROWS)]
+    return [part_of_rows(names, values[begin:begin + MOST_ROWS], number) for number, begin in enumerate(range(0, len(values), MOST_ROWS), 1)]
 
 
 def _job(text: str, selection: Selection, kinds: Optional[Mapping[str, str]], options: Mapping[str, Any]) -> Job:

@@ -167,21 +167,39 @@ def first_rows(rows: List[Row], asked: Plan, top: Optional[int]) -> List[Row]:
 
 
 class Reading(NamedTuple):
-    """A question as it is asked of the rows of a moment: its tree, its plan for a table of the columns c0, c1 and so on, and these; and what is said of its values."""
+    """A question as it is asked of the rows of a moment: its tree, its plan for a table of the columns c0, c1 and so on, and these."""
 
     text: str
     question: Question
     plan: Plan
     columns: List[Column]
     lists: List[Sequence[int]]
-    unknown: List[str]
+    absent: List[Tuple[Column, str]]        # each value in it that no row of a column has
 
     @staticmethod
-    def of(text: str, question: Question, numbers: Callable[[Column], Sequence[int]], unknown: Iterable[str] = ()) -> "Reading":
+    def of(text: str, question: Question, numbers: Callable[[Column], Sequence[int]], absent: Iterable[Tuple[Column, str]] = ()) -> "Reading":
         """A question over rows that have these numbers in a column."""
         columns = columns_in(question)
         asked = plan(text, question, below(columns))
-        return Reading(text, question, asked, columns, [numbers(column) for column in columns], [*unknown, *asked.unknown])
+        return Reading(text, question, asked, columns, [numbers(column) for column in columns], [*absent, *asked.absent])
+
+    @staticmethod
+    def over(moment: Moment, text: str, selection: Selection, levels: Optional[int] = None) -> "Reading":
+        """A question over the rows of a moment that count, or in its place the one for so many levels."""
+        computer, intersections = Computer(text, moment), Intersections(text, moment)
+        question = intersections.replaced(selection.read(text, moment.column, moment.names, computer.column))
+        if levels is not None:
+            question = replace(question, mode="top_level", count=levels)
+        return Reading.of(text, question, moment.numbers, [*computer.absent, *intersections.absent])
+
+    @property
+    def unknown(self) -> List[str]:
+        """What is said of each value that no row has."""
+        return [unknown_value(column, text) for column, text in self.absent]
+
+    def at(self, places: Sequence[int]) -> "Reading":
+        """The same of only the rows at these places, from 0."""
+        return self._replace(lists=[[numbers[place] for place in places] for numbers in self.lists])
 
     @property
     def names(self) -> List[str]:
@@ -205,14 +223,11 @@ def below(columns: Sequence[Column]) -> Dict[int, str]:
 
 def reading(text: str, selection: Selection, moment: Moment) -> Reading:
     """Reads a question over the rows of a moment, of which those count from now on that meet the condition; what decides between equally good ones is read too."""
-    unknown = [unknown_value(column, text) for column, text in kept(selection, moment)]
-    computer = Computer(text, moment)
-    intersections = Intersections(text, moment)
-    question = intersections.replaced(selection.read(text, moment.column, moment.names, computer.column))
-    read = Reading.of(text, question, moment.numbers, [*unknown, *computer.unknown, *intersections.unknown])
+    absent = kept(selection, moment)
+    read = Reading.over(moment, text, selection)
     if selection.ties is not None:
         plan_of_ties(selection.ties, moment.column, moment.names)
-    return read
+    return read._replace(absent=[*absent, *read.absent])
 
 
 def selected(text: str, selection: Selection, moment: Moment, *, progress: Optional[Progress] = None, **options: Any) -> List[Row]:

@@ -6,7 +6,7 @@ from .carried import CellRows, FrameRows, Rows, ValueRows
 from .errors import Refused
 from .loading import Encoded, File, check_known, column_of_values
 from .missing import Missing
-from .partition import Partition, Reading, Source, is_frame, values_of_rows
+from .partition import Numbered, Partition, Reading, Source, is_frame, values_of_rows
 from .reading import check_names, read_csv
 
 
@@ -39,10 +39,11 @@ class Opened:
 
 
 class OpenedFile(Opened):
-    """A CSV file. One that is written to meanwhile is refused."""
+    """A CSV file, of which no two columns have one name. One that is written to meanwhile is refused."""
 
     def __init__(self, path: Any, reading: Reading) -> None:
         self._cells = read_csv(path, reading.dialect)
+        self._cells.check_columns(self._cells.names)
         super().__init__(self._cells.names)
         self.has_words = reading.missing is None
         self._file = File(self._cells, reading.kinds, Missing(reading.missing), reading.form)
@@ -108,6 +109,8 @@ class OpenedFrame(Opened):
 
 def opened(source: Source, reading: Reading) -> Opened:
     """A partition, open. What is none is a `TypeError`."""
+    if isinstance(source, Numbered):
+        source = source.source
     if is_frame(source):
         return OpenedFrame(source, reading)
     if isinstance(source, Partition):

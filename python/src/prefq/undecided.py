@@ -1,6 +1,6 @@
 """Columns of files with nothing but words such as n/a, which are missing beside values of another kind, and texts beside texts: the ways in which they may turn out."""
 from itertools import product
-from typing import Iterator, List, Sequence
+from typing import Collection, Iterator, List, Sequence
 
 from .columns import listed
 from .errors import Refused
@@ -21,14 +21,17 @@ def views_of(partial: Partial, ways: Sequence[Sequence[Segment]]) -> "Iterator[L
     return map(list, product(*ways))
 
 
-def ways_of(segment: Segment, question: Question) -> List[Segment]:
+def ways_of(segment: Segment, question: Question, computed: Collection[str]) -> List[Segment]:
     """The ways in which a column may turn out that are tried, so that no row is left out that may be in the answer of another way.
 
-    By its order it is asked where it has no texts. Where it makes groups alone, groups of texts are the finer ones, in which fewer rows dominate others.
+    By its order it is asked where it has no texts. Where it makes groups alone, groups of texts are the finer ones, in which fewer rows dominate others. What is
+    `computed` of it may be another number or truth either way.
     """
     if not isinstance(segment.column.kind, Undecided):
         return [segment]
     texts, missing = segment.views()
+    if segment.column.name in computed:
+        return [texts, missing]
     words = {base.word for base in bases_of(question.term) if base.column.name == segment.column.name}
     if words - {"pos", "layered"}:
         return [missing]

@@ -2,12 +2,12 @@
 import csv
 from dataclasses import dataclass, replace
 from functools import partial as with_words
-from typing import Any, Callable, Dict, List, NamedTuple, Optional, Sequence, Tuple
+from typing import Any, Callable, List, NamedTuple, Optional, Sequence, Tuple
 
 from .answer import Answer
 from .errors import Refused
 from .partial import Partial, together
-from .parts import Asked, Job, in_partition, records_of, waited_for
+from .parts import Job, in_partition, records_of, waited_for
 from .partition import Source, called
 from .selection import Reading
 from .sources import Opened, opened
@@ -63,28 +63,28 @@ class Rivalry(Job):
     def among(self, target: Partial, rows: Partial, number: int) -> List[Rivals]:
         """The rivals of the target, which has this number, among rows whose numbers are their places; for each way in which they may turn out."""
         both = together([replace(target, rows=()), replace(rows, rows=())])
-        return [self._rivals(asked, view, rows.places, number) for asked, view in self.views(both)]
+        if number in rows.places and any(segment.numbers[0] != segment.numbers[1 + rows.places.index(number)] for segment in both.asked):
+            raise Refused(CHANGED, "table")
+        return [_rivals(read, rows.places, number) for read in self.views(both)]
 
     def ways(self, partial: Partial) -> List[List[Segment]]:
         """All ways: what dominates a row in one of them may not in another, and none is to be missed."""
         return [segment.views() for segment in partial.asked]
 
-    def _rivals(self, asked: Asked, view: Partial, places: Sequence[int], number: int) -> Rivals:
-        first, *others = zip(*(segment.numbers for segment in view.asked))
-        numbers: Dict[int, Tuple[int, ...]] = dict(zip(places, others))
-        if numbers.get(number, first) != first:
-            raise Refused(CHANGED, "table")
-        rows = sorted({**numbers, number: first}.items())
-        lists: Dict[int, Sequence[int]] = dict(zip((id(segment.column) for segment in view.asked), zip(*(values for _, values in rows))))
-        read = Reading.of(self.question, asked.question, lambda column: lists[id(column)])
-        return Rivals(read, [other for other, _ in rows], [other for other, _ in rows].index(number))
-
     def _rows(self, partition: Source) -> Tuple[Opened, Partial]:
         try:
             source = opened(partition, self.reading)
-            return source, self.loaded(source, called(partition))
+            return source, self.loaded(source, called(partition))[0]
         except (Refused, TypeError, ValueError, csv.Error) as why:
             raise in_partition(why, partition) from None
+
+
+def _rivals(read: Reading, places: Sequence[int], number: int) -> Rivals:
+    """The rivals of the first row, which has this number, among the others, which have their places as numbers and may have the first one among them."""
+    first, *others = zip(*read.lists)
+    rows = sorted({**dict(zip(places, others)), number: first}.items())
+    numbers = [other for other, _ in rows]
+    return Rivals(read._replace(lists=list(zip(*(values for _, values in rows)))), numbers, numbers.index(number))
 
 
 def dominators(job: Rivalry, sources: Sequence[Any], map: Callable[..., Any], id: int) -> Answer:

@@ -206,7 +206,7 @@ def check_one_line_of_time(segments: Sequence[Segment]) -> None:
     moments = [segment for segment in segments if isinstance(segment.column.kind, (Dates, Times))]
     for first, other in zip(moments, moments[1:]):
         if isinstance(first.column.kind, Times) != isinstance(other.column.kind, Times):
-            raise _two_meanings(first, other, "a condition would mean something else in each: give the column one kind by kinds={..}")
+            raise _two_meanings(first, other, "a condition or an expression would mean something else in each: give the column one kind by kinds={..}")
 
 
 def _two_meanings(first: Segment, second: Segment, why: str) -> Refused:
