@@ -14,7 +14,7 @@ import prefq
 import random_frames
 from prefq import high, low
 from prefq.better_than import Order, places_in
-from support import TestCase
+from support import TestCase, pairs
 
 QUESTIONS = int(os.environ.get("PREFQ_TEST_COUNT", 1000)) // 3
 SEED = int(os.environ.get("PREFQ_TEST_SEED", 20260501))
@@ -124,6 +124,39 @@ class Why(TestCase):
             self.assertEqual(frame.why(4, "best low(x)").ids, [6, 1, 3])
             with self.refuses(prefq.Refused, "no such row 2"):
                 frame.why(2, "best low(x)")
+
+    def test_of_equal_rows_the_first_dominates_the_others(self):
+        """As `skyline of distinct` has it, so that each of them has a level of its own, and what comes behind them has one behind all."""
+        rows = [{"x": 1, "y": 9}, {"x": 2, "y": 5}, {"x": 1, "y": 9}, {"x": 2, "y": None}, {"x": 1, "y": 9}, {"x": 2, "y": None}, {"x": 3, "y": 9}, {"x": None, "y": None}, {"x": 2, "y": 5}]
+        with prefq.Frame.from_records(rows) as frame:
+            for question, id, wanted in [("x min", 7, [(1, 1), (2, 3), (3, 5), (4, 2), (5, 4), (6, 6), (7, 9)]), ("x min", 5, [(1, 1), (2, 3)]),
+                                         ("x min, y min", 7, [(1, 1), (1, 2), (2, 3), (2, 9), (3, 5)]), ("x min, y max", 6, [(1, 1), (2, 3), (3, 5), (4, 2), (5, 9), (6, 4)]),
+                                         ("y min, x diff", 6, [(1, 2), (2, 9), (3, 4)]), ("x min, x max", 9, [(1, 2), (2, 4), (3, 6)]),
+                                         ("x min, y min, x max", 5, [(1, 1), (2, 3)]), ("x min, x min", 5, [(1, 1), (2, 3)]), ("x max, y max", 3, [(1, 7), (2, 1)]), ("x min", 1, [])]:
+                with self.subTest(question, id=id):
+                    found = frame.why(id, f"skyline of distinct {question}")
+                    self.assertEqual(pairs(found), sorted(wanted))
+
+    def test_equal_rows_at_random(self):
+        for seed in range(QUESTIONS // 5):
+            chance = random.Random(SEED + seed)
+            rows = {id: {name: chance.choice([None, 1, 2, 3][chance.random() < 0.8:]) for name in "abc"} for id in range(1, chance.randrange(2, 25))}
+            names = chance.sample("abc", 3)
+            parts = [chance.choice([plain.Low, plain.High])(name, "") for name in names[:chance.randrange(1, 4)]]
+            by = names[len(parts):][:chance.randrange(2)]
+            clause = [f"{part.name} {'max' if isinstance(part, plain.High) else 'min'}" for part in parts] + [f"{name} diff" for name in by]
+            asked = plain.Ask(f"skyline of distinct {', '.join(clause)}", plain.Pareto("", parts), by, 1, None, [part.name for part in parts] + by)
+            levels = asked.levels_of(rows)
+            with self.subTest(seed=seed), prefq.Frame.from_records(list(rows.values()), kinds=dict.fromkeys("abc", "whole")) as frame:
+                for id in rows:
+                    self.assertEqual(pairs(frame.why(id, asked.text)), sorted((levels[other], other) for other in asked.dominators(rows, id)), (asked.text, id))
+                many = [prefq.parts.Partition(list("abc"), [list(row.values()) for row in list(rows.values())[begin:begin + 7]]) for begin in range(0, len(rows), 7)]
+                self.assertEqual(pairs(prefq.parts.why(many, id, asked.text)), pairs(frame.why(id, asked.text)), (asked.text, id))
+
+    def test_as_many_criteria_as_a_table_has_columns(self):
+        names = [f"c{number}" for number in range(16)]
+        with prefq.Frame.from_records([{name: value for name in names} for value in (1, 1, 2, 1, 3)]) as frame:
+            self.assertEqual(pairs(frame.why(5, "skyline of distinct " + ", ".join(f"{name} min" for name in names))), [(1, 1), (2, 2), (3, 4), (4, 3)])
 
     def test_each_row_is_compared_once(self):
         """So that 50,000 of them take no time."""

@@ -62,7 +62,7 @@ class Pictures(TestCase):
         self.assertEqual(sorted([row["id"] for row in best] + [point[0] for point in others]), sorted(rows))
         groups = {row["id"]: row["group"] for row in best} | {point[0]: point[4] for point in others}
         self.assertEqual({(groups[a] == groups[b]) for a in rows for b in rows if all(rows[a][name] == rows[b][name] for name in ask.by)}, {True})
-        self.assertEqual(len({tuple(str(rows[row["id"]][name]) for name in ask.by) for row in best}) if ask.by else 0, len(shown["groups"]))
+        self.assertEqual(len({tuple(rows[row["id"]][name] for name in ask.by) for row in best}) if ask.by else 0, len(shown["groups"]))
         found = pictures.answer(desk, asked)
         self.assertEqual([(row.level, row.id, dict(row)) for row in found], [(row["level"], row["id"], rows[row["id"]]) for row in best])
 
@@ -71,8 +71,7 @@ class Pictures(TestCase):
         for id in rng.sample(sorted(rows), min(3, len(rows))):
             found = pictures.why(desk, asked, id)
             self.assertEqual(sorted(row["id"] for row in found["rows"]), sorted(ask.dominators(rows, id)), asked)
-            if not ask.equal_in:        # the rows that such a clause leaves out have the level of the first one here
-                self.assertEqual([(row["level"], row["id"]) for row in found["rows"]], sorted((levels[row["id"]], row["id"]) for row in found["rows"]), asked)
+            self.assertEqual([(row["level"], row["id"]) for row in found["rows"]], sorted((levels[row["id"]], row["id"]) for row in found["rows"]), asked)
             self.assertEqual((found["row"]["id"], found["count"]), (id, len(found["rows"])))
 
     def test_ids_that_a_browser_has_no_number_for_are_texts(self):

@@ -183,9 +183,8 @@ class RandomFrames(TestCase):
         id = random_.choice(list(rows))
         why = frame.why(id, asked.text)
         self.assertEqual(sorted(why.ids), asked.dominators(rows, id), asked.text)
-        if not asked.equal_in:
-            levels = asked.levels_of(rows)
-            self.assertEqual(list(zip(why.levels, why.ids)), sorted((levels[other], other) for other in why.ids), asked.text)
+        levels = asked.levels_of(rows)
+        self.assertEqual(list(zip(why.levels, why.ids)), sorted((levels[other], other) for other in why.ids), asked.text)
 
     def selected(self, door, rows, asked):
         """The same by psel, which has the labels of the DataFrame."""

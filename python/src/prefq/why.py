@@ -1,13 +1,13 @@
 """Which rows dominate a row: by one comparison with each row of its group."""
 from typing import Dict, List, Optional, Sequence, Tuple
 
-from .better_than import Order, bits, places_in
+from .better_than import Order, bits, places_in, ranks
 from .checks import MOST_ROWS
 from .errors import Refused
 from .once import ask_once
 from .rows import Zipped
-from .selection import Reading
-from .translate import terms_columns
+from .selection import Reading, below
+from .translate import clause_of, term_below, terms_columns
 
 LEVELS = 1000
 
@@ -20,7 +20,7 @@ def dominators(read: Reading, target: int) -> List[Tuple[int, Optional[int]]]:
     """
     found = better(read, target)
     check_count(len(found), "the row")
-    levels = levels_of(found, *terms_lists(read), read.term)
+    levels = levels_of(read, found)
     return sorted(((place, levels.get(place)) for place in found), key=lambda pair: (pair[1] or LEVELS + 1, pair[0]))
 
 
@@ -38,21 +38,39 @@ def better(read: Reading, target: int) -> List[int]:
     return list(places_in(over))
 
 
-def terms_lists(read: Reading) -> Tuple[List[str], List[Sequence[int]]]:
-    """The names and the numbers of the columns of the term."""
-    count = len(terms_columns(read.question.term))
-    return read.names[:count], read.lists[:count]
-
-
 def alike(lists: Sequence[Sequence[int]], target: int, count: int) -> int:
     """The rows that are equal to the one at this place in these columns, of so many rows."""
     own = tuple(numbers[target] for numbers in lists)
     return bits(row == own for row in zip(*lists)) if lists else (1 << count) - 1
 
 
-def levels_of(found: List[int], names: Sequence[str], lists: Sequence[Sequence[int]], term: str) -> Dict[int, int]:
+def levels_of(read: Reading, found: List[int]) -> Dict[int, int]:
     """The levels of the rows at these places among themselves."""
     if not found:
         return {}
-    rows = Zipped([[numbers[place] for place in found] for numbers in lists])
-    return {found[row.id - 1]: row.level for row in ask_once(names, rows, f"top_level {LEVELS} {term}")}
+    names, lists = terms_lists(read.at(found))
+    term = read.term
+    if read.question.distinct:
+        lists = clause_in_turn(read, names, lists)
+        term = " * ".join(f"low({name})" for name in names[:len(lists)])
+    return {found[row.id - 1]: row.level for row in ask_once(names[:len(lists)], Zipped(lists), f"top_level {LEVELS} {term}")}
+
+
+def terms_lists(read: Reading) -> Tuple[List[str], List[Sequence[int]]]:
+    """The names and the numbers of the columns of the term."""
+    count = len(terms_columns(read.question.term))
+    return read.names[:count], read.lists[:count]
+
+
+def clause_in_turn(read: Reading, names: Sequence[str], lists: Sequence[Sequence[int]]) -> List[Sequence[int]]:
+    """The criteria of a distinct clause over rows of one group, all of which dominate one row, as columns of which less is better: there the first of equal rows
+    dominates the second, and so on.
+
+    Rows that are equal in a criterion are told apart by their turns, in which none dominates an earlier one. So a row that dominates another one is better than it in
+    each of the columns, and one that neither dominates nor equals another is better in one of them and worse in another.
+    """
+    ranked = (Order(term_below(read.text, base, below(read.columns)), names, lists).extension() for base in clause_of(read.question.term))
+    # A column of which both min and max are asked is the same in all rows that dominate one.
+    criteria = [scores for scores in dict.fromkeys(map(tuple, ranked)) if len(set(scores)) > 1]
+    turns = ranks([(sum(scores), place) for place, scores in enumerate(zip(*criteria))]) if criteria else list(range(len(lists[0])))
+    return [ranks(list(zip(scores, turns))) for scores in criteria] or [turns]
