@@ -231,7 +231,7 @@ class AsTheProgram(TestCase):
         refusals = 0
         with prefq.Frame.from_records([dict(zip(self.NAMES, row)) for row in rows]) as frame, prefq.Table(self.NAMES, rows) as table:
             def without_expressions(text, column, names, mode, make):
-                return read_question(text, column, names, mode)
+                return read_question(text, column, names)
 
             with unittest.mock.patch("prefq.table.explained", lambda why, columns: why), unittest.mock.patch("prefq.selection.read_frames_question", without_expressions):
                 for _ in range(2000):

@@ -1,11 +1,10 @@
 """Conditions and expressions over the rows of a part: which rows count, and over which columns that was computed."""
-from dataclasses import dataclass, field
 from itertools import product
-from typing import Any, Callable, Dict, Iterable, Iterator, List, Mapping, Optional, Sequence, Tuple
+from typing import Dict, Iterable, Iterator, List, Mapping, Optional, Sequence, Tuple
 
 from .columns import Column, listed
 from .errors import Refused
-from .expressions import Comparison, Literal, Named, Node, Operation, columns_of, read_condition
+from .expressions import Comparison, Literal, Named, Node, Operation, columns_of
 from .kinds import Kind, Times
 from .kinds.moments import offset_of
 from .moment import Moment
@@ -13,47 +12,33 @@ from .partial import Absent
 from .questions import Term
 from .selection import Selection, kept
 from .translate import bases_of, unknown_value
+from .undecided import not_refused
 from .widening import Segment
 
 
-@dataclass(frozen=True)
-class Met:
-    """The places, from 0, of the rows that meet a condition; the columns that it names; each value of it that no row has; and by column of times with a zone a text
-    beside it that names none."""
-
-    places: Sequence[int]
-    absent: Absent
-    columns: Tuple[Segment, ...] = ()
-    moments: Mapping[str, str] = field(default_factory=dict)
-
-
-def rows_that_meet(condition: str, names: Sequence[Any], column: Callable[[str], Optional[Column]], segments: Mapping[str, Segment], count: int) -> Met:
-    """The rows of a part that meet a condition; `column` reads a column of these names into the segments.
+def rows_that_meet(condition: str, node: Node, segments: Mapping[str, Segment], count: int) -> Tuple[Sequence[int], Absent]:
+    """The places, from 0, of the rows of a part that meet a condition, whose tree is this one; and each value of it that no row has.
 
     A column whose cells are all words such as n/a may turn out to be one of texts or without values: where that makes a difference, it is `Refused`.
     """
-    node = read_condition(condition, column, [name for name in names if isinstance(name, str)])
     named = [segments[name] for name in names_in([node])]
-    found: List[Met] = []
-    refused = None
-    for view in product(*(segment.views() for segment in named)):
-        try:
-            found.append(_met(condition, names, {segment.column.name: segment for segment in view}, count))
-        except Refused as why:
-            refused = why
-    if refused is not None and not found:
-        raise refused
-    if any(list(met.places) != list(found[0].places) for met in found):
+    found = not_refused(lambda view: _met(condition, view, count), product(*(segment.views() for segment in named)))
+    if any(list(places) != list(found[0][0]) for places, _ in found):
         words = [segment.column.name for segment in named if segment.words()]
         raise Refused(f"all cells of {listed(words)} are words such as n/a: say by missing=[..] whether these are missing, or give a kind by kinds={{..}}", "table")
-    return Met(found[0].places, found[0].absent, tuple(segment.without_rows() for segment in named), moments_in([node]))
+    return found[0]
 
 
-def _met(condition: str, names: Sequence[Any], segments: Dict[str, Segment], count: int) -> Met:
-    moment = Moment(names, lambda name: (segments[name].column, segments[name].numbers))
-    absent = kept(Selection(where=condition), moment)
-    places = range(count) if moment.kept is None else [id - 1 for id in moment.kept]
-    return Met(places, {(column.name, text): unknown_value(column, text) for column, text in absent})
+def _met(condition: str, view: Iterable[Segment], count: int) -> Tuple[Sequence[int], Absent]:
+    segments = {segment.column.name: segment for segment in view}
+    moment = Moment(list(segments), lambda name: (segments[name].column, segments[name].numbers))
+    absent = absent_in(kept(Selection(where=condition), moment))
+    return range(count) if moment.kept is None else [id - 1 for id in moment.kept], absent
+
+
+def absent_in(found: Iterable[Tuple[Column, str]]) -> Absent:
+    """What is said of values that no row of a column has, by column and text."""
+    return {(column.name, text): unknown_value(column, text) for column, text in found}
 
 
 def texts_beside_columns(node: Node) -> Iterator[Tuple[Column, str]]:

@@ -2,7 +2,7 @@
 from array import array
 from bisect import bisect_left
 from dataclasses import dataclass, field, replace
-from typing import Any, Dict, Iterable, Iterator, List, Mapping, Sequence, Tuple
+from typing import Any, Dict, Iterable, Iterator, Mapping, Sequence, Tuple
 
 from .carried import Rows
 from .errors import Refused

@@ -32,14 +32,14 @@ from .answer import Answer
 from .carried import column_of
 from .checks import MOST_IDS, MOST_ROWS, whole
 from .columns import Column
-from .conditions import Met, moments_in, names_in, rows_that_meet
+from .conditions import absent_in, moments_in, names_in, rows_that_meet
 from .errors import Refused
-from .expressions import Make, Node, unmade
+from .expressions import Make, Node, read_condition, unmade
 from .kinds import Texts
 from .loading import decoded
 from .missing import note_of
 from .once import ask_once
-from .partial import Partial, together
+from .partial import Absent, Partial, together
 from .partition import Numbered, Partition, Reading, Source, called, is_of_dask, numbered, partitions_of
 from .preferences import Asked as AskedFor
 from .preferences import Operand, text_asked
@@ -50,8 +50,7 @@ from .rows import Row, Zipped
 from .selection import Names, Selection, picked, plan_of_ties, without_twins
 from .selection import Reading as QuestionRead
 from .sources import Opened, opened
-from .translate import unknown_value
-from .undecided import views_of, ways_of
+from .undecided import not_refused, views_of, ways_of
 from .warned import warn_of
 from .widening import Nothing, Segment, Undecided, as_in_a_frame
 
@@ -177,14 +176,17 @@ class Job:
         words = {**source.words, **{segment.column.name: segment.words() for segment in asked if segment.words()}}
         left = Partial(source.names, asked, source.count, range(source.count), words=words, source=what)
         try:
-            met = Met(left.places, {}) if self.selection.where is None else rows_that_meet(self.selection.where, source.names, column, segments, source.count)
-            left = left if self.selection.where is None else left.kept(met.places)
+            absent: Absent = {}
+            if self.selection.where is not None:
+                nodes.append(read_condition(self.selection.where, column, names))
+                places, absent = rows_that_meet(self.selection.where, nodes[-1], segments, source.count)
+                left = left.kept(places)
             views = self.views(left)
         except Refused as why:      # by the values of a column, so it says in which file
             raise Refused(f"{what}: {why.args[0]}", why.kind, why.number, why.place, why.question) from None
-        computed = (*met.columns, *(segments[name].without_rows() for name in names_in(nodes)))
-        absent = {**self._absent_in_ties(column, names), **absent_in(views[0].absent), **met.absent}
-        return replace(left, absent=absent, computed=computed, moments={**met.moments, **moments_in(nodes, question.term)}), views
+        absent = {**self._absent_in_ties(column, names), **absent_in(views[0].absent), **absent}
+        computed = tuple(segments[name].without_rows() for name in names_in(nodes))
+        return replace(left, absent=absent, computed=computed, moments=moments_in(nodes, question.term)), views
 
     def _nodes_in(self, column: Callable[[str], Optional[Column]], names: Sequence[str]) -> Tuple[Question, List[Node]]:
         """The tree of the question, and the expressions in it."""
@@ -196,7 +198,7 @@ class Job:
 
         return self.question_over(column, names, noted), nodes
 
-    def _absent_in_ties(self, column: Callable[[str], Optional[Column]], names: Sequence[str]) -> Dict[Tuple[str, str], str]:
+    def _absent_in_ties(self, column: Callable[[str], Optional[Column]], names: Sequence[str]) -> Absent:
         """The values of the ties that no row here has in a column, which is none that is computed; none where these columns do not take the ties, of which all parts
         decide together."""
         try:
@@ -208,15 +210,7 @@ class Job:
     def views(self, partial: Partial) -> List[QuestionRead]:
         """What the parts are asked of each way in which these rows may turn out, of which one at least has to take the question. `at_least` counts rows of the
         whole, so parts are asked for levels."""
-        found, refused = [], None
-        for asked in views_of(partial, self.ways(partial)):
-            try:
-                found.append(self.read(replace(partial, asked=tuple(asked)), levels=self.levels))
-            except Refused as why:
-                refused = why
-        if refused is not None and not found:
-            raise refused
-        return found
+        return not_refused(lambda asked: self.read(replace(partial, asked=tuple(asked)), levels=self.levels), views_of(partial, self.ways(partial)))
 
     def ways(self, partial: Partial) -> List[List[Segment]]:
         """The ways in which each column may turn out that are tried."""
@@ -404,11 +398,6 @@ def _check_names(left: Partial) -> None:
             check_names(rows.names)
         except (Refused, TypeError) as why:
             raise in_partition(why, numbered(None, number)) from None
-
-
-def absent_in(found: Iterable[Tuple[Column, str]]) -> Dict[Tuple[str, str], str]:
-    """What is said of values that no row of a column has, by column and text."""
-    return {(column.name, text): unknown_value(column, text) for column, text in found}
 
 
 def _ask(read: QuestionRead, piece: range) -> List[Tuple[int, int]]:

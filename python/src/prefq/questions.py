@@ -107,11 +107,9 @@ def tokens_of(question: str) -> List[Token]:
     return [*tokens, Token("end", "", len(question), 0)]
 
 
-def read_question(question: str, column: Callable[[str], Optional[Column]], names: Sequence[str], mode: Optional[Mode] = None) -> Question:
-    """The tree of a question. Where a mode is given, the question may do without one."""
-    if not isinstance(question, str):
-        raise TypeError(f"a question is a text, not {question!r}")
-    return Reader(question, column, names).question(mode)
+def read_question(question: str, column: Callable[[str], Optional[Column]], names: Sequence[str]) -> Question:
+    """The tree of a question."""
+    return Reader(question, column, names).question(None)
 
 
 def names_asked_for(names: Sequence[str], *reads: Callable[[Callable[[str], Optional[Column]]], object]) -> List[str]:

@@ -63,10 +63,7 @@ class Selection:
 
     def read(self, text: str, column: Callable[[str], Optional[Column]], names: Sequence[str], make: Make = unmade) -> Question:
         """The tree of a question, with the groups and as many levels as are wanted; `make` makes the columns that are computed."""
-        return self.applied(read_frames_question(text, column, names, self.mode, make), column, names)
-
-    def applied(self, question: Question, column: Callable[[str], Optional[Column]], names: Sequence[str]) -> Question:
-        """A question that was read, with the groups and as many levels as are wanted."""
+        question = read_frames_question(text, column, names, self.mode, make)
         if self.by:
             if question.by:
                 raise Refused("the question has groups itself: leave out by= or the groups of the question", "arguments")

@@ -1,6 +1,6 @@
 """Columns of files with nothing but words such as n/a, which are missing beside values of another kind, and texts beside texts: the ways in which they may turn out."""
 from itertools import product
-from typing import Collection, Iterator, List, Sequence
+from typing import Callable, Collection, Iterable, Iterator, List, Sequence, TypeVar
 
 from .columns import listed
 from .errors import Refused
@@ -11,6 +11,8 @@ from .widening import Segment, Undecided
 
 # With so many columns of either way there are 64 ways.
 MOST_OF_EITHER_WAY = 6
+View = TypeVar("View")
+Found = TypeVar("Found")
 
 
 def views_of(partial: Partial, ways: Sequence[Sequence[Segment]]) -> "Iterator[List[Segment]]":
@@ -19,6 +21,19 @@ def views_of(partial: Partial, ways: Sequence[Sequence[Segment]]) -> "Iterator[L
     if len(either) > MOST_OF_EITHER_WAY:
         raise Refused(f"all cells of {listed(either)} are words such as n/a: say by missing=[..] whether these are missing, or give kinds by kinds={{..}}", "table")
     return map(list, product(*ways))
+
+
+def not_refused(ask: Callable[[View], Found], views: Iterable[View]) -> List[Found]:
+    """What is found in each view that is not `Refused`, as one at least has to be."""
+    found, refused = [], None
+    for view in views:
+        try:
+            found.append(ask(view))
+        except Refused as why:
+            refused = why
+    if refused is not None and not found:
+        raise refused
+    return found
 
 
 def ways_of(segment: Segment, question: Question, computed: Collection[str]) -> List[Segment]:
