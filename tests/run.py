@@ -2,8 +2,9 @@
 """Runs the tests, names what failed, and ends with a count of what passed, what failed and what was skipped.
 
     python3 tests/run.py quick       for every change: the layout of the files, the lists of definitions and of edits, the sentences and the site of the
-                                     documents, each test without its proof, the stored run, the scripts, the examples, what the documents show, and the
-                                     wheel of dist/. The tests of the Python package run too, where the library is built or PREFQ_LIBRARY names one
+                                     documents, each test without its proof, the stored run, the scripts, the examples, what the documents and the doc
+                                     comments show, and the wheel of dist/. The tests of the Python package run too, where the library is built or
+                                     PREFQ_LIBRARY names one
     python3 tests/run.py all         before a merge: the proofs, the must-fail edits and the tests by `rt ci`, which proves from nothing what it has not passed
                                      before on this machine, in just these files; then the lists, and each check over the built programs that takes seconds
     python3 tests/run.py release     before a release: all that, every proof from nothing; then the wheel of dist/ built anew from its commit, the edits of
@@ -211,11 +212,13 @@ def site(room, log):
 DEFINITIONS = ["python3", "tests/definitions.py"]
 EDITS = ["python3", "tests/edits.py"]
 SENTENCES = ["python3", "tests/sentences.py"]
+DOC_EXAMPLES = ["python3", "tests/examples_of_docs.py"]
 SITE = Check("site of the documents", site)
 # The longest first.
 QUICK = [
     Check("stored run, scripts, examples, documents", scripts_unproved),
     Check("all tests, not proved", tests_unproved),
+    command(*DOC_EXAMPLES, name="examples of the doc comments"),
     Check("layout of the files", layout),
     command(*DEFINITIONS, name="list of definitions"),
     command(*EDITS, name="list of edits"),
@@ -270,6 +273,7 @@ BUILT = [
     command(*EDITS),
     command(*SENTENCES),
     SITE,
+    command(*DOC_EXAMPLES),
     command("python3", "examples/check.py"),
     command("python3", "tests/scripts.py"),
     command("python3", "tests/model/compare.py"),

@@ -15,7 +15,7 @@ const MOST_CHANGES: usize = 8;
 
 /// One change of a commit.
 ///
-/// ```text
+/// ```rust
 /// let changes = [Change::Add(hotel), Change::Set(2, cheaper), Change::Remove(3)];
 /// ```
 #[derive(Clone, Copy, Debug, PartialEq, Eq)]
@@ -125,7 +125,7 @@ impl Commit {
     /// Refused `ChangeCount` for none or more than eight, then `Twice` for the first change that names an id which an
     /// earlier one names.
     ///
-    /// ```text
+    /// ```rust
     /// let commit = Commit::of(&[Change::Set(1, hotel), Change::Remove(2)])?;
     /// ```
     pub fn of(changes: &[Change]) -> Result<Commit, CoreFault>

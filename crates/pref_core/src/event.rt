@@ -12,7 +12,7 @@ use std::marker::Model;
 
 /// An action of a client.
 ///
-/// ```text
+/// ```rust
 /// let hotel = Act::Insert(Row::of(&schema, &[55, 1])?);
 /// let question = Act::Begin(read_ask(alloc, &schema, b"best low(price) * low(dist)")?);
 /// ```
@@ -42,7 +42,7 @@ pub enum Act {
 
 /// A commit in a box, so that other acts are no larger for it. Contracts see the list of its changes.
 ///
-/// ```text
+/// ```rust
 /// let commit = Commit::of(&[Change::Add(hotel), Change::Remove(3)])?;
 /// let act = Act::Commit(BoxedCommit::new(alloc, commit)?);
 /// ```
@@ -80,7 +80,7 @@ impl BoxedCommit {
 
 /// One act of one client.
 ///
-/// ```text
+/// ```rust
 /// let event = Event { client: 2, act: Act::Insert(hotel) };
 /// ```
 #[derive(Drop)]
@@ -116,10 +116,14 @@ impl RankedList {
 
     /// The rows.
     ///
-    /// ```text
+    /// ```rust
     /// for best in answer.as_slice() {
     ///     println!(rt; "row {}, {}", best.id, best.row.cell(0))?;
     /// }
+    /// // row 1, 50
+    /// // row 2, 60
+    /// // row 3, 80
+    /// // row 6, 100
     /// ```
     pub fn as_slice(&self) -> &[Ranked]
         ensures { result.now ≡ self.now }
@@ -146,11 +150,11 @@ pub struct Committed {
 
 /// The reply to an act.
 ///
-/// ```text
+/// ```rust
 /// match table.reply(alloc, Event { client: 1, act: Act::Finish })? {
-///     Reply::Answer(answer) => print_answer(rt, &answer),
-///     Reply::Refused(fault) => print_refusal(rt, fault),
-///     _ => Ok(()),
+///     Reply::Answer(answer) => println!(rt; "{} rows", answer.as_slice().len())?,
+///     Reply::Refused(fault) => println!(rt; "{fault}")?,     // no query
+///     _ => {}
 /// }
 /// ```
 #[derive(Drop)]

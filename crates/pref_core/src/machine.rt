@@ -35,7 +35,7 @@ use std::marker::Model;
 /// updates, deletes, commits, begins, finishes and abandons that succeed are numbered, and so are some refusals of
 /// changes: each client makes 2^56 of these at most, and is refused `Spent` then.
 ///
-/// ```text
+/// ```rust
 /// let mut table = Machine::new(alloc, setup, &rows)?;
 /// let blocks = table.begin(1, ask)?;
 /// for _ in 0..blocks {
@@ -83,7 +83,7 @@ impl Machine {
     ///
     /// Refused `Full` where there are more rows than slots, else `OutOfMemory`.
     ///
-    /// ```text
+    /// ```rust
     /// let (schema, hotels) = read_table(alloc, HOTELS)?;
     /// let setup = Setup::new(2, 1024, 256, 64).context("a number outside the limits")?;
     /// let mut table = Machine::new(alloc, setup, &hotels)?;
@@ -109,8 +109,8 @@ impl Machine {
     /// Refused `Spent`; `Full`, which is numbered; or `OutOfMemory`. No row has changed then, and no id is used. Cost:
     /// constant in the slots.
     ///
-    /// ```text
-    /// let id = table.insert(alloc, 2, &Row::of(&schema, &[55, 1])?)?;
+    /// ```rust
+    /// let id = table.insert(alloc, 2, &Row::of(&schema, &[55, 1])?)?;     // 8
     /// ```
     pub fn insert(&mut self, alloc: Global, client: u8, row: &Row) -> Result<u64, CoreFault>
         ensures { Does self.old client (Act.Insert row.now) (as_reply Reply.Inserted result) self.new }
@@ -125,7 +125,7 @@ impl Machine {
     /// Refused `Spent`; or `NoSuchRow` or `Full`, which are numbered. No row has changed then. Cost: constant in the
     /// slots.
     ///
-    /// ```text
+    /// ```rust
     /// table.update(alloc, 2, id, &Row::of(&schema, &[45, 1])?)?;
     /// ```
     pub fn update(&mut self, alloc: Global, client: u8, id: u64, row: &Row) -> Result<(), CoreFault>
@@ -138,7 +138,7 @@ impl Machine {
     ///
     /// Refused `Spent`; or `NoSuchRow`, which is numbered. No row has changed then. Cost: constant in the slots.
     ///
-    /// ```text
+    /// ```rust
     /// table.delete(alloc, 2, id)?;
     /// ```
     pub fn delete(&mut self, alloc: Global, client: u8, id: u64) -> Result<(), CoreFault>
@@ -152,9 +152,9 @@ impl Machine {
     /// Refused `Spent`; `NoSuchRow` or `Full`, which are numbered; or `OutOfMemory` where a row is added. No row has
     /// changed then. Cost: constant in the slots.
     ///
-    /// ```text
+    /// ```rust
     /// let commit = Commit::of(&[Change::Add(hotel), Change::Remove(3)])?;
-    /// let committed = table.commit(alloc, 2, &commit)?;
+    /// let committed = table.commit(alloc, 2, &commit)?;     // Committed { changes: 2, first: 8 }
     /// ```
     pub fn commit(
         &mut self,
@@ -175,8 +175,8 @@ impl Machine {
     /// Refused `Spent` or `QueryOpen`. Nothing has changed then, and the ask is let go: [`Machine::step`] hands it
     /// back. Cost: constant in the slots.
     ///
-    /// ```text
-    /// let blocks = table.begin(1, read_ask(alloc, &schema, b"best low(price)")?)?;
+    /// ```rust
+    /// let blocks = table.begin(1, read_ask(alloc, &schema, b"best low(price)")?)?;     // 4
     /// ```
     pub fn begin(&mut self, client: u8, ask: Ask) -> Result<u32, CoreFault>
         ensures { Does self.old client (Act.Begin ask) (as_reply Reply.Begun result) self.new }
@@ -194,7 +194,8 @@ impl Machine {
     /// Refused `NoQuery` or `AllScanned`, or `OutOfMemory`. The query is then as it was. Cost: each slot of the block
     /// that was ever used, once, and then that of adding its rows to a [`Partial`](pref_sky::Partial).
     ///
-    /// ```text
+    /// ```rust
+    /// let blocks = table.begin(1, ask)?;
     /// for _ in 0..blocks {
     ///     table.scan(alloc, 1)?;
     /// }
@@ -210,10 +211,18 @@ impl Machine {
     /// Refused `Spent`, `NoQuery` or `NotDone`, or `OutOfMemory`. The query stays open then. Cost: the rows that the
     /// query holds, and the ended versions that are kept for it.
     ///
-    /// ```text
-    /// for best in table.finish(alloc, 1)?.as_slice() {
+    /// ```rust
+    /// for _ in 0..table.begin(1, ask)? {
+    ///     table.scan(alloc, 1)?;
+    /// }
+    /// let answer = table.finish(alloc, 1)?;
+    /// for best in answer.as_slice() {
     ///     println!(rt; "row {}, {}", best.id, best.row.cell(0))?;
     /// }
+    /// // row 1, 50
+    /// // row 2, 60
+    /// // row 3, 80
+    /// // row 6, 100
     /// ```
     pub fn finish(&mut self, alloc: Global, client: u8) -> Result<RankedList, CoreFault>
         ensures { Does self.old client Act.Finish (as_reply Reply.Answer result) self.new }
@@ -233,7 +242,8 @@ impl Machine {
     ///
     /// Refused `Spent` or `NoQuery`. Nothing has changed then. Cost: the ended versions that are kept for the query.
     ///
-    /// ```text
+    /// ```rust
+    /// let blocks = table.begin(1, ask)?;
     /// table.abandon(1)?;
     /// ```
     pub fn abandon(&mut self, client: u8) -> Result<(), CoreFault>
@@ -253,8 +263,8 @@ impl Machine {
     ///
     /// Refused `NoSuchRow`. Cost: constant in the slots.
     ///
-    /// ```text
-    /// let price = table.get(1, 8)?.cell(0);
+    /// ```rust
+    /// let price = table.get(1, 3)?.cell(0);     // 80
     /// ```
     pub fn get(&self, client: u8, id: u64) -> Result<Row, CoreFault>
         ensures { Does self.now client (Act.Get id) (as_reply (Reply.Found id) result) self.now }
@@ -271,8 +281,8 @@ impl Machine {
     /// How many more versions there is room for, 0 to the slots of the setup. Refused `NoSuchClient` alone. Cost:
     /// constant in the slots.
     ///
-    /// ```text
-    /// let room = table.room(1)?;
+    /// ```rust
+    /// let room = table.room(1)?;     // 1017
     /// ```
     pub fn room(&self, client: u8) -> Result<u32, CoreFault>
         ensures { Does self.now client Act.Room (as_reply Reply.Room result) self.now }
@@ -290,11 +300,11 @@ impl Machine {
     /// leaves. Cost: a change, a get, a room and a begin are constant in the slots, a scan reads its block, a finish
     /// and an abandon go over the ended versions that are kept for their query.
     ///
-    /// ```text
-    /// match table.step(alloc, event) {
-    ///     Ok(reply) => Ok(reply),
-    ///     Err(refused) => Err(refused.fault.into()),
-    /// }
+    /// ```rust
+    /// let reply = match table.step(alloc, event) {
+    ///     Ok(reply) => reply,
+    ///     Err(refused) => return Err(refused.fault.into()),
+    /// };
     /// ```
     pub fn step(&mut self, alloc: Global, event: Event) -> Result<Reply, StepFault>
         ensures { Steps self.old event result self.new }
@@ -310,10 +320,11 @@ impl Machine {
     /// `Err` is out of memory. It comes for a scan, a finish and a change that adds a row alone, where the sequential
     /// table does not refuse it, and nothing has changed then.
     ///
-    /// ```text
+    /// ```rust
     /// match table.reply(alloc, event)? {
-    ///     Reply::Refused(fault) => Err(fault.into()),
-    ///     reply => Ok(reply),
+    ///     Reply::Inserted(id) => println!(rt; "row {id}")?,     // row 8
+    ///     Reply::Refused(fault) => println!(rt; "{fault}")?,
+    ///     _ => {}
     /// }
     /// ```
     pub fn reply(&mut self, alloc: Global, event: Event) -> Result<Reply, AllocError>

@@ -26,10 +26,10 @@ pub struct Part {
 /// replies so far and says so: none, where there is no memory for the opening table. No reply is `OutOfMemory`.
 /// Cost: that of each event, and one list of replies.
 ///
-/// ```text
+/// ```rust
 /// let part = replay_part(alloc, setup, &rows, events)?;
 /// if part.stopped {
-///     // the event of place part.replies.len() and those behind it have no reply
+///     println!(rt; "out of memory behind {} replies", part.replies.len())?;
 /// }
 /// ```
 pub fn replay_part(
@@ -70,8 +70,9 @@ pub fn replay_part(
 /// Refused `Full` where there are more opening rows than slots, else `OutOfMemory`; nothing
 /// is kept then. No reply is `OutOfMemory`. Cost: that of each event, and one list of replies.
 ///
-/// ```text
+/// ```rust
 /// let replies = replay(alloc, setup, &rows, events)?;
+/// let count = replies.len();     // 2
 /// ```
 pub fn replay(
     alloc: Global,

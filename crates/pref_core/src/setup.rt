@@ -40,8 +40,9 @@ impl Setup {
     /// The setup of 1 to 8 clients, and of a capacity, a block and a window of 1 to 65,536 each; none
     /// where a number is outside.
     ///
-    /// ```text
-    /// let setup = Setup::new(4, 1024, 1024, 64).ok_or("setup")?;
+    /// ```rust
+    /// let setup = Setup::new(4, 1024, 1024, 64).context("a number outside the limits")?;
+    /// let blocks = setup.blocks();     // 1
     /// ```
     pub fn new(clients: u8, capacity: u32, block: u32, window: u32) -> Option<Setup>
         ensures some { IsSome result ↔ AreAllowed (record { clients = clients; capacity = capacity; block = block; window = window }) }

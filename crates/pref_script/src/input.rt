@@ -30,7 +30,7 @@ fn room_after(len: usize) -> usize
 /// Refused `Read` where the reader fails, `TooLarge` where it has more bytes, and `Memory`. The bytes that were read
 /// are lost then.
 ///
-/// ```text
+/// ```rust
 /// let mut reader = Watched::new(b"table\nx\nend\n".as_slice());
 /// let script = read_input(alloc, &mut reader)?;
 /// ```

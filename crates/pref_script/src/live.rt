@@ -150,7 +150,7 @@ fn reply_to_all<R: Read, W: Write>(
 /// Refused `TooLarge` where the table block or a line is longer, or there are 2^63 lines. After `Read`, `TooLarge` and `Memory` the replies to the
 /// lines before were written, and after `Write` all replies to the lines before the last one, and a beginning of those to it.
 ///
-/// ```text
+/// ```rust
 /// let mut reader = Watched::new(rt.stdin());
 /// let mut writer = Watched::new(rt.stdout());
 /// run_live(rt.alloc(), &mut reader, &mut writer, setup)?;

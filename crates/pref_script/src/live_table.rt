@@ -10,9 +10,10 @@ use std::alloc::Global;
 
 /// A table with its clients and their open queries, and the number of the line that comes next.
 ///
-/// ```text
+/// ```rust
 /// let mut live = LiveTable::open(alloc, setup, b"price\n50\n", 5)?;
 /// live.reply_to(alloc, b"as 1 insert 45", &mut text)?;
+/// print!(rt; "{text}")?;     // 1 inserted 2
 /// ```
 #[derive(Drop)]
 pub struct LiveTable {

@@ -15,7 +15,7 @@ use std::io::Write;
 ///
 /// Refused `Write` where the writer fails or takes no byte; a beginning of the bytes was written then, perhaps all of them.
 ///
-/// ```text
+/// ```rust
 /// let mut writer = Watched::new(Vec::new(alloc));
 /// write_output(&mut writer, b"1 inserted 2\n")?;
 /// ```

@@ -54,7 +54,7 @@ fn reply_text(alloc: Global, setup: Setup, bytes: &[u8]) -> Result<String, RunFa
 /// fault is the script's own, and its one line is the output. The faults are tested in the order `Read`, `TooLarge`,
 /// `NoTable`, `NoEnd`, `Table`, `Opening`; `Memory` comes as soon as memory runs out.
 ///
-/// ```text
+/// ```rust
 /// let mut reader = Watched::new(rt.stdin());
 /// let mut writer = Watched::new(rt.stdout());
 /// run_script(rt.alloc(), &mut reader, &mut writer, setup)?;

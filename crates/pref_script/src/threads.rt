@@ -77,8 +77,9 @@ fn joint_parts<'script, J: BoardBrand + Send + Sync, R: Threads + Wait + Sync, G
 /// order, `Memory` as soon as memory runs out, and `Threads` where clients were stopped, with the refusal of the first of them: by the
 /// gate (`Held`, which an [`OpenGate`] never does), or by `Closed`, which no run of a script is known to meet.
 ///
-/// ```text
+/// ```rust
 /// let output = run_threads(rt, alloc, script, setup, &OpenGate)?;
+/// print!(rt; "{output}")?;     // 1 inserted 2
 /// ```
 pub fn run_threads<R: Threads + Wait + Sync, G: Gate + Sync>(
     rt: &R,
@@ -112,10 +113,12 @@ pub fn run_threads<R: Threads + Wait + Sync, G: Gate + Sync>(
 /// fault is the script's own, and its one line is the output. The faults come in the order of [`run_script`](crate::run::run_script),
 /// and `Threads` where a client was stopped after that.
 ///
-/// ```text
-/// let mut reader = Watched::new(rt.stdin());
-/// let mut writer = Watched::new(rt.stdout());
-/// run_script_on_threads(rt, rt.alloc(), &mut reader, &mut writer, setup)?;
+/// ```rust
+/// let mut reader = Watched::new(script.as_slice());
+/// let mut writer = Watched::new(Vec::new(alloc));
+/// run_script_on_threads(rt, alloc, &mut reader, &mut writer, setup)?;
+/// let output = writer.into_inner();
+/// print!(rt; "{}", String::from_utf8_lossy(alloc, &output)?)?;     // 1 inserted 2
 /// ```
 pub fn run_script_on_threads<T: Threads + Wait + Sync, R: Read, W: Write>(
     rt: &T,

@@ -19,10 +19,11 @@ use std::sync::{Mutex, Wait};
 /// A table that its clients share. It is not `Drop`, since the writer to its readers is not: end it by
 /// [`close`](Board::close).
 ///
-/// ```text
+/// ```rust
 /// let (board, clients) = open_board::<J, R>(rt, alloc, name, setup, rows)?;
 /// let done = run_clients(rt, &board, clients);
 /// board.close(rt);
+/// done
 /// ```
 pub struct Board<J: BoardBrand> {
     pub(crate) publisher: Mutex<Publisher<J>>,
@@ -44,10 +45,11 @@ impl<J: BoardBrand> Board<J> {
 ///
 /// The function that opens a board is generic over its name, and its caller picks one: `run_board::<Brand, _>(&rt, BoardName::new(), setup, &schema, &hotels)`.
 ///
-/// ```text
+/// ```rust
 /// let (board, clients) = open_board::<J, R>(rt, alloc, name, setup, rows)?;
 /// let done = run_clients(rt, &board, clients);
 /// board.close(rt);
+/// done
 /// ```
 pub fn open_board<J: BoardBrand, R: Wait>(
     rt: &R,

@@ -190,7 +190,7 @@ impl Opening<Blank, Entry> for Blank {
 /// The identity of a board in contracts: the book of its history, its setup and its opening rows. Code that works with any board is generic
 /// over it, as below; nobody but this crate implements it. Where a board is opened, `Brand` stands for it, beside [`BoardName::new`].
 ///
-/// ```text
+/// ```rust
 /// fn insert<J: BoardBrand, R: Wait + AllocGlobal>(rt: &R, board: &Board<J>, desk: &mut Client<J>, hotel: Row) -> Result<u64, ShareFault> {
 ///     desk.insert(rt, rt.alloc(), board, hotel)
 /// }
@@ -214,8 +214,8 @@ impl BoardBrand for Brand {
 
 /// The name of a board that is not open yet: a book with an empty history. One board is opened under it. It takes no memory.
 ///
-/// ```text
-/// run_board::<Brand, _>(&rt, BoardName::new(), setup, &schema, &hotels)
+/// ```rust
+/// run_board::<Brand, _>(rt, BoardName::new(), setup, &rows)?;
 /// ```
 #[derive(Drop)]
 pub struct BoardName {

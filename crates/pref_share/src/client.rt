@@ -25,7 +25,7 @@ use std::marker::Model;
 
 /// A beginning of the history, which one client hands to others. Contracts see its operations.
 ///
-/// ```text
+/// ```rust
 /// let word = desk.word();
 /// guest.hear(word);
 /// ```
@@ -77,12 +77,12 @@ impl<J: BoardBrand> Model for Asking<J> {
 ///
 /// A client that is dropped with a query open keeps that query's versions needed.
 ///
-/// ```text
-/// let blocks = client.begin(rt, alloc, &board, ask).map_err(|refused| refused.fault)?;
+/// ```rust
+/// let blocks = client.begin(rt, alloc, board, ask).map_err(|refused| refused.fault)?;
 /// for _ in 0..blocks {
 ///     client.scan(alloc)?;
 /// }
-/// let ranked = client.finish(rt, alloc, &board)?;
+/// let ranked = client.finish(rt, alloc, board)?;
 /// ```
 pub struct Client<J: BoardBrand> {
     number: u8,
@@ -175,9 +175,9 @@ impl<J: BoardBrand> Client<J> {
 
     /// A word of all that the client has seen, for other clients to hear. It is eight bytes; takes no memory and never waits.
     ///
-    /// ```text
-    /// desk.insert(rt, alloc, &board, hotel)?;
-    /// Ok(desk.word())
+    /// ```rust
+    /// desk.insert(rt, alloc, board, hotel)?;
+    /// let word = desk.word();
     /// ```
     pub fn word(&self) -> Word<J>
         ensures { result ≡ self.now.seen }
@@ -190,13 +190,10 @@ impl<J: BoardBrand> Client<J> {
     /// Hears what another client had seen: from now on it has seen no less, so its later replies are at histories that hold every
     /// numbered call that the speaker had made. Takes no memory and never waits.
     ///
-    /// ```text
-    /// let (word, answered) = thread::join(
-    ///     rt,
-    ///     move || insert(rt, board, desk, hotel),
-    ///     || answer(rt, board, guest, blocks),
-    /// );
-    /// guest.hear(word?);
+    /// ```rust
+    /// desk.insert(rt, alloc, board, hotel)?;
+    /// guest.hear(desk.word());
+    /// let seen = guest.seen();     // 1
     /// ```
     pub fn hear(&mut self, word: Word<J>)
         ensures sees { Sees J.opening self.old self.new }

@@ -14,12 +14,12 @@ use thiserror::Error;
 ///
 /// After `OutOfMemory` and `Closed` the client's counter and its query are as they were, and the call can be made again.
 ///
-/// ```text
-/// match client.get(id) {
-///     Ok(row) => Ok(Some(row)),
-///     Err(ShareFault::Core(CoreFault::NoSuchRow { .. })) => Ok(None),
-///     Err(fault) => Err(fault),
-/// }
+/// ```rust
+/// let row = match client.get(id) {
+///     Ok(row) => Some(row),
+///     Err(ShareFault::Core(CoreFault::NoSuchRow { .. })) => None,
+///     Err(fault) => return Err(fault.into()),
+/// };
 /// ```
 #[derive(Clone, Copy, Debug, PartialEq, Eq, Error)]
 pub enum ShareFault {
@@ -63,8 +63,8 @@ impl From<AllocError> for ShareFault {
 
 /// A refused begin, which hands its ask back.
 ///
-/// ```text
-/// let blocks = client.begin(rt, alloc, &board, ask).map_err(|refused| refused.fault)?;
+/// ```rust
+/// let blocks = client.begin(rt, alloc, board, ask).map_err(|refused| refused.fault)?;     // 4
 /// ```
 #[derive(Drop)]
 pub struct BeginFault {

@@ -78,10 +78,12 @@ struct Worked<J: BoardBrand, T> {
 /// An `Err` means that there was no memory for the jobs, the replies or the reports. The clients are dropped then, and what had
 /// joined the history stays.
 ///
-/// ```text
-/// for report in run_each(rt, alloc, &board, clients, acts, &gate)? {
-///     let Report { client, replies, stopped } = report;
+/// ```rust
+/// for report in run_each(rt, alloc, board, clients, acts, &gate)? {
+///     println!(rt; "client {}: {} replies", report.client.number(), report.replies.len())?;
 /// }
+/// // client 1: 2 replies
+/// // client 2: 1 replies
 /// ```
 pub fn run_each<J: BoardBrand + Send + Sync, R: Threads + Wait + Sync, G: Gate + Sync>(
     rt: &R,
@@ -106,8 +108,9 @@ pub fn run_each<J: BoardBrand + Send + Sync, R: Threads + Wait + Sync, G: Gate +
 /// Where a client stopped, the refusal is that of the one with the lowest number that did. The clients and the replies are dropped
 /// then, and what had joined the history stays. Else refused `OutOfMemory`, where there is none for the jobs, the tasks or the replies.
 ///
-/// ```text
-/// let replies = run_all(rt, alloc, &board, clients, acts, &gate)?;
+/// ```rust
+/// let replies = run_all(rt, alloc, board, clients, acts, &gate)?;
+/// let of_client_1 = replies[0].len();     // 2
 /// ```
 pub fn run_all<J: BoardBrand + Send + Sync, R: Threads + Wait + Sync, G: Gate + Sync>(
     rt: &R,
@@ -134,8 +137,8 @@ pub fn run_all<J: BoardBrand + Send + Sync, R: Threads + Wait + Sync, G: Gate + 
 ///
 /// Refused as [`run_all`] is, and `OutOfMemory` also where a task is out of memory.
 ///
-/// ```text
-/// let tasks = run_tasks(rt, alloc, &board, clients, tasks, &gate)?;
+/// ```rust
+/// let done = run_tasks(rt, alloc, board, clients, tasks, &gate)?;
 /// ```
 pub fn run_tasks<
     J: BoardBrand + Send + Sync,

@@ -32,7 +32,7 @@ impl Row {
     ///
     /// Refused `Width { row: 0 }` where there are more or fewer numbers than columns.
     ///
-    /// ```text
+    /// ```rust
     /// let row = Row::of(&schema, &[55, 1])?;
     /// ```
     pub fn of(schema: &Schema, numbers: &[i64]) -> Result<Row, TableFault>
@@ -56,8 +56,8 @@ impl Row {
 
     /// The number in a column, which counts from 0 and has to be below 16. In a column that the schema has not it is 0.
     ///
-    /// ```text
-    /// let (price, dist) = (best.row.cell(0), best.row.cell(1));
+    /// ```rust
+    /// let (price, dist) = (row.cell(0), row.cell(1));
     /// ```
     pub fn cell(&self, col: usize) -> i64
         requires { col < 16 }

@@ -132,7 +132,7 @@ impl Schema {
     /// Refused `NoColumns` and `TooManyColumns` by their number, then for the first name from the left that is
     /// no name (`BadName`) or that an earlier column has (`SameName`), or `OutOfMemory`.
     ///
-    /// ```text
+    /// ```rust
     /// let names = [b"price".as_slice(), b"dist"];
     /// let schema = Schema::new(alloc, names.as_slice())?;
     /// ```

@@ -203,7 +203,7 @@ fn read_records(alloc: Global, text: &[u8]) -> Result<(Schema, Vec<Row>), TableF
 ///
 /// Rows of plain digits, perhaps behind signs, are read in one pass without the reader of `csv`, up to the first other line.
 ///
-/// ```text
+/// ```rust
 /// let (schema, rows) = read_table(alloc, b"price,dist\n50,8\n60,5\n")?;
 /// ```
 pub fn read_table(alloc: Global, bytes: &[u8]) -> Result<(Schema, Vec<Row>), TableFault>

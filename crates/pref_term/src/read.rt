@@ -25,7 +25,7 @@ const LONGEST: usize = 4096;
 /// `OutOfMemory` comes as soon as memory runs out. Reads each byte a fixed number of times. Takes memory for the term, for
 /// the keys that lead it and, where it is a chain or a product of two, for these chains.
 ///
-/// ```text
+/// ```rust
 /// let ask = read_ask(alloc, &schema, b"best low(price) * low(dist)")?;
 /// ```
 pub fn read_ask(alloc: Global, schema: &Schema, text: &[u8]) -> Result<Ask, TermFault>

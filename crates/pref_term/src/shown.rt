@@ -18,9 +18,10 @@ use std::alloc::{AllocError, Global};
 /// again where the text has at most 4,096 bytes and 64 open nestings. One walk over the term; the only error is
 /// out of memory.
 ///
-/// ```text
-/// let ask = read_ask(alloc, &schema, b"skyline of price min, city diff")?;
-/// let text = show(alloc, &schema, &ask)?;     // best low(price) by city
+/// ```rust
+/// let ask = read_ask(alloc, &schema, b"skyline of price min, dist diff")?;
+/// let text = show(alloc, &schema, &ask)?;
+/// println!(rt; "{}", String::from_utf8_lossy(alloc, &text)?)?;     // best low(price) by dist
 /// ```
 pub fn show(alloc: Global, schema: &Schema, ask: &Ask) -> Result<Vec<u8>, AllocError>
     // The ask is over columns of the schema.

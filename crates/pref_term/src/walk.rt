@@ -16,9 +16,9 @@ use pref_table::Row;
 /// One walk: each base term's scores are compared at most once. A product stops at a part that decides
 /// for neither row, and a priority at its first part that sees a difference. Takes no memory.
 ///
-/// ```text
+/// ```rust
 /// match compare(ask.term(), &hotel, &other) {
-///     Relation::Better => println!(rt; "this one")?,
+///     Relation::Better => println!(rt; "this one")?,     // this one
 ///     Relation::Worse => println!(rt; "the other")?,
 ///     Relation::Same | Relation::Neither => println!(rt; "look at both")?,
 /// }

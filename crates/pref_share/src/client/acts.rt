@@ -18,9 +18,9 @@ impl<J: BoardBrand> Client<J> {
     /// Refused `OutOfMemory`, which only an act that asks for memory is, and `Closed`, which only a scan, a get or a room is. The client's
     /// counter and its query are as they were then.
     ///
-    /// ```text
-    /// match client.act(rt, alloc, &board, Act::Get(3))? {
-    ///     Reply::Found(id, row) => println!(rt; "{id}: {}", row.cell(0))?,
+    /// ```rust
+    /// match client.act(rt, alloc, board, Act::Get(3))? {
+    ///     Reply::Found(id, row) => println!(rt; "{id}: {}", row.cell(0))?,     // 3: 80
     ///     Reply::Refused(fault) => println!(rt; "{fault}")?,
     ///     _ => unreachable!(),
     /// }

@@ -36,8 +36,8 @@ impl<J: BoardBrand> Client<J> {
     ///
     /// Refused `Spent`, `Full` (which is numbered), or `OutOfMemory`.
     ///
-    /// ```text
-    /// let id = client.insert(rt, alloc, &board, Row::of(&schema, &[55, 1])?)?;
+    /// ```rust
+    /// let id = client.insert(rt, alloc, board, Row::of(&schema, &[55, 1])?)?;     // 8
     /// ```
     pub fn insert<R: Wait>(
         &mut self,
@@ -57,8 +57,8 @@ impl<J: BoardBrand> Client<J> {
     ///
     /// Refused `Spent`, or `NoSuchRow` or `Full` (which are numbered).
     ///
-    /// ```text
-    /// client.update(rt, alloc, &board, id, Row::of(&schema, &[45, 1])?)?;
+    /// ```rust
+    /// client.update(rt, alloc, board, id, Row::of(&schema, &[45, 1])?)?;
     /// ```
     pub fn update<R: Wait>(
         &mut self,
@@ -79,8 +79,8 @@ impl<J: BoardBrand> Client<J> {
     ///
     /// Refused `Spent`, or `NoSuchRow` (which is numbered).
     ///
-    /// ```text
-    /// client.delete(rt, alloc, &board, id)?;
+    /// ```rust
+    /// client.delete(rt, alloc, board, id)?;
     /// ```
     pub fn delete<R: Wait>(
         &mut self,
@@ -100,9 +100,10 @@ impl<J: BoardBrand> Client<J> {
     ///
     /// Refused `Spent`, `NoSuchRow` or `Full` (which are numbered, and no row has changed), or `OutOfMemory` where a row is added.
     ///
-    /// ```text
+    /// ```rust
     /// let commit = Commit::of(&[Change::Add(hotel), Change::Remove(3)])?;
-    /// let committed = client.commit(rt, alloc, &board, BoxedCommit::new(alloc, commit)?)?;
+    /// let committed = client.commit(rt, alloc, board, BoxedCommit::new(alloc, commit)?)?;
+    /// let first = committed.first;     // 8
     /// ```
     pub fn commit<R: Wait>(
         &mut self,
@@ -124,11 +125,11 @@ impl<J: BoardBrand> Client<J> {
     ///
     /// Refused `Spent` or `QueryOpen`. A refusal hands the ask back.
     ///
-    /// ```text
-    /// match client.begin(rt, alloc, &board, ask) {
-    ///     Ok(blocks) => Ok(blocks),
-    ///     Err(refused) => Err(refused.fault),
-    /// }
+    /// ```rust
+    /// let blocks = match client.begin(rt, alloc, board, ask) {
+    ///     Ok(blocks) => blocks,
+    ///     Err(refused) => return Err(refused.fault.into()),
+    /// };
     /// ```
     pub fn begin<R: Wait>(
         &mut self,
@@ -172,10 +173,17 @@ impl<J: BoardBrand> Client<J> {
     ///
     /// Refused `Spent`, `NoQuery` or `NotDone`, or `OutOfMemory`. The query stays open then.
     ///
-    /// ```text
-    /// for best in &client.finish(rt, alloc, &board)? {
+    /// ```rust
+    /// for _ in 0..blocks {
+    ///     client.scan(alloc)?;
+    /// }
+    /// for best in &client.finish(rt, alloc, board)? {
     ///     println!(rt; "row {}, {}", best.id, best.row.cell(0))?;
     /// }
+    /// // row 1, 50
+    /// // row 2, 60
+    /// // row 3, 80
+    /// // row 6, 100
     /// ```
     pub fn finish<R: Wait>(
         &mut self,
@@ -198,8 +206,9 @@ impl<J: BoardBrand> Client<J> {
     ///
     /// Refused `Spent` or `NoQuery`. The query stays open then.
     ///
-    /// ```text
-    /// client.abandon(rt, alloc, &board)?;
+    /// ```rust
+    /// let blocks = client.begin(rt, alloc, board, ask).map_err(|refused| refused.fault)?;
+    /// client.abandon(rt, alloc, board)?;
     /// ```
     pub fn abandon<R: Wait>(
         &mut self,

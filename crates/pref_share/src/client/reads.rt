@@ -105,8 +105,8 @@ impl<J: BoardBrand> Client<J> {
     ///
     /// Refused `NoSuchRow`, or `Closed` where no reader is let in, and then nothing has changed.
     ///
-    /// ```text
-    /// let price = client.get(id)?.cell(0);
+    /// ```rust
+    /// let price = client.get(id)?.cell(0);     // 80
     /// ```
     pub fn get(&mut self, id: u64) -> Result<Row, ShareFault>
         ensures row { IfOk result (λ row. Sees J.opening self.old self.new × (row_after J.opening self.new.seen id ≡ Some row)) }
@@ -133,8 +133,8 @@ impl<J: BoardBrand> Client<J> {
     ///
     /// Refused `Closed` where no reader is let in, and then nothing has changed.
     ///
-    /// ```text
-    /// let is_full = client.room()? == 0;
+    /// ```rust
+    /// let is_full = client.room()? == 0;     // false
     /// ```
     pub fn room(&mut self) -> Result<u32, ShareFault>
         ensures room { IfOk result (λ room. Sees J.opening self.old self.new × (room ≡ room_at J.opening self.new.seen)) }
@@ -158,7 +158,7 @@ impl<J: BoardBrand> Client<J> {
     ///
     /// Refused `NoQuery` or `AllScanned`, then `OutOfMemory` or `Closed`; the query is as it was then.
     ///
-    /// ```text
+    /// ```rust
     /// for _ in 0..blocks {
     ///     client.scan(alloc)?;
     /// }
