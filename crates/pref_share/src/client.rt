@@ -179,6 +179,7 @@ impl<J: BoardBrand> Client<J> {
     /// desk.insert(rt, alloc, board, hotel)?;
     /// let word = desk.word();
     /// ```
+    #[must_use]
     pub fn word(&self) -> Word<J>
         ensures { result ≡ self.now.seen }
     {

@@ -23,6 +23,7 @@ use pref_table::Row;
 ///     Relation::Same | Relation::Neither => println!(rt; "look at both")?,
 /// }
 /// ```
+#[must_use]
 #[inline(never)]
 #[tactic(auto, using(crate::proofs::WalkLaws::walked_better, crate::proofs::WalkLaws::walked_worse, crate::proofs::WalkLaws::walked_same))]
 pub fn compare(term: &Term, a: &Row, b: &Row) -> Relation
@@ -36,6 +37,7 @@ pub fn compare(term: &Term, a: &Row, b: &Row) -> Relation
 
 /// Whether the first row is better by a term, whose columns have to be below 16. Takes no memory; costs one walk over the
 /// term.
+#[must_use]
 pub fn better(term: &Term, a: &Row, b: &Row) -> bool
     requires { ReadsBelow 16 (preference_of term.now) }
     ensures { result ≡ better.better (preference_of term.now) a.now b.now }
@@ -45,6 +47,7 @@ pub fn better(term: &Term, a: &Row, b: &Row) -> bool
 
 /// Whether the rows score alike in every base term of a term, whose columns have to be below 16. Takes no memory; costs one
 /// walk over the term.
+#[must_use]
 pub fn same(term: &Term, a: &Row, b: &Row) -> bool
     requires { ReadsBelow 16 (preference_of term.now) }
     ensures { result ≡ better.same (preference_of term.now) a.now b.now }

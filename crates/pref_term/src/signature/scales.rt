@@ -31,6 +31,7 @@ impl Model for Scales {
 
 impl Scales {
     /// No scales: each signature is 0, which distinguishes no rows. They suit every order. Takes no memory.
+    #[must_use]
     pub fn none() -> Scales
         ensures { result ≡ [] }
     {
