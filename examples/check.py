@@ -27,6 +27,7 @@ from pathlib import Path
 TOP = Path(__file__).resolve().parent.parent
 # What PYTHON.md shows is run by python/tests/test_documents.py.
 DOCUMENTS = [TOP / "README.md", *sorted(document for document in TOP.glob("docs/*.md") if document.name != "PYTHON.md")]
+REFUSED_ARGUMENTS = b"arguments refused\n"
 BLOCK = r"^```(?P<kind>\w+)(?P<rest>[^\n]*)\n(?P<text>.*?)^```$"
 ASKED = r"^\| `(?P<question>[^`]+)` \|[^|\n]*\| (?P<ids>\d[\d, /]*) \|$"
 SLIP = r"^\| `(?P<slip>as [^`]+)` \| `(?P<says>refused[^`]+)` \| `(?P<right>as [^`]+)` \|"
@@ -46,13 +47,14 @@ class Run:
     crate: str = "prefq"
 
     def ends(self, program):
-        """What the program prints, and its status; whatever stands on standard error counts as printed."""
+        """What the program prints, and its status. What stands on standard error counts as printed, unless it says why arguments are refused."""
         if self.crate != "prefq":
             program = TOP / f"crates/{self.crate}/out/{self.crate}"
             if not program.is_file():
                 return (TOP / f"crates/{self.crate}/stdout").read_text(encoding="utf-8"), 0
         done = subprocess.run([program, *self.words], input=self.script.encode(), capture_output=True, timeout=60)
-        return (done.stdout + done.stderr).decode(), done.returncode
+        also = b"" if done.stdout == REFUSED_ARGUMENTS else done.stderr
+        return (done.stdout + also).decode(), done.returncode
 
     def fault(self, program):
         """Whether the program prints something else."""

@@ -1,5 +1,5 @@
 #!/usr/bin/env python3
-"""Shows which arguments the built program accepts and which it refuses, and when it prints a help or the version instead of running.
+"""Shows which arguments the built program accepts and which it refuses, saying why, and when it prints a help or the version instead of running.
 
     (cd crates/prefq && rt run prefq < stdin)     # builds crates/prefq/out/prefq
     python3 tests/arguments.py [PROGRAM]
@@ -26,9 +26,12 @@ ACCEPTED = [  # words, then the mode, the clients, the slots and the slots of a 
     ("play --cap 65536 --block=65536 --clients 8 --window 65536", "play", 8, 65536, 65536),
     ("threads --clients +1 --cap 007", "threads", 1, 7, 1024),
 ]
-REFUSED = [
-    "jump", "--cap 4", "play --cap 0", "play --cap 65537", "play --block 0", "play --window 65537", "play --clients 0",
-    "play --clients 9", "play --clients x", "play --clients", "play play", "play --cap 4 --cap 5", "help jump", "play --version",
+REFUSED = [  # words, and what standard error has of them
+    ("jump", "'jump'"), ("script.txt", "'script.txt'"), ("--foo", "'--foo'"), ("--cap 4", "'--cap'"), ("play --cap 0", "'--cap <N>': 0 is not in 1..=65536"),
+    ("play --cap 65537", "'--cap <N>': 65537 is not in 1..=65536"), ("play --block 0", "'--block <N>': 0 is not in 1..=65536"),
+    ("play --window 65537", "'--window <N>': 65537 is not in 1..=65536"), ("play --clients 0", "'--clients <N>': 0 is not in 1..=8"),
+    ("play --clients 9", "'9' for '--clients <N>': 9 is not in 1..=8"), ("play --clients x", "'x' for '--clients <N>'"), ("play --clients", "'--clients <N>'"),
+    ("play play", "'play'"), ("play --cap 4 --cap 5", "'--cap <N>'"), ("help jump", "'jump'"), ("play --version", "'--version'"),
 ]
 HELPS = ["--version", "-V", "--help", "-h", "help", "help play", "play --help"]
 
@@ -43,8 +46,9 @@ def printed(mode, clients, slots, block):
 
 
 def run(program, words):
-    done = subprocess.run([program, *words.split()], input=SCRIPT, stdout=subprocess.PIPE, stderr=subprocess.STDOUT, timeout=60)
-    return done.returncode, done.stdout
+    """The status, and what stands on standard output and on standard error."""
+    done = subprocess.run([program, *words.split()], input=SCRIPT, capture_output=True, timeout=60)
+    return done.returncode, done.stdout, done.stderr
 
 
 def replies_before_the_end(program, words):
@@ -61,21 +65,24 @@ def replies_before_the_end(program, words):
 
 def differences(program):
     for words, mode, *numbers in ACCEPTED:
-        if run(program, words) != (0, printed(mode, *numbers)):
+        if run(program, words) != (0, printed(mode, *numbers), b""):
             yield f"{words}: not {mode} with {numbers}"
         if replies_before_the_end(program, words) != (mode == "live"):
             yield f"{words}: not {mode}"
-    for words in REFUSED:
-        if run(program, words) != (2, b"arguments refused\n"):
+    for words, why in REFUSED:
+        status, printed_line, said = run(program, words)
+        if (status, printed_line) != (2, b"arguments refused\n"):
             yield f"{words}: not refused"
+        if not said.startswith(b"error: ") or why.encode() not in said:
+            yield f"{words}: standard error has not {why}, but {said.decode()}"
     for words in HELPS:
-        status, text = run(program, words)
-        if status != 0 or not re.match(rb"prefq \d+\.\d+\.\d+\n$" if words in ("--version", "-V") else rb".*Usage: prefq", text, re.DOTALL):
+        status, text, said = run(program, words)
+        if status != 0 or said or not re.match(rb"prefq \d+\.\d+\.\d+\n$" if words in ("--version", "-V") else rb".*Usage: prefq", text, re.DOTALL):
             yield f"{words}: no help"
 
 
 def write_cases(folder):
-    cases = [(words, printed(*numbers)) for words, *numbers in ACCEPTED] + [(words, b"arguments refused\n") for words in REFUSED]
+    cases = [(words, printed(*numbers)) for words, *numbers in ACCEPTED] + [(words, b"arguments refused\n") for words, _ in REFUSED]
     for number, (words, text) in enumerate(cases):
         name = f"arguments_{number}"
         (folder / name).write_bytes(SCRIPT)

@@ -42,5 +42,6 @@ expect 2 'script refused: no table' "$room/large" live
 expect 0 $'2 row 1: 3\n1 row 1: 3\n2 room 1023' "$room/script" live
 expect 0 $'2 row 1: 3\n1 row 1: 3\n2 room 1023' "$room/script" play
 expect 0 $'1 row 1: 3\n2 row 1: 3\n2 room 1023' "$room/script" threads
-expect 2 'arguments refused' "$room/script" jump
+expect 2 'arguments refused' "$room/script" jump 2>"$room/errors"
+grep -q "'jump'" "$room/errors" || { echo "standard error does not name the word jump: $(cat "$room/errors")" >&2; exit 1; }
 echo 'the program ends as it should'

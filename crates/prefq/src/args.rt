@@ -27,8 +27,8 @@ pub struct Args {
 /// Why there is nothing to run.
 #[derive(Drop)]
 pub enum ArgsFault {
-    /// The arguments are none of the program's.
-    Refused,
+    /// The arguments are none of the program's. The text says what is wrong, for standard error.
+    Refused(String),
     /// They ask for this text: a help, or the version.
     Help(String),
     /// There was no memory.
@@ -38,16 +38,43 @@ pub enum ArgsFault {
 /// The version, which `--version` prints after the name.
 const VERSION: &str = "0.3.0";
 
-/// The end of the program's help: the options, an example, and where more is said.
+/// The end of the program's help: the options, the commands, the questions, and an example.
 const AFTER_HELP: &str = "\
 With no arguments it runs play. These options stand after play, live or threads:
 
-  --clients N  How many clients there are, 1 to 8 (4 by default)
-  --cap N      How many versions of rows there is room for, 1 to 65536 (1024 by default)
-  --block N    How many slots one scan reads, 1 to 65536 (1024 by default)
-  --window N   How many rows are compared at a time, 1 to 65536 (64 by default)
+  --clients <N>  How many clients there are, 1 to 8 (4 by default)
+  --cap <N>      How many versions of rows there is room for, 1 to 65536 (1024 by default)
+  --block <N>    How many slots one scan reads, 1 to 65536 (1024 by default)
+  --window <N>   How many rows are compared at a time, 1 to 65536 (64 by default)
 
-Example, as a script on standard input:
+A script begins with a table of whole numbers: the line 'table', the names of the columns, the rows, the line 'end'.
+The rows have the ids 1, 2, 3 and so on. Then each line is a command of a client K:
+
+  as K insert V1,V2,..         Adds a row
+  as K update ID V1,V2,..      Gives the row of this id other values
+  as K delete ID               Deletes the row of this id
+  as K commit CHANGE; CHANGE   Makes one to eight of the changes above at once, or none
+  as K get ID                  Shows the row of this id
+  as K room                    Says how many more versions of rows there is room for
+  as K begin QUESTION          Begins a query of the table as it is now, and says how many blocks it has
+  as K scan                    Reads the next block
+  as K finish                  Ends the query with its answer, once all blocks are read
+  as K abandon                 Ends the query without an answer
+
+A question is 'best TERM', 'top_level N TERM' for the levels 1 to N, or 'at_least N TERM' for whole levels until there
+are N rows; 'by x, y' at its end asks in each group for itself. A term says which of two rows is better:
+
+  low(x), high(x)                   The smaller number, the larger one
+  around(x, 5), between(x, 5, 9)    The number nearer to 5, nearer to the range 5 to 9
+  pos(x, 1, 2)                      1 or 2 before every other number
+  layered(x, {1, 2}, {3})           1 or 2 before 3, and 3 before every other number
+  TERM * TERM                       Better by one, and better or the same by the other
+  TERM & TERM                       The first decides, and the second where rows are the same by the first
+  -TERM                             The other way round
+
+Or it is a clause 'skyline of price min, stars max, city diff', which asks 'best low(price) * high(stars) by city'.
+
+Example:
 
     table
     price
@@ -59,8 +86,7 @@ Example, as a script on standard input:
     as 1 finish
 
 Its last lines are '1 answer 1' and 'level 1 id 2: 20'. With play and threads the replies come when the whole script
-was read, with live after each line.
-The commands and the question language are explained in docs/GUIDE.md.";
+was read, with live after each line.";
 
 /// The ways to run a script: the name of each, and its help.
 const RUNS: [(&str, &str); 3] = [
@@ -108,6 +134,7 @@ fn number_option<'a>(
 ) -> Arg<'a> {
     Arg::new(alloc, name)
         .long(name)
+        .value_name("N")
         .action(ArgAction::Set)
         .value_parser(value_parser!(u32).range(1..=most))
         .default_value(default)
@@ -134,6 +161,7 @@ fn bare_program<'a>(alloc: Global) -> Result<Command<'a>, AllocError> {
             .no_binary_name(true)
             .bin_name("prefq")?
             .version(VERSION)
+            .override_usage("prefq [(play | live | threads) [OPTIONS]] < SCRIPT")
             .about(
                 "Runs a script over a table of whole numbers: clients change rows and ask for the best ones",
             )
@@ -168,14 +196,20 @@ fn setup_of(options: &ArgMatches) -> Option<Setup> {
     )
 }
 
+/// The fault of words that are refused for this reason.
+pub fn refused(alloc: Global, why: &str) -> ArgsFault {
+    match String::from_str(alloc, why) {
+        Ok(text) => ArgsFault::Refused(text),
+        Err(_) => ArgsFault::Memory,
+    }
+}
+
 fn fault_of(alloc: Global, error: Error) -> ArgsFault {
-    match error.kind() {
-        ErrorKind::OutOfMemory => ArgsFault::Memory,
-        ErrorKind::DisplayHelp | ErrorKind::DisplayVersion => match error.to_string(alloc) {
-            Ok(text) => ArgsFault::Help(text),
-            Err(_) => ArgsFault::Memory,
-        },
-        _ => ArgsFault::Refused,
+    let kind = error.kind();
+    match (kind, error.to_string(alloc)) {
+        (ErrorKind::OutOfMemory, _) | (_, Err(_)) => ArgsFault::Memory,
+        (ErrorKind::DisplayHelp | ErrorKind::DisplayVersion, Ok(text)) => ArgsFault::Help(text),
+        (_, Ok(text)) => ArgsFault::Refused(text),
     }
 }
 
@@ -183,7 +217,7 @@ fn fault_of(alloc: Global, error: Error) -> ArgsFault {
 ///
 /// The options are `--clients` (1 to 8, else 4), `--cap` and `--block` (1 to 65,536, else 1024) and `--window`
 /// (1 to 65,536, else 64). Refused `Help` where the words ask for help or for the version, `Memory` where there is none,
-/// and `Refused` for all other words.
+/// and `Refused` for all other words, with a text that names the word, and the range of a number.
 pub fn read_args(alloc: Global, words: &[&str]) -> Result<Args, ArgsFault> {
     let Ok(program) = program(alloc) else {
         return Err(ArgsFault::Memory);
@@ -205,6 +239,6 @@ pub fn read_args(alloc: Global, words: &[&str]) -> Result<Args, ArgsFault> {
     };
     match setup_of(options) {
         Some(setup) => Ok(Args { mode, setup }),
-        None => Err(ArgsFault::Refused),
+        None => Err(refused(alloc, "error: a number outside its range\n")),
     }
 }

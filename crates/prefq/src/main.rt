@@ -3,7 +3,7 @@
 
 mod args;
 
-use args::{Args, ArgsFault, Mode, read_args};
+use args::{Args, ArgsFault, Mode, read_args, refused};
 use pref_script::{RunFault, Watched, run_live, run_script, run_script_on_threads};
 use std::alloc::{AllocError, Global};
 use std::env;
@@ -24,7 +24,7 @@ fn arguments(rt: &(impl Env + AllocGlobal)) -> Result<Vec<String>, ArgsFault> {
     let all = match env::args(rt) {
         Ok(all) => all,
         Err(error) if error.kind() == ErrorKind::OutOfMemory => return Err(ArgsFault::Memory),
-        Err(_) => return Err(ArgsFault::Refused),
+        Err(_) => return Err(refused(rt.alloc(), "error: a word that is not UTF-8\n")),
     };
     match all.skip(1).collect(rt.alloc()) {
         Ok(words) => Ok(words),
@@ -45,10 +45,12 @@ fn say(rt: &impl Print, line: &str) {
     let _ = rt.println(line);
 }
 
-fn refuse(rt: &impl Print, fault: ArgsFault) -> u8 {
+/// Says on standard output that the arguments are refused, and on standard error why.
+fn refuse(rt: &(impl Print + Eprint), fault: ArgsFault) -> u8 {
     match fault {
-        ArgsFault::Refused => {
+        ArgsFault::Refused(why) => {
             say(rt, "arguments refused");
+            let _ = rt.eprint(why.as_str());
             REFUSED
         }
         ArgsFault::Help(text) => {
