@@ -3,8 +3,8 @@
 
     python3 tests/run.py quick       for every change: the layout of the files, the lists of definitions and of edits, the sentences and the site of the
                                      documents, each test without its proof, the stored run, the scripts, the examples, what the documents and the doc
-                                     comments show, and the wheel of dist/. The tests of the Python package run too, where the library is built or
-                                     PREFQ_LIBRARY names one
+                                     comments show, the man page, and the wheel of dist/. The tests of the Python package run too, where the library is
+                                     built or PREFQ_LIBRARY names one
     python3 tests/run.py all         before a merge: the proofs, the must-fail edits and the tests by `rt ci`, which proves from nothing what it has not passed
                                      before on this machine, in just these files; then the lists, and each check over the built programs that takes seconds
     python3 tests/run.py release     before a release: all that, every proof from nothing; then the wheel of dist/ built anew from its commit, the edits of
@@ -213,6 +213,7 @@ DEFINITIONS = ["python3", "tests/definitions.py"]
 EDITS = ["python3", "tests/edits.py"]
 SENTENCES = ["python3", "tests/sentences.py"]
 DOC_EXAMPLES = ["python3", "tests/examples_of_docs.py"]
+MAN_PAGE = ["python3", "dist/man_page.py", "--check"]
 SITE = Check("site of the documents", site)
 # The longest first.
 QUICK = [
@@ -223,6 +224,7 @@ QUICK = [
     command(*DEFINITIONS, name="list of definitions"),
     command(*EDITS, name="list of edits"),
     command(*SENTENCES, name="sentences of the documents"),
+    command(*MAN_PAGE, name="man page"),
     SITE,
     Check("Python package", python_package),
     command("python3", "tests/wheel.py", name="wheel of the last release"),
@@ -272,6 +274,7 @@ BUILT = [
     command(*DEFINITIONS),
     command(*EDITS),
     command(*SENTENCES),
+    command(*MAN_PAGE),
     SITE,
     command(*DOC_EXAMPLES),
     command("python3", "examples/check.py"),

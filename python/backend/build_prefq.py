@@ -1,7 +1,8 @@
 """Builds the package with the standard library alone: a wheel with the built program and library, a source archive and an editable wheel (PEP 517, PEP 660).
 
 The program is the one that PREFQ_PROGRAM names, else program/prefq beside pyproject.toml (in a source archive), else the repository's crates/prefq/out/prefq.
-The library is the one that PREFQ_LIBRARY names, else library/ beside pyproject.toml, else the repository's library/out; its header comes along.
+The library is the one that PREFQ_LIBRARY names, else library/ beside pyproject.toml, else the repository's library/out; its header comes along. The man page
+is share/prefq.1 beside pyproject.toml, else the repository's docs/prefq.1.
 """
 import base64
 import hashlib
@@ -47,6 +48,11 @@ def library():
     return {"lib/libprefq.so": found[0].read_bytes(), "include/prefq.h": header.read_bytes()}
 
 
+def man_page():
+    """The man page, which is installed as share/man/man1/prefq.1."""
+    return next(page for page in (TOP / "share/prefq.1", TOP.parent / "docs/prefq.1") if page.is_file()).read_bytes()
+
+
 def metadata():
     fields = ["Metadata-Version: 2.1", f"Name: {field('name')}", f"Version: {field('version')}", f"Summary: {field('description')}",
               f"Requires-Python: {field('requires-python')}", "Description-Content-Type: text/markdown"]
@@ -84,7 +90,7 @@ def built():
 
 def package():
     """All files of the package, by their places in the wheel."""
-    return {**{name[len("src/"):]: data for name, data in sources("src").items()}, **built()}
+    return {**{name[len("src/"):]: data for name, data in sources("src").items()}, **built(), f"{NAME}.data/data/share/man/man1/prefq.1": man_page()}
 
 
 def build_wheel(wheel_directory, config_settings=None, metadata_directory=None):
@@ -100,7 +106,7 @@ def build_editable(wheel_directory, config_settings=None, metadata_directory=Non
 def build_sdist(sdist_directory, config_settings=None):
     archive = f"{NAME}.tar.gz"
     files = {"pyproject.toml": PROJECT.encode(), "README.md": (TOP / "README.md").read_bytes(), **sources("backend", "src", "tests"),
-             "PKG-INFO": metadata().encode(), "program/prefq": program(),
+             "PKG-INFO": metadata().encode(), "program/prefq": program(), "share/prefq.1": man_page(),
              **{f"library/{Path(name).name}": data for name, data in library().items()}}
     with tarfile.open(Path(sdist_directory, archive), "w:gz", format=tarfile.PAX_FORMAT) as tar:
         for name, data in files.items():

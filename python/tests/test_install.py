@@ -12,6 +12,7 @@ from environments import install, new_python, run
 from support import TestCase
 
 PACKAGE = Path(__file__).resolve().parent.parent
+MAN_PAGE = PACKAGE.parent / "docs/prefq.1"
 ASK = "import prefq; print(prefq.find_library()); print(*prefq.Table(['a', 'b'], [[1, 2], [0, 3]]).best('best low(a)'))"
 
 
@@ -44,6 +45,7 @@ class Install(TestCase):
         self.assertEqual(run(command, "--version"), (0, f"prefq {prefq.__version__}\n"))
         self.assertEqual(run(command, "ask", file, "best low(x)", "--csv"), (0, "level,id,x\n1,2,1\n"))
         self.assertEqual(run("sh", "-c", f"printf 'table\\nx\\nend\\nas 1 insert 7\\n' | {command} live"), (0, "1 inserted 1\n"))
+        self.assertEqual((self.room / "new/share/man/man1/prefq.1").read_bytes(), MAN_PAGE.read_bytes())
         self.assertEqual(run(python, "-m", "pip", "uninstall", "-y", "prefq")[0], 0)
 
         status, said = install(python, "-e", PACKAGE, **self.built)
@@ -66,12 +68,15 @@ class Install(TestCase):
         sources = {path.relative_to(PACKAGE / "src").as_posix() for path in (PACKAGE / "src/prefq").rglob("*") if path.is_file() and "__pycache__" not in path.parts}
         self.assertIn("prefq/py.typed", sources)
         about = {f"prefq-{prefq.__version__}.dist-info/{name}" for name in ("METADATA", "WHEEL", "RECORD", "entry_points.txt")}
-        self.assertEqual(set(names), {*sources, *about, "prefq/bin/prefq", "prefq/lib/libprefq.so", "prefq/include/prefq.h"})
+        page = f"prefq-{prefq.__version__}.data/data/share/man/man1/prefq.1"
+        self.assertEqual(set(names), {*sources, *about, page, "prefq/bin/prefq", "prefq/lib/libprefq.so", "prefq/include/prefq.h"})
+        self.assertEqual(wheel.read(page), MAN_PAGE.read_bytes())
         self.assertEqual(wheel.read("prefq/bin/prefq"), Path(self.program).read_bytes())
         source = next(self.room.glob("*.tar.gz"))
         with tarfile.open(source) as archive:
             archive.extractall(self.room)
         self.assertEqual((self.room / f"prefq-{prefq.__version__}/program/prefq").read_bytes(), Path(self.program).read_bytes())
+        self.assertEqual((self.room / f"prefq-{prefq.__version__}/share/prefq.1").read_bytes(), MAN_PAGE.read_bytes())
 
     def test_the_library_comes_along(self):
         library = self.room / "libprefq.so"

@@ -145,6 +145,7 @@ class Release(TestCase):
         shutil.copytree(TOP / "python", self.top / "python", ignore=shutil.ignore_patterns("__pycache__", "tests", ".*"))
         shutil.copytree(TOP / "library/include", self.top / "library/include")
         shutil.copytree(TOP / "dist", self.top / "dist", ignore=lambda _, names: [name for name in names if not name.endswith((".py", ".md"))])
+        self.write(self.top / "docs/prefq.1", (TOP / "docs/prefq.1").read_text(encoding="utf-8"))
         shutil.copy(TOP / ".gitignore", self.top)
         self.git("init", "--quiet")
         self.commit()
