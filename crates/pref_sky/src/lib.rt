@@ -7,7 +7,7 @@
 //! window of bounded size. Everything is generic over [`Dominance`](pref_term::Dominance), so any strict
 //! partial order of rows serves.
 //!
-//! ```text
+//! ```rust
 //! let mut partial = Partial::empty();
 //! for block in blocks {
 //!     partial.add(alloc, &ask, window, ask.cut(), block)?;
