@@ -30,11 +30,14 @@ impl Ask {
     /// Nestings are not counted. What compares rows goes down the term, so a deeper one than a text can spell takes more stack. Takes memory as
     /// `read_ask` does, for the keys and the chains that lead the term, and goes over the term and its sets once more.
     ///
-    /// ```text
-    /// // best low(price) * low(dist) by city, over the columns price, dist and city
+    /// ```rust
+    /// let names = [b"price".as_slice(), b"dist", b"city"];
+    /// let schema = Schema::new(alloc, names.as_slice())?;
     /// let price = Box::new(alloc, Term::Low { col: 0 })?;
     /// let dist = Box::new(alloc, Term::Low { col: 1 })?;
     /// let ask = Ask::of(alloc, Term::Pareto(price, dist), vec![in alloc; 2]?, Mode::Best)?;
+    /// let text = show(alloc, &schema, &ask)?;
+    /// println!(rt; "{}", String::from_utf8_lossy(alloc, &text)?)?;     // best low(price) * low(dist) by city
     /// ```
     pub fn of(alloc: Global, term: Term, group: Vec<usize>, mode: Mode) -> Result<Ask, AskFault>
         // Made exactly where the parts are a question, unless memory ran out.
@@ -52,9 +55,10 @@ impl Ask {
     /// The term is `Low`, `High` or a product that groups to the left, and each second part of it is `Low` or `High`. Refused as [`Ask::of`]
     /// is, and behind the columns for another term ([`AskFault::NotSkyline`]). Leaves and takes what `Ask::of` does.
     ///
-    /// ```text
-    /// // skyline of distinct price min
+    /// ```rust
     /// let ask = Ask::distinct_skyline(alloc, Term::Low { col: 0 }, Vec::new(alloc))?;
+    /// let text = show(alloc, &schema, &ask)?;
+    /// println!(rt; "{}", String::from_utf8_lossy(alloc, &text)?)?;     // skyline of distinct price min
     /// ```
     pub fn distinct_skyline(alloc: Global, term: Term, group: Vec<usize>) -> Result<Ask, AskFault>
         ensures { MatchResult result
