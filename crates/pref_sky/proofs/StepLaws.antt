@@ -63,15 +63,6 @@ same_level over second third rule mark all class i n old new same stands =
           (same.class ∙ w.0, (x, kept, w.1.2));
     }
 
-pub same_then : (a b c : Level) → IsSameLevel a b → IsSameLevel b c → IsSameLevel a c
-same_then a b c ab bc =
-    record {
-      steps = bc.steps ∙ ab.steps;
-      class = bc.class ∙ ab.class;
-      run = record { there = λ x m. bc.run.there x (ab.run.there x m); back = λ x m. ab.run.back x (bc.run.back x m) };
-      fresh = record { there = λ x m. bc.fresh.there x (ab.fresh.there x m); back = λ x m. ab.fresh.back x (bc.fresh.back x m) };
-    }
-
 module _ (over second third : Entry → Entry → Bool) (rule : Entry → ℕ) (mark : ℕ → ℕ) (all : List Entry) (class i n : ℕ) (kept : Level) where
   -- an empty one stands for none
   pub stands_for_none : ((j : ℕ) → IsMember over all i n j → ⊥) → kept.steps.items ≡ [] → kept.run.items ≡ [] → kept.fresh.items ≡ [] → StandsFor over second third rule mark all class i n kept

@@ -183,38 +183,6 @@ impl Level {
         count > 0 && order.is_over(&entries[self.steps[count - 1]], entry)
     }
 
-    /// Whether one of those that came, or came down, dominates an entry.
-    fn has_fresh_over(
-        &mut self,
-        order: &OwnOrder,
-        entries: &[Entry],
-        entry: &Entry,
-        signature: u64,
-    ) -> bool
-        requires { All (λ (x : Item). x.place < length entries.now) self.old.fresh.items }
-        ensures same { IsSameLevel self.old self.new }
-        ensures found { result ≡ true → (x : Item) × Among x self.old.fresh.items × (own_order order.now (entry_at entries.now x.place) entry.now ≡ true) }
-        ensures none { result ≡ false → (x : Item) → Among x self.old.fresh.items → (is_within x.signature signature && own_order order.now (entry_at entries.now x.place) entry.now) ≡ false }
-    {
-        has_one_over(order, entries, &mut self.fresh, entry, signature)
-    }
-
-    /// Whether one of those that were of this level already dominates an entry.
-    fn has_held_over(
-        &mut self,
-        order: &OwnOrder,
-        entries: &[Entry],
-        entry: &Entry,
-        signature: u64,
-    ) -> bool
-        requires { All (λ (x : Item). x.place < length entries.now) self.old.run.items }
-        ensures same { IsSameLevel self.old self.new }
-        ensures found { result ≡ true → (x : Item) × Among x self.old.run.items × (own_order order.now (entry_at entries.now x.place) entry.now ≡ true) }
-        ensures none { result ≡ false → (x : Item) → Among x self.old.run.items → (is_within x.signature signature && own_order order.now (entry_at entries.now x.place) entry.now) ≡ false }
-    {
-        has_one_over(order, entries, &mut self.run, entry, signature)
-    }
-
     /// Whether one of the class dominates the entry at a place. Of those that were held already none does where that entry was held too, of
     /// this level or of one above: then they are not asked.
     fn has_kept_over(
@@ -234,8 +202,9 @@ impl Level {
             → (is_within x.signature signature && own_order order.now (entry_at entries.now x.place) (entry_at entries.now place)) ≡ false }
     {
         let entry = &entries[place];
-        self.has_fresh_over(order, entries, entry, signature)
-            || (lead.held_level(place) == 0 && self.has_held_over(order, entries, entry, signature))
+        has_one_over(order, entries, &mut self.fresh, entry, signature)
+            || (lead.held_level(place) == 0
+                && has_one_over(order, entries, &mut self.run, entry, signature))
     }
 
     /// Whether an entry of this level dominates the one at a place behind them, which is of this class. Where that one was held already, this is
