@@ -1,8 +1,8 @@
 //! Questions that are built by code: those that texts spell, and parts that are refused.
-
 use super::{XYG, ask_over, set_of};
 use crate::same::assert_same;
-use pref_term::{Ask, AskFault, Mode, NumberSets, Term};
+use pref_table::Schema;
+use pref_term::{Ask, AskFault, Mode, NumberSets, Term, read_ask, show};
 use std::alloc::{AllocError, Global};
 use std::process::Abort;
 use std::test::Fail;
@@ -260,4 +260,28 @@ fn messages(rt: HostRuntime) -> Result<(), Fail> {
         assert_same(&rt, *text, message.as_str(), text);
     }
     Ok(())
+}
+
+/// The product of low values of column 0 and high ones of column 1, in the groups of column 2.
+fn product_in_groups(alloc: Global) -> Result<Ask, Fail> {
+    let low = Box::new(alloc, Term::Low { col: 0 })?;
+    let high = Box::new(alloc, Term::High { col: 1 })?;
+    let mut group = Vec::new(alloc);
+    group.push(2)?;
+    Ok(Ask::of(alloc, Term::Pareto(low, high), group, Mode::Best)?)
+}
+
+/// What is shown of the question that a text spells is the text, and what is built is that question.
+fn check_shown(rt: &impl Abort, alloc: Global, built: &Ask, text: &str) -> Result<(), Fail> {
+    let schema = Schema::new(alloc, &XYG)?;
+    let read = read_ask(alloc, &schema, text.as_bytes())?;
+    let shown = show(alloc, &schema, &read)?;
+    assert_same(rt, text, shown.as_slice(), text.as_bytes());
+    check_spelt(rt, alloc, built, text)
+}
+
+#[test]
+fn what_is_built_is_the_question_that_is_shown(rt: HostRuntime) -> Result<(), Fail> {
+    let built = product_in_groups(rt.alloc())?;
+    check_shown(&rt, rt.alloc(), &built, "best low(x) * high(y) by g")
 }

@@ -6,7 +6,7 @@ ghost use Rattle.pref_term.specs.Question.{FitsWidth};
 use super::{XYG, row_over};
 use crate::same::assert_same;
 use pref_table::Schema;
-use pref_term::{Ask, Dominance, Mode, Relation, TermFault, read_ask, show};
+use pref_term::{Ask, AskFault, Dominance, Mode, Relation, Term, TermFault, read_ask, show};
 use std::alloc::Global;
 use std::process::Abort;
 use std::test::Fail;
@@ -105,5 +105,31 @@ fn a_refused_copy_of_a_question_is_reported_and_made_again(rt: HostRuntime) -> R
     ] {
         assert_same(&rt, question, is_copied(&rt, rt.alloc(), question)?, true);
     }
+    Ok(())
+}
+
+/// A question of the values of x nearest to a number, by code.
+fn built(alloc: Global, centre: i64) -> Result<Ask, AskFault> {
+    let term = Term::Around { col: 0, centre };
+    Ask::of(alloc, term, Vec::new(alloc), Mode::TopLevel(3))
+}
+
+/// The same, built again where memory was refused.
+fn built_in_the_end(rt: &impl Abort, alloc: Global, centre: i64) -> Ask {
+    match built(alloc, centre) {
+        Ok(ask) => ask,
+        Err(fault) => {
+            assert_same(rt, "refused", fault, AskFault::OutOfMemory);
+            built(alloc, centre).expect(rt, "memory")
+        }
+    }
+}
+
+#[test]
+fn a_refused_building_of_a_question_is_reported_and_made_again(
+    rt: HostRuntime,
+) -> Result<(), Fail> {
+    let ask = built_in_the_end(&rt, rt.alloc(), 7);
+    assert_same(&rt, "mode", ask.mode(), Mode::TopLevel(3));
     Ok(())
 }
