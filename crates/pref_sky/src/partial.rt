@@ -119,6 +119,7 @@ fn hold_anew<D: Dominance>(
 
 impl Partial {
     /// A partial result to which nothing was added: the levels of no entries. Takes no memory.
+    #[must_use]
     #[tactic(auto, using(crate::proofs::LevelLaws::levels_of_none))]
     pub fn empty() -> Partial
         ensures nothing { result ≡ [] }
