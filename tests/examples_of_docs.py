@@ -14,6 +14,7 @@ import subprocess
 import sys
 import tempfile
 from dataclasses import dataclass
+from itertools import chain
 from pathlib import Path
 
 TOP = Path(__file__).resolve().parent.parent
@@ -301,19 +302,20 @@ def blocks(crate):
 
 
 def exports(crate):
-    """The names that a library exports."""
-    root = (TOP / "crates" / crate / "src/lib.rt").read_text(encoding="utf-8")
-    names = re.findall(r"pub use [\w:]+::(?:\{([^}]*)\}|(\w+));", root)
-    return sorted({name.strip() for several, one in names for name in (several or one).split(",") if name.strip()})
+    """The modules of a library, each with the names that it exports: those at its root, and those for the crates above."""
+    text = (TOP / "crates" / crate / "src/lib.rt").read_text(encoding="utf-8")
+    for module, part in zip((crate, f"{crate}::engine"), text.partition("pub mod engine {")[::2]):
+        names = re.findall(r"pub use [\w:]+::(?:\{([^}]*)\}|(\w+));", part)
+        yield module, sorted({name.strip() for several, one in names for name in (several or one).split(",") if name.strip()})
 
 
 def imports(code):
     """The lines that import what code uses of the libraries."""
     used = set(re.findall(r"\w+", code))
-    for crate in CRATES:
-        names = [name for name in exports(crate) if name in used]
+    for module, exported in chain.from_iterable(map(exports, CRATES)):
+        names = [name for name in exported if name in used]
         if names:
-            yield f"use {crate}::{{{', '.join(names)}}};\n"
+            yield f"use {module}::{{{', '.join(names)}}};\n"
 
 
 def program(examples):
