@@ -3,6 +3,7 @@ mod answers;
 mod cuttings;
 mod fixtures;
 mod groups;
+mod growing;
 mod passes;
 mod plain;
 mod refusals;

@@ -21,3 +21,4 @@ pub mod ChosenLaws
 pub mod LeadLaws
 pub mod PassedLevels
 pub mod GallopLaws
+pub mod NumberedLaws

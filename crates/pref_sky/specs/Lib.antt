@@ -17,3 +17,4 @@ pub mod ChosenChains
 pub mod Leads
 pub mod Partials
 pub mod PartialForms
+pub mod NumberedRows

@@ -8,16 +8,20 @@
 //! partial order of rows serves.
 //!
 //! ```rust
-//! let mut partial = Partial::empty();
-//! for block in blocks {
-//!     partial.add(alloc, &ask, window, ask.cut(), block)?;
+//! let mut best = BestOf::new(ask);
+//! for piece in pieces {
+//!     best.add(alloc, piece)?;
 //! }
-//! let ranked = answer(alloc, &ask, &partial)?;
+//! let ranked = best.answer(alloc)?;
 //! ```
+//!
+//! [`BestOf`] numbers its rows as they come. It is made of a [`Partial`], which takes entries with ids of the caller's own, and an order
+//! that need be no question's.
 #![tactic(auto)]
 
 mod answers;
 mod best;
+mod best_of;
 mod entry;
 mod grouped;
 mod item;
@@ -26,6 +30,7 @@ pub mod laws;
 mod lead;
 mod level;
 mod merging;
+mod numbering;
 mod own_order;
 mod partial;
 mod passes;
@@ -37,6 +42,8 @@ mod window;
 
 pub use answers::answer;
 pub use best::{best_rows, best_rows_passes};
+pub use best_of::{AddFault, BestOf};
 pub use entry::{Entry, Ranked};
+pub use numbering::numbered;
 pub use partial::{Partial, levels};
 pub use window::{Offer, Window};

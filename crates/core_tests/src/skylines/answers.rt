@@ -61,7 +61,7 @@ pub(super) fn check_answers(rt: &impl Abort, alloc: Global, cases: &[Answer]) ->
     Ok(())
 }
 
-static ANSWERS: [Answer; 11] = [
+pub(super) static ANSWERS: [Answer; 11] = [
     Answer {
         name: "best of five hotels",
         text: b"best low(x) * low(y)",

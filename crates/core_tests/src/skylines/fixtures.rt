@@ -1,4 +1,4 @@
-//! Three small orders, rows with the ids 1, 2, .., and what is found compared by ids and levels.
+//! Three small orders, rows, also with the ids 1, 2, .., and what is found compared by ids and levels.
 ghost use Rattle.std.specs.Prelude.{IfOk};
 ghost use Rattle.pref_sky.specs.Levels.{HaveDifferentIds};
 
@@ -92,20 +92,23 @@ impl Dominance for LowOnce {
     }
 }
 
-/// The rows of two columns, with the ids 1, 2, ..
-pub(crate) fn numbered(alloc: Global, rows: &[(i64, i64)]) -> Result<Vec<Entry>, TableFault>
-    ensures { IfOk result (λ entries. HaveDifferentIds entries.items) }
-{
+/// Rows of the columns x and y.
+pub(crate) fn rows_of(alloc: Global, pairs: &[(i64, i64)]) -> Result<Vec<Row>, TableFault> {
     let names: [&[u8]; 2] = [b"x", b"y"];
     let schema = Schema::new(alloc, &names)?;
-    let mut entries = Vec::with_capacity(alloc, rows.len())?;
-    let mut id = 0;
-    for cells in rows {
-        id += 1;
-        let row = Row::of(&schema, &[cells.0, cells.1])?;
-        entries.push(Entry { id, row })?;
+    let mut rows = Vec::with_capacity(alloc, pairs.len())?;
+    for pair in pairs {
+        rows.push(Row::of(&schema, &[pair.0, pair.1])?)?;
     }
-    Ok(entries)
+    Ok(rows)
+}
+
+/// The rows of the columns x and y, with the ids 1, 2, ..
+pub(crate) fn numbered(alloc: Global, pairs: &[(i64, i64)]) -> Result<Vec<Entry>, TableFault>
+    ensures { IfOk result (λ entries. HaveDifferentIds entries.items) }
+{
+    let rows = rows_of(alloc, pairs)?;
+    Ok(pref_sky::numbered(alloc, &rows)?)
 }
 
 /// These rows with their ids, in falling order of id.

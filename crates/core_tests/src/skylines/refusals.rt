@@ -6,9 +6,10 @@ ghost use Rattle.pref_sky.specs.declared.entry.Entry.{Entry};
 
 use super::answers::ask_of;
 use super::cuttings::add_in_two;
-use super::fixtures::{LowBoth, LowOnce, PAIRS, check_places, falling, numbered};
+use super::fixtures::{LowBoth, LowOnce, PAIRS, check_places, falling, numbered, rows_of};
 use crate::same::assert_same;
-use pref_sky::{Entry, Partial, Ranked, answer, levels};
+use pref_sky::{BestOf, Entry, Partial, Ranked, answer, levels};
+use pref_table::Row;
 use pref_term::{Ask, Dominance};
 use std::alloc::Global;
 use std::process::Abort;
@@ -298,4 +299,35 @@ fn a_refused_answer_changes_nothing_and_is_made_again(rt: HostRuntime) -> Result
     let places = [(1, 1), (1, 7), (2, 6), (2, 8), (3, 9)];
     let mut partial = Partial::empty();
     check_refused_answer(&rt, alloc, &ask, &mut partial, &entries, &places)
+}
+
+/// Adds rows, again where they were refused: until then the length and the answer must be as before.
+fn add_piece_in_the_end(
+    rt: &impl Abort,
+    alloc: Global,
+    best: &mut BestOf,
+    rows: &[Row],
+) -> Result<(), Fail> {
+    let count = best.len();
+    let answer = best.answer(alloc)?;
+    if best.add(alloc, rows).is_err() {
+        let kept = best.answer(alloc).expect(rt, "memory");
+        assert_same(rt, "length", best.len(), count);
+        assert_same(rt, "refused", kept.as_slice(), answer.as_slice());
+        best.add(alloc, rows).expect(rt, "memory");
+    }
+    Ok(())
+}
+
+#[test]
+fn a_refused_piece_changes_nothing_and_is_added_again(rt: HostRuntime) -> Result<(), Fail> {
+    let alloc = rt.alloc();
+    let rows = rows_of(alloc, &PAIRS)?;
+    let (front, back) = rows.split_at(rows.len().min(4));
+    let mut best = BestOf::new(ask_of(alloc, b"at_least 5 low(x) * low(y)")?);
+    add_piece_in_the_end(&rt, alloc, &mut best, front)?;
+    add_piece_in_the_end(&rt, alloc, &mut best, back)?;
+    let ranked = best.answer(alloc)?;
+    let places = [(1, 1), (1, 7), (2, 6), (2, 8), (3, 9)];
+    check_places(&rt, alloc, "answer", &ranked, &places)
 }
