@@ -16,7 +16,7 @@ pub add-requires-clause-ids : goal.add-requires-clause-ids
 add-requires-clause-ids c =
     let held = c.self.inside in
     let so_far : BestSoFar = record { question = held.ask; held = held.partial; count = held.count } in
-    let entries : c.deref.result.now ≡ numbered_from held.count c.args.rows.now = grind (arith, common_steps) in
+    let entries : c.deref.result.now ≡ numbered_from held.count c.args.rows.now = c.deref.ensures.value ∙ c.in_ok-entries.ensures in
     subst (λ (l : List Entry). HaveDifferentIds (map entry_of held.partial ++ l)) (sym entries) (new_differ held.ask c.self.invariant.0 c.args.rows.now so_far c.self.invariant.1)
 
 pub invariant_of-self-2 : goal.invariant_of-self-2
@@ -24,7 +24,7 @@ invariant_of-self-2 c =
     let held = c.self.inside in
     let so_far : BestSoFar = record { question = held.ask; held = held.partial; count = held.count } in
     let after : BestSoFar = record { question = held.ask; held = c.add.new.self; count = c.in-Some.count } in
-    let entries : c.deref.result.now ≡ numbered_from held.count c.args.rows.now = grind (arith, common_steps) in
+    let entries : c.deref.result.now ≡ numbered_from held.count c.args.rows.now = c.deref.ensures.value ∙ c.in_ok-entries.ensures in
     let count : c.in-Some.count ≡ held.count + length c.args.rows.now = grind (arith, common_steps) in
     let then = held_then (entry_order (order_of held.ask)) (cut_of held.ask.mode) c.cut-cut.result held.partial c.add.new.self (numbered_from held.count c.args.rows.now) c.deref.result.now c.cut-cut.ensures.cut entries c.in_ok-add.ensures.ok in
     (c.self.invariant.0 ++ c.args.rows.now, more_rows held.ask c.self.invariant.0 c.args.rows.now so_far after c.self.invariant.1 refl count then)
@@ -34,7 +34,7 @@ returns-clause-ok c q before is =
     let held = c.self.inside in
     let so_far : BestSoFar = record { question = held.ask; held = held.partial; count = held.count } in
     let after : BestSoFar = record { question = held.ask; held = c.add.new.self; count = c.in-Some.count } in
-    let entries : c.deref.result.now ≡ numbered_from held.count c.args.rows.now = grind (arith, common_steps) in
+    let entries : c.deref.result.now ≡ numbered_from held.count c.args.rows.now = c.deref.ensures.value ∙ c.in_ok-entries.ensures in
     let count : c.in-Some.count ≡ held.count + length c.args.rows.now = grind (arith, common_steps) in
     let then = held_then (entry_order (order_of held.ask)) (cut_of held.ask.mode) c.cut-cut.result held.partial c.add.new.self (numbered_from held.count c.args.rows.now) c.deref.result.now c.cut-cut.ensures.cut entries c.in_ok-add.ensures.ok in
     more_rows q before c.args.rows.now so_far after (c.self.view_is ∙ is) refl count then
