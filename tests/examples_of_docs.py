@@ -43,9 +43,7 @@ GIVEN = {
     "ask": f'let ask = read_ask(alloc, &schema, b"{QUERY}")?;',
     "id": "let id = 3;",
     "setup": 'let setup = Setup::new(2, 1024, 256, 64).context("a number outside the limits")?;',
-    "entries": "let entries = entries_of(alloc, &rows)?;",
-    "blocks": "let blocks = [&entries[..4], &entries[4..]];",
-    "window": "let window = 64;",
+    "pieces": "let pieces = [&rows[..4], &rows[4..]];",
     "table": "let mut table = Machine::new(alloc, setup, &rows)?;",
     "answer": "let answer = answer_of(alloc, &mut table, ask)?;",
     "event": "let event = Event { client: 2, act: Act::Insert(hotel) };",
@@ -112,16 +110,6 @@ PROGRAM = """\
 {imports}
 
 const HOTELS: &[u8] = b"price,dist\\n50,8\\n60,5\\n80,2\\n70,6\\n90,2\\n100,1\\n110,9\\n";
-
-fn entries_of(alloc: Global, rows: &[Row]) -> Result<Vec<Entry>> {{
-    let mut entries = Vec::new(alloc);
-    let mut id = 0;
-    for row in rows {{
-        id += 1;
-        entries.push(Entry {{ row: *row, id }})?;
-    }}
-    Ok(entries)
-}}
 
 fn answer_of(alloc: Global, table: &mut Machine, ask: Ask) -> Result<RankedList> {{
     for _ in 0..table.begin(1, ask)? {{

@@ -45,12 +45,18 @@ impl From<AllocError> for AddFault {
 /// holds what a [`Partial`] of the question holds, so most rows that are dominated take no memory.
 ///
 /// ```rust
-/// let mut best = BestOf::new(read_ask(alloc, &schema, b"top_level 2 low(price) * low(minutes)")?);
-/// best.add(alloc, &morning)?;
-/// best.add(alloc, &evening)?;
-/// for row in best.answer(alloc)?.as_slice() {
-///     println!(rt; "level {}: row {}, at {}", row.level, row.id, row.row.cell(0))?;
+/// let mut best = BestOf::new(ask);
+/// for piece in pieces {
+///     best.add(alloc, piece)?;
 /// }
+/// let hotels = best.answer(alloc)?;
+/// for hotel in hotels.as_slice() {
+///     println!(rt; "row {}, at {}", hotel.id, hotel.row.cell(0))?;
+/// }
+/// // row 1, at 50
+/// // row 2, at 60
+/// // row 3, at 80
+/// // row 6, at 100
 /// ```
 pub struct BestOf {
     ask: Ask,
