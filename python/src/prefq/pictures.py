@@ -199,11 +199,14 @@ def ranks_in(column: Column, numbers: Sequence[int]) -> List[Optional[int]]:
 
 def in_order(column: Column) -> Callable[[int], Any]:
     """By what the numbers of a column are sorted. Texts are in the order of the alphabet, all else in that of their numbers."""
+    if not isinstance(column.kind, Texts):
+        return lambda number: number
+
     def alphabet(number: int) -> Tuple[str, str]:
         text = str(column.decode(number) or "")
         return text.casefold(), text
 
-    return alphabet if isinstance(column.kind, Texts) else lambda number: number
+    return alphabet
 
 
 def sample(rows: List[Held]) -> List[Held]:
