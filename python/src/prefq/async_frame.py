@@ -39,9 +39,6 @@ class AsyncFrame(Awaited):
         executor, frame = await on_a_thread(partial(_made, make, *words, **options))
         return cls(frame, executor)
 
-    async def __aenter__(self) -> "AsyncFrame":
-        return self
-
     def __repr__(self) -> str:
         return f"<prefq.AsyncFrame of {', '.join(self._frame.names)}>"
 
@@ -62,21 +59,9 @@ class AsyncFrame(Awaited):
         """See `Frame.update`."""
         await self._call(self._frame.update, id, record)
 
-    async def delete(self, id: int) -> None:
-        """See `Frame.delete`."""
-        await self._call(self._frame.delete, id)
-
-    async def commit(self, *changes: Sequence[Any]) -> int:
-        """See `Frame.commit`."""
-        return await self._call(self._frame.commit, *changes)
-
     async def get(self, id: int) -> Record:
         """See `Frame.get`."""
         return await self._call(self._frame.get, id)
-
-    async def room(self) -> int:
-        """See `Frame.room`."""
-        return await self._call(self._frame.room)
 
     async def rows(self) -> List[Record]:
         """See `Frame.rows`."""

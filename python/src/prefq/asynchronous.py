@@ -14,6 +14,7 @@ from .table import Table, Values
 
 Result = TypeVar("Result")
 Opened = TypeVar("Opened", Table, Frame)
+Self = TypeVar("Self", bound="Awaited")
 
 
 class Awaited:
@@ -30,6 +31,9 @@ class Awaited:
     def _table(self) -> Table:
         return self._called.table if isinstance(self._called, Frame) else self._called
 
+    async def __aenter__(self: Self) -> Self:
+        return self
+
     async def __aexit__(self, failed: Optional[Type[BaseException]], *_: object) -> None:
         try:
             if failed is None and not self._closed:
@@ -43,6 +47,18 @@ class Awaited:
 
     def __bool__(self) -> bool:
         return True
+
+    async def delete(self, id: int) -> None:
+        """See `Table.delete`."""
+        await self._call(self._called.delete, id)
+
+    async def commit(self, *changes: Sequence[Any]) -> int:
+        """See `Table.commit` and `Frame.commit`."""
+        return await self._call(self._called.commit, *changes)
+
+    async def room(self) -> int:
+        """See `Table.room`."""
+        return await self._call(self._called.room)
 
     async def close(self) -> None:
         """Ends the table; a call that waits raises `Ended`."""
@@ -103,9 +119,6 @@ class AsyncTable(Awaited):
         executor, table = await on_a_thread(partial(Table, columns, rows, **options))
         return cls(table, executor)
 
-    async def __aenter__(self) -> "AsyncTable":
-        return self
-
     def __repr__(self) -> str:
         return f"<prefq.AsyncTable of {', '.join(self.columns)}>"
 
@@ -121,21 +134,9 @@ class AsyncTable(Awaited):
         """See `Table.update`."""
         await self._call(self._table.update, id, values)
 
-    async def delete(self, id: int) -> None:
-        """See `Table.delete`."""
-        await self._call(self._table.delete, id)
-
-    async def commit(self, *changes: Sequence[Any]) -> int:
-        """See `Table.commit`."""
-        return await self._call(self._table.commit, *changes)
-
     async def get(self, id: int) -> List[int]:
         """See `Table.get`."""
         return await self._call(self._table.get, id)
-
-    async def room(self) -> int:
-        """See `Table.room`."""
-        return await self._call(self._table.room)
 
     async def rows(self) -> List[Tuple[int, List[int]]]:
         """See `Table.rows`."""

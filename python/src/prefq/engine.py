@@ -69,7 +69,7 @@ class Engine:
         self.width = len(columns)
         self._width = c_size_t(self.width)
         self._row = ctypes.c_int64 * self.width
-        self._rows: Optional[int] = 0           # None where it has to be counted
+        self.rows: Optional[int] = 0            # None where an interruption came between a change and its count
         self.lock = threading.RLock()
         self.queries: Dict[int, "ref[Asker]"] = {}     # by their clients
 
@@ -97,7 +97,7 @@ class Engine:
 
     def _open(self, call: Any, rows: int, *words: Any) -> None:
         self._call(call, *words, self._pointer)
-        self._rows = rows
+        self.rows = rows
 
     # ---- the end ----
 
@@ -211,15 +211,6 @@ class Engine:
         self._call(self._calls.prefq_room, self._pointer, room)
         return room.value
 
-    @property
-    def rows(self) -> Optional[int]:
-        """The number of rows, None where an interruption came between a change and its count."""
-        return self._rows
-
-    def count(self, rows: int) -> None:
-        """They were counted."""
-        self._rows = rows
-
     def _change(self, more: int, call: Any, *words: Any) -> None:
         """A call behind which there are so many rows more."""
         if self._forks != _forks:
@@ -229,12 +220,12 @@ class Engine:
                 self.settle()
             try:
                 self._call(call, *words)
-                if self._rows is not None:
-                    self._rows += more
+                if self.rows is not None:
+                    self.rows += more
             except Error:
                 raise
             except BaseException:
-                self._rows = None
+                self.rows = None
                 raise
 
     # ---- queries; each is of a client ----

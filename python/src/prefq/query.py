@@ -1,13 +1,13 @@
 """A query: a question that is asked of the table as it was when the query began."""
 import time
 from ctypes import c_uint32
-from typing import Callable, List, Optional, Tuple, Type
+from typing import Callable, List, Optional, Sequence, Tuple, Type
 
 from .answer import Answer
 from .clients import Clients
 from .engine import Asker, Engine
 from .errors import Ended
-from .rows import Made, Numbers, Row, as_pairs, as_rows, rows_of
+from .rows import Made, Row, as_pairs, as_rows, rows_of
 
 Progress = Callable[[int, int], None]
 Answered = Callable[[str, bytes], Answer]       # what makes an answer of a question and of the numbers of its rows
@@ -86,7 +86,7 @@ class Query(Asker):
     def _is_open(self) -> bool:
         return self._engine.is_open(self)
 
-    def _made(self, make: Callable[[Numbers, int], List[Made]], progress: Optional[Progress]) -> List[Made]:
+    def _made(self, make: Callable[[Sequence[int], int], List[Made]], progress: Optional[Progress]) -> List[Made]:
         return rows_of(self._finished(progress), self._engine.width, make)
 
     def scan_piece(self) -> None:

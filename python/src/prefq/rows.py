@@ -13,7 +13,6 @@ from .pauses import let_others_run
 from .records import Record
 
 Made = TypeVar("Made")
-Numbers = Sequence[int]      # a memoryview, of which a slice is no copy
 TOGETHER = 256
 ANSWER_PIECE = 4_096        # numbers of an answer
 LISTS = (list, tuple)
@@ -89,7 +88,7 @@ class Zipped(WholeRows):
         return Engine.opened(columns, found.tobytes(), len(self), setup)
 
 
-def as_records(names: Sequence[str], numbers: Numbers, _: int) -> List[Record]:
+def as_records(names: Sequence[str], numbers: Sequence[int], _: int) -> List[Record]:
     """The rows of an answer as records with these names. Each row is so many numbers: its level, its id and its values."""
     new, records, rest = Record.__new__, [], iter(numbers)
     for level in rest:
@@ -101,23 +100,23 @@ def as_records(names: Sequence[str], numbers: Numbers, _: int) -> List[Record]:
     return records
 
 
-def as_rows(numbers: Numbers, size: int) -> List[Row]:
+def as_rows(numbers: Sequence[int], size: int) -> List[Row]:
     """The same as plain rows."""
     new = tuple.__new__         # that of a named tuple is written in Python, and takes longer
     return [new(Row, row) for row in zip(numbers[::size], numbers[1::size], _values(numbers, size))]
 
 
-def as_pairs(numbers: Numbers, size: int) -> List[Tuple[int, List[int]]]:
+def as_pairs(numbers: Sequence[int], size: int) -> List[Tuple[int, List[int]]]:
     """The same as pairs of an id and its values."""
     return list(zip(numbers[1::size], _values(numbers, size)))
 
 
-def _values(numbers: Numbers, size: int) -> Iterator[List[int]]:
+def _values(numbers: Sequence[int], size: int) -> Iterator[List[int]]:
     return map(list, zip(*(numbers[place::size] for place in range(2, size))))
 
 
-def rows_of(answer: bytes, width: int, make: Callable[[Numbers, int], List[Made]]) -> List[Made]:
-    """What is made of the level, the id and the values of each row of an answer."""
+def rows_of(answer: bytes, width: int, make: Callable[[Sequence[int], int], List[Made]]) -> List[Made]:
+    """What is made of the level, the id and the values of each row of an answer. The numbers are given as a memoryview, of which a slice is no copy."""
     numbers, size = memoryview(answer).cast("q"), 2 + width
     piece = size * max(1, ANSWER_PIECE // size)
     if len(numbers) <= piece:

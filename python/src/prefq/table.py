@@ -86,8 +86,7 @@ class Table:
         """The number of rows after the last call that changed it."""
         rows = self._engine.rows
         if rows is None:
-            rows = len(self.rows())
-            self._engine.count(rows)
+            rows = self._engine.rows = len(self.rows())
         return rows
 
     def check(self) -> None:
