@@ -26,6 +26,7 @@ class Clients:
         """Gives this client, or any that has no open query, to this asker."""
         begun, pause = time.monotonic(), STEP
         while not self._is_given(asker, client):
+            self._engine.check()
             if client is not None:
                 raise Refused(f"client {client} has an open query", "client", 3)
             waited, waits_for_itself = time.monotonic() - begun, self._all_are_of_this_thread()
@@ -55,7 +56,6 @@ class Clients:
 
     def _is_given(self, asker: Asker, client: Optional[int]) -> bool:
         """Gives a client that is free now, if there is one."""
-        self._engine.check()
         queries, held, asker.thread = self._engine.queries, ref(asker), threading.get_ident()
         if queries:
             self._engine.settle()

@@ -122,11 +122,11 @@ class Engine:
             self._ended = self._ended or CLOSED
             self._calls.prefq_end(self._pointer)
 
-    def _call(self, call: Any, *words: Any, question: Optional[str] = None) -> None:
+    def _call(self, call: Any, *words: Any) -> None:
         """Makes a call of the library, or raises why it has done nothing."""
         result = call(*words)
         if result:
-            self._fail(result, call, words, question)
+            self._fail(result, call, words)
 
     def _fail(self, result: int, call: Any, words: Tuple[Any, ...], question: Optional[str] = None) -> None:
         """Raises why a call with these words has done nothing.
@@ -298,11 +298,14 @@ class Engine:
     def _call_with(self, question: str, asker: Asker, call: Any, *results: Any) -> None:
         """A call with a question. Where that is refused, the client is free again."""
         text = question.encode()
-        try:
-            self._call(call, self._pointer, asker.client, text, len(text), *results, question=question)
-        except Error:
-            del self.queries[asker.client]
-            raise
+        words = (self._pointer, asker.client, text, len(text), *results)
+        result = call(*words)
+        if result:
+            try:
+                self._fail(result, call, words, question)
+            except Error:
+                del self.queries[asker.client]
+                raise
 
     def _scan(self, asker: Asker, blocks: int, left: c_uint32) -> None:
         self._call(self._calls.prefq_scan, self._pointer, asker.client, blocks, left)

@@ -118,10 +118,10 @@ def _values(numbers: Sequence[int], size: int) -> Iterator[List[int]]:
 def rows_of(answer: bytes, width: int, make: Callable[[Sequence[int], int], List[Made]]) -> List[Made]:
     """What is made of the level, the id and the values of each row of an answer. The numbers are given as a memoryview, of which a slice is no copy."""
     numbers, size = memoryview(answer).cast("q"), 2 + width
-    piece = size * max(1, ANSWER_PIECE // size)
-    if len(numbers) <= piece:
+    if len(numbers) <= ANSWER_PIECE:
         return make(numbers, size)
     rows: List[Made] = []
+    piece = size * (ANSWER_PIECE // size)
     collects = gc.isenabled()
     try:
         # Rows are no garbage. Left to itself, the collector looks through all of them again and again while every thread waits; this looks at the new ones,
