@@ -1,4 +1,5 @@
 """What is asked beside a question: exactly so many rows, which ones of those that are equally good, and groups; and the answer over the rows of a moment."""
+from array import array
 from collections import defaultdict
 from dataclasses import dataclass, replace
 from functools import partial
@@ -196,7 +197,7 @@ class Reading(NamedTuple):
 
     def at(self, places: Sequence[int]) -> "Reading":
         """The same of only the rows at these places, from 0."""
-        return self._replace(lists=[[numbers[place] for place in places] for numbers in self.lists])
+        return self._replace(lists=[array("q", map(numbers.__getitem__, places)) for numbers in self.lists])
 
     @property
     def names(self) -> List[str]:
