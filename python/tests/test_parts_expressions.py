@@ -178,8 +178,10 @@ class Together(TestCase):
     def test_a_value_that_no_part_has(self):
         with self.assertWarnsRegex(prefq.UnknownValue, "no row of 'city' has 'Lion'; did you mean 'Lyon'?"):
             best(HOTELS, "best true(city = 'Lion')")
-        with self.assertWarnsRegex(prefq.UnknownValue, "no row of 'price / stars' has 'x'|no row of 'city' has 'Lion'"):
-            best(HOTELS, "best low(price) | pos(city, 'Lion')")
+        for call in (lambda: best(HOTELS, "best low(price) | pos(city, 'Lion')"), lambda: why(HOTELS, 1, "best true(city = 'Lion')"), lambda: why(HOTELS, 1, "best low(price)", where="city <> 'Lion'")):
+            with self.assertWarnsRegex(prefq.UnknownValue, "no row of 'city' has 'Lion'") as caught:
+                call()
+            self.assertEqual(caught.filename, __file__)
         with warnings.catch_warnings():
             warnings.simplefilter("error")
             self.assertEqual(best(HOTELS, "best true(city = 'Bern')").ids, [2])     # which the other parts do not have

@@ -1,6 +1,6 @@
 """Conditions and expressions over the rows of a part: which rows count, and over which columns that was computed."""
 from itertools import product
-from typing import Dict, Iterable, Iterator, List, Mapping, Optional, Sequence, Tuple
+from typing import Dict, Iterable, Iterator, List, Mapping, Sequence, Tuple
 
 from .columns import Column, listed
 from .errors import Refused
@@ -42,7 +42,7 @@ def absent_in(found: Iterable[Tuple[Column, str]]) -> Absent:
 
 
 def texts_beside_columns(node: Node) -> Iterator[Tuple[Column, str]]:
-    """The columns of a condition, each with a text with which it is compared."""
+    """The columns of an expression, each with a text with which it is compared."""
     if isinstance(node, Operation):
         for part in node.parts:
             yield from texts_beside_columns(part)
@@ -57,10 +57,9 @@ def names_in(nodes: Iterable[Node]) -> List[str]:
     return list(dict.fromkeys(column.name for node in nodes for column in columns_of(node)))
 
 
-def moments_in(nodes: Iterable[Node], term: Optional[Term] = None) -> Dict[str, str]:
+def moments_in(nodes: Iterable[Node], term: Term) -> Dict[str, str]:
     """By column of times with a zone, a text beside it in expressions, or in the term of a question, that names no zone: it is a time of the column's."""
-    bases = [] if term is None else bases_of(term)
-    pairs = [(base.column, value.text) for base in bases for values in base.sets for value in values]
+    pairs = [(base.column, value.text) for base in bases_of(term) for values in base.sets for value in values]
     pairs += [pair for node in nodes for pair in texts_beside_columns(node)]
     return {column.name: text for column, text in pairs if is_moment_without_a_zone(column.kind, text)}
 

@@ -11,6 +11,7 @@ from .parts import Job, in_partition, records_of, waited_for
 from .partition import Source, called
 from .selection import Reading
 from .sources import Opened, opened
+from .warned import warn_of
 from .widening import Segment
 from .why import LEVELS, better, check_count
 from .why import dominators as dominators_in
@@ -101,6 +102,7 @@ def dominators(job: Rivalry, sources: Sequence[Any], map: Callable[..., Any], id
     [found] = map(together, [list(map(job.rivals, items))])
     left = waited_for(found)
     check_count(len(left), f"row {id}")
+    warn_of(left.absent.values())
     rivals, *_ = job.among(target, replace(left, places=[place + 1 for place in left.places]), id)
     levels = dict(rivals.dominators())
     left = left.kept([at for at, place in enumerate(left.places) if place + 1 in levels])
