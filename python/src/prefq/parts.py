@@ -24,7 +24,6 @@ import builtins
 import csv
 import os
 from dataclasses import dataclass, field, replace
-from functools import partial as with_words
 from typing import Any, Callable, Dict, Iterable, Iterator, List, Optional, Sequence, Tuple
 from uuid import uuid4
 
@@ -34,7 +33,7 @@ from .checks import MOST_IDS, MOST_ROWS, whole
 from .columns import Column
 from .conditions import absent_in, moments_in, names_in, rows_that_meet
 from .errors import Refused
-from .expressions import Make, Node, read_condition, unmade
+from .expressions import Node, read_condition, unmade
 from .kinds import Texts
 from .loading import decoded
 from .missing import note_of
@@ -43,7 +42,7 @@ from .partial import Absent, Partial, together
 from .partition import Numbered, Partition, Reading, Source, called, is_of_dask, numbered, partitions_of
 from .preferences import Asked as AskedFor
 from .preferences import Operand, text_asked
-from .questions import Question, names_asked_for
+from .questions import Question
 from .reading import check_names
 from .records import Record
 from .rows import Row, Zipped
@@ -160,8 +159,7 @@ class Job:
     def loaded(self, source: Opened, what: str) -> Tuple[Partial, List[QuestionRead]]:
         """The rows of a source that meet the condition, with the columns that the question and its ties name, and what is asked of them."""
         names = [name for name in source.names if isinstance(name, str)]
-        asks = with_words(self.question_over, names=names)
-        source.load(names_asked_for(names, asks, *self.selection.reads_beside(names)))
+        source.load(self.selection.names(self.question, names))
         segments: Dict[str, Segment] = {}
 
         def column(name: str) -> Optional[Column]:
@@ -172,7 +170,7 @@ class Job:
         question, nodes = self._nodes_in(column, names)
         for read in self.selection.reads_beside(names):
             read(column)
-        asked = tuple(segments[name] for name in dict.fromkeys([*names_asked_for(names, asks), *self.selection.names_of_ties(names)]))
+        asked = tuple(segments[name] for name in replace(self.selection, where=None).names(self.question, names))
         words = {**source.words, **{segment.column.name: segment.words() for segment in asked if segment.words()}}
         left = Partial(source.names, asked, source.count, range(source.count), words=words, source=what)
         try:
@@ -196,7 +194,7 @@ class Job:
             nodes.append(node)
             return unmade(node, text, place)
 
-        return self.question_over(column, names, noted), nodes
+        return self.selection.read(self.question, column, names, noted), nodes
 
     def _absent_in_ties(self, column: Callable[[str], Optional[Column]], names: Sequence[str]) -> Absent:
         """The values of the ties that no row here has in a column, which is none that is computed; none where these columns do not take the ties, of which all parts
@@ -223,10 +221,6 @@ class Job:
     def read(self, partial: Partial, *, levels: Optional[int] = None) -> QuestionRead:
         """The question over these rows, or the one that asks for so many levels in its place. What it computes is computed anew, of the columns as they are here."""
         return QuestionRead.over(partial.moment(), self.question, self.selection, levels)
-
-    def question_over(self, column: Callable[[str], Optional[Column]], names: Sequence[str], make: Make = unmade) -> Question:
-        """The tree of the question, with the groups and as many levels as are wanted."""
-        return self.selection.read(self.question, column, names, make)
 
     def _narrowed(self, partial: Partial, views: List[QuestionRead]) -> Partial:
         """Asks for the levels, one table after the other, and again of what is left, while that is more than one table holds and clearly shrinks. What may be left
@@ -276,7 +270,7 @@ class Job:
     def rows_wanted(self) -> Optional[int]:
         """The count of `at_least`; None where the question is another one, or is refused."""
         try:
-            question = self.question_over(lambda name: Column(name, Nothing()), ["x"])
+            question = self.selection.read(self.question, lambda name: Column(name, Nothing()), ["x"])
         except Refused:
             return None
         return question.count if question.mode == "at_least" else None

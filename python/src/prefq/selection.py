@@ -77,10 +77,6 @@ class Selection:
         """Those of these names that the question and what is asked beside it have."""
         return names_asked_for(names, partial(self.read, text, names=names), *self.reads_beside(names))
 
-    def names_of_ties(self, names: Sequence[str]) -> List[str]:
-        """Those of these names that the ties have."""
-        return [] if self.ties is None else names_asked_for(names, partial(read_ties, self.ties, names=names))
-
     def reads_beside(self, names: Sequence[str]) -> List[Callable[[Callable[[str], Optional[Column]]], object]]:
         """What reads the ties and the condition, where they are given, with what gives the column of a name."""
         found: List[Callable[[Callable[[str], Optional[Column]]], object]] = []
