@@ -69,8 +69,8 @@ def clause_in_turn(read: Reading, names: Sequence[str], lists: Sequence[Sequence
     Rows that are equal in a criterion are told apart by their turns, in which none dominates an earlier one. So a row that dominates another one is better than it in
     each of the columns, and one that neither dominates nor equals another is better in one of them and worse in another.
     """
-    ranked = (Order(term_below(read.text, base, below(read.columns)), names, lists).extension() for base in clause_of(read.question.term))
+    ranked = (tuple(Order(term_below(read.text, base, below(read.columns)), names, lists).extension()) for base in clause_of(read.question.term))
     # A column of which both min and max are asked is the same in all rows that dominate one.
-    criteria = [scores for scores in dict.fromkeys(map(tuple, ranked)) if len(set(scores)) > 1]
+    criteria = [scores for scores in dict.fromkeys(ranked) if len(set(scores)) > 1]
     turns = ranks([(sum(scores), place) for place, scores in enumerate(zip(*criteria))]) if criteria else list(range(len(lists[0])))
     return [ranks(list(zip(scores, turns))) for scores in criteria] or [turns]
