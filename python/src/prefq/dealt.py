@@ -8,7 +8,7 @@ from collections import defaultdict, deque
 from concurrent.futures import ThreadPoolExecutor
 from contextlib import ExitStack
 from itertools import chain
-from typing import Any, Callable, Deque, Dict, Iterable, List, Mapping, NamedTuple, Optional, Sequence, Tuple, TypeVar, Union
+from typing import Any, Callable, Collection, Deque, Dict, Iterable, List, Mapping, NamedTuple, Optional, Sequence, Tuple, TypeVar, Union
 
 from .checks import MOST_ROWS
 from .columns import Column
@@ -153,9 +153,9 @@ class Dealt:
         shard, inside = self._places[key]
         return shard.table.get(inside)
 
-    def count_with(self, rows: Iterable[Key], gone: Iterable[Key]) -> int:
+    def count_with(self, rows: Collection[Key], gone: Collection[Key]) -> int:
         """How many rows there are once these are written, and those have gone."""
-        return len(self) + sum(key not in self._places for key in rows) - sum(key in self._places for key in gone)
+        return len(self) + len(rows) - sum(map(self._places.__contains__, chain(rows, gone)))
 
     def change(self, rows: Mapping[Key, Numbers], gone: Iterable[Key] = ()) -> None:
         """Gives the rows with these keys these numbers, adds those that are not there, and deletes others, which have gone."""
