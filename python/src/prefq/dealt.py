@@ -62,33 +62,16 @@ class Shard:
         numbers = array("q", list(chain.from_iterable(rows)))
         changes, moved = updates(ids, numbers), []
         for begin in range(0, len(ids), IN_COMMIT):
-            some = slice(begin, begin + IN_COMMIT)
+            some = ids[begin:begin + IN_COMMIT]
             try:
-                self.table._engine.update_together(changes[begin], len(ids[some]))
+                self.table._engine.update_together(changes[begin], len(some))
             except Refused as why:
                 if (why.kind, why.number) != FULL:
                     raise
-                moved += self._update_each(ids[some], rows[some])
+                moved += some
+                for inside in some:
+                    self.table.delete(inside)
         return moved
-
-    def _update_each(self, ids: Sequence[int], rows: Sequence[Numbers]) -> List[int]:
-        """The same where there is no room for all of them."""
-        moved = []
-        for inside, numbers in zip(ids, rows):
-            if not self._update(inside, numbers):
-                self.table.delete(inside)
-                moved.append(inside)
-        return moved
-
-    def _update(self, inside: int, numbers: Numbers) -> bool:
-        """Whether there was room for the new version of a row."""
-        try:
-            self.table.update(inside, numbers)
-        except Refused as why:
-            if (why.kind, why.number) != FULL:
-                raise
-            return False
-        return True
 
 
 def updates(ids: Sequence[int], numbers: "array[int]") -> Any:
@@ -161,11 +144,10 @@ class Dealt:
         """Gives the rows with these keys these numbers, adds those that are not there, and deletes others, which have gone."""
         self._changes += 1
         self._forget()
-        for key in gone:
-            if key in self._places:
-                shard, inside = self._places[key]
-                shard.table.delete(inside)
-                self._has_gone(key)
+        for key in filter(self._places.__contains__, gone):
+            shard, inside = self._places[key]
+            shard.table.delete(inside)
+            self._has_gone(key)
         there, new = self._by_shards(rows)
         for shard, (ids, some) in there.items():
             for key in map(shard.keys.__getitem__, shard.update(ids, some)):

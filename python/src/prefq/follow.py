@@ -345,25 +345,23 @@ class Followed:
     def _take(self, changes: Changes) -> bool:
         """Makes these changes; False where everything has to be read: a kind that was taken from the values has to be another one, or rows have gone unseen."""
         with self._alone():
-            return self._change(self._tables, changes)
-
-    def _change(self, dealt: Dealt, changes: Changes) -> bool:
-        try:
-            rows = numbers_of_rows(dealt, {key: cells for key, cells in changes.rows.items() if cells is not None})
-        except (TypeError, ValueError):
-            return False        # where it is refused, if need be
-        gone = [key for key, cells in changes.rows.items() if cells is None]
-        if changes.total is not None and changes.total != dealt.count_with(rows, gone):
-            return False
-        self._is_whole = False
-        if changes.is_cleared:
-            dealt.clear()
-        if changes.rows:
-            dealt.change(rows, gone)
-        if changes.rows or changes.is_cleared:
-            self._count_change()
-        self.at, self._is_whole = changes.place, True
-        return True
+            dealt = self._tables
+            try:
+                rows = numbers_of_rows(dealt, {key: cells for key, cells in changes.rows.items() if cells is not None})
+            except (TypeError, ValueError):
+                return False        # where it is refused, if need be
+            gone = [key for key, cells in changes.rows.items() if cells is None]
+            if changes.total is not None and changes.total != dealt.count_with(rows, gone):
+                return False
+            self._is_whole = False
+            if changes.is_cleared:
+                dealt.clear()
+            if changes.rows:
+                dealt.change(rows, gone)
+            if changes.rows or changes.is_cleared:
+                self._count_change()
+            self.at, self._is_whole = changes.place, True
+            return True
 
     def _count_change(self) -> None:
         self.version += 1
