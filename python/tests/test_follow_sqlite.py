@@ -4,6 +4,7 @@ import random
 import signal
 import sqlite3
 import unittest
+import unittest.mock
 from contextlib import closing
 
 import prefq
@@ -71,6 +72,13 @@ class Schemas(OfRooms):
         rows = [(1, 10, 3), (2, 1, 4), (10, 40, 0), (11, 40, 0), (12, 40, 0)]
         self.are(other, *rows)
         self.are(frame, *rows)
+
+    def test_another_follower_that_comes_at_the_same_time_notes_nothing(self):
+        frame = self.rooms((1, 10, 3), (2, 20, 4))
+        self.insert((3, 5, 3))
+        with unittest.mock.patch("prefq.follow_sqlite.SqliteSource._is_installed", return_value=False):     # as it was when the other one looked
+            other = self.followed("rooms")
+        self.assertEqual((other.at, frame.refresh(), frame.version), (1, 1, 2))
 
     def test_now_is_a_place_of_what_the_table_is_now(self):
         for is_followed_again in (False, True):

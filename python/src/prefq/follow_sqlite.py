@@ -187,7 +187,7 @@ class SqliteSource(Source):
                 raise Refused(f"{name!r} is there already, and is not what follows table {self.name!r}: drop it, or give it another name", "follow")
             if name not in there:
                 self._db.execute(sql)
-        if there:       # What was changed while some of them were missing is noted nowhere: a note without a key stands for any rows.
+        if 0 < len(there) < len(self._objects):     # What was changed while some were missing is noted nowhere: a note without a key stands for any rows.
             self._db.execute(f"insert into {identifier(self._notes)} (key) values (null)")
         self._db.execute("commit")
         self._has_added = not there
