@@ -59,8 +59,9 @@ class Shard:
     def update(self, ids: Sequence[int], rows: Sequence[Numbers]) -> List[int]:
         """Gives the rows with these ids these numbers. Returns the ids of those that had to be deleted in place of an update, since the table has no room for their
         new versions."""
+        moved: List[int] = []
         numbers = array("q", list(chain.from_iterable(rows)))
-        changes, moved = updates(ids, numbers), []
+        changes = updates(ids, numbers)
         for begin in range(0, len(ids), IN_COMMIT):
             some = ids[begin:begin + IN_COMMIT]
             try:
