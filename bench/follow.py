@@ -25,6 +25,7 @@ BESIDE = {"top": 10, "ties": "low(noise)"}
 TABLE = "create table offers (id integer primary key, price integer, dist integer, noise integer)"
 CHANGES = 20_000
 ROUNDS = 15
+MEDIANS = 10
 MOST = 10**6
 
 
@@ -37,6 +38,20 @@ def show(what, call, rounds=ROUNDS, each=1):
         walls.append(time.perf_counter() - begun)
     processor = (time.process_time() - processor) / rounds / each * 1e6
     print(f"{what}: {processor:,.1f} us of a processor, wall {statistics.median(walls) / each * 1e6:,.0f} us at a load of {os.getloadavg()[0]:.0f}", flush=True)
+
+
+def show_delay(change, ask):
+    """Prints the wall time from a commit to an answer that has it: the smallest of some medians, of which others' work makes each longer, and the largest."""
+    medians = []
+    for _ in range(MEDIANS):
+        walls = []
+        for _ in range(ROUNDS):
+            change()
+            begun = time.perf_counter()
+            ask()
+            walls.append(time.perf_counter() - begun)
+        medians.append(statistics.median(walls) * 1e3)
+    print(f"from a commit to an answer that has it: {min(medians):.0f} ms, medians up to {max(medians):.0f} ms at a load of {os.getloadavg()[0]:.0f}", flush=True)
 
 
 @contextmanager
@@ -94,6 +109,7 @@ def measure(db, mark, count, chance):
         show(f"{QUESTIONS[0]}, {BESIDE}", lambda: ask_anew(QUESTIONS[0], **BESIDE))
         show(f"{QUESTIONS[0]} where price > 500000", lambda: ask_anew(QUESTIONS[0], where="price > 500000"), 1)
         show("a change and an answer that has it", change_and_ask)
+        show_delay(change, lambda: frame.best(QUESTIONS[0]))
         cursor.execute("begin")
         for _ in range(CHANGES):
             change()

@@ -244,7 +244,7 @@ class PostgresSource(Source):
         if (oid, name) != (self._oid, self.name):
             raise Refused(f"table {self.name} is another one now. Follow it again", "follow")
         there = self._there()
-        check_columns(self.name, self._declared, there, lambda declared: declared[1])
+        check_columns(self.name, self._declared, there, lambda declared: str(declared[1]))
         self._check_key(there, replident)
         return self._schema_of(oid)
 
