@@ -184,7 +184,8 @@ class SqliteSource(Source):
         there = self._there()
         for name, sql in self._objects.items():
             if there.get(name, sql) != sql:
-                raise Refused(f"{name!r} is there already, and is not what follows table {self.name!r}: drop it, or give it another name", "follow")
+                raise Refused(f"{name!r} is there already, and is not what follows table {self.name!r}: drop it, or give it another name; "
+                              f"what another version of prefq has added is removed by unfollow of prefq.follow_sqlite", "follow")
             if name not in there:
                 self._db.execute(sql)
         if 0 < len(there) < len(self._objects):     # What was changed while some were missing is noted nowhere: a note without a key stands for any rows.
