@@ -45,7 +45,8 @@ fn say(rt: &impl Print, line: &str) {
     let _ = rt.println(line);
 }
 
-/// Says on standard output that the arguments are refused, and on standard error why.
+/// Says on standard output that the arguments are refused, and on standard error why; prints the help where it was asked for. The status is
+/// that of the program.
 fn refuse(rt: &(impl Print + Eprint), fault: ArgsFault) -> u8 {
     match fault {
         ArgsFault::Refused(why) => {
