@@ -180,6 +180,22 @@ class Missing(TestCase):
             self.assertEqual(frame.why(5, "skyline of distinct x min, g diff").ids, [1])
             self.assertEqual(frame.why(2, "skyline of distinct x min, g diff").ids, [1, 5])
 
+    def test_why_where_min_and_max_are_asked_of_one_column(self):
+        records = [{"x": x, "y": y} for x, y in [(2, 1), (1, 1), (None, 2), (2, 1), (0, 1), (0, 2), (1, 1)]]
+        with prefq.Frame.from_records(records) as frame:
+            for question, levels in [("skyline of distinct x max, x min", {1: 1, 2: 1, 5: 1, 4: 2, 6: 2, 7: 2}),
+                                     ("skyline of distinct x max, x min, y min", {1: 1, 2: 1, 5: 1, 4: 2, 6: 2, 7: 2})]:
+                with self.subTest(question=question):
+                    answer = frame.why(3, question)
+                    self.assertEqual(dict(zip(answer.ids, answer.levels)), levels)
+
+    def test_why_of_more_criteria_than_a_table_has_columns(self):
+        names = [f"x{place}" for place in range(9)]
+        records = [dict.fromkeys(names), *({name: row ** power % 11 for power, name in enumerate(names, 1)} for row in range(1, 11))]
+        question = "skyline of distinct " + ", ".join(f"{name} min, {name} max" for name in names)
+        with prefq.Frame.from_records(records) as frame, self.assertRaisesRegex(prefq.Refused, "a distinct clause of 18 criteria"):
+            frame.why(1, question)
+
     def test_not_a_number_is_missing(self):
         nan = float("nan")
         with prefq.Frame.from_records([{"x": 1.5}, {"x": nan}, {"x": Decimal("nan")}]) as frame:

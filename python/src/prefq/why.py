@@ -2,7 +2,7 @@
 from typing import Dict, List, Optional, Sequence, Tuple
 
 from .better_than import Order, bits, places_in, ranks
-from .checks import MOST_ROWS
+from .checks import MOST_COLUMNS, MOST_ROWS
 from .errors import Refused
 from .once import ask_once
 from .rows import Zipped
@@ -52,8 +52,16 @@ def levels_of(read: Reading, found: List[int]) -> Dict[int, int]:
     term = read.term
     if read.question.distinct:
         lists = clause_in_turn(read, names, lists)
-        term = " * ".join(f"low({name})" for name in names[:len(lists)])
-    return {found[row.id - 1]: row.level for row in ask_once(names[:len(lists)], Zipped(lists), f"top_level {LEVELS} {term}")}
+        names = names_of_criteria(len(lists))
+        term = " * ".join(f"low({name})" for name in names)
+    return {found[row.id - 1]: row.level for row in ask_once(names, Zipped(lists), f"top_level {LEVELS} {term}")}
+
+
+def names_of_criteria(count: int) -> List[str]:
+    """Names for so many criteria, of which there are more than columns where both min and max are asked of one. More than a table has columns are `Refused`."""
+    if count > MOST_COLUMNS:
+        raise Refused(f"a distinct clause of {count} criteria, and the rows that dominate one are compared by {MOST_COLUMNS} at most", "arguments")
+    return [f"c{place}" for place in range(count)]
 
 
 def terms_lists(read: Reading) -> Tuple[List[str], List[Sequence[int]]]:
@@ -70,7 +78,7 @@ def clause_in_turn(read: Reading, names: Sequence[str], lists: Sequence[Sequence
     each of the columns, and one that neither dominates nor equals another is better in one of them and worse in another.
     """
     ranked = (tuple(Order(term_below(read.text, base, below(read.columns)), names, lists).extension()) for base in clause_of(read.question.term))
-    # A column of which both min and max are asked is the same in all rows that dominate one.
+    # A column of which both min and max are asked is the same in all rows that dominate one that has a value there.
     criteria = [scores for scores in dict.fromkeys(ranked) if len(set(scores)) > 1]
     turns = ranks([(sum(scores), place) for place, scores in enumerate(zip(*criteria))]) if criteria else list(range(len(lists[0])))
     return [ranks(list(zip(scores, turns))) for scores in criteria] or [turns]
