@@ -176,6 +176,18 @@ class Together(TestCase):
         with self.refuses(ValueError, "part 2 (rows 65537 to 65538): row 1, column 'x' (whole): 'x' is no number"):
             prefq.psel([{"x": row[0]} for row in rows], "low(x)", kinds={"x": "whole"})
 
+    def test_a_cursor_that_gives_fewer_rows_than_it_is_asked_for(self):
+        """As drivers do that have a buffer of their own: the parts are called by the rows that came."""
+        class Buffered:
+            description = (("x",),)
+            buffers = [[(1,), (2,)], [(3,)], [("x",)]]
+
+            def fetchmany(self, _):
+                return self.buffers.pop(0) if self.buffers else []
+
+        with self.refuses(prefq.Refused, "column 'x' is whole in part 1 (rows 1 to 2) and text in part 3 (rows 4 to 4)", kind="table"):
+            prefq.psel(Buffered(), "pos(x, 5)")
+
     def test_the_partition_whose_rows_are_refused(self):
         good = Partition(["x", "n"], [[1, 2]])
         for other, says in [([[1]], "partition 2: row 1, 1 values: not 2"), ([[1, 2], ["a", 3]], "partition 2: column 'x' has values of int and str"),

@@ -1,6 +1,6 @@
 """Rows of a database, by the cursor of a query that was executed, as Python's DB-API has it."""
 from collections.abc import Mapping
-from typing import Any, Iterator, List, Sequence, Tuple
+from typing import Any, Iterable, Iterator, List, Sequence, Tuple
 
 from .checks import MOST_ROWS
 from .errors import Refused
@@ -22,15 +22,17 @@ def names_of(cursor: Any) -> Tuple[str, ...]:
 
 
 def fetched(cursor: Any, names: Sequence[str]) -> Iterator[List[Sequence[Any]]]:
-    """The rows that were not fetched yet, as many at a time as one table holds."""
+    """The rows that were not fetched yet, at most as many at a time as one table holds: a cursor may give fewer."""
     while rows := cursor.fetchmany(MOST_ROWS):
         yield [[row[name] for name in names] if isinstance(row, Mapping) else tuple(row) for row in rows]
 
 
-def part_of_rows(names: Sequence[str], rows: Sequence[Any], number: int) -> Numbered:
-    """One of the parts of many rows, each but the last of as many as one table holds."""
-    first = (number - 1) * MOST_ROWS
-    return Numbered(Partition(names, rows), f"part {number} (rows {first + 1} to {first + len(rows)})")
+def parts_of_rows(names: Sequence[str], parts: Iterable[Sequence[Any]]) -> Iterator[Numbered]:
+    """The parts of many rows, each of as many as one table holds at most."""
+    before = 0
+    for number, rows in enumerate(parts, 1):
+        yield Numbered(Partition(names, rows), f"part {number} (rows {before + 1} to {before + len(rows)})")
+        before += len(rows)
 
 
 def found_of(cursor: Any, job: Job) -> Found:
@@ -38,8 +40,8 @@ def found_of(cursor: Any, job: Job) -> Found:
     names, wanted = names_of(cursor), job.rows_wanted()
     asked = job if wanted is None else job.of_levels(wanted)
     partials = []
-    for number, rows in enumerate(fetched(cursor, names), 1):
-        partials.append(asked.part(part_of_rows(names, rows, number)))
+    for part in parts_of_rows(names, fetched(cursor, names)):
+        partials.append(asked.part(part))
         if len(partials) == MERGED:
             partials = [asked.merge(partials)]
     return merged(asked, partials or [asked.part(Partition(names, []))], map)

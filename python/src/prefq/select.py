@@ -4,7 +4,7 @@ from typing import Any, Dict, List, Mapping, Optional, Sequence
 from .answer import Answer
 from .carried import frame_of
 from .checks import MOST_ROWS, whole
-from .cursors import found_of, is_cursor, part_of_rows
+from .cursors import found_of, is_cursor, parts_of_rows
 from .errors import Refused
 from .follow import Followed
 from .frame import TABLE_OPTIONS, Frame, mappings
@@ -77,7 +77,7 @@ def _partitions_of(records: Sequence[Any]) -> List[Numbered]:
     rows = list(mappings(records))
     names = list(dict.fromkeys(name for row in rows for name in row))
     values = [[row.get(name) for name in names] for row in rows]
-    return [part_of_rows(names, values[begin:begin + MOST_ROWS], number) for number, begin in enumerate(range(0, len(values), MOST_ROWS), 1)]
+    return list(parts_of_rows(names, (values[begin:begin + MOST_ROWS] for begin in range(0, len(values), MOST_ROWS))))
 
 
 def _job(text: str, selection: Selection, kinds: Optional[Mapping[str, str]], options: Mapping[str, Any]) -> Job:
