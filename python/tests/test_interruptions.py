@@ -149,6 +149,15 @@ class Interrupted(TestCase):
                 table.insert([3])
                 self.assertEqual((len(table), table.count), (rows + 1, rows + 1))
 
+    def test_a_change_while_the_rows_are_counted_behind_an_interruption(self):
+        """As another thread makes it: what was counted before it is no longer their number."""
+        with numbers(3) as table:
+            with around(table, "insert", behind=raises(Interruption())), self.assertRaises(Interruption):
+                table.insert([4])
+            with around(table, "finish", behind=lambda: table.insert([5])):
+                self.assertEqual(table.count, 4)
+            self.assertEqual((table.count, len(table.rows())), (5, 5))
+
     def test_a_settlement_that_is_interrupted(self):
         with numbers(3, clients=1) as table:
             for when in ("before", "behind"):

@@ -70,6 +70,7 @@ class Engine:
         self._width = c_size_t(self.width)
         self._row = ctypes.c_int64 * self.width
         self.rows: Optional[int] = 0            # None where an interruption came between a change and its count
+        self.changes = 0                        # how many calls were begun that may make rows more or fewer
         self.lock = threading.RLock()
         self.queries: Dict[int, "ref[Asker]"] = {}     # by their clients
 
@@ -211,11 +212,18 @@ class Engine:
         self._call(self._calls.prefq_room, self._pointer, room)
         return room.value
 
+    def counted(self, rows: int, changes: int) -> None:
+        """So many rows were counted, once so many changes were begun: where one has begun since, that is no longer their number."""
+        with self.lock:
+            if self.changes == changes:
+                self.rows = rows
+
     def _change(self, more: int, call: Any, *words: Any) -> None:
         """A call behind which there are so many rows more."""
         if self._forks != _forks:
             self.ours()
         with self.lock:
+            self.changes += 1
             if self.queries:
                 self.settle()
             try:

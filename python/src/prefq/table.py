@@ -86,7 +86,9 @@ class Table:
         """The number of rows after the last call that changed it."""
         rows = self._engine.rows
         if rows is None:
-            rows = self._engine.rows = len(self.rows())
+            changes = self._engine.changes
+            rows = len(self.rows())
+            self._engine.counted(rows, changes)
         return rows
 
     def check(self) -> None:
