@@ -80,6 +80,22 @@ class Schemas(OfRooms):
             other = self.followed("rooms")
         self.assertEqual((other.at, frame.refresh(), frame.version), (1, 1, 2))
 
+    def test_a_file_that_version_0_3_0_has_followed(self):
+        """Its triggers looked the key up with the affinity of the table's own column; they are made anew, and what they noted stands."""
+        frame = self.rooms((1, 10, 3), (2, 20, 4))
+        made = self.db.execute("select name, sql from sqlite_master where name like 'prefq_%' and type = 'trigger'").fetchall()
+        for name, sql in made:
+            self.db.execute(f'drop trigger "{name}"')
+            self.db.execute(sql.replace("= +", "= "))
+        self.db.execute("update rooms set price = 30 where id = 1")
+        other = self.followed("rooms")
+        self.assertEqual(self.db.execute("select name, sql from sqlite_master where name like 'prefq_%' and type = 'trigger'").fetchall(), made)
+        self.insert((3, 5, 3))
+        self.db.execute("delete from rooms where id = 2")
+        for followed in (frame, other):
+            self.are(followed, (1, 30, 3), (3, 5, 3))
+        self.assertEqual(self.db.execute('select count(*) from "prefq_changes:rooms:id" where key is null').fetchall(), [(0,)])
+
     def test_now_is_a_place_of_what_the_table_is_now(self):
         for is_followed_again in (False, True):
             with self.subTest(is_followed_again=is_followed_again):

@@ -45,7 +45,9 @@ class SqliteSource(Source):
             there = at_one_moment(self._db, self._found)
             self.columns = chosen([name for name in there if name != key or columns is not None], columns)
             self._followed = {name: there[name] for name in (key, *self.columns)}
-            self._objects = self._own_objects()
+            self._objects = self._own_objects(NOTE, NEW_KEY)
+            # As versions up to 0.3.0 made them.
+            self._earlier = self._own_objects(NOTE.replace("+", ""), NEW_KEY.replace("+", ""))
         except BaseException:
             self._db.close()
             raise
@@ -155,12 +157,12 @@ class SqliteSource(Source):
     def _notes(self) -> str:
         return f"{CHANGES}:{self.name}:{self._key}"
 
-    def _own_objects(self) -> Dict[str, str]:
-        """The names of what is added, with how it is made."""
+    def _own_objects(self, note: str, new_key: str) -> Dict[str, str]:
+        """The names of what is added, with how it is made, of triggers that note a row and a new key by these statements."""
         table, words = identifier(self.name), {"notes": identifier(self._notes), "key": identifier(self._key)}
         made = {self._notes: NOTES.format(**words)}
-        for event, notes in (("insert", NOTE.format(row="new", **words)), ("update", NOTE.format(row="old", **words) + " " + NEW_KEY.format(**words)),
-                             ("delete", NOTE.format(row="old", **words))):
+        for event, notes in (("insert", note.format(row="new", **words)), ("update", note.format(row="old", **words) + " " + new_key.format(**words)),
+                             ("delete", note.format(row="old", **words))):
             name = f"prefq_{event}:{self.name}:{self._key}"
             made[name] = f"create trigger {identifier(name)} after {event} on {table} begin {notes} end"
         return made
@@ -179,14 +181,17 @@ class SqliteSource(Source):
         return self._has_objects()
 
     def _install(self) -> None:
-        """Adds the table of notes and the triggers, unless they are there. What has one of their names and is another thing is refused, and stays."""
+        """Adds the table of notes and the triggers, unless they are there; triggers of an earlier version are made anew, since these note the same. What has one of
+        their names and is another thing is refused, and stays."""
         self._check_table()
         there = self._there()
         for name, sql in self._objects.items():
-            if there.get(name, sql) != sql:
-                raise Refused(f"{name!r} is there already, and is not what follows table {self.name!r}: drop it, or give it another name; "
-                              f"what another version of prefq has added is removed by unfollow of prefq.follow_sqlite", "follow")
-            if name not in there:
+            found = there.get(name, sql)
+            if found not in (sql, self._earlier[name]):
+                raise Refused(f"{name!r} is there already, and is not what follows table {self.name!r}: drop it, or give it another name", "follow")
+            if found != sql:
+                self._db.execute(f"drop trigger {identifier(name)}")
+            if there.get(name) != sql:
                 self._db.execute(sql)
         if 0 < len(there) < len(self._objects):     # What was changed while some were missing is noted nowhere: a note without a key stands for any rows.
             self._db.execute(f"insert into {identifier(self._notes)} (key) values (null)")
