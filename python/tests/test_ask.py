@@ -89,6 +89,10 @@ class Asks(TestCase):
         lines = self.prints(run("ask", "-", "top_level 2 low(x) by y", text="x,y\n3,a\n1,a\n2,b\n")).splitlines()
         self.assertEqual([line.split() for line in lines], [["level", "id", "x", "y"], ["1", "2", "1", "a"], ["1", "3", "2", "b"], ["2", "1", "3", "a"]])
 
+    def test_the_question_may_stand_behind_options(self):
+        lines = self.prints(run("ask", "-", "--decimal", ",", "--delimiter", ";", "best low(x)", "--top", "1", text="x;y\n2,5;1\n1,5;2\n")).splitlines()
+        self.assertEqual([line.split() for line in lines], [["level", "id", "x", "y"], ["1", "2", "1,5", "2"]])
+
     def test_picture(self):
         with tempfile.TemporaryDirectory() as folder:
             path = Path(folder, "front.svg")

@@ -278,6 +278,11 @@ class Spellings(TestCase):
             frame.insert({"City": "Lion"})
             self.assertEqual(frame.best("best pos(City, 'Lion')").ids, [4])
 
+    def test_a_value_that_is_like_none_is_not_taken_for_one(self):
+        with prefq.Frame.from_records([{"hair": "blonde"}, {"hair": "brown"}]) as frame:
+            with self.assertWarnsRegex(prefq.UnknownValue, "no row of 'hair' has 'none'$"):
+                frame.best("best pos(hair, 'none')")
+
     def test_an_example_of_a_value_is_one_of_the_column(self):
         records = [{"long": "a" * 50, "choice": "M", "quote": "O'Hara", "none": None}, {"long": "b" * 50, "choice": "S", "quote": "x", "none": None}]
         with prefq.Frame.from_records(records, kinds={"choice": "choice(S, M, L)", "none": "text"}) as frame:

@@ -102,7 +102,7 @@ IN_OPTIONS = {
 
 def main(arguments: Optional[Sequence[str]] = None) -> int:
     """Runs the command; returns its status: 0, 2 where something is refused, 1 where the program fails."""
-    options = parser().parse_args(arguments)
+    options = parser().parse_intermixed_args(arguments)        # the question may stand behind options
     try:
         with warnings.catch_warnings():
             warnings.showwarning = lambda message, *_: complain(str(message))

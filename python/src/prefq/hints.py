@@ -65,7 +65,7 @@ def nearest(name: str, names: Sequence[str]) -> Optional[str]:
     return {**words, **folded}.get(found)
 
 
-def most_like(text: str, others: Iterable[str], least: float = 0.6) -> Optional[str]:
+def most_like(text: str, others: Iterable[str], least: float = 0.65) -> Optional[str]:
     """The text that is most like another one, from this ratio on; of many only the first ones are compared."""
     if len(text) > LONGEST_COMPARED:
         return None
