@@ -1,5 +1,5 @@
 //! Laws of the definitions, each the contract of a function that does nothing: what threads and other callers
-//! of [`Store`](crate::Store) and [`Query`](crate::Query) build on.
+//! of [`Store`](crate::engine::Store) and [`Query`](crate::engine::Query) build on.
 
 ghost use Rattle.pref_core.specs.History.{OpsAreHistory};
 ghost use Rattle.pref_core.specs.Laws.{DeletesNeedNoMore, EndsNeedNoMore, NeededFits, NeededFitsSlots, BlocksAreTheSlots};

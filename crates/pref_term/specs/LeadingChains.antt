@@ -28,7 +28,7 @@ abbrev pub each_behind : List Key → List (List Key) → List (List Key)
 each_behind keys [] = keys ∷ []
 each_behind keys (chain ∷ chains) = map (λ other. keys ++ other) (chain ∷ chains)
 
--- the chains of two products, each once
+-- chains whose product is the product of both lists, and which one after the other decide as those of the first list and behind them those of the second
 pub record AreBoth (xs ys all : List (List Key)) : Type 0 where
   pub in_row : All AreInRow xs → All AreInRow ys → All AreInRow all
   pub product : (a b : List ℤ) → by_product all a b ≡ in_product (by_product xs a b) (by_product ys a b)

@@ -114,7 +114,7 @@ impl BoxedCall {
     }
 }
 
-/// An [`Op`](crate::Op) whose call's commit is in a box: it takes 216 bytes, and an op 1,240.
+/// An [`Op`](crate::engine::Op) whose call's commit is in a box: it takes 216 bytes, and an op 1,240.
 #[derive(Drop)]
 pub struct BoxedOp {
     /// Who calls, 1 to 8.

@@ -1,4 +1,5 @@
-//! Scales for an ask, from a sample of rows. Any marks on scales of leading parts are right, so nothing about them is proved.
+//! Scales by keys that lead an order, from a sample of rows. A signature is right with any marks, so nothing about them is proved: only that
+//! each scale's key is one of these keys.
 ghost use Rattle.std.specs.Prelude.{◌<◌, All, Contains, List, IfOk, OnOk};
 ghost use Rattle.pref_term.specs.Signatures.{IsBy};
 ghost use Rattle.pref_term.specs.declared.key.Key.{Key};

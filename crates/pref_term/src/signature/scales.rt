@@ -6,10 +6,10 @@ use crate::signature::scale::Scale;
 use pref_table::Row;
 use std::marker::Model;
 
-/// The tests by which rows are signed: whether a row's score by a base term reaches a mark. The outcomes are the bits of the
+/// The tests by which rows are signed: whether a row's number by a key reaches a mark. The outcomes are the bits of the
 /// row's signature.
 ///
-/// Signatures by the same scales can be compared by [`is_within`](crate::is_within), which spares most comparisons of rows
+/// Signatures by the same scales can be compared by [`is_within`](crate::engine::is_within), which spares most comparisons of rows
 /// where the scales suit the order, as those of [`Ask::scales`](crate::Ask::scales) do. Contracts see their list; which scales
 /// these are can be seen in no answer.
 #[derive(Drop)]
@@ -38,7 +38,7 @@ impl Scales {
         Scales { scales: None }
     }
 
-    /// Whether these are [`Scales::none`]. Scales that were made for a term without a score may have no bit either.
+    /// Whether these are [`Scales::none`]. Scales from a sample in which no key has two numbers are not, and have no bit either.
     pub fn is_none(&self) -> bool
         ensures { result ≡ true → self.now ≡ [] }
     {
