@@ -1,7 +1,7 @@
 -- What building a question finds of its parts.
 use Rattle.pref_term.proofs.Common.{ℕ, Bool, true, false, List, ◌≡◌, ◌<◌, ◌≤◌, ◌+◌, ◌⊎◌, arith, refl, subst, sym, length, take, All, get_or, Result, Ok, Err, MatchResult, IsErrAnd}
 use Rattle.pref_term.proofs.Common.{Base, Preference, scored, pareto, prior, reverse, ReadsBelow, IsWritable, Question, IsAsk, IsSkyline, IsCount, cut_of, is_count, Mode}
-use Rattle.pref_term.specs.Built.{IsFlawIn, IsFlawOf, IsGroupFlaw, Refuses}
+use Rattle.pref_term.specs.Built.{IsFaultIn, IsFaultOf, IsGroupFault, Refuses}
 use Rattle.pref_term.specs.declared.fault.AskFault.{AskFault}
 use Rattle.pref_term.specs.declared.fault.AskFault.TheVariants.{BadCount, ColumnRange, EmptyRange, EmptySet, NoSets, NotSkyline, OutOfMemory}
 use Rattle.std.proofs.Common.{⊎_elim}
@@ -30,7 +30,7 @@ IsElsewhere NotSkyline = Unit {0}
 IsElsewhere OutOfMemory = Unit {0}
 IsElsewhere _ = ⊥
 
-base_has_none : (f : AskFault) (b : Base) → IsElsewhere f → IsFlawOf f b → ⊥
+base_has_none : (f : AskFault) (b : Base) → IsElsewhere f → IsFaultOf f b → ⊥
 base_has_none (BadCount count) b e h = h
 base_has_none NotSkyline b e h = h
 base_has_none OutOfMemory b e h = h
@@ -40,21 +40,21 @@ base_has_none (EmptySet col) b e h = e
 base_has_none (NoSets col) b e h = e
 
 -- no term has a fault of another part
-term_has_none : (f : AskFault) (p : Preference) → IsElsewhere f → IsFlawIn f p → ⊥
+term_has_none : (f : AskFault) (p : Preference) → IsElsewhere f → IsFaultIn f p → ⊥
 term_has_none f (scored b) e h = base_has_none f b e h
 term_has_none f (pareto p q) e h = ⊎_elim (term_has_none f p e) (term_has_none f q e) h
 term_has_none f (prior p q) e h = ⊎_elim (term_has_none f p e) (term_has_none f q e) h
 term_has_none f (reverse p) e h = term_has_none f p e h
 
 -- a fault of the term or of the group
-pub flaw_refuses : (f : AskFault) (q : Question) → IsFlawIn f q.preference ⊎ IsGroupFlaw f q.group → Refuses f q
-flaw_refuses (ColumnRange col) q h = h
-flaw_refuses (EmptyRange col) q h = h
-flaw_refuses (EmptySet col) q h = h
-flaw_refuses (NoSets col) q h = h
-flaw_refuses (BadCount count) q h = absurd (⊎_elim (term_has_none (BadCount count) q.preference tt) (λ g. g) h)
-flaw_refuses NotSkyline q h = absurd (⊎_elim (term_has_none NotSkyline q.preference tt) (λ g. g) h)
-flaw_refuses OutOfMemory q h = absurd (⊎_elim (term_has_none OutOfMemory q.preference tt) (λ g. g) h)
+pub fault_refuses : (f : AskFault) (q : Question) → IsFaultIn f q.preference ⊎ IsGroupFault f q.group → Refuses f q
+fault_refuses (ColumnRange col) q h = h
+fault_refuses (EmptyRange col) q h = h
+fault_refuses (EmptySet col) q h = h
+fault_refuses (NoSets col) q h = h
+fault_refuses (BadCount count) q h = absurd (⊎_elim (term_has_none (BadCount count) q.preference tt) (λ g. g) h)
+fault_refuses NotSkyline q h = absurd (⊎_elim (term_has_none NotSkyline q.preference tt) (λ g. g) h)
+fault_refuses OutOfMemory q h = absurd (⊎_elim (term_has_none OutOfMemory q.preference tt) (λ g. g) h)
 
 -- a fault of the count
 pub count_refuses : (f : AskFault) (q : Question) → (f ≡ BadCount (cut_of q.mode)) × (is_count (cut_of q.mode) ≡ false) → Refuses f q

@@ -7,29 +7,29 @@ use Rattle.pref_term.specs.declared.fault.AskFault.{AskFault}
 use Rattle.pref_term.specs.declared.fault.AskFault.TheVariants.{ColumnRange, EmptyRange, EmptySet, NoSets, BadCount, NotSkyline, OutOfMemory}
 
 -- what the fault says of a base term is so
-abbrev pub IsFlawOf : AskFault → Base → Type 0
-IsFlawOf (ColumnRange col) b = (col ≡ column b) × (16 ≤ col)
-IsFlawOf (EmptyRange col) (between at left right) = (col ≡ at) × (int_lt right left ≡ true)
-IsFlawOf (EmptySet col) (one_of at set) = (col ≡ at) × (set ≡ [])
-IsFlawOf (EmptySet col) (layered at sets) = (col ≡ at) × Contains sets []
-IsFlawOf (NoSets col) (layered at sets) = (col ≡ at) × (sets ≡ [])
-IsFlawOf _ _ = ⊥
+abbrev pub IsFaultOf : AskFault → Base → Type 0
+IsFaultOf (ColumnRange col) b = (col ≡ column b) × (16 ≤ col)
+IsFaultOf (EmptyRange col) (between at left right) = (col ≡ at) × (int_lt right left ≡ true)
+IsFaultOf (EmptySet col) (one_of at set) = (col ≡ at) × (set ≡ [])
+IsFaultOf (EmptySet col) (layered at sets) = (col ≡ at) × Contains sets []
+IsFaultOf (NoSets col) (layered at sets) = (col ≡ at) × (sets ≡ [])
+IsFaultOf _ _ = ⊥
 
 -- it is so of a base term of the preference
-abbrev pub IsFlawIn : AskFault → Preference → Type 0
-IsFlawIn f (scored b) = IsFlawOf f b
-IsFlawIn f (pareto p q) = IsFlawIn f p ⊎ IsFlawIn f q
-IsFlawIn f (prior p q) = IsFlawIn f p ⊎ IsFlawIn f q
-IsFlawIn f (reverse p) = IsFlawIn f p
+abbrev pub IsFaultIn : AskFault → Preference → Type 0
+IsFaultIn f (scored b) = IsFaultOf f b
+IsFaultIn f (pareto p q) = IsFaultIn f p ⊎ IsFaultIn f q
+IsFaultIn f (prior p q) = IsFaultIn f p ⊎ IsFaultIn f q
+IsFaultIn f (reverse p) = IsFaultIn f p
 
 -- it is so of a column of the group
-abbrev pub IsGroupFlaw : AskFault → List ℕ → Type 0
-IsGroupFlaw (ColumnRange col) group = Contains group col × (16 ≤ col)
-IsGroupFlaw _ group = ⊥
+abbrev pub IsGroupFault : AskFault → List ℕ → Type 0
+IsGroupFault (ColumnRange col) group = Contains group col × (16 ≤ col)
+IsGroupFault _ group = ⊥
 
 -- the parts make no question for this reason; where they make one, memory ran out
 abbrev pub Refuses : AskFault → Question → Type 0
 Refuses (BadCount count) q = (count ≡ cut_of q.mode) × (is_count count ≡ false)
 Refuses NotSkyline q = (q.distinct ≡ true) × (IsSkyline q → ⊥)
 Refuses OutOfMemory q = IsAsk q
-Refuses f q = IsFlawIn f q.preference ⊎ IsGroupFlaw f q.group
+Refuses f q = IsFaultIn f q.preference ⊎ IsGroupFault f q.group

@@ -1,7 +1,7 @@
 //! Questions that are built from their parts.
 ghost use Rattle.std.specs.Prelude.{◌≡◌, ◌≢◌, ◌≤◌, ◌<◌, [], Bool, true, false, int_lt, All, FitsSigned, MatchResult};
 ghost use Rattle.std.specs.Int.{w64};
-ghost use Rattle.pref_term.specs.Built.{IsFlawIn, IsFlawOf, IsGroupFlaw, Refuses};
+ghost use Rattle.pref_term.specs.Built.{IsFaultIn, IsFaultOf, IsGroupFault, Refuses};
 ghost use Rattle.pref_term.specs.Columns.{ReadsBelow};
 ghost use Rattle.pref_term.specs.Preference.{layered, preference_of};
 ghost use Rattle.pref_term.specs.Question.{IsAsk, IsClause, IsCount, IsDimension, cut_of, is_count};
@@ -125,7 +125,7 @@ fn check_set(col: usize, set: &Numbers) -> Result<(), AskFault>
 }
 
 fn check_sets(col: usize, sets: &NumberSets) -> Result<(), AskFault>
-    ensures { MatchResult result (λ _. (sets.now ≢ []) × All IsWritableSet sets.now) (λ fault. IsFlawOf fault (layered col sets.now)) }
+    ensures { MatchResult result (λ _. (sets.now ≢ []) × All IsWritableSet sets.now) (λ fault. IsFaultOf fault (layered col sets.now)) }
 {
     if sets.as_slice().is_empty() {
         return Err(AskFault::NoSets { col });
@@ -138,7 +138,7 @@ fn check_sets(col: usize, sets: &NumberSets) -> Result<(), AskFault>
 
 /// Looks for the first base term from the left that no question has.
 fn check_term(term: &Term) -> Result<(), AskFault>
-    ensures { MatchResult result (λ _. ReadsBelow 16 (preference_of term.now) × IsWritable (preference_of term.now)) (λ fault. IsFlawIn fault (preference_of term.now)) }
+    ensures { MatchResult result (λ _. ReadsBelow 16 (preference_of term.now) × IsWritable (preference_of term.now)) (λ fault. IsFaultIn fault (preference_of term.now)) }
 {
     match term {
         Term::Low { col } | Term::High { col } => check_column(*col),
@@ -168,7 +168,7 @@ fn check_term(term: &Term) -> Result<(), AskFault>
 }
 
 fn check_group(group: &[usize]) -> Result<(), AskFault>
-    ensures { MatchResult result (λ _. All (λ col. col < 16) group.now) (λ fault. IsGroupFlaw fault group.now) }
+    ensures { MatchResult result (λ _. All (λ col. col < 16) group.now) (λ fault. IsGroupFault fault group.now) }
 {
     for col in group {
         check_column(*col)?;

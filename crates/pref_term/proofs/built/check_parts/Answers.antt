@@ -1,12 +1,12 @@
 use Rattle.pref_term.proofs.Common.{inl, inr, preference_of}
-use Rattle.pref_term.proofs.BuiltLemmas.{count_refuses, flaw_refuses, parts, refused_exit, weaker}
+use Rattle.pref_term.proofs.BuiltLemmas.{count_refuses, fault_refuses, parts, refused_exit, weaker}
 use Rattle.pref_term.proofs.built.check_parts.Goals as goal
 
 pub returns-in_err-check_term : goal.returns-in_err-check_term
-returns-in_err-check_term c = refused_exit _ _ _ c.from_residual.ensures.1 (λ distinct. flaw_refuses _ (parts (preference_of c.args.term.now) c.args.group.now c.args.mode distinct) (inl (c.in_err-check_term.ensures {u = tt})))
+returns-in_err-check_term c = refused_exit _ _ _ c.from_residual.ensures.1 (λ distinct. fault_refuses _ (parts (preference_of c.args.term.now) c.args.group.now c.args.mode distinct) (inl (c.in_err-check_term.ensures {u = tt})))
 
 pub returns-in_err-check_group : goal.returns-in_err-check_group
-returns-in_err-check_group c = refused_exit _ _ _ c.from_residual-in_err-check_group.ensures.1 (λ distinct. flaw_refuses _ (parts (preference_of c.args.term.now) c.args.group.now c.args.mode distinct) (inr (c.in_err-check_group.ensures {u = tt})))
+returns-in_err-check_group c = refused_exit _ _ _ c.from_residual-in_err-check_group.ensures.1 (λ distinct. fault_refuses _ (parts (preference_of c.args.term.now) c.args.group.now c.args.mode distinct) (inr (c.in_err-check_group.ensures {u = tt})))
 
 pub returns : goal.returns
 returns c =
