@@ -2,7 +2,7 @@
 ghost use Rattle.std.specs.Prelude.{◌≡◌, ◌<◌, true, All, IfOk};
 ghost use Rattle.pref_term.specs.Better.{in_same_group};
 
-use crate::chain::{Chain, Lead, Leading};
+use crate::chain::{Chain, Leading, LeadingChains};
 use crate::dominance::Dominance;
 use crate::key::Key;
 use crate::keys::{
@@ -112,7 +112,7 @@ impl Ask {
     {
         let keys = leading_keys(alloc, &term, false)?;
         let flat = is_product(&term);
-        let Lead { chains, behind, .. } = Lead::of(alloc, &term, false)?;
+        let LeadingChains { chains, behind, .. } = LeadingChains::of(alloc, &term, false)?;
         let in_order = keys_in_order(alloc, &group, &term)?;
         Ok(Ask {
             term,

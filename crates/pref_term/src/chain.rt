@@ -55,7 +55,7 @@ impl Chain {
     }
 
     /// These keys, and behind them its own.
-    fn behind(&self, alloc: Global, before: &[Key]) -> Result<Chain, AllocError>
+    fn with_prefix(&self, alloc: Global, before: &[Key]) -> Result<Chain, AllocError>
         ensures { IfOk result (λ chain. chain ≡ before.now ++ self.now) }
     {
         let mut keys = Vec::new(alloc);
@@ -129,7 +129,7 @@ fn each_behind(alloc: Global, first: Chain, chains: &[Chain]) -> Result<Vec<Chai
 {
     let mut found = Vec::new(alloc);
     for chain in chains {
-        found.push(chain.behind(alloc, &first.keys)?)?;
+        found.push(chain.with_prefix(alloc, &first.keys)?)?;
     }
     if found.is_empty() {
         found.push(first)?;
@@ -151,7 +151,7 @@ fn is_chain(term: &Term) -> bool
 
 /// The chains that lead a term: where their product sees a difference between two rows, it decides.
 #[derive(Drop)]
-pub(crate) struct Lead {
+pub(crate) struct LeadingChains {
     pub(crate) chains: Vec<Chain>,
     // Of rows that are the same in these chains the better one has no greater one of these keys.
     pub(crate) behind: Vec<Key>,
@@ -159,12 +159,12 @@ pub(crate) struct Lead {
     is_whole: bool,
 }
 
-impl Lead {
+impl LeadingChains {
     /// No chain: behind none are the keys that lead the term, or its converse.
-    fn none(alloc: Global, term: &Term, turned: bool) -> Result<Lead, AllocError>
+    fn none(alloc: Global, term: &Term, turned: bool) -> Result<LeadingChains, AllocError>
         ensures { IfOk result (λ lead. IsLedBy (preference_of term.now) turned lead.chains.items lead.behind.items lead.is_whole) }
     {
-        Ok(Lead {
+        Ok(LeadingChains {
             chains: Vec::new(alloc),
             behind: leading_keys(alloc, term, turned)?,
             is_whole: false,
@@ -172,12 +172,12 @@ impl Lead {
     }
 
     /// A chain that is all that a term says.
-    fn one(alloc: Global, chain: Chain) -> Result<Lead, AllocError>
+    fn one(alloc: Global, chain: Chain) -> Result<LeadingChains, AllocError>
         ensures { IfOk result (λ lead. (lead.chains.items ≡ chain ∷ []) × (lead.behind.items ≡ []) × (lead.is_whole ≡ true)) }
     {
         let mut chains = Vec::new(alloc);
         chains.push(chain)?;
-        Ok(Lead {
+        Ok(LeadingChains {
             chains,
             behind: Vec::new(alloc),
             is_whole: true,
@@ -189,18 +189,18 @@ impl Lead {
         alloc: Global,
         term: &Term,
         turned: bool,
-        first: Lead,
-        second: Lead,
-    ) -> Result<Lead, AllocError>
+        first: LeadingChains,
+        second: LeadingChains,
+    ) -> Result<LeadingChains, AllocError>
         ensures { IfOk result (λ lead. (p q : Preference) → preference_of term.now ≡ pareto p q → IsLedBy p turned first.chains.items first.behind.items first.is_whole
             → IsLedBy q turned second.chains.items second.behind.items second.is_whole → IsLedBy (preference_of term.now) turned lead.chains.items lead.behind.items lead.is_whole) }
     {
         if !first.is_whole || !second.is_whole {
-            return Lead::none(alloc, term, turned);
+            return LeadingChains::none(alloc, term, turned);
         }
         let mut chains = first.chains;
         push_others(&mut chains, second.chains)?;
-        Ok(Lead {
+        Ok(LeadingChains {
             chains,
             behind: Vec::new(alloc),
             is_whole: true,
@@ -208,23 +208,27 @@ impl Lead {
     }
 
     /// These chains, or none where they are many.
-    fn few(self, alloc: Global, term: &Term, turned: bool) -> Result<Lead, AllocError>
+    fn few(self, alloc: Global, term: &Term, turned: bool) -> Result<LeadingChains, AllocError>
         ensures { IfOk result (λ lead. IsLedBy (preference_of term.now) turned self.chains.items self.behind.items self.is_whole
             → IsLedBy (preference_of term.now) turned lead.chains.items lead.behind.items lead.is_whole) }
     {
         if self.chains.len() > MOST {
-            return Lead::none(alloc, term, turned);
+            return LeadingChains::none(alloc, term, turned);
         }
         Ok(self)
     }
 
     /// This chain before each of those that lead the second part of a priority.
-    fn behind(alloc: Global, first: Chain, second: Lead) -> Result<Lead, AllocError>
+    fn with_prefix(
+        alloc: Global,
+        first: Chain,
+        second: LeadingChains,
+    ) -> Result<LeadingChains, AllocError>
         ensures { IfOk result (λ lead. (p q : Preference) (turned : Bool) → is_chain p ≡ true → first ≡ all_keys p turned
             → IsLedBy q turned second.chains.items second.behind.items second.is_whole → IsLedBy (prior p q) turned lead.chains.items lead.behind.items lead.is_whole) }
     {
         let chains = each_behind(alloc, first, &second.chains)?;
-        Ok(Lead {
+        Ok(LeadingChains {
             chains,
             behind: second.behind,
             is_whole: second.is_whole,
@@ -232,11 +236,11 @@ impl Lead {
     }
 
     /// The chains that lead the first part of a priority lead all of it. Where they are the whole of it, the second part is behind them.
-    fn before(self, alloc: Global, second: &Term, turned: bool) -> Result<Lead, AllocError>
+    fn before(self, alloc: Global, second: &Term, turned: bool) -> Result<LeadingChains, AllocError>
         ensures { IfOk result (λ lead. (p : Preference) → IsLedBy p turned self.chains.items self.behind.items self.is_whole
             → IsLedBy (prior p (preference_of second.now)) turned lead.chains.items lead.behind.items lead.is_whole) }
     {
-        let Lead {
+        let LeadingChains {
             chains,
             behind,
             is_whole,
@@ -246,7 +250,7 @@ impl Lead {
         } else {
             behind
         };
-        Ok(Lead {
+        Ok(LeadingChains {
             chains,
             behind,
             is_whole: false,
@@ -254,28 +258,28 @@ impl Lead {
     }
 
     /// The chains that lead a term, or its converse. Takes memory for their lists of keys, and for the sets.
-    pub(crate) fn of(alloc: Global, term: &Term, turned: bool) -> Result<Lead, AllocError>
+    pub(crate) fn of(alloc: Global, term: &Term, turned: bool) -> Result<LeadingChains, AllocError>
         ensures { IfOk result (λ lead. IsLedBy (preference_of term.now) turned lead.chains.items lead.behind.items lead.is_whole) }
     {
         if is_chain(term) {
-            return Lead::one(alloc, Chain::of(alloc, term, turned)?);
+            return LeadingChains::one(alloc, Chain::of(alloc, term, turned)?);
         }
         match term {
             Term::Pareto(p, q) => {
-                let first = Lead::of(alloc, p, turned)?;
-                let second = Lead::of(alloc, q, turned)?;
-                Lead::product(alloc, term, turned, first, second)
+                let first = LeadingChains::of(alloc, p, turned)?;
+                let second = LeadingChains::of(alloc, q, turned)?;
+                LeadingChains::product(alloc, term, turned, first, second)
             }
             Term::Prior(p, q) => {
                 if !is_chain(p) {
-                    return Lead::of(alloc, p, turned)?.before(alloc, q, turned);
+                    return LeadingChains::of(alloc, p, turned)?.before(alloc, q, turned);
                 }
                 let first = Chain::of(alloc, p, turned)?;
-                let second = Lead::of(alloc, q, turned)?.few(alloc, q, turned)?;
-                Lead::behind(alloc, first, second)
+                let second = LeadingChains::of(alloc, q, turned)?.few(alloc, q, turned)?;
+                LeadingChains::with_prefix(alloc, first, second)
             }
-            Term::Reverse(p) => Lead::of(alloc, p, !turned),
-            _ => Lead::none(alloc, term, turned),
+            Term::Reverse(p) => LeadingChains::of(alloc, p, !turned),
+            _ => LeadingChains::none(alloc, term, turned),
         }
     }
 }

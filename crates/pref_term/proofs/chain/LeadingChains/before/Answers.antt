@@ -2,8 +2,8 @@ use Rattle.pref_term.proofs.Common.{◌∙◌, ap, false, List, Key, preference_
 use Rattle.std.proofs.Common.{Global, Vec}
 use Rattle.pref_term.specs.LeadingChains.{IsLedBy}
 use Rattle.pref_term.proofs.LeadingLaws.{part_leads, whole_leads}
-use Rattle.pref_term.proofs.chain.Lead.before.Goals.{then-is_whole+in_ok-behind, else-is_whole}
-use Rattle.pref_term.proofs.chain.Lead.before.Goals as goal
+use Rattle.pref_term.proofs.chain.LeadingChains.before.Goals.{then-is_whole+in_ok-behind, else-is_whole}
+use Rattle.pref_term.proofs.chain.LeadingChains.before.Goals as goal
 
 pub returns : goal.returns
 returns c p h =

@@ -1,7 +1,7 @@
 use Rattle.pref_term.proofs.Common.{◌≡◌, ◌∙◌, List, ap, sym, subst, prior, Key}
 use Rattle.pref_term.specs.LeadingChains.{IsLedBy, each_behind}
 use Rattle.pref_term.proofs.LeadingLaws.{behind_leads}
-use Rattle.pref_term.proofs.chain.Lead.behind.Goals as goal
+use Rattle.pref_term.proofs.chain.LeadingChains.with_prefix.Goals as goal
 
 pub returns : goal.returns
 returns c p q turned h is led =

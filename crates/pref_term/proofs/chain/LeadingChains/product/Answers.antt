@@ -1,7 +1,7 @@
 use Rattle.pref_term.proofs.Common.{Bool, true, false, not, ◌≡◌, List, [], Key, Preference, preference_of, subst, sym}
 use Rattle.pref_term.specs.LeadingChains.{IsLedBy}
 use Rattle.pref_term.proofs.LeadingLaws.{both_lead}
-use Rattle.pref_term.proofs.chain.Lead.product.Goals as goal
+use Rattle.pref_term.proofs.chain.LeadingChains.product.Goals as goal
 
 all_of : (p : Preference) (turned whole : Bool) (chains : List (List Key)) (keys : List Key) → not whole ≡ false → IsLedBy p turned chains keys whole → IsLedBy p turned chains keys true
 all_of p turned true chains keys e h = h

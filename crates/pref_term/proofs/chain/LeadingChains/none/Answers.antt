@@ -1,7 +1,7 @@
 use Rattle.pref_term.proofs.Common.{List, Key, preference_of, subst, sym, false}
 use Rattle.pref_term.specs.LeadingChains.{IsLedBy}
 use Rattle.pref_term.proofs.LeadingLaws.{none_leads}
-use Rattle.pref_term.proofs.chain.Lead.none.Goals as goal
+use Rattle.pref_term.proofs.chain.LeadingChains.none.Goals as goal
 
 pub returns : goal.returns
 returns c =

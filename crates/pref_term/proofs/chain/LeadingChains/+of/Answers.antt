@@ -1,6 +1,6 @@
 use Rattle.pref_term.proofs.Common.{sym, ◌∙◌, preference_of, IfOk-weaker}
 use Rattle.pref_term.proofs.LeadingLaws.{one_leads}
-use Rattle.pref_term.proofs.chain.Lead.+of.Goals as goal
+use Rattle.pref_term.proofs.chain.LeadingChains.+of.Goals as goal
 
 pub returns-then-is_chain : goal.returns-then-is_chain
 returns-then-is_chain t c =
