@@ -9,7 +9,7 @@ ghost use Rattle.pref_term.specs.Writable.{IsWritable, IsWritableSet};
 
 use crate::ask::{Ask, Mode};
 use crate::fault::AskFault;
-use crate::number::MOST;
+use crate::number::MAX_COUNT;
 use crate::term::{NumberSets, Numbers, Term};
 use std::alloc::Global;
 
@@ -182,7 +182,7 @@ fn check_count(mode: Mode) -> Result<(), AskFault>
     let (Mode::TopLevel(count) | Mode::AtLeast(count)) = mode else {
         return Ok(());
     };
-    if count < 1 || i64::from(count) > MOST {
+    if count < 1 || i64::from(count) > MAX_COUNT {
         Err(AskFault::BadCount { count })
     } else {
         Ok(())

@@ -17,7 +17,7 @@ use std::alloc::{AllocError, Global};
 use std::marker::Model;
 
 /// The most chains that one chain is put before: the product of more leads no sweep.
-const MOST: usize = 3;
+const MAX_CHAINS: usize = 3;
 
 /// A chain: a list of keys, numbers without sign that each row has and of which less is better. The first key in which two
 /// rows differ decides between them. Contracts see the list.
@@ -212,7 +212,7 @@ impl LeadingChains {
         ensures { IfOk result (λ lead. IsLedBy (preference_of term.now) turned self.chains.items self.behind.items self.is_whole
             → IsLedBy (preference_of term.now) turned lead.chains.items lead.behind.items lead.is_whole) }
     {
-        if self.chains.len() > MOST {
+        if self.chains.len() > MAX_CHAINS {
             return LeadingChains::none(alloc, term, turned);
         }
         Ok(self)

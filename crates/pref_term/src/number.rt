@@ -8,7 +8,7 @@ ghost use Rattle.pref_term.specs.Question.{is_count};
 use pref_table::engine::signed_number;
 
 /// The most levels or rows that a question asks for.
-pub(crate) const MOST: i64 = 1000;
+pub(crate) const MAX_COUNT: i64 = 1000;
 
 /// The count that the digits name, where it is from 1 to 1000.
 pub(crate) fn count_value(digits: &[u8]) -> Option<u32>
@@ -17,7 +17,7 @@ pub(crate) fn count_value(digits: &[u8]) -> Option<u32>
         MatchOption result (is_count value ≡ false) (λ k. (k ≡ value) × (is_count value ≡ true)) }
 {
     let value = signed_number(false, digits)?;
-    if value < 1 || value > MOST {
+    if value < 1 || value > MAX_COUNT {
         return None;
     }
     u32::try_from(value).ok()
