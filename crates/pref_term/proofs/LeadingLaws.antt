@@ -1,9 +1,9 @@
 -- Where the product of the chains that lead a preference sees a difference, it decides; and these chains, one after the other, lead the chain of all keys.
-use Rattle.pref_term.proofs.Common.{◌≡◌, arith, ◌<◌, ℤ, Bool, true, false, not, List, [], ◌∷◌, ◌++◌, refl, sym, ap, subst, ◌∙◌, ◌⊎◌, and_from, and_parts, false≢true}
+use Rattle.pref_term.proofs.Common.{◌≡◌, arith, ◌<◌, ℤ, Bool, true, false, not, List, [], ◌∷◌, ◌++◌, refl, sym, ap, subst, ◌∙◌, ◌⊎◌, length, length-append, and_from, and_parts, false≢true}
 use Rattle.pref_term.proofs.Common.{All, All-append, All-cons, All-contains, All-nil, All-head, All-tail, AreInRow, ReadsBelow, by_chain, is_chain, in_same_group, better, is_better, is_same, is_worse, key_for}
 use Rattle.pref_term.proofs.Common.{Preference, scored, pareto, prior, reverse, Question, IsAsk, in_priority, in_product, Key, Relation, Same}
 use Rattle.std.proofs.lemmas.List.Elements.{All-pop, All-push, All-weaker}
-use Rattle.std.specs.Prelude.{Contains, Some}
+use Rattle.std.specs.Prelude.{◌&&◌, Contains, Some}
 use Rattle.pref_term.specs.Extension.{all_keys, group_keys}
 use Rattle.pref_term.specs.Keys.{IsNoGreater, leading}
 use Rattle.pref_term.specs.LeadingChains.{AreBoth, IsLedBy, Leads, by_product, each_behind, joined}
@@ -138,6 +138,16 @@ chain_is_keys (prior p q) s a b h =
     ∙ ((λ i. in_priority (chain_is_keys p s a b both.0 i) (chain_is_keys q s a b both.1 i)) ∙ sym (directed_priority s p q a b))
 chain_is_keys (reverse p) s a b h = chain_is_keys p (not s) a b h ∙ directed_reverse s p a b
 
+-- a key leads it
+leading_some : (p : Preference) (s : Bool) → 0 < length (leading p s)
+leading_some (scored t) s = grind arith
+leading_some (pareto p q) s = grind (arith, length-append (leading p s) (leading q s), leading_some p s)
+leading_some (prior p q) s = leading_some p s
+leading_some (reverse p) s = leading_some p (not s)
+
+not_alone : (p : Preference) (s : Bool) (keys : List Key) → keys ≡ leading p s → keys ≡ [] → ⊥
+not_alone p s keys is none = let some = leading_some p s in let e : length (leading p s) ≡ 0 = ap length (sym is ∙ none) in grind (arith, some, e)
+
 -- no chain leads it, and its leading keys are behind none
 pub none_leads : (p : Preference) (s : Bool) (keys : List Key) → keys ≡ leading p s → IsLedBy p s [] keys false
 none_leads p s keys is =
@@ -149,6 +159,7 @@ none_leads p s keys is =
       all = λ e. absurd (false≢true e);
       in_order = λ a b. refl;
       behind = λ a b _ h. keep p s a b h;
+      alone = λ e. absurd (not_alone p s (leading p s) refl e);
     }
 
 -- it is led by itself
@@ -162,6 +173,7 @@ chain_leads p s h =
       all = λ _. is;
       in_order = λ a b. itself_decides (by_chain (joined (all_keys p s ∷ [])) a b) (by_chain (all_keys p s) a b) (chain-append (all_keys p s) [] a b ∙ priority_same (by_chain (all_keys p s) a b));
       behind = λ a b _ _. All-nil (IsNoGreater a b);
+      alone = λ _. refl;
     }
 
 pub one_leads : (p : Preference) (turned whole : Bool) (chain keys : List Key) (chains : List (List Key)) → is_chain p ≡ true → chain ≡ all_keys p turned → chains ≡ chain ∷ [] → keys ≡ [] → whole ≡ true
@@ -185,6 +197,7 @@ both_lead p q s xs ys all keys others h k both =
           (both_decide (by_chain (joined xs) a b) (by_chain (joined ys) a b) (by_chain (all_keys p s) a b) (by_chain (all_keys q s) a b)
           (h.in_order a b) (same_joined xs a b ∙ (ap is_same (h.all refl a b) ∙ sym (all_extend p s a b).same)) (k.in_order a b));
       behind = λ a b _ _. All-nil (IsNoGreater a b);
+      alone = λ _. refl;
     }
 
 -- what leads the second part of a priority leads it behind the first, where that is a chain
@@ -203,14 +216,16 @@ behind_leads p q s whole chains keys h k =
       behind = λ a b same h.
           let level = both_same (directed s p a b) (by_product chains a b) (sym (ap is_same (behind a b)) ∙ same) in
           k.behind a b level.1 (second_fits (directed s p a b) (directed s q a b) level.0 (sym (ap fits (directed_priority s p q a b)) ∙ h));
+      alone = k.alone;
     }
 
 -- else what leads the first part, where the keys do not miss what the second part decides
 pub first_leads : (p q : Preference) (s whole : Bool) (chains : List (List Key)) (keys found : List Key) → IsLedBy p s chains keys whole
     → (ReadsBelow 16 (prior p q) → AreInRow found)
     → ((a b : List ℤ) → is_same (by_product chains a b) ≡ true → fits (in_priority (directed s p a b) (directed s q a b)) ≡ true → All (IsNoGreater a b) found)
+    → (found ≡ [] → false ≡ true)
     → IsLedBy (prior p q) s chains found false
-first_leads p q s whole chains keys found h within rest = record {
+first_leads p q s whole chains keys found h within rest some = record {
   in_row = λ reads. h.in_row reads.0;
   keys_in_row = within;
   decides = λ a b. rw (directed_priority s p q a b) (first_decides (by_product chains a b) (directed s p a b) (directed s q a b) (h.decides a b));
@@ -218,6 +233,7 @@ first_leads p q s whole chains keys found h within rest = record {
   in_order = λ a b.
       rw (chain-append (all_keys p s) (all_keys q s) a b) (first_decides (by_chain (joined chains) a b) (by_chain (all_keys p s) a b) (by_chain (all_keys q s) a b) (h.in_order a b));
   behind = λ a b same k. rest a b same (sym (ap fits (directed_priority s p q a b)) ∙ k);
+  alone = some;
 }
 
 -- chains that are the whole of the first part leave the rest to the second one
@@ -225,11 +241,12 @@ pub whole_leads : (p q : Preference) (s : Bool) (chains : List (List Key)) (keys
 whole_leads p q s chains keys found h is =
     first_leads p q s true chains keys found h (λ reads. subst AreInRow (sym is) (leading_in_row q s reads.1))
     (λ a b same k. subst (All (IsNoGreater a b)) (sym is) (keep q s a b (second_fits (directed s p a b) (directed s q a b) (sym (ap is_same (h.all refl a b)) ∙ same) k)))
+    (λ e. absurd (not_alone q s found is e))
 
 -- others keep their keys
-pub part_leads : (p q : Preference) (s whole : Bool) (chains : List (List Key)) (keys : List Key) → IsLedBy p s chains keys whole → IsLedBy (prior p q) s chains keys false
-part_leads p q s whole chains keys h =
-    first_leads p q s whole chains keys keys h (λ reads. h.keys_in_row reads.0) (λ a b same k. h.behind a b same (priority_fits (directed s p a b) (directed s q a b) k))
+pub part_leads : (p q : Preference) (s : Bool) (chains : List (List Key)) (keys : List Key) → IsLedBy p s chains keys false → IsLedBy (prior p q) s chains keys false
+part_leads p q s chains keys h =
+    first_leads p q s false chains keys keys h (λ reads. h.keys_in_row reads.0) (λ a b same k. h.behind a b same (priority_fits (directed s p a b) (directed s q a b) k)) h.alone
 
 -- ---- a question, within its groups
 
@@ -241,6 +258,9 @@ better_or_same r s h k = grind (arith, h)
 
 not_worse : (r s t : Relation) → is_same r ≡ true → Decides s t → is_worse (in_priority r t) ≡ false → is_worse s ≡ false
 not_worse r s t h k l = grind (arith, h, k)
+
+near_better : (near is : Bool) → near ≡ true → (near && is) ≡ is
+near_better near is h = grind (arith, h)
 
 -- the chains that lead the preference of a question lead it
 pub leading_lead : (q : Question) (chains : List (List Key)) (keys : List Key) (whole : Bool) → IsAsk q → IsLedBy q.preference false chains keys whole → Leads q chains keys
@@ -257,4 +277,5 @@ leading_lead q chains keys whole known led = record {
       not_worse (by_chain (group_keys q.group) a b) (by_chain (joined chains) a b) (by_chain (all_keys q.preference false) a b)
       (group_same q.group a b ∙ near) (led.in_order a b) (ap is_worse (sym (chain-append (group_keys q.group) (all_keys q.preference false) a b)) ∙ h);
   behind = λ a b same h. led.behind a b same (fits_asked q a b h);
+  alone = λ e a b near. ap is_better (led.all (led.alone e) a b) ∙ (walked_better q.preference a b ∙ sym (near_better (in_same_group q.group a b) (better q.preference a b) near));
 }

@@ -34,7 +34,7 @@ pub record AreBoth (xs ys all : List (List Key)) : Type 0 where
   pub product : (a b : List ℤ) → by_product all a b ≡ in_product (by_product xs a b) (by_product ys a b)
   pub in_order : (a b : List ℤ) → by_chain (joined all) a b ≡ in_priority (by_chain (joined xs) a b) (by_chain (joined ys) a b)
 
--- chains that lead a preference, or its converse where it is turned: where their product sees a difference, it decides, and where they are the whole, it is all; one after the other they lead the chain of all keys. Of rows that are the same in it the better one, or the same, has no greater one of the keys
+-- chains that lead a preference, or its converse where it is turned: where their product sees a difference, it decides, and where they are the whole, it is all; one after the other they lead the chain of all keys. Of rows that are the same in it the better one, or the same, has no greater one of the keys; with no key they are the whole
 pub record IsLedBy (p : Preference) (turned : Bool) (chains : List (List Key)) (keys : List Key) (whole : Bool) : Type 0 where
   pub in_row : ReadsBelow 16 p → All AreInRow chains
   pub keys_in_row : ReadsBelow 16 p → AreInRow keys
@@ -42,8 +42,9 @@ pub record IsLedBy (p : Preference) (turned : Bool) (chains : List (List Key)) (
   pub all : whole ≡ true → (a b : List ℤ) → by_product chains a b ≡ directed turned p a b
   pub in_order : (a b : List ℤ) → in_priority (by_chain (joined chains) a b) (by_chain (all_keys p turned) a b) ≡ by_chain (all_keys p turned) a b
   pub behind : (a b : List ℤ) → is_same (by_product chains a b) ≡ true → (is_better (directed turned p a b) || is_same (directed turned p a b)) ≡ true → All (IsNoGreater a b) keys
+  pub alone : keys ≡ [] → whole ≡ true
 
--- the same of a question, within its groups; what is open is which of its rows dominates the other, or is its twin
+-- the same of a question, within its groups; what is open is which of its rows dominates the other, or is its twin; with no key the product of the chains is all that the question says
 pub record Leads (q : Question) (chains : List (List Key)) (keys : List Key) : Type 0 where
   pub in_row : All AreInRow chains
   pub keys_in_row : AreInRow keys
@@ -51,3 +52,4 @@ pub record Leads (q : Question) (chains : List (List Key)) (keys : List Key) : T
   pub decided : (a b : List ℤ) → over q a b ≡ true → (is_better (by_product chains a b) ≡ true) ⊎ (is_same (by_product chains a b) ≡ true)
   pub in_order : (a b : List ℤ) → in_same_group q.group a b ≡ true → is_worse (by_chain (ask_keys q) a b) ≡ false → is_worse (by_chain (joined chains) a b) ≡ false
   pub behind : (a b : List ℤ) → is_same (by_product chains a b) ≡ true → (over q a b || twins q a b) ≡ true → All (IsNoGreater a b) keys
+  pub alone : keys ≡ [] → (a b : List ℤ) → in_same_group q.group a b ≡ true → is_better (by_product chains a b) ≡ over q a b

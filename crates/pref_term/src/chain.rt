@@ -76,7 +76,8 @@ pub struct Leading<'a> {
 }
 
 impl Leading<'_> {
-    /// Whether no key counts where rows are the same in these chains.
+    /// Whether no key counts where rows are the same in these chains. Their product is then all that the question says of the rows of a group
+    /// (`Leads`, `alone`).
     pub fn decides_alone(&self) -> bool
         ensures { result ≡ (length self.now.behind.now == 0) }
     {

@@ -15,5 +15,5 @@ returns c p h =
     elim c.if-is_whole.branch [
       | then-is_whole+in_ok-behind w ↦
           whole_leads p q turned chains keys c.if-is_whole.behind.items (subst (IsLedBy p turned chains keys) w.if-is_whole.true h) (ap items w.behind-is ∙ w.in_ok-behind.ensures {u = tt})
-      | else-is_whole w ↦ subst (λ (found : List Key). IsLedBy (prior p q) turned chains found false) (sym (ap items w.behind-is)) (part_leads p q turned c.args.self.is_whole chains keys h)
+      | else-is_whole w ↦ subst (λ (found : List Key). IsLedBy (prior p q) turned chains found false) (sym (ap items w.behind-is)) (part_leads p q turned chains keys (subst (IsLedBy p turned chains keys) w.if-is_whole.false h))
     ]
