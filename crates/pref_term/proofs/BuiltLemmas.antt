@@ -1,12 +1,13 @@
 -- What building a question finds of its parts.
 use Rattle.pref_term.proofs.Common.{ℕ, Bool, true, false, List, ◌≡◌, ◌<◌, ◌≤◌, ◌+◌, ◌⊎◌, arith, refl, subst, sym, length, take, All, get_or, Result, Ok, Err, MatchResult, IsErrAnd}
 use Rattle.pref_term.proofs.Common.{Base, Preference, scored, pareto, prior, reverse, ReadsBelow, IsWritable, Question, IsAsk, IsSkyline, IsCount, cut_of, is_count, Mode}
-use Rattle.pref_term.specs.Built.{IsFaultIn, IsFaultOf, IsGroupFault, Refuses}
+use Rattle.pref_term.proofs.Common.{ℤ, [], ◌∷◌, ◌∙◌, ◌≢◌, ap, drop, Option, Some, None, option_or}
+use Rattle.pref_term.specs.Built.{IsFaultIn, IsFaultOf, IsGroupFault, IsRefusedFor, Refuses, count_fault, first_among, first_fault, layers_fault, set_fault, term_fault, column_fault}
 use Rattle.pref_term.specs.declared.fault.AskFault.{AskFault}
 use Rattle.pref_term.specs.declared.fault.AskFault.TheVariants.{BadCount, ColumnRange, EmptyRange, EmptySet, NoSets, NotSkyline, OutOfMemory}
 use Rattle.std.proofs.Common.{⊎_elim}
 use Rattle.std.proofs.lemmas.List.Elements.{All-push}
-use Rattle.std.proofs.lemmas.List.{get_or_default, take_all, take_more}
+use Rattle.std.proofs.lemmas.List.{at_drop_all, at_drop_more, get_or_default, take_all, take_more}
 
 -- ---- what a loop over a list has found of the elements so far
 
@@ -60,6 +61,57 @@ fault_refuses OutOfMemory q h = absurd (⊎_elim (term_has_none OutOfMemory q.pr
 pub count_refuses : (f : AskFault) (q : Question) → (f ≡ BadCount (cut_of q.mode)) × (is_count (cut_of q.mode) ≡ false) → Refuses f q
 count_refuses f q h = subst (λ g. Refuses g q) (sym h.0) (refl, h.1)
 
+-- ---- the first fault
+
+-- an element without one is passed over
+pub first_skips : {X : Type 0} (fault : X → Option AskFault) (xs : List X) (i : ℕ) (x : X) → i < length xs → x ≡ get_or xs i x → fault x ≡ None
+    → first_among fault (drop i xs) ≡ first_among fault (drop (i + 1) xs)
+first_skips fault xs i x lt at none =
+    at_drop_more (first_among fault) xs i x lt
+    ∙ ap (λ found. option_or found (first_among fault (drop (i + 1) xs))) (ap fault (sym at) ∙ none)
+
+-- the first that has one decides
+pub first_found : {X : Type 0} (fault : X → Option AskFault) (xs : List X) (i : ℕ) (x : X) (f : AskFault) → i < length xs → x ≡ get_or xs i x → fault x ≡ Some f
+    → first_among fault (drop i xs) ≡ Some f
+first_found fault xs i x f lt at some =
+    at_drop_more (first_among fault) xs i x lt
+    ∙ ap (λ found. option_or found (first_among fault (drop (i + 1) xs))) (ap fault (sym at) ∙ some)
+
+-- the same, where the element is read with another default
+pub first_skips_at : {X : Type 0} (fault : X → Option AskFault) (xs : List X) (i : ℕ) (d : X) → i < length xs → fault (get_or xs i d) ≡ None
+    → first_among fault (drop i xs) ≡ first_among fault (drop (i + 1) xs)
+first_skips_at fault xs i d lt none = at_drop_more (first_among fault) xs i d lt ∙ ap (λ found. option_or found (first_among fault (drop (i + 1) xs))) none
+
+pub first_found_at : {X : Type 0} (fault : X → Option AskFault) (xs : List X) (i : ℕ) (d : X) (f : AskFault) → i < length xs → fault (get_or xs i d) ≡ Some f
+    → first_among fault (drop i xs) ≡ Some f
+first_found_at fault xs i d f lt some = at_drop_more (first_among fault) xs i d lt ∙ ap (λ found. option_or found (first_among fault (drop (i + 1) xs))) some
+
+-- behind the last there is none
+pub first_ends : {X : Type 0} (fault : X → Option AskFault) (xs : List X) (i : ℕ) → length xs ≤ i → first_among fault (drop i xs) ≡ None
+first_ends fault xs i le = at_drop_all (first_among fault) xs i le
+
+-- layers are their sets where there are some
+pub layers_first : (col : ℕ) (sets : List (List ℤ)) → sets ≢ [] → layers_fault col sets ≡ first_among (set_fault col) sets
+layers_first col [] some = absurd (some refl)
+layers_first col (set ∷ sets) some = refl
+
+-- that of the term, of the group, and of how many are wanted
+pub of_term : (p : Preference) (group : List ℕ) (mode : Mode) (f : AskFault) → term_fault p ≡ Some f → first_fault p group mode ≡ Some f
+of_term p group mode f h = ap (λ found. option_or found (option_or (first_among column_fault group) (count_fault (cut_of mode)))) h
+
+pub of_group : (p : Preference) (group : List ℕ) (mode : Mode) → term_fault p ≡ None → first_fault p group mode ≡ option_or (first_among column_fault group) (count_fault (cut_of mode))
+of_group p group mode h = ap (λ found. option_or found (option_or (first_among column_fault group) (count_fault (cut_of mode)))) h
+
+pub of_group_found : (p : Preference) (group : List ℕ) (mode : Mode) (f : AskFault) → term_fault p ≡ None → first_among column_fault group ≡ Some f → first_fault p group mode ≡ Some f
+of_group_found p group mode f h k = of_group p group mode h ∙ ap (λ found. option_or found (count_fault (cut_of mode))) k
+
+pub of_count : (p : Preference) (group : List ℕ) (mode : Mode) → term_fault p ≡ None → first_among column_fault group ≡ None → first_fault p group mode ≡ count_fault (cut_of mode)
+of_count p group mode h k = of_group p group mode h ∙ ap (λ found. option_or found (count_fault (cut_of mode))) k
+
+-- refused for what was found
+pub refused_for : (first : Option AskFault) (f : AskFault) → first ≡ Some f → IsRefusedFor first f
+refused_for first f h = subst (λ found. IsRefusedFor found f) (sym h) refl
+
 -- ---- results
 
 -- what a `?` hands on
@@ -84,3 +136,7 @@ parts_ask p group mode distinct h clause = record { columns = record { preferenc
 -- the question that is made, or that there was no memory for it
 pub made : (r : Result Question AskFault) (q : Question) → IsAsk q → MatchResult r (λ ask. ask ≡ q) (λ f. f ≡ OutOfMemory) → MatchResult r (λ ask. IsAsk ask × (ask ≡ q)) (λ f. Refuses f q)
 made r q h = weaker r _ _ _ _ (λ ask is. (subst IsAsk (sym is) h, is)) (λ f is. subst (λ g. Refuses g q) (sym is) h)
+
+-- nothing was found, and the question is made, or there was no memory for it
+pub told : (r : Result Question AskFault) (q : Question) (first : Option AskFault) → first ≡ None → MatchResult r (λ ask. ask ≡ q) (λ f. f ≡ OutOfMemory) → MatchResult r (λ _. first ≡ None) (λ f. IsRefusedFor first f)
+told r q first none = weaker r _ _ _ _ (λ _ _. none) (λ f is. subst (λ found. IsRefusedFor found f) (sym none) is)

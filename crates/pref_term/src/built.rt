@@ -1,7 +1,7 @@
 //! Questions that are built from their parts.
-ghost use Rattle.std.specs.Prelude.{◌≡◌, ◌≢◌, ◌≤◌, ◌<◌, [], Bool, true, false, int_lt, All, FitsSigned, MatchResult};
+ghost use Rattle.std.specs.Prelude.{◌≡◌, ◌≢◌, ◌≤◌, ◌<◌, [], ◌⊎◌, Bool, true, false, int_lt, All, FitsSigned, MatchResult, None, Some};
 ghost use Rattle.std.specs.Int.{w64};
-ghost use Rattle.pref_term.specs.Built.{IsFaultIn, IsFaultOf, IsGroupFault, Refuses};
+ghost use Rattle.pref_term.specs.Built.{IsFaultIn, IsFaultOf, IsGroupFault, IsRefusedFor, Refuses, column_fault, count_fault, fault_if, first_among, first_fault, layers_fault, set_fault, term_fault};
 ghost use Rattle.pref_term.specs.Columns.{ReadsBelow};
 ghost use Rattle.pref_term.specs.Preference.{layered, preference_of};
 ghost use Rattle.pref_term.specs.Question.{IsAsk, IsClause, IsCount, IsDimension, cut_of, is_count};
@@ -27,8 +27,10 @@ impl Ask {
     /// is above 15 (`ColumnRange`); a count is not 1 to 1000 (`BadCount`); memory ran out (`OutOfMemory`). A refusal leaves nothing: the parts
     /// are let go.
     ///
-    /// Nestings are not counted. What compares rows goes down the term, so a deeper one than a text can spell takes more stack. Takes memory as
-    /// `read_ask` does, for the keys and the chains that lead the term, and goes over the term and its sets once more.
+    /// No term is too deep, since nestings are not counted: `read_ask` refuses the shown text of one with more than 64 open
+    /// ([`TermFault::TooDeep`](crate::TermFault::TooDeep)), and its question is built all the same. What compares rows goes down the term, so a
+    /// deep one takes more stack. Takes memory as `read_ask` does, for the keys and the chains that lead the term, and goes over the term and
+    /// its sets once more.
     ///
     /// ```rust
     /// let names = [b"price".as_slice(), b"dist", b"city"];
@@ -41,9 +43,12 @@ impl Ask {
     /// ```
     pub fn of(alloc: Global, term: Term, group: Vec<usize>, mode: Mode) -> Result<Ask, AskFault>
         // Made exactly where the parts are a question, unless memory ran out.
-        ensures { MatchResult result
+        ensures parts { MatchResult result
             (λ ask. IsAsk ask × (ask ≡ record { preference = preference_of term; group = group.items; mode = mode; distinct = false }))
             (λ fault. Refuses fault (record { preference = preference_of term; group = group.items; mode = mode; distinct = false })) }
+        // Refused exactly for the first fault, where there is one; else for memory alone.
+        ensures first { let first = first_fault (preference_of term) group.items mode in
+            MatchResult result (λ _. first ≡ None) (λ fault. IsRefusedFor first fault) }
     {
         check_parts(&term, &group, mode)?;
         Ask::new(alloc, term, group, mode, false).map_err(|_| AskFault::OutOfMemory)
@@ -61,9 +66,12 @@ impl Ask {
     /// println!(rt; "{}", String::from_utf8_lossy(alloc, &text)?)?;     // skyline of distinct price min
     /// ```
     pub fn distinct_skyline(alloc: Global, term: Term, group: Vec<usize>) -> Result<Ask, AskFault>
-        ensures { MatchResult result
+        ensures parts { MatchResult result
             (λ ask. IsAsk ask × (ask ≡ record { preference = preference_of term; group = group.items; mode = Best; distinct = true }))
             (λ fault. Refuses fault (record { preference = preference_of term; group = group.items; mode = Best; distinct = true })) }
+        // The same, and refused for another term only where there is no other fault.
+        ensures first { let first = first_fault (preference_of term) group.items Best in
+            MatchResult result (λ _. first ≡ None) (λ fault. IsRefusedFor first fault ⊎ ((fault ≡ AskFault.NotSkyline) × (first ≡ None))) }
     {
         check_parts(&term, &group, Mode::Best)?;
         if !is_clause(&term) {
@@ -75,9 +83,11 @@ impl Ask {
 
 /// Looks for the first fault of these parts.
 fn check_parts(term: &Term, group: &[usize], mode: Mode) -> Result<(), AskFault>
-    ensures { MatchResult result
+    ensures parts { MatchResult result
         (λ _. ReadsBelow 16 (preference_of term.now) × IsWritable (preference_of term.now) × All (λ col. col < 16) group.now × IsCount (cut_of mode))
         (λ fault. (distinct : Bool) → Refuses fault (record { preference = preference_of term.now; group = group.now; mode = mode; distinct = distinct })) }
+    ensures first { let first = first_fault (preference_of term.now) group.now mode in
+        MatchResult result (λ _. first ≡ None) (λ fault. first ≡ Some fault) }
 {
     check_term(term)?;
     check_group(group)?;
@@ -85,7 +95,8 @@ fn check_parts(term: &Term, group: &[usize], mode: Mode) -> Result<(), AskFault>
 }
 
 fn check_column(col: usize) -> Result<(), AskFault>
-    ensures { MatchResult result (λ _. col < 16) (λ fault. (fault ≡ AskFault.ColumnRange col) × (16 ≤ col)) }
+    ensures found { MatchResult result (λ _. col < 16) (λ fault. (fault ≡ AskFault.ColumnRange col) × (16 ≤ col)) }
+    ensures first { MatchResult result (λ _. column_fault col ≡ None) (λ fault. column_fault col ≡ Some fault) }
 {
     if col < COLUMNS {
         Ok(())
@@ -95,7 +106,8 @@ fn check_column(col: usize) -> Result<(), AskFault>
 }
 
 fn check_range(col: usize, left: i64, right: i64) -> Result<(), AskFault>
-    ensures { MatchResult result (λ _. int_lt right left ≡ false) (λ fault. (fault ≡ AskFault.EmptyRange col) × (int_lt right left ≡ true)) }
+    ensures found { MatchResult result (λ _. int_lt right left ≡ false) (λ fault. (fault ≡ AskFault.EmptyRange col) × (int_lt right left ≡ true)) }
+    ensures first { MatchResult result (λ _. fault_if (int_lt right left) (AskFault.EmptyRange col) ≡ None) (λ fault. fault_if (int_lt right left) (AskFault.EmptyRange col) ≡ Some fault) }
 {
     if right < left {
         Err(AskFault::EmptyRange { col })
@@ -114,7 +126,8 @@ fn read_numbers(numbers: &[i64])
 }
 
 fn check_set(col: usize, set: &Numbers) -> Result<(), AskFault>
-    ensures { MatchResult result (λ _. IsWritableSet set.now) (λ fault. (fault ≡ AskFault.EmptySet col) × (set.now ≡ [])) }
+    ensures found { MatchResult result (λ _. IsWritableSet set.now) (λ fault. (fault ≡ AskFault.EmptySet col) × (set.now ≡ [])) }
+    ensures first { MatchResult result (λ _. set_fault col set.now ≡ None) (λ fault. set_fault col set.now ≡ Some fault) }
 {
     let numbers = set.as_slice();
     if numbers.is_empty() {
@@ -125,7 +138,8 @@ fn check_set(col: usize, set: &Numbers) -> Result<(), AskFault>
 }
 
 fn check_sets(col: usize, sets: &NumberSets) -> Result<(), AskFault>
-    ensures { MatchResult result (λ _. (sets.now ≢ []) × All IsWritableSet sets.now) (λ fault. IsFaultOf fault (layered col sets.now)) }
+    ensures found { MatchResult result (λ _. (sets.now ≢ []) × All IsWritableSet sets.now) (λ fault. IsFaultOf fault (layered col sets.now)) }
+    ensures first { MatchResult result (λ _. layers_fault col sets.now ≡ None) (λ fault. layers_fault col sets.now ≡ Some fault) }
 {
     if sets.as_slice().is_empty() {
         return Err(AskFault::NoSets { col });
@@ -138,7 +152,8 @@ fn check_sets(col: usize, sets: &NumberSets) -> Result<(), AskFault>
 
 /// Looks for the first base term from the left that no question has.
 fn check_term(term: &Term) -> Result<(), AskFault>
-    ensures { MatchResult result (λ _. ReadsBelow 16 (preference_of term.now) × IsWritable (preference_of term.now)) (λ fault. IsFaultIn fault (preference_of term.now)) }
+    ensures found { MatchResult result (λ _. ReadsBelow 16 (preference_of term.now) × IsWritable (preference_of term.now)) (λ fault. IsFaultIn fault (preference_of term.now)) }
+    ensures first { MatchResult result (λ _. term_fault (preference_of term.now) ≡ None) (λ fault. term_fault (preference_of term.now) ≡ Some fault) }
 {
     match term {
         Term::Low { col } | Term::High { col } => check_column(*col),
@@ -168,7 +183,8 @@ fn check_term(term: &Term) -> Result<(), AskFault>
 }
 
 fn check_group(group: &[usize]) -> Result<(), AskFault>
-    ensures { MatchResult result (λ _. All (λ col. col < 16) group.now) (λ fault. IsGroupFault fault group.now) }
+    ensures found { MatchResult result (λ _. All (λ col. col < 16) group.now) (λ fault. IsGroupFault fault group.now) }
+    ensures first { MatchResult result (λ _. first_among column_fault group.now ≡ None) (λ fault. first_among column_fault group.now ≡ Some fault) }
 {
     for col in group {
         check_column(*col)?;
@@ -177,7 +193,8 @@ fn check_group(group: &[usize]) -> Result<(), AskFault>
 }
 
 fn check_count(mode: Mode) -> Result<(), AskFault>
-    ensures { MatchResult result (λ _. IsCount (cut_of mode)) (λ fault. (fault ≡ AskFault.BadCount (cut_of mode)) × (is_count (cut_of mode) ≡ false)) }
+    ensures found { MatchResult result (λ _. IsCount (cut_of mode)) (λ fault. (fault ≡ AskFault.BadCount (cut_of mode)) × (is_count (cut_of mode) ≡ false)) }
+    ensures first { MatchResult result (λ _. count_fault (cut_of mode) ≡ None) (λ fault. count_fault (cut_of mode) ≡ Some fault) }
 {
     let (Mode::TopLevel(count) | Mode::AtLeast(count)) = mode else {
         return Ok(());
