@@ -10,7 +10,7 @@ mod refusals;
 mod showing;
 mod signatures;
 
-use crate::same::assert_same;
+use crate::same::{assert_messages, assert_same};
 use pref_table::{Row, Schema, TableFault};
 use pref_term::engine::in_same_group;
 use pref_term::{
@@ -443,9 +443,5 @@ const MESSAGES: [(TermFault, &str); 9] = [
 
 #[test]
 fn messages(rt: HostRuntime) -> Result<(), Fail> {
-    for (fault, text) in &MESSAGES {
-        let message = fault.to_string(rt.alloc())?;
-        assert_same(&rt, *text, message.as_str(), text);
-    }
-    Ok(())
+    assert_messages(&rt, rt.alloc(), &MESSAGES)
 }

@@ -2,7 +2,7 @@
 mod numbers;
 mod refusals;
 
-use crate::same::assert_same;
+use crate::same::{assert_messages, assert_same};
 use pref_table::engine::{blanks_length, is_name_byte, signed_number};
 use pref_table::{Row, Schema, TableFault, read_row, read_table};
 use std::alloc::{AllocError, Global};
@@ -347,9 +347,5 @@ const MESSAGES: [(TableFault, &str); 9] = [
 
 #[test]
 fn messages(rt: HostRuntime) -> Result<(), Fail> {
-    for (fault, text) in &MESSAGES {
-        let message = fault.to_string(rt.alloc())?;
-        assert_same(&rt, *text, message.as_str(), text);
-    }
-    Ok(())
+    assert_messages(&rt, rt.alloc(), &MESSAGES)
 }

@@ -1,6 +1,6 @@
 //! Questions that are built by code: those that texts spell, and parts that are refused.
 use super::{XYG, ask_over, set_of};
-use crate::same::assert_same;
+use crate::same::{assert_messages, assert_same};
 use pref_table::Schema;
 use pref_term::{Ask, AskFault, Mode, NumberSets, Term, read_ask, show};
 use std::alloc::{AllocError, Global};
@@ -237,6 +237,15 @@ fn a_distinct_clause_of_another_term_is_refused(rt: HostRuntime) -> Result<(), F
     Ok(())
 }
 
+#[test]
+fn a_column_is_told_before_another_term_than_a_clause(rt: HostRuntime) -> Result<(), Fail> {
+    let alloc = rt.alloc();
+    let priority = prior(alloc, low_x(), high_y())?;
+    let found = asked_distinct(alloc, priority, &[16]).err();
+    assert_same(&rt, "16", found, Some(AskFault::ColumnRange { col: 16 }));
+    Ok(())
+}
+
 const MESSAGES: [(AskFault, &str); 7] = [
     (AskFault::ColumnRange { col: 16 }, "column 16 is above 15"),
     (
@@ -255,11 +264,7 @@ const MESSAGES: [(AskFault, &str); 7] = [
 
 #[test]
 fn messages(rt: HostRuntime) -> Result<(), Fail> {
-    for (fault, text) in &MESSAGES {
-        let message = fault.to_string(rt.alloc())?;
-        assert_same(&rt, *text, message.as_str(), text);
-    }
-    Ok(())
+    assert_messages(&rt, rt.alloc(), &MESSAGES)
 }
 
 /// The product of low values of column 0 and high ones of column 1, in the groups of column 2.
