@@ -11,7 +11,7 @@ pub use Rattle.std.proofs.lemmas.List.{at_drop_more, drop-append-le, drop-map, d
 pub use Rattle.std.proofs.lemmas.List.{get_or_push, get_or_read, length-map, length-set, length-take-le, length_push, map-append, nil_from_length, take-append-drop, take-map, take_all, take_more}
 pub use Rattle.std.proofs.lemmas.List.{with_items_is}
 pub use Rattle.std.proofs.lemmas.List.Elements.{All-append, All-drop, All-more, All-push, All-take, filter-append, filter_agree, filter_more}
-pub use Rattle.std.proofs.lemmas.List.Filters.{FiltersInPlace, FiltersInPlace-more_no, FiltersInPlace-more_set, length-filter_both}
+pub use Rattle.std.proofs.lemmas.List.Filters.{FiltersInPlace, FiltersInPlace-all, FiltersInPlace-more_no, FiltersInPlace-more_set, length-filter_both}
 pub use Rattle.std.proofs.lemmas.List.Sorted.{All-permutation, Contains-permutation, IsNonDecreasingBy-drop, IsNonDecreasingBy-from_all_adjacent, IsNonDecreasingBy-from_sort_by_key}
 pub use Rattle.std.proofs.lemmas.List.Sorted.{IsPartitionPoint-from_clause, IsPartitionedBy-leb, IsPartitionedBy-ltb, IsPermutation-append_right, IsPermutation-cons, IsPermutation-map}
 pub use Rattle.std.proofs.lemmas.List.Sorted.{IsPermutation-middle, IsPermutation-refl, IsPermutation-swap, IsPermutation-sym, IsPermutation-to_front, IsPermutation-trans, sorted_far}
@@ -41,7 +41,7 @@ pub use Rattle.pref_term.specs.Signatures.{Suit, is_within, signature}
 pub use Rattle.pref_term.specs.declared.ask.Mode.TheVariants.{AtLeast, Best, TopLevel}
 pub use denote.Param.Members.{Mut}
 pub use Rattle.pref_sky.specs.Chains.{IsChain, IsInOrder, are_level, better_in, by_row, comes_first, earlier_in, in_turn}
-pub use Rattle.pref_sky.specs.OwnOrders.{AreInOrder, AreLeveled, AreLowest, AreSorted, HoldsUpper, comes_after, comes_before, count_above, is_below, own_levels, own_order, with_level, with_levels}
+pub use Rattle.pref_sky.specs.OwnOrders.{AreInOrder, AreLeveled, AreLowest, AreSorted, HoldsUpper, comes_after, comes_before, count_above, is_below, level_of, own_levels, own_order, with_level, with_levels}
 pub use Rattle.pref_sky.specs.Items.{AreItems, IsItem, entries_at, entry_at, is_word, item_order, signature_by}
 pub use Rattle.pref_sky.specs.Partials.{KeepsAllBut, ranked_upto}
 pub use Rattle.pref_sky.specs.declared.own_order.OwnOrder.{OwnOrder}

@@ -1,11 +1,12 @@
 -- Entries that were held already, when others come: as many levels are above them as before, or more, and none that was of a level is over one that was of it or of one above.
-use Rattle.pref_sky.proofs.Common.{◌≡◌, ℕ, suc, ◌<◌, ◌-◌, Bool, true, false, not, ◌&&◌, inl, inr, List, [], ◌∷◌, refl, sym, ◌∙◌, ap, subst, arith, length, get_or, get_or-map, map, filter}
-use Rattle.pref_sky.proofs.Common.{and_from, both_ways, cases_lt, false_from_ne_true, IsStrictOrder, Entry, Ranked, OwnOrder, Among, AreLeveled, comes_after, count_above, entry_at, entry_of, own_order, with_level}
+use Rattle.pref_sky.proofs.Common.{◌≡◌, ℕ, suc, ◌<◌, ◌≤◌, ◌-◌, Bool, true, false, not, ◌&&◌, inl, inr, List, [], ◌∷◌, refl, sym, ◌∙◌, ap, subst, arith, length, get_or, get_or-map, map, filter, nat_lt, All}
+use Rattle.pref_sky.proofs.Common.{and_from, both_ways, cases_lt, false_from_ne_true, IsStrictOrder, Entry, Among, comes_after, count_above, entry_at, entry_of, level_of, own_levels, own_order, AreInOrder, AreLeveled, AreLowest, comes_before, HaveDifferentIds, Item, OwnOrder}
 use Rattle.pref_sky.proofs.Common.{◌+◌, ◌++◌, get_or_append_left, get_or_push}
-use Rattle.pref_sky.proofs.LeveledLaws.{HasChain, entries_again}
+use Rattle.pref_sky.proofs.ChainLaws.{filter_in_order}
+use Rattle.pref_sky.proofs.OwnOrders.{own_is_strict}
+use Rattle.pref_sky.proofs.LeveledLaws.{HasChain, kept_are, level_is, levels_of_kept}
 use Rattle.pref_sky.proofs.ListLaws.{among_place, any_from, from_filter, in_filter}
 use Rattle.pref_sky.proofs.Merges.{comes_after_among_more, comes_after_upto, same_chains}
-use Rattle.pref_sky.proofs.OwnOrders.{own_is_strict}
 use Rattle.pref_sky.proofs.SweepLaws.{chain_of_count}
 use Rattle.pref_sky.specs.Held.{AreHeld, AreTakenOver, IsTakenOver}
 
@@ -51,13 +52,13 @@ held_among over cut held all levels found are taken within =
       ];
     }
 
--- ---- those that are listed with their levels
+-- ---- those that have a level
 
 module _ (over : Entry → Entry → Bool) (strict : IsStrictOrder over) (all : List Entry) (cut : ℕ) where
-  abbrev is_upper : Entry → Bool
+  abbrev pub is_upper : Entry → Bool
   is_upper e = not (comes_after over all cut e)
 
-  abbrev upper : List Entry
+  abbrev pub upper : List Entry
   upper = filter is_upper all
 
   abbrev number : Entry → ℕ
@@ -87,16 +88,22 @@ module _ (over : Entry → Entry → Bool) (strict : IsStrictOrder over) (all : 
   upper_at : (p : ℕ) → p < length upper → IsUpper (entry_at upper p)
   upper_at p inside = upper_is (entry_at upper p) (among_place upper p (record { id = 0; row = [] }) inside)
 
-  upper_held : (mark : ℕ → ℕ) → ((p : ℕ) → p < length upper → mark p ≡ suc (number (entry_at upper p))) → AreHeld over cut mark upper
-  upper_held mark is =
+  upper_chains : (n : ℕ) (e : Entry) → n ≤ cut → comes_after over upper n e ≡ comes_after over all n e
+  upper_chains = same_chains over strict upper all cut (λ x m. (from_filter is_upper all x m).0) (λ x m early. in_filter is_upper all x m (ap not early))
+
+  level_at : (p : ℕ) → p < length upper → level_of over all cut (entry_at upper p) ≡ suc (number (entry_at upper p))
+  level_at p inside = let w = upper_at p inside in level_is over cut all (entry_at upper p) (number (entry_at upper p)) w.chain w.early
+
+  pub upper_held : (mark : ℕ → ℕ) → ((p : ℕ) → p < length upper → mark p ≡ level_of over all cut (entry_at upper p)) → AreHeld over cut mark upper
+  upper_held mark are =
+      let is : (p : ℕ) → p < length upper → mark p ≡ suc (number (entry_at upper p)) = λ p inside. are p inside ∙ level_at p inside in
       record {
         within = λ p inside. omega (arith, is p inside, (upper_at p inside).early);
         after = λ p inside.
             let e = entry_at upper p in
             let w = upper_at p inside in
             let same : number e ≡ mark p - 1 = omega (arith, is p inside) in
-            let chains = same_chains over strict upper all cut (λ x m. (from_filter is_upper all x m).0) (λ x m early. in_filter is_upper all x m (ap not early)) in
-            subst (λ n. comes_after over upper n e ≡ true) same (chains (number e) e w.chain.within ∙ w.chain.after);
+            subst (λ n. comes_after over upper n e ≡ true) same (upper_chains (number e) e w.chain.within ∙ w.chain.after);
         apart = λ p q p_inside q_inside some near.
             let a = entry_at upper p in
             let b = entry_at upper q in
@@ -107,20 +114,43 @@ module _ (over : Entry → Entry → Bool) (strict : IsStrictOrder over) (all : 
             both_ways (comes_after over all (suc (number a)) a) (x.chain.no_more x.early) (comes_after_upto over all (suc (number a)) (suc (number b)) a (omega (arith, is p p_inside, is q q_inside, near)) late));
       }
 
-levels_again : (over : Entry → Entry → Bool) (all : List Entry) (cut : ℕ) (xs : List Entry) → map (λ (r : Ranked). r.level) (map (with_level over all cut) xs) ≡ map (λ e. suc (count_above over all cut e)) xs
-levels_again over all cut [] = refl
-levels_again over all cut (x ∷ xs) = ap (λ l. suc (count_above over all cut x) ∷ l) (levels_again over all cut xs)
+  -- what one of the last level is over is below the cut
+  pub upper_lowest : (p : ℕ) → p < length upper → level_of over all cut (entry_at upper p) ≡ cut → (e : Entry) → over (entry_at upper p) e ≡ true → comes_after over upper cut e ≡ true
+  upper_lowest p inside last e above =
+      let x = entry_at upper p in
+      let w = upper_at p inside in
+      let chain : comes_after over upper (number x) x ≡ true = upper_chains (number x) x w.chain.within ∙ w.chain.after in
+      subst (λ n. comes_after over upper n e ≡ true) (sym (level_at p inside) ∙ last)
+      (any_from (λ y. comes_after over upper (number x) y && over y e) upper x (among_place upper p (record { id = 0; row = [] }) inside) (and_from (comes_after over upper (number x) x) (over x e) chain above))
 
-pub found_held : (order : OwnOrder) (held : List Entry) (found : List Ranked) → AreLeveled order held found
-    → AreHeld (own_order order) order.cut (λ k. get_or (map (λ (r : Ranked). r.level) found) k 0) (map entry_of found)
-found_held order held found are =
-    let over = own_order order in
-    let all = are.all in
-    let cut = order.cut in
-    let some = upper over (own_is_strict order) all cut in
-    let level : Entry → ℕ = λ e. suc (count_above over all cut e) in
-    let entries : map entry_of found ≡ some = ap (map entry_of) are.is ∙ entries_again over all cut some in
-    let levels : map (λ (r : Ranked). r.level) found ≡ map level some = ap (map (λ (r : Ranked). r.level)) are.is ∙ levels_again over all cut some in
-    let mark : ℕ → ℕ = λ k. get_or (map (λ (r : Ranked). r.level) found) k 0 in
-    subst (AreHeld over cut mark) (sym entries)
-    (upper_held over (own_is_strict order) all cut mark (λ p inside. ap (λ l. get_or l p 0) levels ∙ get_or-map level some p (record { id = 0; row = [] }) 0 inside))
+-- ---- of entries that are held in some order, those that have a level, and their levels
+
+module _ (order : OwnOrder) (held all : List Entry) (levels : List ℕ) (different : HaveDifferentIds (map entry_of (own_levels order held))) (are : AreLeveled order held all levels) (kept : List Entry) (left : List ℕ)
+    (kept_is : kept ≡ filter (λ e. nat_lt 0 (level_of (own_order order) all order.cut e)) all) (left_is : left ≡ map (level_of (own_order order) all order.cut) kept) where
+  abbrev level : Entry → ℕ
+  level = level_of (own_order order) all order.cut
+
+  abbrev some : List Entry
+  some = upper (own_order order) (own_is_strict order) all order.cut
+
+  same : kept ≡ some
+  same = kept_is ∙ kept_are (own_order order) all order.cut
+
+  level_there : (p : ℕ) → p < length some → get_or left p 0 ≡ level (entry_at some p)
+  level_there p inside = ap (λ l. get_or l p 0) (left_is ∙ ap (map level) same) ∙ get_or-map level some p (record { id = 0; row = [] }) 0 inside
+
+  pub kept_in_order : AreInOrder order kept
+  kept_in_order = subst (AreInOrder order) (sym same) (filter_in_order (λ a b. not (comes_before order b a)) (λ e. not (comes_after (own_order order) all order.cut e)) all are.sorted.in_order)
+
+  pub kept_lowest : (items : List Item) → All (λ (item : Item). (item.place < length kept) × (get_or left item.place 0 ≡ order.cut)) items → AreLowest order kept items
+  kept_lowest items lowest = subst (λ l. AreLowest order l items) (sym same) (λ k d inside.
+      let at = lowest k d inside in
+      let place = (get_or items k d).place in
+      let within : place < length some = subst (λ l. place < length l) same at.0 in
+      (within, λ e above. upper_lowest (own_order order) (own_is_strict order) all order.cut place within (sym (level_there place within) ∙ at.1) e above))
+
+  pub kept_held : AreHeld (own_order order) order.cut (λ k. get_or left k 0) kept
+  kept_held = subst (AreHeld (own_order order) order.cut (λ k. get_or left k 0)) (sym same) (upper_held (own_order order) (own_is_strict order) all order.cut (λ k. get_or left k 0) level_there)
+
+  pub kept_levels : own_levels order kept ≡ own_levels order held
+  kept_levels = ap (own_levels order) same ∙ levels_of_kept order held all different are.sorted

@@ -7,6 +7,7 @@ pub mod LevelLaws
 pub mod Worked
 pub mod ListLaws
 pub mod Ranks
+pub mod RankingLaws
 pub mod AtLeastLaws
 pub mod GroupedLaws
 pub mod SortedLevels

@@ -1,19 +1,16 @@
 -- The entries of some levels, each level in order of id: one list for each set of them.
 use Rattle.pref_sky.proofs.Common.{◌≡◌, ℕ, zero, suc, Bool, List, [], ◌∷◌, ◌++◌, map, refl, ◌∙◌, ap, arith, Entry, Ranked}
 use Rattle.pref_sky.proofs.Common.{HaveDifferentIds, in_order_of_id, at_level, ◌<◌, ◌≤◌, inl, inr}
-use Rattle.pref_sky.proofs.Common.{best, rest, levels, ranked_upto, Among, is_lt, ordering_then}
-use Rattle.pref_sky.proofs.Common.{nat_cmp, nat_tests, IsInOrder}
+use Rattle.pref_sky.proofs.Common.{best, rest, levels, ranked_upto, Among}
+use Rattle.pref_sky.proofs.Common.{nat_tests, IsInOrder}
 use Rattle.std.specs.Cmp.{IsStrictWeakOrder}
 use Rattle.pref_sky.proofs.IdOrder.{Rises, rises_in_order, from_in_order}
 use Rattle.pref_sky.proofs.ListLaws.{in_either, from_map, in_order_joined}
+pub use Rattle.pref_sky.specs.Ranking.{ranks_before}
 
 -- one level, as it stands among the ranked entries
 abbrev pub one_level : ℕ → List Entry → List Ranked
 one_level n entries = map (at_level n) (in_order_of_id entries)
-
--- by level, then id
-abbrev pub ranks_before : Ranked → Ranked → Bool
-ranks_before r s = is_lt (ordering_then (nat_cmp r.level s.level) (nat_cmp r.id s.id))
 
 pub ranks_are_ordered : IsStrictWeakOrder ranks_before
 ranks_are_ordered = record {

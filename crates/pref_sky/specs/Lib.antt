@@ -12,6 +12,7 @@ pub mod Chains
 pub mod OwnOrders
 pub mod Held
 pub mod Sweep
+pub mod Ranking
 pub mod Steps
 pub mod ChosenChains
 pub mod Leads

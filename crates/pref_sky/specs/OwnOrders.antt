@@ -25,6 +25,10 @@ abbrev pub count_above : {E : Type 0} → (E → E → Bool) → List E → ℕ 
 count_above over all zero e = 0
 count_above over all (suc cut) e = cond (comes_after over all (suc cut) e) (suc cut) (count_above over all cut e)
 
+-- the level of an entry, from 1 on; 0 where it is below the cut
+abbrev pub level_of : {E : Type 0} → (E → E → Bool) → List E → ℕ → E → ℕ
+level_of over all cut e = cond (comes_after over all cut e) 0 (suc (count_above over all cut e))
+
 -- an entry with its level
 abbrev pub with_level : (Entry → Entry → Bool) → List Entry → ℕ → Entry → Ranked
 with_level over all cut e = at_level (suc (count_above over all cut e)) e
@@ -66,11 +70,10 @@ AreLowest order entries items = All (λ (item : Item). (item.place < length entr
 abbrev pub HoldsUpper : OwnOrder → List Entry → List Entry → List Entry → Type 0
 HoldsUpper order sorted = KeepsAllBut (λ e. is_below order sorted e ≡ true)
 
--- the entries of a list that are of its levels, in order, each with its level
-pub record AreLeveled (order : OwnOrder) (held : List Entry) (found : List Ranked) : Type 0 where
-  pub all : List Entry
+-- the entries of a list, in order, and their levels
+pub record AreLeveled (order : OwnOrder) (held all : List Entry) (levels : List ℕ) : Type 0 where
   pub sorted : AreSorted order held all
-  pub is : found ≡ with_levels (own_order order) all order.cut all
+  pub level : levels ≡ map (level_of (own_order order) all order.cut) all
 
 IsInOrder-prop : {E : Type 0} (before : E → E → Bool) (xs : List E) → IsProp (IsInOrder before xs)
 IsInOrder-prop before [] = Unit-prop

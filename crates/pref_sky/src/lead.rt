@@ -111,7 +111,7 @@ impl<'a> Lead<'a> {
     /// What leads these entries, which are in order, and of which some were held already, of these levels.
     ///
     /// Cost: for more than three chains a look at each two entries that stand beside each other, until they are told apart. Memory: a list of
-    /// chains, and scales where no chain leads.
+    /// chains, and scales of what they leave open.
     pub(crate) fn of(
         alloc: Global,
         order: &'a OwnOrder,

@@ -35,6 +35,7 @@ mod own_order;
 mod partial;
 mod passes;
 mod passes_levels;
+mod ranking;
 mod signatures;
 mod sorted;
 mod sweep;

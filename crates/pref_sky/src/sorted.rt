@@ -6,16 +6,16 @@ ghost use Rattle.pref_sky.specs.Held.{AreHeld};
 ghost use Rattle.pref_sky.specs.OwnOrders.{AreInOrder, AreInOrder-prop, AreLeveled, AreLowest, HoldsUpper, is_below, own_levels, own_order};
 ghost use Rattle.pref_sky.specs.Levels.{HaveDifferentIds, entry_of};
 ghost use Rattle.pref_sky.specs.declared.entry.Entry.{Entry};
-ghost use Rattle.pref_sky.specs.declared.entry.Ranked.{Ranked};
 ghost use Rattle.pref_sky.specs.declared.item.Item.{Item};
 
-use crate::entry::{Entry, Ranked, entries_of, levels_of};
+use crate::entry::{Entry, Ranked};
 use crate::grouped::compare_groups;
 use crate::item::Item;
 use crate::lately::Lately;
 use crate::lead::Lead;
 use crate::merging::{levels_among, merge_all};
 use crate::own_order::OwnOrder;
+use crate::ranking::{drop_below, in_order_of_level};
 use crate::sweep::find_levels;
 use pref_term::engine::{Scales, in_same_group, is_within};
 use std::alloc::{AllocError, Global};
@@ -30,14 +30,15 @@ const PIECE: usize = 64;
 fn items_of_level(
     alloc: Global,
     scales: &Scales,
-    ranked: &[Ranked],
+    entries: &[Entry],
+    levels: &[u32],
     level: u32,
 ) -> Result<Vec<Item>, AllocError>
-    ensures { IfOk result (λ items. All (λ (item : Item). (item.place < length ranked.now) × ((d : Ranked) → (get_or ranked.now item.place d).level ≡ level)) items.items) }
+    ensures { IfOk result (λ items. All (λ (item : Item). (item.place < length entries.now) × (get_or levels.now item.place 0 ≡ level)) items.items) }
 {
     let mut items = Vec::new(alloc);
-    for (place, entry) in ranked.iter().enumerate() {
-        if entry.level == level {
+    for (place, entry) in entries.iter().enumerate() {
+        if place < levels.len() && levels[place] == level {
             let signature = scales.signature(&entry.row);
             items.push(Item { signature, place })?;
         }
@@ -45,10 +46,11 @@ fn items_of_level(
     Ok(items)
 }
 
-/// The levels of some entries, and scales that suit their order.
+/// Entries in order, their levels, 0 of one that is below the cut, and scales that suit their order.
 #[derive(Drop)]
 struct Leveled {
-    found: Vec<Ranked>,
+    entries: Vec<Entry>,
+    levels: Vec<u32>,
     scales: Scales,
 }
 
@@ -182,24 +184,29 @@ impl Pruned {
         Ok(())
     }
 
-    /// The entries of the levels of these and the recent ones.
+    /// These entries and the recent ones in order, with their levels.
     ///
-    /// Cost: a copy of all entries, a sort of the recent ones, and a sweep over all.
+    /// Cost: a sort of the recent ones, a copy of all entries, and a sweep over them.
     fn with_levels(&self, alloc: Global, recent: &[Entry]) -> Result<Leveled, AllocError>
-        ensures { IfOk result (λ leveled. AreLeveled self.now.order (self.now.entries.items ++ recent.now) leveled.found.items) }
+        ensures { IfOk result (λ leveled. AreLeveled self.now.order (self.now.entries.items ++ recent.now) leveled.entries.items leveled.levels.items) }
     {
         let entries = merge_all(alloc, &self.order, &self.entries, recent)?;
         let held = levels_among(alloc, &self.entries, &self.levels, &entries)?;
         let lead = Lead::of(alloc, &self.order, &entries, held)?;
-        let found = find_levels(alloc, &self.order, &lead, &entries)?;
-        // Where chains lead, the order itself finds an entry of the last level that may dominate another.
+        let levels = find_levels(alloc, &self.order, &lead, &entries)?;
+        // Scales of what stands behind chains say nothing of entries that these tell apart. Among the last level the order itself finds the one
+        // that may dominate another.
         let Lead { chains, scales, .. } = lead;
         let scales = if chains.is_empty() {
             scales
         } else {
             Scales::none()
         };
-        Ok(Leveled { found, scales })
+        Ok(Leveled {
+            entries,
+            levels,
+            scales,
+        })
     }
 
     /// Whether as many entries came as these are, so that it is worth while to look which are below the cut. Where there are no more than the
@@ -220,10 +227,13 @@ impl Pruned {
         if !self.is_outgrown(recent.len()) {
             return Ok(());
         }
-        let Leveled { found, scales } = self.with_levels(alloc, recent)?;
-        let entries = entries_of(alloc, &found)?;
-        let levels = levels_of(alloc, &found)?;
-        let lowest = items_of_level(alloc, &scales, &found, self.order.cut)?;
+        let Leveled {
+            mut entries,
+            mut levels,
+            scales,
+        } = self.with_levels(alloc, recent)?;
+        drop_below(&mut entries, &mut levels);
+        let lowest = items_of_level(alloc, &scales, &entries, &levels, self.order.cut)?;
         self.lowest = lowest;
         self.scales = scales;
         self.entries = entries;
@@ -257,11 +267,11 @@ impl SortedEntries {
         ensures { IfOk result (λ ranked. ranked.items ≡ own_levels self.now.pruned.order (self.now.pruned.entries.items ++ self.now.recent.items)) }
     {
         let Leveled {
-            found: mut ranked,
+            entries,
+            levels,
             ..
         } = self.pruned.with_levels(alloc, &self.recent)?;
-        ranked.sort_unstable_by_key(|entry| (entry.level, entry.id));
-        Ok(ranked)
+        in_order_of_level(alloc, &entries, &levels)
     }
 
     /// Adds entries, as [`Partial::add`](crate::Partial::add) does.

@@ -1,13 +1,13 @@
 //! The levels of entries in order, by one pass: the level of an entry is the first of which no entry before it dominates it.
 
-ghost use Rattle.std.specs.Prelude.{◌≡◌, ◌<◌, ◌≤◌, ◌+◌, ◌-◌, true, false, IfOk, OnOk, length};
+ghost use Rattle.std.specs.Prelude.{◌≡◌, ◌<◌, ◌≤◌, ◌+◌, ◌-◌, suc, true, false, IfOk, OnOk, length, map};
 ghost use Rattle.pref_term.specs.Order.{StandAlike};
-ghost use Rattle.pref_sky.specs.OwnOrders.{count_above, own_order, with_levels};
+ghost use Rattle.pref_sky.specs.OwnOrders.{count_above, level_of, own_order};
 ghost use Rattle.pref_sky.specs.Items.{entry_at};
 ghost use Rattle.pref_sky.specs.Leads.{LeadsSweep, first_of, mark_of, rule_of, second_of, third_of};
 ghost use Rattle.pref_sky.specs.Sweep.{HasBegun, HasFoundClass, HasSwept, are_level_in};
 
-use crate::entry::{Entry, Ranked};
+use crate::entry::Entry;
 use crate::lead::Lead;
 use crate::level::Level;
 use crate::own_order::OwnOrder;
@@ -127,6 +127,18 @@ impl Sweep {
         self.above = self.count_above(order, lead, entries, place, signature);
         self.put(alloc, order, lead, entries, place, signature)
     }
+
+    /// The level of the last entry, from 1 on; 0 where it is below the cut.
+    fn level(&self, cut: u32) -> u32
+        ensures upper { self.now.above < cut → result ≡ suc self.now.above }
+        ensures below { cut ≤ self.now.above → result ≡ 0 }
+    {
+        if self.above < cut as usize {
+            self.above as u32 + 1
+        } else {
+            0
+        }
+    }
 }
 
 /// Where a search between two places looks next: a step on, and at most half way.
@@ -154,31 +166,25 @@ fn standing_at(order: &OwnOrder, lead: &Lead, entries: &[Entry], place: usize) -
     lead.standing(order, &entries[place - 1], &entries[place])
 }
 
-/// Those of these entries, which are in order, that are of the levels up to the cut, each with its level.
+/// The level of each of these entries, which are in order; 0 of one that is below the cut.
 pub(crate) fn find_levels(
     alloc: Global,
     order: &OwnOrder,
     lead: &Lead,
     entries: &[Entry],
-) -> Result<Vec<Ranked>, AllocError>
+) -> Result<Vec<u32>, AllocError>
     requires { LeadsSweep order.now lead.now entries.now }
-    ensures { IfOk result (λ found. found.items ≡ with_levels (own_order order.now) entries.now order.now.cut entries.now) }
+    ensures { IfOk result (λ levels. levels.items ≡ map (level_of (own_order order.now) entries.now order.now.cut) entries.now) }
 {
-    let mut found = Vec::with_capacity(alloc, entries.len())?;
+    let mut levels = Vec::with_capacity(alloc, entries.len())?;
     let mut sweep = Sweep {
         levels: Vec::new(alloc),
         class: 0,
         above: 0,
     };
-    for (place, entry) in entries.iter().enumerate() {
+    for place in 0..entries.len() {
         sweep.step(alloc, order, lead, entries, place)?;
-        if sweep.above < order.cut as usize {
-            found.push(Ranked {
-                level: sweep.above as u32 + 1,
-                id: entry.id,
-                row: entry.row,
-            })?;
-        }
+        levels.push(sweep.level(order.cut))?;
     }
-    Ok(found)
+    Ok(levels)
 }

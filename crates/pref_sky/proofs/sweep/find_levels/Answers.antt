@@ -1,7 +1,7 @@
-use Rattle.pref_sky.proofs.Common.{◌≡◌, ◌∙◌, ◌+◌, ◌++◌, ◌∷◌, [], sym, ap, take, take_all, add-one, get_or_read, own_order, entry_at, with_levels, at_level}
-use Rattle.pref_sky.proofs.LeveledLaws.{listed_as_it_was, listed_more}
+use Rattle.pref_sky.proofs.Common.{◌≡◌, inl, inr, cases_lt, ◌∙◌, ◌++◌, ◌∷◌, [], sym, ap, map, map-append, take, take_all, get_or_default, own_order, entry_at, level_of}
+use Rattle.pref_sky.proofs.LeveledLaws.{level_is, level_of_lower}
+use Rattle.pref_sky.proofs.ListLaws.{front_more}
 use Rattle.pref_sky.proofs.SweepLaws.{chain_of_last}
-use Rattle.pref_sky.proofs.sweep.find_levels.Goals.{then-sweep-order+in_ok-push, else-sweep-order}
 use Rattle.pref_sky.proofs.sweep.find_levels.Goals as goal
 
 pub loop-place-preserved : goal.loop-place-preserved
@@ -14,22 +14,20 @@ loop-place-preserved c =
     let swept = c.in_ok-step.ensures {u = tt} in
     let n = c.step.new.self.above in
     let chain = chain_of_last _ _ cut c.requires.swept i inside c.step.new.self swept in
-    let found = c.loop-place.invariant.found in
-    let e = c.index-entries-place.result in
-    let here : e ≡ entry_at all i = get_or_read all i e inside c.index-entries-place.is (record { id = 0; row = [] }) in
-    elim c.if-sweep-order.branch [
-      | then-sweep-order+in_ok-push w ↦ record {
-        swept = swept;
-        found = ap (λ v. v.items) w.found-is
-            ∙ ((w.in_ok-push.ensures {u = tt}).items
-            ∙ (ap (λ l. l ++ at_level (n + 1) e ∷ []) found
-            ∙ (ap (λ x. with_levels over all cut (take i all) ++ at_level (n + 1) x ∷ []) here
-            ∙ (ap (λ k. with_levels over all cut (take i all) ++ at_level k (entry_at all i) ∷ []) (add-one n) ∙ sym (listed_more over all cut i n inside chain w.if-sweep-order.true)))));
-      }
-      | else-sweep-order w ↦ record { swept = swept; found = ap (λ v. v.items) w.found-is ∙ (found ∙ sym (listed_as_it_was over all cut i n inside chain w.if-sweep-order.false)) }
-    ]
+    let e = entry_at all i in
+    let level : c.level.result ≡ level_of over all cut e = elim (cases_lt n cut) [
+      | inl early ↦ c.level.ensures.upper early ∙ sym (level_is over cut all e n chain early)
+      | inr past ↦ c.level.ensures.below past ∙ sym (level_of_lower over cut all e n chain past)
+    ] in
+    record {
+      swept = swept;
+      found = (c.in_ok-push.ensures {u = tt}).items
+          ∙ (ap (λ l. l ++ c.level.result ∷ []) c.loop-place.invariant.found
+          ∙ (ap (λ k. map (level_of over all cut) (take i all) ++ k ∷ []) level
+          ∙ sym (ap (map (level_of over all cut)) (front_more all i e inside (get_or_default all i (record { id = 0; row = [] }) e inside)) ∙ map-append (level_of over all cut) (take i all) (e ∷ []))));
+    }
 
 pub returns : goal.returns
 returns c =
     let all = c.args.entries.now in
-    c.loop-place.invariant.found ∙ ap (with_levels (own_order c.args.order.now) all c.args.order.now.cut) (take_all c.loop-place.place all c.loop-place-test.false)
+    c.loop-place.invariant.found ∙ ap (map (level_of (own_order c.args.order.now) all c.args.order.now.cut)) (take_all c.loop-place.place all c.loop-place-test.false)

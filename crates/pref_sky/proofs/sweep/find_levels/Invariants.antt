@@ -1,4 +1,4 @@
-use Rattle.pref_sky.proofs.Common.{◌≡◌, take, own_order, with_levels}
+use Rattle.pref_sky.proofs.Common.{◌≡◌, map, take, level_of, own_order}
 use Rattle.pref_sky.specs.Leads.{first_of, mark_of, rule_of, second_of, third_of}
 use Rattle.pref_sky.specs.Sweep.{HasSwept}
 use Rattle.pref_sky.proofs.sweep.find_levels.Given as goal
@@ -8,5 +8,5 @@ invariant-loop-place l =
     let over = own_order l.order in
     record {
       swept : HasSwept over (first_of l.order l.lead) (second_of l.order l.lead) (third_of l.order l.lead) (rule_of l.lead) (mark_of l.lead) l.order.cut l.entries l.place l.sweep;
-      found : l.found.items ≡ with_levels over l.entries l.order.cut (take l.place l.entries);
+      found : l.levels.items ≡ map (level_of over l.entries l.order.cut) (take l.place l.entries);
     }

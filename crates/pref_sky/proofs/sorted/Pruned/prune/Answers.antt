@@ -1,28 +1,47 @@
-use Rattle.pref_sky.proofs.Common.{◌≡◌, ◌<◌, ◌++◌, ◌∙◌, ap, subst, sym, append-nil, arith, length, get_or, map, All, AreInOrder, AreLeveled, AreLowest, Item, Ranked, entry_of, own_order}
-use Rattle.pref_sky.proofs.HeldLaws.{found_held}
-use Rattle.pref_sky.proofs.LeveledLaws.{found_in_order, found_levels, found_lowest}
-use Rattle.pref_sky.specs.Held.{AreHeld}
+use Rattle.pref_sky.proofs.Common.{◌≡◌, ◌<◌, ◌++◌, ℕ, List, Entry, ◌∙◌, ap, subst, append-nil, length, get_or, map, filter, nat_lt, All, AreLeveled, Item, level_of, own_levels, own_order}
+use Rattle.pref_sky.proofs.HeldLaws.{kept_held, kept_in_order, kept_levels, kept_lowest}
+use Rattle.pref_sky.proofs.sorted.Pruned.prune.Goals.{After-drop_below}
 use Rattle.pref_sky.proofs.sorted.Pruned.prune.Goals as goal
+
+module _ (c : After-drop_below) where
+  abbrev held : List Entry
+  held = c.args.self.now.entries.items ++ c.args.recent.now.items
+
+  abbrev all : List Entry
+  all = c.in_ok-entries.field-0.entries.items
+
+  abbrev levels : List ℕ
+  levels = c.in_ok-entries.field-0.levels.items
+
+  leveled : AreLeveled c.args.self.now.order held all levels
+  leveled = subst (λ l. AreLeveled c.args.self.now.order (c.args.self.now.entries.items ++ l) all levels) c.deref.ensures.value (c.in_ok-entries.ensures {u = tt})
+
+  dropped : (c.drop_below.new.entries.items ≡ filter (λ e. nat_lt 0 (level_of (own_order c.args.self.now.order) all c.args.self.now.order.cut e)) all)
+      × (c.drop_below.new.levels.items ≡ map (level_of (own_order c.args.self.now.order) all c.args.self.now.order.cut) c.drop_below.new.entries.items)
+  dropped = c.drop_below.ensures (level_of (own_order c.args.self.now.order) all c.args.self.now.order.cut) leveled.level
 
 pub invariant_of-self : goal.invariant_of-self
 invariant_of-self c =
+    let d = (goal.at.invariant_of-self c).After-drop_below in
     let order = c.args.self.now.order in
-    let held = c.args.self.now.entries.items ++ c.args.recent.now.items in
-    let found = c.in_ok-found.field-0.found.items in
-    let are : AreLeveled order held found =
-    subst (λ l. AreLeveled order (c.args.self.now.entries.items ++ l) c.in_ok-found.field-0.found.items) c.deref.ensures.value (c.in_ok-found.ensures {u = tt}) in
-    let kept : map entry_of found ≡ c.in_ok-entries.entries.items = sym (c.in_ok-entries.ensures {u = tt} ∙ ap (map entry_of) c.deref-2.ensures.value) in
+    let kept = c.drop_below.new.entries.items in
+    let left = c.drop_below.new.levels.items in
     let items = c.in_ok-lowest.lowest.items in
-    let of_level : All (λ (item : Item). (item.place < length found) × ((d : Ranked) → (get_or found item.place d).level ≡ order.cut)) items =
-    subst (λ l. All (λ (item : Item). (item.place < length l) × ((d : Ranked) → (get_or l item.place d).level ≡ c.args.self.now.order.cut)) items) c.deref-4.ensures.value (c.in_ok-lowest.ensures {u = tt}) in
-    let over = own_order order in
-    let levels : map (λ (r : Ranked). r.level) found ≡ c.in_ok-levels.levels.items = sym (c.in_ok-levels.ensures {u = tt} ∙ ap (map (λ (r : Ranked). r.level)) c.deref-3.ensures.value) in
+    let are = dropped d in
+    let lowest : All (λ (item : Item). (item.place < length kept) × (get_or left item.place 0 ≡ order.cut)) items =
+    subst (λ l. All (λ (item : Item). (item.place < length kept) × (get_or l item.place 0 ≡ order.cut)) items) c.deref-3.ensures.value
+    (subst (λ l. All (λ (item : Item). (item.place < length l) × (get_or c.deref-3.result.now item.place 0 ≡ order.cut)) items) c.deref-2.ensures.value (c.in_ok-lowest.ensures {u = tt})) in
     record {
-      in_order = subst (AreInOrder order) kept (found_in_order order held found c.requires are);
-      low = subst (λ l. AreLowest order l items) kept (found_lowest order held found c.requires are items of_level);
-      held = subst (λ l. AreHeld over order.cut (λ k. get_or l k 0) c.in_ok-entries.entries.items) levels
-          (subst (AreHeld over order.cut (λ k. get_or (map (λ (r : Ranked). r.level) found) k 0)) kept (found_held order held found are));
+      in_order = kept_in_order order (held d) (all d) (levels d) c.requires (leveled d) kept left are.0 are.1;
+      low = kept_lowest order (held d) (all d) (levels d) c.requires (leveled d) kept left are.0 are.1 items lowest;
+      held = kept_held order (held d) (all d) (levels d) c.requires (leveled d) kept left are.0 are.1;
     }
 
 pub returns-clause-levels : goal.returns-clause-levels
-returns-clause-levels c = grind (arith, append-nil, found_levels)
+returns-clause-levels c =
+    let d = (goal.at.returns-clause-levels c).After-drop_below in
+    let order = c.args.self.now.order in
+    let kept = c.drop_below.new.entries.items in
+    let are = dropped d in
+    ap (λ l. own_levels order (kept ++ l)) c.clear.ensures.items
+    ∙ (ap (own_levels order) (append-nil kept) ∙ kept_levels order (held d) (all d) (levels d) c.requires (leveled d) kept c.drop_below.new.levels.items are.0 are.1)

@@ -1,4 +1,4 @@
-use Rattle.pref_sky.proofs.Common.{◌∙◌, ◌++◌, ap, get_or, subst, sym, AreSorted, own_order, with_levels}
+use Rattle.pref_sky.proofs.Common.{◌∙◌, ◌++◌, ap, get_or, map, subst, sym, AreSorted, level_of, own_order}
 use Rattle.pref_sky.proofs.HeldLaws.{held_among}
 use Rattle.pref_sky.proofs.ListLaws.{in_left, same_if_permuted}
 use Rattle.pref_sky.specs.Held.{AreHeld, AreTakenOver}
@@ -23,7 +23,6 @@ returns c =
     let fn = c.args.self.now in
     let all = c.in_ok-entries.entries.items in
     record {
-      all = all;
       sorted = subst (λ l. AreSorted fn.order (l ++ c.args.recent.now) all) c.deref.ensures.value (c.in_ok-entries.ensures {u = tt});
-      is = c.in_ok-found.ensures {u = tt} ∙ ap (λ l. with_levels (own_order fn.order) l fn.order.cut l) c.deref-6.ensures.value;
+      level = c.in_ok-levels.ensures {u = tt} ∙ ap (λ l. map (level_of (own_order fn.order) l fn.order.cut) l) c.deref-6.ensures.value;
     }

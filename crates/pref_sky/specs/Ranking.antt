@@ -1,0 +1,34 @@
+-- No public contract cites this.
+-- Entries of a list with their levels, and where they stand in an answer.
+use Rattle.std.specs.Prelude.{◌≡◌, ◌<◌, nat_lt, Bool, ℕ, List, All, filter, length, map}
+use Rattle.std.specs.List.Sorted.{IsPermutation, IsSortedBy}
+use Rattle.std.specs.Ordering.{is_lt, nat_cmp, ordering_then}
+use Rattle.pref_sky.specs.Items.{entry_at}
+use Rattle.pref_sky.specs.Levels.{at_level}
+use Rattle.pref_sky.specs.declared.entry.Entry.{Entry}
+use Rattle.pref_sky.specs.declared.entry.Ranked.{Ranked}
+use Rattle.pref_sky.specs.declared.ranking.Rank.{Rank}
+
+-- those of some entries that have a level, from 1 on, each with it
+abbrev pub leveled : (Entry → ℕ) → List Entry → List Ranked
+leveled level entries = map (λ e. at_level (level e) e) (filter (λ e. nat_lt 0 (level e)) entries)
+
+-- by level, then id
+abbrev pub ranks_before : Ranked → Ranked → Bool
+ranks_before r s = is_lt (ordering_then (nat_cmp r.level s.level) (nat_cmp r.id s.id))
+
+-- some ranked entries, in order of level, then id
+pub record AreInRanks (some sorted : List Ranked) : Type 0 where
+  pub moved : IsPermutation some sorted
+  pub in_order : IsSortedBy ranks_before sorted
+
+-- a rank has the place of an entry of the list, and its id
+abbrev pub IsRankOf : List Entry → Rank → Type 0
+IsRankOf entries rank = (rank.place < length entries) × (rank.id ≡ (entry_at entries rank.place).id)
+
+abbrev pub AreRanks : List Entry → List Rank → Type 0
+AreRanks entries = All (IsRankOf entries)
+
+-- the entry at the place of a rank, with its level
+abbrev pub ranked_at : List Entry → Rank → Ranked
+ranked_at entries rank = at_level rank.level (entry_at entries rank.place)
