@@ -24,7 +24,7 @@ use std::alloc::{AllocError, Global};
 use std::cmp::Ordering;
 
 /// The most chains that lead a sweep: of each level then a list of steps is kept, of which one is asked.
-const MOST: usize = 3;
+const MAX_CHAINS: usize = 3;
 
 /// What leads the order of entries in a sweep.
 #[derive(Drop)]
@@ -83,11 +83,11 @@ fn chosen_chains<'a>(
     ensures same { IfOk result (λ chosen. (chosen.items ≡ []) ⊎ SameInProduct entries.now leading.now.chains.now (map (λ chain. chain.now) chosen.items)) }
 {
     let chains = leading.chains;
-    if chains.len() <= MOST {
+    if chains.len() <= MAX_CHAINS {
         return all_chains(alloc, chains);
     }
     let telling = telling_chains(alloc, chains, entries)?;
-    if telling.len() > MOST {
+    if telling.len() > MAX_CHAINS {
         return Ok(Vec::new(alloc));
     }
     Ok(telling)
