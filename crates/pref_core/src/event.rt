@@ -17,6 +17,7 @@ use std::marker::Model;
 /// let question = Act::Begin(read_ask(alloc, &schema, b"best low(price) * low(dist)")?);
 /// ```
 #[derive(Drop)]
+#[derive_where(Debug)]
 pub enum Act {
     /// Inserts a row, which gets the next id.
     Insert(Row),
@@ -27,7 +28,7 @@ pub enum Act {
     /// Makes one to eight changes in one commit.
     Commit(BoxedCommit),
     /// Begins a query of the table as it is now.
-    Begin(Ask),
+    Begin(#[derive_where(skip(Debug))] Ask),
     /// Reads the next block for the open query.
     Scan,
     /// Asks for the answer of the open query, and ends it.
@@ -46,7 +47,7 @@ pub enum Act {
 /// let commit = Commit::of(&[Change::Add(hotel), Change::Remove(3)])?;
 /// let act = Act::Commit(BoxedCommit::new(alloc, commit)?);
 /// ```
-#[derive(Drop)]
+#[derive(Debug, Drop)]
 pub struct BoxedCommit {
     commit: Box<Commit>,
 }
@@ -83,7 +84,7 @@ impl BoxedCommit {
 /// ```rust
 /// let event = Event { client: 2, act: Act::Insert(hotel) };
 /// ```
-#[derive(Drop)]
+#[derive(Debug, Drop)]
 pub struct Event {
     /// The client's number, from 1 on. An event of another number is refused `NoSuchClient`.
     pub client: u8,
@@ -92,7 +93,7 @@ pub struct Event {
 }
 
 /// The rows of an answer, in order of level, then id. Contracts see the list.
-#[derive(Drop)]
+#[derive(Debug, Drop)]
 pub struct RankedList {
     rows: Vec<Ranked>,
 }
@@ -157,7 +158,7 @@ pub struct Committed {
 ///     _ => {}
 /// }
 /// ```
-#[derive(Drop)]
+#[derive(Debug, Drop)]
 pub enum Reply {
     /// The row was inserted, with this id.
     Inserted(u64),

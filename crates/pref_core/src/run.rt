@@ -12,7 +12,7 @@ use pref_table::Row;
 use std::alloc::{AllocError, Global};
 
 /// The replies up to the first event that there was no memory for, or all of them.
-#[derive(Drop)]
+#[derive(Debug, Drop)]
 pub struct Part {
     /// One reply to each of the first events, in their order.
     pub replies: Vec<Reply>,
