@@ -9,6 +9,7 @@ use pref_table::Row;
 use pref_term::Ask;
 use std::alloc::{AllocError, Global};
 use std::marker::Model;
+use thiserror::Error;
 
 /// An action of a client.
 ///
@@ -185,10 +186,21 @@ pub enum Reply {
 }
 
 /// A refused event, handed back: a begin that is refused loses no ask.
-#[derive(Drop)]
+///
+/// Its text is that of its fault. `?` takes it as an error, and turns it into its [`CoreFault`] where a function returns that.
+#[derive(Debug, Drop, Error)]
+#[error("{fault}")]
 pub struct StepFault {
     /// Why it is refused.
     pub fault: CoreFault,
     /// The event, as it was.
     pub event: Event,
+}
+
+impl From<StepFault> for CoreFault {
+    ghost from_gives = { λ refused fault. fault ≡ refused.fault };
+
+    fn from(refused: StepFault) -> CoreFault {
+        refused.fault
+    }
 }

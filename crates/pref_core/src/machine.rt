@@ -301,10 +301,8 @@ impl Machine {
     /// and an abandon go over the ended versions that are kept for their query.
     ///
     /// ```rust
-    /// let reply = match table.step(alloc, event) {
-    ///     Ok(reply) => reply,
-    ///     Err(refused) => return Err(refused.fault.into()),
-    /// };
+    /// let reply = table.step(alloc, event)?;
+    /// println!(rt; "{reply:?}")?;     // Inserted(8)
     /// ```
     pub fn step(&mut self, alloc: Global, event: Event) -> Result<Reply, StepFault>
         ensures { Steps self.old event result self.new }

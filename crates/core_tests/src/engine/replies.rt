@@ -55,6 +55,19 @@ fn check_handed_back(rt: &impl Abort, refused: &StepFault) {
     assert_same(rt, "refused", found, (CoreFault::QueryOpen, 1, Some(3)));
 }
 
+/// A refused event is an error: its text is that of its fault, which it becomes.
+fn check_error(rt: &impl Abort, alloc: Global, refused: StepFault) -> Result<(), Fail> {
+    let text = format!(in alloc; "{refused}")?;
+    assert_same(rt, "its text", text.as_str(), "query open");
+    assert_same(
+        rt,
+        "its fault",
+        CoreFault::from(refused),
+        CoreFault::QueryOpen,
+    );
+    Ok(())
+}
+
 fn hands_its_ask_back(
     rt: &impl Abort,
     alloc: Global,
@@ -68,7 +81,7 @@ fn hands_its_ask_back(
         Ok(_reply) => Err("let in".into()),
         Err(refused) => {
             check_handed_back(rt, &refused);
-            Ok(())
+            check_error(rt, alloc, refused)
         }
     }
 }
