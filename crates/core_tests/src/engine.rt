@@ -15,11 +15,12 @@ mod replies;
 use crate::same::assert_same;
 use fixtures::check_runs;
 use pref_core::{Act, CoreFault, Event, RankedList, Reply, Setup, replay, replay_part};
+use pref_sky::Ranked;
 use pref_table::Row;
 use std::alloc::Global;
 use std::process::Abort;
 use std::test::Fail;
-use test_runs::{rows_of, runs_of_single_changes, setup_of};
+use test_runs::{row_of, rows_of, runs_of_single_changes, setup_of};
 
 #[test]
 fn single_changes_are_answered(rt: HostRuntime) -> Result<(), Fail> {
@@ -102,6 +103,34 @@ fn a_setup_has_its_limits(rt: HostRuntime) -> Result<(), Fail> {
         let refused = Setup::new(clients, capacity, block, window).is_none();
         assert_same(&rt, case, refused, true);
     }
+    Ok(())
+}
+
+/// An answer of two rows, with the ids 3 and 5.
+fn two_rows(alloc: Global) -> Result<RankedList, Fail> {
+    let mut rows = Vec::new(alloc);
+    for id in [3, 5] {
+        rows.push(Ranked {
+            level: 1,
+            id,
+            row: row_of(alloc, 7)?,
+        })?;
+    }
+    Ok(RankedList::of(rows))
+}
+
+#[test]
+fn an_answer_is_gone_through(rt: HostRuntime) -> Result<(), Fail> {
+    let answer = two_rows(rt.alloc())?;
+    let sizes = (answer.len(), answer.is_empty());
+    assert_same(&rt, "rows", sizes, (2, false));
+    let mut ids = 0;
+    for best in &answer {
+        ids = 10 * ids + best.id;
+    }
+    assert_same(&rt, "ids", ids, 35);
+    let last = answer.iter().last().map(|best| best.id);
+    assert_same(&rt, "the last", last, Some(5));
     Ok(())
 }
 

@@ -29,7 +29,7 @@ fn answer(alloc: Global, table: &mut Machine, client: u8, blocks: u32) -> Result
 
 fn print_answer(rt: &impl Print, client: u8, answer: &RankedList) -> io::Result<()> {
     println!(rt; "client {client}:")?;
-    for best in answer.as_slice() {
+    for best in answer {
         let (price, dist) = (best.row.cell(0), best.row.cell(1));
         println!(rt; "hotel {} at {price}, {dist} minutes away", best.id)?;
     }

@@ -1,6 +1,7 @@
 //! The acts of a client, and the replies to them.
 
-ghost use Rattle.std.specs.Prelude.{◌≡◌, IfOk};
+ghost use Rattle.std.specs.Prelude.{◌≡◌, ◌↔◌, [], length, IsTrue, IfOk};
+ghost use Rattle.std.specs.Slice.Iter.{iter_rest};
 
 use crate::changes::Commit;
 use crate::fault::CoreFault;
@@ -9,6 +10,7 @@ use pref_table::Row;
 use pref_term::Ask;
 use std::alloc::{AllocError, Global};
 use std::marker::Model;
+use std::slice;
 use thiserror::Error;
 
 /// An action of a client.
@@ -116,16 +118,47 @@ impl RankedList {
         RankedList { rows }
     }
 
-    /// The rows.
+    /// How many rows there are.
     ///
     /// ```rust
-    /// for best in answer.as_slice() {
+    /// let count = answer.len();     // 4
+    /// ```
+    pub fn len(&self) -> usize
+        ensures { result ≡ length self.now }
+    {
+        self.rows.len()
+    }
+
+    /// Whether there is no row: the answer over an empty table alone.
+    pub fn is_empty(&self) -> bool
+        ensures { IsTrue result ↔ (self.now ≡ []) }
+    {
+        self.rows.is_empty()
+    }
+
+    /// The rows, one after the other. `for best in &answer` goes through them too.
+    ///
+    /// ```rust
+    /// for best in &answer {
     ///     println!(rt; "row {}, {}", best.id, best.row.cell(0))?;
     /// }
     /// // row 1, 50
     /// // row 2, 60
     /// // row 3, 80
     /// // row 6, 100
+    /// ```
+    pub fn iter(&self) -> slice::Iter<'_, Ranked>
+        ensures { iter_rest result ≡ self.now }
+    {
+        self.rows.iter()
+    }
+
+    /// The rows, as a slice.
+    ///
+    /// ```rust
+    /// if let [first, ..] = answer.as_slice() {
+    ///     println!(rt; "row {}", first.id)?;     // row 1
+    /// }
     /// ```
     pub fn as_slice(&self) -> &[Ranked]
         ensures { result.now ≡ self.now }
@@ -138,6 +171,21 @@ impl RankedList {
         ensures { result.items ≡ self }
     {
         self.rows
+    }
+}
+
+impl<'a> IntoIterator for &'a RankedList {
+    ghost use Rattle.std.specs.Prelude.{◌≡◌};
+    ghost use Rattle.std.specs.Slice.Iter.{iter_rest};
+
+    type Item = &'a Ranked;
+
+    type IntoIter = slice::Iter<'a, Ranked>;
+
+    ghost into_iter_gives = { λ list it. iter_rest it ≡ list.now };
+
+    fn into_iter(self) -> slice::Iter<'a, Ranked> {
+        self.iter()
     }
 }
 
@@ -154,7 +202,7 @@ pub struct Committed {
 ///
 /// ```rust
 /// match table.reply(alloc, Event { client: 1, act: Act::Finish })? {
-///     Reply::Answer(answer) => println!(rt; "{} rows", answer.as_slice().len())?,
+///     Reply::Answer(answer) => println!(rt; "{} rows", answer.len())?,
 ///     Reply::Refused(fault) => println!(rt; "{fault}")?,     // no query
 ///     _ => {}
 /// }

@@ -216,7 +216,7 @@ impl Machine {
     ///     table.scan(alloc, 1)?;
     /// }
     /// let answer = table.finish(alloc, 1)?;
-    /// for best in answer.as_slice() {
+    /// for best in &answer {
     ///     println!(rt; "row {}, {}", best.id, best.row.cell(0))?;
     /// }
     /// // row 1, 50
