@@ -4,7 +4,7 @@
 
 ghost use Rattle.std.specs.Prelude.{◌≡◌};
 
-use anyhow::{Context, Result, anyhow};
+use anyhow::{Result, anyhow};
 use pref_core::Setup;
 use pref_share::{Board, BoardBrand, BoardName, Client, ShareFault, Word, open_board};
 use pref_sky::Ranked;
@@ -126,6 +126,6 @@ fn run_board<J: BoardBrand + Send + Sync, R: Threads + Wait + Print + AllocGloba
 
 fn main(rt: HostRuntime) -> Result<()> {
     let (schema, hotels) = read_table(rt.alloc(), HOTELS)?;
-    let setup = Setup::new(2, 1024, 256, 64).context("a number outside the limits")?;
+    let setup = Setup::default().with_clients(2)?.with_block(256)?;
     run_board::<Brand, _>(&rt, BoardName::new(), setup, &schema, &hotels)
 }

@@ -14,7 +14,7 @@ mod replies;
 
 use crate::same::assert_same;
 use fixtures::check_runs;
-use pref_core::{Act, CoreFault, Event, RankedList, Reply, Setup, replay, replay_part};
+use pref_core::{Act, CoreFault, Event, RankedList, Reply, Setup, SetupFault, replay, replay_part};
 use pref_sky::Ranked;
 use pref_table::Row;
 use std::alloc::Global;
@@ -104,6 +104,52 @@ fn a_setup_has_its_limits(rt: HostRuntime) -> Result<(), Fail> {
         assert_same(&rt, case, refused, true);
     }
     Ok(())
+}
+
+#[test]
+fn a_setup_is_made_of_the_default_one(rt: HostRuntime) -> Result<(), Fail> {
+    let setup = Setup::default();
+    assert_same(&rt, "default", Some(setup), Setup::new(4, 1024, 1024, 64));
+    let large = setup.with_clients(8)?.with_capacity(65_536)?;
+    let set = large.with_block(65_536)?.with_window(65_536)?;
+    let wanted = Setup::new(8, 65_536, 65_536, 65_536);
+    assert_same(&rt, "the most", Some(set), wanted);
+    let small = setup.with_clients(1)?.with_capacity(1)?;
+    let set = small.with_block(1)?.with_window(1)?;
+    assert_same(&rt, "the least", Some(set), Setup::new(1, 1, 1, 1));
+    Ok(())
+}
+
+/// A number that is refused says which one it is, what was given, and its range.
+fn check_refused(
+    rt: &impl Abort,
+    alloc: Global,
+    set: Result<Setup, SetupFault>,
+    fault: SetupFault,
+    text: &str,
+) -> Result<(), Fail> {
+    assert_same(rt, text, set, Err(fault));
+    let shown = format!(in alloc; "{fault}")?;
+    assert_same(rt, "its text", shown.as_str(), text);
+    Ok(())
+}
+
+#[test]
+fn a_setup_says_which_number_is_refused(rt: HostRuntime) -> Result<(), Fail> {
+    let alloc = rt.alloc();
+    let setup = Setup::default();
+    let fault = SetupFault::Clients { given: 9 };
+    let text = "clients must be 1 to 8, not 9";
+    check_refused(&rt, alloc, setup.with_clients(9), fault, text)?;
+    let fault = SetupFault::Capacity { given: 65_537 };
+    let text = "capacity must be 1 to 65536, not 65537";
+    check_refused(&rt, alloc, setup.with_capacity(65_537), fault, text)?;
+    let fault = SetupFault::Block { given: 0 };
+    let text = "block must be 1 to 65536, not 0";
+    check_refused(&rt, alloc, setup.with_block(0), fault, text)?;
+    let fault = SetupFault::Window { given: 0 };
+    let text = "window must be 1 to 65536, not 0";
+    check_refused(&rt, alloc, setup.with_window(0), fault, text)
 }
 
 /// An answer of two rows, with the ids 3 and 5.

@@ -2,7 +2,7 @@
 //! began, and the next one has the new hotel.
 #![tactic(auto)]
 
-use anyhow::{Context, Result};
+use anyhow::Result;
 use pref_core::{Machine, RankedList, Setup};
 use pref_table::{Row, Schema, read_table};
 use pref_term::read_ask;
@@ -50,7 +50,7 @@ fn run_clients(rt: &impl Print, alloc: Global, table: &mut Machine, schema: &Sch
 
 fn main(rt: HostRuntime) -> Result<()> {
     let (schema, hotels) = read_table(rt.alloc(), HOTELS)?;
-    let setup = Setup::new(2, 1024, 256, 64).context("a number outside the limits")?;
+    let setup = Setup::default().with_clients(2)?.with_block(256)?;
     let mut table = Machine::new(rt.alloc(), setup, &hotels)?;
     run_clients(&rt, rt.alloc(), &mut table, &schema)
 }

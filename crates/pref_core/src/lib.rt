@@ -25,7 +25,7 @@ pub use event::{Act, BoxedCommit, Committed, Event, RankedList, Reply, StepFault
 pub use fault::CoreFault;
 pub use machine::Machine;
 pub use run::{Part, replay, replay_part};
-pub use setup::Setup;
+pub use setup::{Setup, SetupFault};
 
 /// The parts of a [`Machine`], for who shares one table between threads: the store with its slots, calls and how they are planned, and
 /// queries that are lent a store at each scan.

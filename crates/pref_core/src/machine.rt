@@ -85,7 +85,7 @@ impl Machine {
     ///
     /// ```rust
     /// let (schema, hotels) = read_table(alloc, HOTELS)?;
-    /// let setup = Setup::new(2, 1024, 256, 64).context("a number outside the limits")?;
+    /// let setup = Setup::default().with_clients(2)?.with_block(256)?;
     /// let mut table = Machine::new(alloc, setup, &hotels)?;
     /// ```
     pub fn new(alloc: Global, setup: Setup, rows: &[Row]) -> Result<Machine, CoreFault>

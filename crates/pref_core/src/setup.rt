@@ -1,9 +1,10 @@
 //! How large a table is.
 
-ghost use Rattle.std.specs.Prelude.{◌≤◌, ◌≡◌, ◌↔◌, IsSome, IfSome};
+ghost use Rattle.std.specs.Prelude.{◌≤◌, ◌≡◌, ◌↔◌, IsSome, IfSome, IsOk, IfOk, IfErr};
 ghost use Rattle.pref_core.specs.Limits.{Limits, AreAllowed, blocks};
 
 use std::marker::Model;
+use thiserror::Error;
 
 /// The most clients of a table.
 pub(crate) const MOST_CLIENTS: u8 = 8;
@@ -11,12 +12,52 @@ pub(crate) const MOST_CLIENTS: u8 = 8;
 /// The most slots of a table, and the most slots of a block and entries of a window.
 const MOST_SLOTS: u32 = 65_536;
 
+/// Why a number of a setup is refused: which one it is, and what was given. Its text has the range too.
+///
+/// ```rust
+/// if let Err(fault) = setup.with_clients(9) {
+///     println!(rt; "{fault}")?;     // clients must be 1 to 8, not 9
+/// }
+/// ```
+#[derive(Clone, Copy, Debug, PartialEq, Eq, Error)]
+pub enum SetupFault {
+    /// A table has 1 to 8 clients.
+    #[error("clients must be 1 to {most}, not {given}", most = MOST_CLIENTS)]
+    Clients {
+        /// How many were given.
+        given: u8,
+    },
+    /// A table has 1 to 65,536 slots.
+    #[error("capacity must be 1 to {most}, not {given}", most = MOST_SLOTS)]
+    Capacity {
+        /// How many were given.
+        given: u32,
+    },
+    /// A block has 1 to 65,536 slots.
+    #[error("block must be 1 to {most}, not {given}", most = MOST_SLOTS)]
+    Block {
+        /// How many were given.
+        given: u32,
+    },
+    /// A window has 1 to 65,536 entries.
+    #[error("window must be 1 to {most}, not {given}", most = MOST_SLOTS)]
+    Window {
+        /// How many were given.
+        given: u32,
+    },
+}
+
 /// How large a table is: its clients, its slots, how many of them a scan reads at once, and how many
 /// entries a query compares at once.
 ///
 /// Contracts see the four numbers. Only numbers that are allowed make one, so whoever holds a setup
 /// need not test it again.
-#[derive(Clone, Copy, Debug)]
+///
+/// ```rust
+/// let setup = Setup::default().with_clients(2)?.with_block(256)?;
+/// let blocks = setup.blocks();     // 4
+/// ```
+#[derive(Clone, Copy, Debug, PartialEq, Eq)]
 pub struct Setup {
     clients: u8,
     capacity: u32,
@@ -34,6 +75,20 @@ impl Model for Setup {
     ghost invariant = { λ s. AreAllowed (record { clients = s.clients; capacity = s.capacity; block = s.block; window = s.window }) };
 
     ghost inverse = { λ l. record { clients = l.clients; capacity = l.capacity; block = l.block; window = l.window } };
+}
+
+impl Default for Setup {
+    ghost is_default = { λ s. s ≡ record { clients = 4; capacity = 1024; block = 1024; window = 64 } };
+
+    /// The setup of 4 clients and 1,024 slots, which are one block, with a window of 64 entries.
+    fn default() -> Setup {
+        Setup {
+            clients: 4,
+            capacity: 1024,
+            block: 1024,
+            window: 64,
+        }
+    }
 }
 
 impl Setup {
@@ -66,6 +121,70 @@ impl Setup {
         } else {
             None
         }
+    }
+
+    /// This setup with this many clients, 1 to 8. Refused for any other number.
+    ///
+    /// ```rust
+    /// let setup = Setup::default().with_clients(2)?;
+    /// ```
+    pub fn with_clients(self, clients: u8) -> Result<Setup, SetupFault>
+        ensures allowed { IsOk result ↔ ((1 ≤ clients) × (clients ≤ 8)) }
+        ensures value { IfOk result (λ s. s ≡ record self { clients = clients }) }
+        ensures refused { IfErr result (λ fault. fault ≡ SetupFault.Clients clients) }
+    {
+        if clients < 1 || clients > MOST_CLIENTS {
+            return Err(SetupFault::Clients { given: clients });
+        }
+        Ok(Setup { clients, ..self })
+    }
+
+    /// This setup with this many slots, 1 to 65,536. Refused for any other number.
+    ///
+    /// ```rust
+    /// let setup = Setup::default().with_capacity(65_536)?;
+    /// ```
+    pub fn with_capacity(self, capacity: u32) -> Result<Setup, SetupFault>
+        ensures allowed { IsOk result ↔ ((1 ≤ capacity) × (capacity ≤ 65536)) }
+        ensures value { IfOk result (λ s. s ≡ record self { capacity = capacity }) }
+        ensures refused { IfErr result (λ fault. fault ≡ SetupFault.Capacity capacity) }
+    {
+        if capacity < 1 || capacity > MOST_SLOTS {
+            return Err(SetupFault::Capacity { given: capacity });
+        }
+        Ok(Setup { capacity, ..self })
+    }
+
+    /// This setup with blocks of this many slots, 1 to 65,536. Refused for any other number.
+    ///
+    /// ```rust
+    /// let setup = Setup::default().with_block(256)?;
+    /// ```
+    pub fn with_block(self, block: u32) -> Result<Setup, SetupFault>
+        ensures allowed { IsOk result ↔ ((1 ≤ block) × (block ≤ 65536)) }
+        ensures value { IfOk result (λ s. s ≡ record self { block = block }) }
+        ensures refused { IfErr result (λ fault. fault ≡ SetupFault.Block block) }
+    {
+        if block < 1 || block > MOST_SLOTS {
+            return Err(SetupFault::Block { given: block });
+        }
+        Ok(Setup { block, ..self })
+    }
+
+    /// This setup with a window of this many entries, 1 to 65,536. Refused for any other number.
+    ///
+    /// ```rust
+    /// let setup = Setup::default().with_window(1)?;
+    /// ```
+    pub fn with_window(self, window: u32) -> Result<Setup, SetupFault>
+        ensures allowed { IsOk result ↔ ((1 ≤ window) × (window ≤ 65536)) }
+        ensures value { IfOk result (λ s. s ≡ record self { window = window }) }
+        ensures refused { IfErr result (λ fault. fault ≡ SetupFault.Window window) }
+    {
+        if window < 1 || window > MOST_SLOTS {
+            return Err(SetupFault::Window { given: window });
+        }
+        Ok(Setup { window, ..self })
     }
 
     /// How many clients there are, 1 to 8. Their numbers are 1 and up.

@@ -1,5 +1,4 @@
 //! The program's arguments.
-ghost use Rattle.std.specs.Prelude.{◌≡◌, ◌≤◌};
 
 use clap::error::ErrorKind;
 use clap::{Arg, ArgAction, ArgMatches, Command, Error, value_parser};
@@ -177,16 +176,6 @@ fn program<'a>(alloc: Global) -> Result<Command<'a>, AllocError> {
     Ok(program)
 }
 
-/// The setup where no options are given: 4 clients, 1024 slots in blocks of 1024, a window of 64.
-fn default_setup() -> Setup
-    ensures { result ≡ record { clients = 4; capacity = 1024; block = 1024; window = 64 } }
-{
-    match Setup::new(4, 1024, 1024, 64) {
-        Some(setup) => setup,
-        None => unreachable!(),
-    }
-}
-
 fn setup_of(options: &ArgMatches) -> Option<Setup> {
     Setup::new(
         options.get_one::<u8>("clients")?,
@@ -229,7 +218,7 @@ pub fn read_args(alloc: Global, words: &[&str]) -> Result<Args, ArgsFault> {
     let Some((name, options)) = matches.subcommand() else {
         return Ok(Args {
             mode: Mode::Play,
-            setup: default_setup(),
+            setup: Setup::default(),
         });
     };
     let mode = match name {
