@@ -57,7 +57,7 @@ ON_A_BOARD = {
     "client": 'let Some(client) = clients.first_mut() else { return Err(anyhow!("a board of no clients")); };',
     "desk": TWO_CLIENTS,
     "guest": TWO_CLIENTS,
-    "blocks": "let blocks = client.begin(rt, alloc, board, ask).map_err(|refused| refused.fault)?;",
+    "blocks": "let blocks = client.begin(rt, alloc, board, ask)?;",
     "acts": "let acts = acts_of_two(alloc, hotel)?;",
     "tasks": "let tasks = two_tasks(alloc)?;",
     "gate": "let gate = Open;",

@@ -38,10 +38,7 @@ fn begin<J: BoardBrand, R: Wait + AllocGlobal>(
     schema: &Schema,
 ) -> Result<u32> {
     let ask = read_ask(rt.alloc(), schema, QUESTION)?;
-    match guest.begin(rt, rt.alloc(), board, ask) {
-        Ok(blocks) => Ok(blocks),
-        Err(refused) => Err(refused.fault.into()),
-    }
+    Ok(guest.begin(rt, rt.alloc(), board, ask)?)
 }
 
 /// Scans the blocks of the guest's query, and gives its answer.

@@ -78,7 +78,7 @@ impl<J: BoardBrand> Model for Asking<J> {
 /// A client that is dropped with a query open keeps that query's versions needed.
 ///
 /// ```rust
-/// let blocks = client.begin(rt, alloc, board, ask).map_err(|refused| refused.fault)?;
+/// let blocks = client.begin(rt, alloc, board, ask)?;
 /// for _ in 0..blocks {
 ///     client.scan(alloc)?;
 /// }

@@ -63,13 +63,26 @@ impl From<AllocError> for ShareFault {
 
 /// A refused begin, which hands its ask back.
 ///
+/// Its text is that of its fault. `?` takes it as an error, and turns it into its [`ShareFault`] where a function returns that.
+///
 /// ```rust
-/// let blocks = client.begin(rt, alloc, board, ask).map_err(|refused| refused.fault)?;     // 4
+/// let blocks = client.begin(rt, alloc, board, ask)?;     // 4
 /// ```
-#[derive(Drop)]
+#[derive(Drop, Error)]
+#[derive_where(Debug)]
+#[error("{fault}")]
 pub struct BeginFault {
     /// Why it is refused.
     pub fault: ShareFault,
     /// The ask, as it was.
+    #[derive_where(skip(Debug))]
     pub ask: Ask,
+}
+
+impl From<BeginFault> for ShareFault {
+    ghost from_gives = { λ refused fault. fault ≡ refused.fault };
+
+    fn from(refused: BeginFault) -> ShareFault {
+        refused.fault
+    }
 }

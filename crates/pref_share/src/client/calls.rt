@@ -126,10 +126,7 @@ impl<J: BoardBrand> Client<J> {
     /// Refused `Spent` or `QueryOpen`. A refusal hands the ask back.
     ///
     /// ```rust
-    /// let blocks = match client.begin(rt, alloc, board, ask) {
-    ///     Ok(blocks) => blocks,
-    ///     Err(refused) => return Err(refused.fault.into()),
-    /// };
+    /// let blocks = client.begin(rt, alloc, board, ask)?;     // 4
     /// ```
     pub fn begin<R: Wait>(
         &mut self,
@@ -207,7 +204,7 @@ impl<J: BoardBrand> Client<J> {
     /// Refused `Spent` or `NoQuery`. The query stays open then.
     ///
     /// ```rust
-    /// let blocks = client.begin(rt, alloc, board, ask).map_err(|refused| refused.fault)?;
+    /// let blocks = client.begin(rt, alloc, board, ask)?;
     /// client.abandon(rt, alloc, board)?;
     /// ```
     pub fn abandon<R: Wait>(
