@@ -44,8 +44,10 @@ pub trait Gate {
 ///
 /// The client may go on, by its own calls or in another run.
 #[derive(Drop)]
+#[derive_where(Debug)]
 pub struct Report<J: BoardBrand> {
     /// The client.
+    #[derive_where(skip(Debug))]
     pub client: Client<J>,
     /// The reply to each act that it did, in order: the first of its acts.
     pub replies: Vec<Reply>,
