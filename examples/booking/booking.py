@@ -5,7 +5,7 @@
 
 Open the address that it prints, in two windows. With `--still` nothing moves but by you; otherwise an offer is repriced each second. With `--file` the offers are
 those of a file of SQLite, which any program may change, and which is made where it is not there; the page then shows them, and changes none.
-Needs the package `prefq`: `pip install ./python`, or PYTHONPATH=python/src with the library built.
+Needs the package `prefq`: `pip install dist/prefq-*.whl`, or PYTHONPATH=python/src with the library built.
 """
 import argparse
 import random

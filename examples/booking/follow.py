@@ -3,7 +3,7 @@
 
     python3 examples/booking/follow.py offers.db [--question QUESTION] [--once]
 
-Where the file is not there, it is made with some offers. Needs the package `prefq`: `pip install ./python`, or PYTHONPATH=python/src with
+Where the file is not there, it is made with some offers. Needs the package `prefq`: `pip install dist/prefq-*.whl`, or PYTHONPATH=python/src with
 the library built.
 """
 import argparse

@@ -3,7 +3,7 @@
 
     python3 examples/parts/pool.py FOLDER 'best low(price) * low(dist)' [PROCESSES]
 
-Needs the package `prefq` (`pip install ./python`). The files have the same columns; ids are row numbers over all files, in order of name.
+Needs the package `prefq` (`pip install dist/prefq-*.whl`). The files have the same columns; ids are row numbers over all files, in order of name.
 """
 import sys
 from concurrent.futures import ProcessPoolExecutor
