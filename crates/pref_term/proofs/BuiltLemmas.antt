@@ -1,11 +1,10 @@
 -- What building a question finds of its parts.
-use Rattle.pref_term.proofs.Common.{ℕ, Bool, true, false, List, ◌≡◌, ◌<◌, ◌≤◌, ◌+◌, ◌⊎◌, arith, refl, subst, sym, length, take, All, get_or, Result, Ok, Err, MatchResult, IsErrAnd}
-use Rattle.pref_term.proofs.Common.{Base, Preference, scored, pareto, prior, reverse, ReadsBelow, IsWritable, Question, IsAsk, IsSkyline, IsCount, cut_of, is_count, Mode}
+use Rattle.pref_term.proofs.Common.{ℕ, Bool, true, List, ◌≡◌, ◌<◌, ◌≤◌, ◌+◌, arith, refl, subst, sym, length, take, All, get_or, Result, Ok, Err, MatchResult, IsErrAnd}
+use Rattle.pref_term.proofs.Common.{Preference, ReadsBelow, IsWritable, Question, IsAsk, IsClause, IsSkyline, IsCount, cut_of, Mode, inl, inr}
 use Rattle.pref_term.proofs.Common.{ℤ, [], ◌∷◌, ◌∙◌, ◌≢◌, ap, drop, Option, Some, None, option_or}
-use Rattle.pref_term.specs.Built.{IsFaultIn, IsFaultOf, IsGroupFault, IsRefusedFor, Refuses, count_fault, first_among, first_fault, layers_fault, set_fault, term_fault, column_fault}
+use Rattle.pref_term.specs.Built.{IsRefused, IsRefusedFor, count_fault, first_among, first_fault, layers_fault, set_fault, term_fault, column_fault}
 use Rattle.pref_term.specs.declared.fault.AskFault.{AskFault}
-use Rattle.pref_term.specs.declared.fault.AskFault.TheVariants.{BadCount, ColumnRange, EmptyRange, EmptySet, NoSets, NotSkyline, OutOfMemory}
-use Rattle.std.proofs.Common.{⊎_elim}
+use Rattle.pref_term.specs.declared.fault.AskFault.TheVariants.{NotSkyline, OutOfMemory}
 use Rattle.std.proofs.lemmas.List.Elements.{All-push}
 use Rattle.std.proofs.lemmas.List.{at_drop_all, at_drop_more, get_or_default, take_all, take_more}
 
@@ -22,44 +21,6 @@ one_more_at P xs i d lt p h = one_more P xs i (get_or xs i d) lt (get_or_default
 -- it is so of all
 pub all_of_them : {X : Type 0} (P : X → Type 0) (xs : List X) (i : ℕ) → length xs ≤ i → All P (take i xs) → All P xs
 all_of_them P xs i le h = rw (sym (take_all i xs le)) h
-
--- ---- faults
-
-abbrev IsElsewhere : AskFault → Type 0
-IsElsewhere (BadCount count) = Unit {0}
-IsElsewhere NotSkyline = Unit {0}
-IsElsewhere OutOfMemory = Unit {0}
-IsElsewhere _ = ⊥
-
-base_has_none : (f : AskFault) (b : Base) → IsElsewhere f → IsFaultOf f b → ⊥
-base_has_none (BadCount count) b e h = h
-base_has_none NotSkyline b e h = h
-base_has_none OutOfMemory b e h = h
-base_has_none (ColumnRange col) b e h = e
-base_has_none (EmptyRange col) b e h = e
-base_has_none (EmptySet col) b e h = e
-base_has_none (NoSets col) b e h = e
-
--- no term has a fault of another part
-term_has_none : (f : AskFault) (p : Preference) → IsElsewhere f → IsFaultIn f p → ⊥
-term_has_none f (scored b) e h = base_has_none f b e h
-term_has_none f (pareto p q) e h = ⊎_elim (term_has_none f p e) (term_has_none f q e) h
-term_has_none f (prior p q) e h = ⊎_elim (term_has_none f p e) (term_has_none f q e) h
-term_has_none f (reverse p) e h = term_has_none f p e h
-
--- a fault of the term or of the group
-pub fault_refuses : (f : AskFault) (q : Question) → IsFaultIn f q.preference ⊎ IsGroupFault f q.group → Refuses f q
-fault_refuses (ColumnRange col) q h = h
-fault_refuses (EmptyRange col) q h = h
-fault_refuses (EmptySet col) q h = h
-fault_refuses (NoSets col) q h = h
-fault_refuses (BadCount count) q h = absurd (⊎_elim (term_has_none (BadCount count) q.preference tt) (λ g. g) h)
-fault_refuses NotSkyline q h = absurd (⊎_elim (term_has_none NotSkyline q.preference tt) (λ g. g) h)
-fault_refuses OutOfMemory q h = absurd (⊎_elim (term_has_none OutOfMemory q.preference tt) (λ g. g) h)
-
--- a fault of the count
-pub count_refuses : (f : AskFault) (q : Question) → (f ≡ BadCount (cut_of q.mode)) × (is_count (cut_of q.mode) ≡ false) → Refuses f q
-count_refuses f q h = subst (λ g. Refuses g q) (sym h.0) (refl, h.1)
 
 -- ---- the first fault
 
@@ -109,8 +70,12 @@ pub of_count : (p : Preference) (group : List ℕ) (mode : Mode) → term_fault 
 of_count p group mode h k = of_group p group mode h ∙ ap (λ found. option_or found (count_fault (cut_of mode))) k
 
 -- refused for what was found
-pub refused_for : (first : Option AskFault) (f : AskFault) → first ≡ Some f → IsRefusedFor first f
-refused_for first f h = subst (λ found. IsRefusedFor found f) (sym h) refl
+pub refused_for : (q : Question) (f : AskFault) → first_fault q.preference q.group q.mode ≡ Some f → IsRefused q f
+refused_for q f h = subst (λ found. IsRefusedFor q found f) (sym h) refl
+
+-- nothing was found, and no clause means the term
+pub no_clause : (q : Question) → first_fault q.preference q.group q.mode ≡ None → q.distinct ≡ true → (IsClause q.preference → ⊥) → IsRefused q NotSkyline
+no_clause q none distinct other = subst (λ found. IsRefusedFor q found NotSkyline) (sym none) (inl (refl, distinct, λ skyline. other skyline.preference))
 
 -- ---- results
 
@@ -133,10 +98,7 @@ pub parts_ask : (p : Preference) (group : List ℕ) (mode : Mode) (distinct : Bo
     → (distinct ≡ true → IsSkyline (parts p group mode distinct)) → IsAsk (parts p group mode distinct)
 parts_ask p group mode distinct h clause = record { columns = record { preference = h.0; group = h.2 }; writable = h.1; count = h.3; clause = clause }
 
--- the question that is made, or that there was no memory for it
-pub made : (r : Result Question AskFault) (q : Question) → IsAsk q → MatchResult r (λ ask. ask ≡ q) (λ f. f ≡ OutOfMemory) → MatchResult r (λ ask. IsAsk ask × (ask ≡ q)) (λ f. Refuses f q)
-made r q h = weaker r _ _ _ _ (λ ask is. (subst IsAsk (sym is) h, is)) (λ f is. subst (λ g. Refuses g q) (sym is) h)
-
 -- nothing was found, and the question is made, or there was no memory for it
-pub told : (r : Result Question AskFault) (q : Question) (first : Option AskFault) → first ≡ None → MatchResult r (λ ask. ask ≡ q) (λ f. f ≡ OutOfMemory) → MatchResult r (λ _. first ≡ None) (λ f. IsRefusedFor first f)
-told r q first none = weaker r _ _ _ _ (λ _ _. none) (λ f is. subst (λ found. IsRefusedFor found f) (sym none) is)
+pub made : (r : Result Question AskFault) (q : Question) → first_fault q.preference q.group q.mode ≡ None → IsAsk q → MatchResult r (λ ask. ask ≡ q) (λ f. f ≡ OutOfMemory)
+    → MatchResult r (λ ask. IsAsk ask × (ask ≡ q)) (λ f. IsRefused q f)
+made r q none h = weaker r _ _ _ _ (λ ask is. (subst IsAsk (sym is) h, is)) (λ f is. subst (λ found. IsRefusedFor q found f) (sym none) (inr (is, h)))

@@ -1,5 +1,5 @@
--- Why parts make no question, each fault with what it says. (this project; the limits are those of the question texts)
-use Rattle.std.specs.Prelude.{◌≡◌, ◌≤◌, ◌⊎◌, ℕ, ℤ, List, [], ◌∷◌, Bool, true, false, not, int_lt, nat_le, Contains, Option, Some, None}
+-- Why parts make no question. (this project; the limits are those of the question texts)
+use Rattle.std.specs.Prelude.{◌≡◌, ◌⊎◌, ℕ, ℤ, List, [], ◌∷◌, Bool, true, false, not, int_lt, nat_le, Option, Some, None}
 use Rattle.std.specs.Option.{option_or}
 use Rattle.pref_term.specs.Preference.{Base, one_of, Preference, scored, pareto, prior, reverse, between, layered}
 use Rattle.pref_term.specs.Columns.{column}
@@ -7,34 +7,6 @@ use Rattle.pref_term.specs.Question.{Question, IsAsk, IsSkyline, cut_of, is_coun
 use Rattle.pref_term.specs.declared.ask.Mode.{Mode}
 use Rattle.pref_term.specs.declared.fault.AskFault.{AskFault}
 use Rattle.pref_term.specs.declared.fault.AskFault.TheVariants.{ColumnRange, EmptyRange, EmptySet, NoSets, BadCount, NotSkyline, OutOfMemory}
-
--- what the fault says of a base term is so
-abbrev pub IsFaultOf : AskFault → Base → Type 0
-IsFaultOf (ColumnRange col) b = (col ≡ column b) × (16 ≤ col)
-IsFaultOf (EmptyRange col) (between at left right) = (col ≡ at) × (int_lt right left ≡ true)
-IsFaultOf (EmptySet col) (one_of at set) = (col ≡ at) × (set ≡ [])
-IsFaultOf (EmptySet col) (layered at sets) = (col ≡ at) × Contains sets []
-IsFaultOf (NoSets col) (layered at sets) = (col ≡ at) × (sets ≡ [])
-IsFaultOf _ _ = ⊥
-
--- it is so of a base term of the preference
-abbrev pub IsFaultIn : AskFault → Preference → Type 0
-IsFaultIn f (scored b) = IsFaultOf f b
-IsFaultIn f (pareto p q) = IsFaultIn f p ⊎ IsFaultIn f q
-IsFaultIn f (prior p q) = IsFaultIn f p ⊎ IsFaultIn f q
-IsFaultIn f (reverse p) = IsFaultIn f p
-
--- it is so of a column of the group
-abbrev pub IsGroupFault : AskFault → List ℕ → Type 0
-IsGroupFault (ColumnRange col) group = Contains group col × (16 ≤ col)
-IsGroupFault _ group = ⊥
-
--- the parts make no question for this reason; where they make one, memory ran out
-abbrev pub Refuses : AskFault → Question → Type 0
-Refuses (BadCount count) q = (count ≡ cut_of q.mode) × (is_count count ≡ false)
-Refuses NotSkyline q = (q.distinct ≡ true) × (IsSkyline q → ⊥)
-Refuses OutOfMemory q = IsAsk q
-Refuses f q = IsFaultIn f q.preference ⊎ IsGroupFault f q.group
 
 -- this fault, where this is so
 abbrev pub fault_if : Bool → AskFault → Option AskFault
@@ -82,7 +54,11 @@ count_fault count = fault_if (not (is_count count)) (BadCount count)
 abbrev pub first_fault : Preference → List ℕ → Mode → Option AskFault
 first_fault p group mode = option_or (term_fault p) (option_or (first_among column_fault group) (count_fault (cut_of mode)))
 
--- refused for the first fault; where there is none, since memory ran out
-abbrev pub IsRefusedFor : Option AskFault → AskFault → Type 0
-IsRefusedFor (Some first) fault = fault ≡ first
-IsRefusedFor None fault = fault ≡ OutOfMemory
+-- refused for the first fault; where there is none, since no skyline clause means the term, else since memory ran out
+abbrev pub IsRefusedFor : Question → Option AskFault → AskFault → Type 0
+IsRefusedFor q (Some first) fault = fault ≡ first
+IsRefusedFor q None fault = ((fault ≡ NotSkyline) × (q.distinct ≡ true) × (IsSkyline q → ⊥)) ⊎ ((fault ≡ OutOfMemory) × IsAsk q)
+
+-- the parts make no question, and this is why
+abbrev pub IsRefused : Question → AskFault → Type 0
+IsRefused q fault = IsRefusedFor q (first_fault q.preference q.group q.mode) fault

@@ -1,10 +1,10 @@
 //! Questions that are built from their parts.
-ghost use Rattle.std.specs.Prelude.{◌≡◌, ◌≢◌, ◌≤◌, ◌<◌, [], ◌⊎◌, Bool, true, false, int_lt, All, FitsSigned, MatchResult, None, Some};
+ghost use Rattle.std.specs.Prelude.{◌≡◌, ◌≢◌, ◌≤◌, ◌<◌, [], ◌⊎◌, Bool, true, false, int_lt, All, FitsSigned, IfOk, MatchResult, None, Some};
 ghost use Rattle.std.specs.Int.{w64};
-ghost use Rattle.pref_term.specs.Built.{IsFaultIn, IsFaultOf, IsGroupFault, IsRefusedFor, Refuses, column_fault, count_fault, fault_if, first_among, first_fault, layers_fault, set_fault, term_fault};
+ghost use Rattle.pref_term.specs.Built.{IsRefused, column_fault, count_fault, fault_if, first_among, first_fault, layers_fault, set_fault, term_fault};
 ghost use Rattle.pref_term.specs.Columns.{ReadsBelow};
 ghost use Rattle.pref_term.specs.Preference.{layered, preference_of};
-ghost use Rattle.pref_term.specs.Question.{IsAsk, IsClause, IsCount, IsDimension, cut_of, is_count};
+ghost use Rattle.pref_term.specs.Question.{IsAsk, Question, IsClause, IsCount, IsDimension, cut_of, is_count};
 ghost use Rattle.pref_term.specs.Writable.{IsWritable, IsWritableSet};
 
 use crate::ask::{Ask, Mode};
@@ -42,13 +42,9 @@ impl Ask {
     /// println!(rt; "{}", String::from_utf8_lossy(alloc, &text)?)?;     // best low(price) * low(dist) by city
     /// ```
     pub fn of(alloc: Global, term: Term, group: Vec<usize>, mode: Mode) -> Result<Ask, AskFault>
-        // Made exactly where the parts are a question, unless memory ran out.
-        ensures parts { MatchResult result
-            (λ ask. IsAsk ask × (ask ≡ record { preference = preference_of term; group = group.items; mode = mode; distinct = false }))
-            (λ fault. Refuses fault (record { preference = preference_of term; group = group.items; mode = mode; distinct = false })) }
-        // Refused exactly for the first fault, where there is one; else for memory alone.
-        ensures first { let first = first_fault (preference_of term) group.items mode in
-            MatchResult result (λ _. first ≡ None) (λ fault. IsRefusedFor first fault) }
+        // Made exactly where the parts are a question, unless memory ran out; else refused for the first fault.
+        ensures { let parts : Question = record { preference = preference_of term; group = group.items; mode = mode; distinct = false } in
+            MatchResult result (λ ask. IsAsk ask × (ask ≡ parts)) (λ fault. IsRefused parts fault) }
     {
         check_parts(&term, &group, mode)?;
         Ask::new(alloc, term, group, mode, false).map_err(|_| AskFault::OutOfMemory)
@@ -66,12 +62,9 @@ impl Ask {
     /// println!(rt; "{}", String::from_utf8_lossy(alloc, &text)?)?;     // skyline of distinct price min
     /// ```
     pub fn distinct_skyline(alloc: Global, term: Term, group: Vec<usize>) -> Result<Ask, AskFault>
-        ensures parts { MatchResult result
-            (λ ask. IsAsk ask × (ask ≡ record { preference = preference_of term; group = group.items; mode = Best; distinct = true }))
-            (λ fault. Refuses fault (record { preference = preference_of term; group = group.items; mode = Best; distinct = true })) }
-        // The same, and refused for another term only where there is no other fault.
-        ensures first { let first = first_fault (preference_of term) group.items Best in
-            MatchResult result (λ _. first ≡ None) (λ fault. IsRefusedFor first fault ⊎ ((fault ≡ AskFault.NotSkyline) × (first ≡ None))) }
+        // The same; refused as no skyline clause only where there is no other fault.
+        ensures { let parts : Question = record { preference = preference_of term; group = group.items; mode = Best; distinct = true } in
+            MatchResult result (λ ask. IsAsk ask × (ask ≡ parts)) (λ fault. IsRefused parts fault) }
     {
         check_parts(&term, &group, Mode::Best)?;
         if !is_clause(&term) {
@@ -83,9 +76,7 @@ impl Ask {
 
 /// Looks for the first fault of these parts.
 fn check_parts(term: &Term, group: &[usize], mode: Mode) -> Result<(), AskFault>
-    ensures parts { MatchResult result
-        (λ _. ReadsBelow 16 (preference_of term.now) × IsWritable (preference_of term.now) × All (λ col. col < 16) group.now × IsCount (cut_of mode))
-        (λ fault. (distinct : Bool) → Refuses fault (record { preference = preference_of term.now; group = group.now; mode = mode; distinct = distinct })) }
+    ensures found { IfOk result (λ _. ReadsBelow 16 (preference_of term.now) × IsWritable (preference_of term.now) × All (λ col. col < 16) group.now × IsCount (cut_of mode)) }
     ensures first { let first = first_fault (preference_of term.now) group.now mode in
         MatchResult result (λ _. first ≡ None) (λ fault. first ≡ Some fault) }
 {
@@ -95,7 +86,7 @@ fn check_parts(term: &Term, group: &[usize], mode: Mode) -> Result<(), AskFault>
 }
 
 fn check_column(col: usize) -> Result<(), AskFault>
-    ensures found { MatchResult result (λ _. col < 16) (λ fault. (fault ≡ AskFault.ColumnRange col) × (16 ≤ col)) }
+    ensures found { IfOk result (λ _. col < 16) }
     ensures first { MatchResult result (λ _. column_fault col ≡ None) (λ fault. column_fault col ≡ Some fault) }
 {
     if col < COLUMNS {
@@ -106,7 +97,7 @@ fn check_column(col: usize) -> Result<(), AskFault>
 }
 
 fn check_range(col: usize, left: i64, right: i64) -> Result<(), AskFault>
-    ensures found { MatchResult result (λ _. int_lt right left ≡ false) (λ fault. (fault ≡ AskFault.EmptyRange col) × (int_lt right left ≡ true)) }
+    ensures found { IfOk result (λ _. int_lt right left ≡ false) }
     ensures first { MatchResult result (λ _. fault_if (int_lt right left) (AskFault.EmptyRange col) ≡ None) (λ fault. fault_if (int_lt right left) (AskFault.EmptyRange col) ≡ Some fault) }
 {
     if right < left {
@@ -126,7 +117,7 @@ fn read_numbers(numbers: &[i64])
 }
 
 fn check_set(col: usize, set: &Numbers) -> Result<(), AskFault>
-    ensures found { MatchResult result (λ _. IsWritableSet set.now) (λ fault. (fault ≡ AskFault.EmptySet col) × (set.now ≡ [])) }
+    ensures found { IfOk result (λ _. IsWritableSet set.now) }
     ensures first { MatchResult result (λ _. set_fault col set.now ≡ None) (λ fault. set_fault col set.now ≡ Some fault) }
 {
     let numbers = set.as_slice();
@@ -138,7 +129,7 @@ fn check_set(col: usize, set: &Numbers) -> Result<(), AskFault>
 }
 
 fn check_sets(col: usize, sets: &NumberSets) -> Result<(), AskFault>
-    ensures found { MatchResult result (λ _. (sets.now ≢ []) × All IsWritableSet sets.now) (λ fault. IsFaultOf fault (layered col sets.now)) }
+    ensures found { IfOk result (λ _. (sets.now ≢ []) × All IsWritableSet sets.now) }
     ensures first { MatchResult result (λ _. layers_fault col sets.now ≡ None) (λ fault. layers_fault col sets.now ≡ Some fault) }
 {
     if sets.as_slice().is_empty() {
@@ -152,7 +143,7 @@ fn check_sets(col: usize, sets: &NumberSets) -> Result<(), AskFault>
 
 /// Looks for the first base term from the left that no question has.
 fn check_term(term: &Term) -> Result<(), AskFault>
-    ensures found { MatchResult result (λ _. ReadsBelow 16 (preference_of term.now) × IsWritable (preference_of term.now)) (λ fault. IsFaultIn fault (preference_of term.now)) }
+    ensures found { IfOk result (λ _. ReadsBelow 16 (preference_of term.now) × IsWritable (preference_of term.now)) }
     ensures first { MatchResult result (λ _. term_fault (preference_of term.now) ≡ None) (λ fault. term_fault (preference_of term.now) ≡ Some fault) }
 {
     match term {
@@ -183,7 +174,7 @@ fn check_term(term: &Term) -> Result<(), AskFault>
 }
 
 fn check_group(group: &[usize]) -> Result<(), AskFault>
-    ensures found { MatchResult result (λ _. All (λ col. col < 16) group.now) (λ fault. IsGroupFault fault group.now) }
+    ensures found { IfOk result (λ _. All (λ col. col < 16) group.now) }
     ensures first { MatchResult result (λ _. first_among column_fault group.now ≡ None) (λ fault. first_among column_fault group.now ≡ Some fault) }
 {
     for col in group {
@@ -193,7 +184,7 @@ fn check_group(group: &[usize]) -> Result<(), AskFault>
 }
 
 fn check_count(mode: Mode) -> Result<(), AskFault>
-    ensures found { MatchResult result (λ _. IsCount (cut_of mode)) (λ fault. (fault ≡ AskFault.BadCount (cut_of mode)) × (is_count (cut_of mode) ≡ false)) }
+    ensures found { IfOk result (λ _. IsCount (cut_of mode)) }
     ensures first { MatchResult result (λ _. count_fault (cut_of mode) ≡ None) (λ fault. count_fault (cut_of mode) ≡ Some fault) }
 {
     let (Mode::TopLevel(count) | Mode::AtLeast(count)) = mode else {

@@ -1,30 +1,15 @@
-use Rattle.pref_term.proofs.Common.{inl, inr, ◌∙◌, preference_of}
-use Rattle.pref_term.proofs.BuiltLemmas.{count_refuses, fault_refuses, of_count, of_group_found, of_term, parts, refused_exit, weaker}
+use Rattle.pref_term.proofs.Common.{◌∙◌, preference_of}
+use Rattle.pref_term.proofs.BuiltLemmas.{of_count, of_group_found, of_term, refused_exit, weaker}
 use Rattle.pref_term.proofs.built.check_parts.Goals as goal
-
-pub returns-in_err-check_term-clause-parts : goal.returns-in_err-check_term-clause-parts
-returns-in_err-check_term-clause-parts c =
-    refused_exit _ _ _ c.from_residual.ensures.1 (λ distinct. fault_refuses _ (parts (preference_of c.args.term.now) c.args.group.now c.args.mode distinct) (inl c.in_err-check_term.ensures.found))
 
 pub returns-in_err-check_term-clause-first : goal.returns-in_err-check_term-clause-first
 returns-in_err-check_term-clause-first c =
     refused_exit _ _ _ c.from_residual.ensures.1 (of_term (preference_of c.args.term.now) c.args.group.now c.args.mode _ c.in_err-check_term.ensures.first)
 
-pub returns-in_err-check_group-clause-parts : goal.returns-in_err-check_group-clause-parts
-returns-in_err-check_group-clause-parts c =
-    refused_exit _ _ _ c.from_residual-in_err-check_group.ensures.1
-    (λ distinct. fault_refuses _ (parts (preference_of c.args.term.now) c.args.group.now c.args.mode distinct) (inr c.in_err-check_group.ensures.found))
-
 pub returns-in_err-check_group-clause-first : goal.returns-in_err-check_group-clause-first
 returns-in_err-check_group-clause-first c =
     refused_exit _ _ _ c.from_residual-in_err-check_group.ensures.1
     (of_group_found (preference_of c.args.term.now) c.args.group.now c.args.mode _ c.in_ok-check_term.ensures.first c.in_err-check_group.ensures.first)
-
-pub returns-clause-parts : goal.returns-clause-parts
-returns-clause-parts c =
-    let term = c.in_ok-check_term.ensures.found in
-    let group = c.in_ok-check_group.ensures.found in
-    weaker c.check_count.result _ _ _ _ (λ _ count. (term.0, term.1, group, count)) (λ f h distinct. count_refuses f (parts (preference_of c.args.term.now) c.args.group.now c.args.mode distinct) h) c.check_count.ensures.found
 
 pub returns-clause-first : goal.returns-clause-first
 returns-clause-first c =

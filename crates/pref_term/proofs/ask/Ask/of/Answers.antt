@@ -1,35 +1,26 @@
 use Rattle.pref_term.proofs.Common.{◌≡◌, rules, ℕ, List, ◌<◌, All, None, Some, false, false≢true, subst, preference_of}
-use Rattle.pref_term.specs.Built.{Refuses, first_fault}
-use Rattle.pref_term.proofs.BuiltLemmas.{made, parts, parts_ask, refused_exit, refused_for, told}
+use Rattle.pref_term.specs.Built.{first_fault}
+use Rattle.pref_term.proofs.BuiltLemmas.{made, parts, parts_ask, refused_exit, refused_for}
 use Rattle.pref_term.proofs.ask.Ask.of.Goals as goal
 
-pub returns-in_err-check_parts-clause-parts : goal.returns-in_err-check_parts-clause-parts
-returns-in_err-check_parts-clause-parts c =
-    refused_exit _ _ _ c.from_residual.ensures.1
-    (subst (λ (group : List ℕ). Refuses c.in_err-check_parts.field-0.0 (parts (preference_of c.args.term) group c.args.mode false)) c.deref.ensures.value (c.in_err-check_parts.ensures.parts false))
-
-pub returns-in_err-check_parts-clause-first : goal.returns-in_err-check_parts-clause-first
-returns-in_err-check_parts-clause-first c =
+pub returns-in_err-check_parts : goal.returns-in_err-check_parts
+returns-in_err-check_parts c =
     let first = subst (λ (group : List ℕ). first_fault (preference_of c.args.term) group c.args.mode ≡ Some c.in_err-check_parts.field-0.0) c.deref.ensures.value c.in_err-check_parts.ensures.first in
-    refused_exit _ _ _ c.from_residual.ensures.1 (refused_for _ _ first)
+    refused_exit _ _ _ c.from_residual.ensures.1 (refused_for (parts (preference_of c.args.term) c.args.group.items c.args.mode false) _ first)
 
 pub new-requires : goal.new-requires
 new-requires c =
-    let found = c.in_ok-check_parts.ensures.parts in
+    let found = c.in_ok-check_parts.ensures.found in
     parts_ask (preference_of c.args.term) c.args.group.items c.args.mode false
     (found.0, found.1, subst (All (λ col. col < 16)) c.deref.ensures.value found.2, found.3)
     (λ h. absurd (false≢true h))
 
-pub returns-clause-parts : goal.returns-clause-parts
-returns-clause-parts c =
-    let found = c.in_ok-check_parts.ensures.parts in
-    made c.map_err.result (parts (preference_of c.args.term) c.args.group.items c.args.mode false)
+pub returns : goal.returns
+returns c =
+    let found = c.in_ok-check_parts.ensures.found in
+    let none = subst (λ (group : List ℕ). first_fault (preference_of c.args.term) group c.args.mode ≡ None) c.deref.ensures.value c.in_ok-check_parts.ensures.first in
+    made c.map_err.result (parts (preference_of c.args.term) c.args.group.items c.args.mode false) none
     (parts_ask (preference_of c.args.term) c.args.group.items c.args.mode false
     (found.0, found.1, subst (All (λ col. col < 16)) c.deref.ensures.value found.2, found.3)
     (λ h. absurd (false≢true h)))
     (search rules)
-
-pub returns-clause-first : goal.returns-clause-first
-returns-clause-first c =
-    let none = subst (λ (group : List ℕ). first_fault (preference_of c.args.term) group c.args.mode ≡ None) c.deref.ensures.value c.in_ok-check_parts.ensures.first in
-    told c.map_err.result (parts (preference_of c.args.term) c.args.group.items c.args.mode false) (first_fault (preference_of c.args.term) c.args.group.items c.args.mode) none (search rules)
