@@ -129,7 +129,7 @@ impl RankedList {
         self.rows.len()
     }
 
-    /// Whether there is no row: the answer over an empty table alone.
+    /// Whether there is no row, as in an answer only where the table was empty.
     pub fn is_empty(&self) -> bool
         ensures { IsTrue result ↔ (self.now ≡ []) }
     {

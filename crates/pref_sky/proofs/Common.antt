@@ -41,7 +41,7 @@ pub use Rattle.pref_term.specs.Signatures.{Suit, is_within, signature}
 pub use Rattle.pref_term.specs.declared.ask.Mode.TheVariants.{AtLeast, Best, TopLevel}
 pub use denote.Param.Members.{Mut}
 pub use Rattle.pref_sky.specs.Chains.{IsChain, IsInOrder, are_level, better_in, by_row, comes_first, earlier_in, in_turn}
-pub use Rattle.pref_sky.specs.OwnOrders.{AreInOrder, AreLeveled, AreLowest, AreSorted, HoldsUpper, comes_after, comes_before, count_above, is_below, level_of, own_levels, own_order, with_level, with_levels}
+pub use Rattle.pref_sky.specs.OwnOrders.{AreInOrder, AreLeveled, AreLowest, AreSorted, HoldsUpper, comes_after, comes_before, count_above, is_below, level_of, own_levels, own_order}
 pub use Rattle.pref_sky.specs.Items.{AreItems, IsItem, entries_at, entry_at, is_word, item_order, signature_by}
 pub use Rattle.pref_sky.specs.Partials.{KeepsAllBut, ranked_upto}
 pub use Rattle.pref_sky.specs.declared.own_order.OwnOrder.{OwnOrder}

@@ -2,7 +2,7 @@
 use Rattle.pref_sky.proofs.Common.{◌≡◌, ℕ, suc, zero, ◌<◌, ◌≤◌, Bool, true, false, not, inl, inr, List, [], ◌∷◌, refl, sym, ◌∙◌, ap, subst, arith}
 use Rattle.pref_sky.proofs.Common.{cases_lt, cond-true, cond-false, Entry, count_above, Among, map, filter, filter_agree, count_by}
 use Rattle.pref_sky.proofs.Common.{IsPermutation, IsSortedBy, cond, nat_tests, sorted_far, sum_by-IsPermutation, IsStrictOrder, OwnOrder, Ranked, best, rest}
-use Rattle.pref_sky.proofs.Common.{own_levels, own_order, level_of, with_levels, with_level, HaveDifferentIds, at_level, entry_of, levels, nat_lt, ranked_upto, AreSorted, eqb, comes_after}
+use Rattle.pref_sky.proofs.Common.{own_levels, own_order, level_of, HaveDifferentIds, at_level, entry_of, levels, nat_lt, ranked_upto, AreSorted, eqb, comes_after}
 use Rattle.pref_sky.proofs.IdOrder.{Differ, in_order_if_sorted, same_if_in_order}
 use Rattle.pref_sky.proofs.ItemsLaws.{count_map}
 use Rattle.pref_sky.proofs.ListLaws.{count_filter, count_filtered, from_filter, from_map, in_filter, in_map, SameMembers, same_if_permuted}
@@ -11,6 +11,14 @@ use Rattle.pref_sky.proofs.OwnOrders.{own_is_strict}
 use Rattle.pref_sky.proofs.Ranks.{from_upto, levels_upto_is, ranks_are_ordered, ranks_before, upto_rises}
 use Rattle.pref_sky.specs.Ranking.{AreInRanks, leveled}
 use Rattle.pref_sky.proofs.SortedLevels.{bests_differ, count_levels, some_differ, some_levels}
+
+-- an entry with its level
+abbrev pub with_level : (Entry → Entry → Bool) → List Entry → ℕ → Entry → Ranked
+with_level over all cut e = at_level (suc (count_above over all cut e)) e
+
+-- those of some entries that are of the levels of all up to a cut, each with its level
+abbrev pub with_levels : (Entry → Entry → Bool) → List Entry → ℕ → List Entry → List Ranked
+with_levels over all cut some = map (with_level over all cut) (filter (λ e. not (comes_after over all cut e)) some)
 
 -- a chain of n entries stands over it, and none of more, unless it is below the cut
 pub record HasChain {E : Type 0} (over : E → E → Bool) (cut : ℕ) (all : List E) (e : E) (n : ℕ) : Type 0 where

@@ -29,14 +29,6 @@ count_above over all (suc cut) e = cond (comes_after over all (suc cut) e) (suc 
 abbrev pub level_of : {E : Type 0} → (E → E → Bool) → List E → ℕ → E → ℕ
 level_of over all cut e = cond (comes_after over all cut e) 0 (suc (count_above over all cut e))
 
--- an entry with its level
-abbrev pub with_level : (Entry → Entry → Bool) → List Entry → ℕ → Entry → Ranked
-with_level over all cut e = at_level (suc (count_above over all cut e)) e
-
--- those of some entries that are of the levels of all up to a cut, each with its level
-abbrev pub with_levels : (Entry → Entry → Bool) → List Entry → ℕ → List Entry → List Ranked
-with_levels over all cut some = map (with_level over all cut) (filter (λ e. not (comes_after over all cut e)) some)
-
 -- the order of entries
 abbrev pub own_order : OwnOrder → Entry → Entry → Bool
 own_order order = entry_order (order_of order.ask)

@@ -26,6 +26,7 @@ pub record AreInRanks (some sorted : List Ranked) : Type 0 where
 abbrev pub IsRankOf : List Entry → Rank → Type 0
 IsRankOf entries rank = (rank.place < length entries) × (rank.id ≡ (entry_at entries rank.place).id)
 
+-- each of these is one
 abbrev pub AreRanks : List Entry → List Rank → Type 0
 AreRanks entries = All (IsRankOf entries)
 

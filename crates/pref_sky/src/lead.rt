@@ -23,7 +23,7 @@ use pref_term::engine::{Chain, Leading, Scales, in_same_group};
 use std::alloc::{AllocError, Global};
 use std::cmp::Ordering;
 
-/// The most chains that lead a sweep: of each level then a list of steps is kept, of which one is asked.
+/// The most chains that lead a sweep, as many as pref_term puts a chain before: of each level then a list of steps is kept, of which one is asked.
 const MAX_CHAINS: usize = 3;
 
 /// What leads the order of entries in a sweep.

@@ -7,7 +7,7 @@ ghost use Rattle.pref_sky.specs.declared.entry.Entry.{Entry};
 use crate::entry::{Entry, Ranked};
 use std::alloc::{AllocError, Global};
 
-/// Drops each entry whose level is 0, and then these zeros. Takes no memory.
+/// Drops each entry whose level is 0, each with its zero. Takes no memory, and gives none back.
 pub(crate) fn drop_below(entries: &mut Vec<Entry>, levels: &mut Vec<u32>)
     ensures { (level : Entry → ℕ) → levels.old.items ≡ map level entries.old.items
         → (entries.new.items ≡ filter (λ e. nat_lt 0 (level e)) entries.old.items) × (levels.new.items ≡ map level entries.new.items) }
@@ -25,7 +25,7 @@ pub(crate) fn drop_below(entries: &mut Vec<Entry>, levels: &mut Vec<u32>)
     levels.truncate(count);
 }
 
-/// Where an entry of a list stands in an answer. It is sorted in place of the entry, which is six times as large.
+/// Where an entry of a list stands in an answer. It is sorted in place of the ranked entry, which is six times as large.
 #[derive(Clone, Copy)]
 pub(crate) struct Rank {
     pub(crate) level: u32,
@@ -40,7 +40,7 @@ fn ranks_of(alloc: Global, entries: &[Entry], levels: &[u32]) -> Result<Vec<Rank
     ensures all { (level : Entry → ℕ) → levels.now ≡ map level entries.now
         → IfOk result (λ ranks. map (ranked_at entries.now) ranks.items ≡ leveled level entries.now) }
 {
-    let mut ranks = Vec::new(alloc);
+    let mut ranks = Vec::with_capacity(alloc, entries.len())?;
     for place in 0..entries.len().min(levels.len()) {
         let level = levels[place];
         if level > 0 {
@@ -74,7 +74,7 @@ fn entries_at_ranks(
 
 /// The entries whose level is not 0, in order of level, then id.
 ///
-/// Memory: 24 bytes for each of them, and the list.
+/// Memory: 24 bytes for each entry, and the list.
 pub(crate) fn in_order_of_level(
     alloc: Global,
     entries: &[Entry],

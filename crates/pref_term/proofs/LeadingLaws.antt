@@ -277,5 +277,5 @@ leading_lead q chains keys whole known led = record {
       not_worse (by_chain (group_keys q.group) a b) (by_chain (joined chains) a b) (by_chain (all_keys q.preference false) a b)
       (group_same q.group a b ∙ near) (led.in_order a b) (ap is_worse (sym (chain-append (group_keys q.group) (all_keys q.preference false) a b)) ∙ h);
   behind = λ a b same h. led.behind a b same (fits_asked q a b h);
-  alone = λ e a b near. ap is_better (led.all (led.alone e) a b) ∙ (walked_better q.preference a b ∙ sym (near_better (in_same_group q.group a b) (better q.preference a b) near));
+  alone = λ e. led.all (led.alone e);
 }

@@ -44,7 +44,7 @@ pub record IsLedBy (p : Preference) (turned : Bool) (chains : List (List Key)) (
   pub behind : (a b : List ℤ) → is_same (by_product chains a b) ≡ true → (is_better (directed turned p a b) || is_same (directed turned p a b)) ≡ true → All (IsNoGreater a b) keys
   pub alone : keys ≡ [] → whole ≡ true
 
--- the same of a question, within its groups; what is open is which of its rows dominates the other, or is its twin; with no key the product of the chains is all that the question says
+-- the same of a question, within its groups; what is open is which of its rows dominates the other, or is its twin; with no key the product of the chains is all that its term says
 pub record Leads (q : Question) (chains : List (List Key)) (keys : List Key) : Type 0 where
   pub in_row : All AreInRow chains
   pub keys_in_row : AreInRow keys
@@ -52,4 +52,4 @@ pub record Leads (q : Question) (chains : List (List Key)) (keys : List Key) : T
   pub decided : (a b : List ℤ) → over q a b ≡ true → (is_better (by_product chains a b) ≡ true) ⊎ (is_same (by_product chains a b) ≡ true)
   pub in_order : (a b : List ℤ) → in_same_group q.group a b ≡ true → is_worse (by_chain (ask_keys q) a b) ≡ false → is_worse (by_chain (joined chains) a b) ≡ false
   pub behind : (a b : List ℤ) → is_same (by_product chains a b) ≡ true → (over q a b || twins q a b) ≡ true → All (IsNoGreater a b) keys
-  pub alone : keys ≡ [] → (a b : List ℤ) → in_same_group q.group a b ≡ true → is_better (by_product chains a b) ≡ over q a b
+  pub alone : keys ≡ [] → (a b : List ℤ) → by_product chains a b ≡ directed false q.preference a b

@@ -1,5 +1,5 @@
 //! Questions that are built from their parts.
-ghost use Rattle.std.specs.Prelude.{◌≡◌, ◌≢◌, ◌≤◌, ◌<◌, [], ◌⊎◌, Bool, true, false, int_lt, All, FitsSigned, IfOk, MatchResult, None, Some};
+ghost use Rattle.std.specs.Prelude.{◌≡◌, ◌≢◌, ◌≤◌, ◌<◌, [], Bool, true, false, int_lt, All, FitsSigned, IfOk, MatchResult, None, Some};
 ghost use Rattle.std.specs.Int.{w64};
 ghost use Rattle.pref_term.specs.Built.{IsRefused, column_fault, count_fault, fault_if, first_among, first_fault, layers_fault, set_fault, term_fault};
 ghost use Rattle.pref_term.specs.Columns.{ReadsBelow};
@@ -54,7 +54,7 @@ impl Ask {
     /// DIFF columns.
     ///
     /// The term is `Low`, `High` or a product that groups to the left, and each second part of it is `Low` or `High`. Refused as [`Ask::of`]
-    /// is, and behind the columns for another term ([`AskFault::NotSkyline`]). Leaves and takes what `Ask::of` does.
+    /// is, and where there is none of its faults but memory, for another term ([`AskFault::NotSkyline`]). Leaves and takes what `Ask::of` does.
     ///
     /// ```rust
     /// let ask = Ask::distinct_skyline(alloc, Term::Low { col: 0 }, Vec::new(alloc))?;

@@ -16,7 +16,7 @@ use pref_table::Row;
 use std::alloc::{AllocError, Global};
 use std::marker::Model;
 
-/// The most chains that one chain is put before: the product of more leads no sweep.
+/// The most chains that one chain is put before: the product of more leads no sweep of pref_sky, which has the same number.
 const MAX_CHAINS: usize = 3;
 
 /// A chain: a list of keys, numbers without sign that each row has and of which less is better. The first key in which two
@@ -76,8 +76,8 @@ pub struct Leading<'a> {
 }
 
 impl Leading<'_> {
-    /// Whether no key counts where rows are the same in these chains. Their product is then all that the question says of the rows of a group
-    /// (`Leads`, `alone`).
+    /// Whether no key counts where rows are the same in these chains. Their product is then all that the term says of two rows (`Leads`,
+    /// `alone`).
     pub fn decides_alone(&self) -> bool
         ensures { result ≡ (length self.now.behind.now == 0) }
     {
