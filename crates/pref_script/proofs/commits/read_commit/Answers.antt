@@ -1,5 +1,5 @@
 use Rattle.pref_script.proofs.Common.{◌∙◌, ap, arith, option_map, refl, sym, of_changes}
-use Rattle.pref_script.proofs.CommitFacts.{pieces_all, pieces_kept, pieces_none, pieces_past, pieces_refused}
+use Rattle.pref_script.proofs.CommitLaws.{pieces_all, pieces_kept, pieces_none, pieces_past, pieces_refused}
 use Rattle.pref_script.proofs.commits.read_commit.Goals as goal
 
 pub loop-left-init : goal.loop-left-init

@@ -1,5 +1,5 @@
 use Rattle.pref_script.proofs.Common.{length, option_map, pieces_left}
-use Rattle.pref_script.proofs.CommitFacts.{ReadsPieces}
+use Rattle.pref_script.proofs.CommitLaws.{ReadsPieces}
 use Rattle.pref_script.proofs.commits.read_commit.Given as goal
 
 abbrev pub invariant-loop-left : goal.invariant-loop-left

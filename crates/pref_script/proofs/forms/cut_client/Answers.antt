@@ -1,5 +1,5 @@
 use Rattle.pref_script.proofs.Common.{arith, sym, length-drop, take_all}
-use Rattle.pref_script.proofs.FormFacts.{client_at}
+use Rattle.pref_script.proofs.FormLaws.{client_at}
 use Rattle.pref_script.proofs.forms.cut_client.Goals as goal
 
 pub returns-then-line-eq32-2-clause-said : goal.returns-then-line-eq32-2-clause-said

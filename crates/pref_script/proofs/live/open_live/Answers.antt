@@ -1,5 +1,5 @@
 use Rattle.pref_script.proofs.Common.{arith, List, ℕ, subst, exits, IsOpened, OpeningFault, between, source_of}
-use Rattle.pref_script.proofs.LiveRunFacts.{opened_live, refused_block, refused_table}
+use Rattle.pref_script.proofs.LiveRunLaws.{opened_live, refused_block, refused_table}
 use Rattle.pref_script.proofs.live.open_live.Goals as goal
 
 pub returns-in_err-block : goal.returns-in_err-block

@@ -1,6 +1,6 @@
 use Rattle.pref_script.proofs.Common.{◌<◌, ℕ, arith, sym, subst, ◌∙◌, exits, IsLineAt, source_of}
-use Rattle.pref_script.proofs.BlockFacts.{block_end, block_next, block_open, end_missing, first_missing, hears_first, hears_part, input_missing, next_missing, so_far_part, table_missing}
-use Rattle.pref_script.proofs.LineFacts.{behind_more, little_later}
+use Rattle.pref_script.proofs.BlockLaws.{block_end, block_next, block_open, end_missing, first_missing, hears_first, hears_part, input_missing, next_missing, so_far_part, table_missing}
+use Rattle.pref_script.proofs.LineLaws.{behind_more, little_later}
 use Rattle.pref_script.proofs.live.read_block.Goals as goal
 
 pub loop-end-init : goal.loop-end-init

@@ -1,5 +1,5 @@
 use Rattle.pref_script.proofs.Common.{◌-◌, IsLittle, ReadBehind, unread}
-use Rattle.pref_script.proofs.BlockFacts.{BlockAt}
+use Rattle.pref_script.proofs.BlockLaws.{BlockAt}
 use Rattle.pref_script.proofs.live.read_block.Given as goal
 
 abbrev pub invariant-loop-end : goal.invariant-loop-end

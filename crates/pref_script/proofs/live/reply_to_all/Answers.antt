@@ -1,7 +1,7 @@
 use Rattle.pref_script.proofs.Common.{[], arith, Appends-kept, exits, sink_of, source_of}
-use Rattle.pref_script.proofs.HeardFacts.{heard_number, heard_too_many, ran_whole, stops_early}
-use Rattle.pref_script.proofs.LineFacts.{some_none}
-use Rattle.pref_script.proofs.LiveRunFacts.{replying_more, turn_failed}
+use Rattle.pref_script.proofs.HeardLaws.{heard_number, heard_too_many, ran_whole, stops_early}
+use Rattle.pref_script.proofs.LineLaws.{some_none}
+use Rattle.pref_script.proofs.LiveRunLaws.{replying_more, turn_failed}
 use Rattle.pref_script.proofs.live.reply_to_all.Goals as goal
 
 pub loop-line-preserved : goal.loop-line-preserved

@@ -1,5 +1,5 @@
 use Rattle.pref_script.proofs.Common.{◌≡◌, ℕ, ◌+◌, List, [], Option, Limits, Hears, next_number}
-use Rattle.pref_script.proofs.LiveRunFacts.{Replying}
+use Rattle.pref_script.proofs.LiveRunLaws.{Replying}
 use Rattle.pref_script.proofs.live.reply_to_all.Given as goal
 
 abbrev pub invariant-loop-line : goal.invariant-loop-line

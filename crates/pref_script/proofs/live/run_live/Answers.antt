@@ -1,5 +1,5 @@
 use Rattle.pref_script.proofs.Common.{sink_of, source_of}
-use Rattle.pref_script.proofs.LiveRunFacts.{refused_live}
+use Rattle.pref_script.proofs.LiveRunLaws.{refused_live}
 use Rattle.pref_script.proofs.live.run_live.Goals as goal
 
 pub returns : goal.returns

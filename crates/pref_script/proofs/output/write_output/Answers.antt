@@ -1,5 +1,5 @@
 use Rattle.pref_script.proofs.Common.{◌+◌, arith}
-use Rattle.pref_script.proofs.BytesFacts.{written_more}
+use Rattle.pref_script.proofs.BytesLaws.{written_more}
 use Rattle.pref_script.proofs.output.write_output.Goals as goal
 
 pub loop-rest-preserved : goal.loop-rest-preserved

@@ -1,5 +1,5 @@
 use Rattle.pref_script.proofs.Common.{◌∙◌, arith, exits, raw_lines}
-use Rattle.pref_script.proofs.ScriptFacts.{lines_empty}
+use Rattle.pref_script.proofs.ScriptLaws.{lines_empty}
 use Rattle.pref_script.proofs.parts.client_parts.Goals as goal
 
 pub loop-left-init : goal.loop-left-init

@@ -1,6 +1,6 @@
 use Rattle.pref_script.proofs.Common.{◌≡◌, ◌∙◌, ◌+◌, ℕ, List, ap, arith, length, length_push, map, refl, subst, suc, sym, ArePartsUpTo, Part}
 use Rattle.std.proofs.Common.{Bor}
-use Rattle.pref_script.proofs.PartFacts.{are-more}
+use Rattle.pref_script.proofs.PartLaws.{are-more}
 use Rattle.pref_script.proofs.parts.empty_parts.Goals as goal
 
 pub loop-client-preserved : goal.loop-client-preserved

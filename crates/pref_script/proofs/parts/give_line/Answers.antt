@@ -1,5 +1,5 @@
 use Rattle.pref_script.proofs.Common.{◌∙◌, ap, arith, inl, refl, Part, client_named}
-use Rattle.pref_script.proofs.PartFacts.{given-here, given-nobody}
+use Rattle.pref_script.proofs.PartLaws.{given-here, given-nobody}
 use Rattle.pref_script.proofs.parts.give_line.Goals as goal
 
 pub returns-in-Some-clause-parts : goal.returns-in-Some-clause-parts

@@ -1,5 +1,5 @@
 use Rattle.pref_script.proofs.Common.{arith, string_bytes, sym, Part}
-use Rattle.pref_script.proofs.TextFacts.{texts-end, texts-more}
+use Rattle.pref_script.proofs.TextLaws.{texts-end, texts-more}
 use Rattle.pref_script.proofs.parts.push_parts.Goals as goal
 
 pub loop-part-preserved : goal.loop-part-preserved

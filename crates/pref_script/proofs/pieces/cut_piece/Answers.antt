@@ -1,5 +1,5 @@
 use Rattle.pref_script.proofs.Common.{◌∙◌, ◌∷◌, ◌+◌, ◌-◌, ap, arith, drop, length, sym, take, length-drop, take_all, pieces_of}
-use Rattle.pref_script.proofs.SplitFacts.{split_first, split_none}
+use Rattle.pref_script.proofs.SplitLaws.{split_first, split_none}
 use Rattle.pref_script.proofs.pieces.cut_piece.Goals as goal
 
 pub returns-in-Some : goal.returns-in-Some

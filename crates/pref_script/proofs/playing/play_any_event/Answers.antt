@@ -1,4 +1,4 @@
-use Rattle.pref_script.proofs.PlayFacts.{plays_event}
+use Rattle.pref_script.proofs.PlayLaws.{plays_event}
 use Rattle.pref_script.proofs.playing.play_any_event.Goals as goal
 
 pub returns : goal.returns

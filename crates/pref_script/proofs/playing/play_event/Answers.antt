@@ -1,4 +1,4 @@
-use Rattle.pref_script.proofs.PlayFacts.{plays_done, plays_failed}
+use Rattle.pref_script.proofs.PlayLaws.{plays_done, plays_failed}
 use Rattle.pref_script.proofs.playing.play_event.Goals as goal
 
 pub returns-in-Ok : goal.returns-in-Ok

@@ -1,5 +1,5 @@
 use Rattle.pref_script.proofs.Common.{sym, ◌∙◌}
-use Rattle.pref_script.proofs.PlayFacts.{plays_refused}
+use Rattle.pref_script.proofs.PlayLaws.{plays_refused}
 use Rattle.pref_script.proofs.playing.play_line.Goals as goal
 
 pub returns-in_ok-push_refused-in-Err-Refused-clause-played : goal.returns-in_ok-push_refused-in-Err-Refused-clause-played

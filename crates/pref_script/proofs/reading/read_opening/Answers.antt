@@ -1,5 +1,5 @@
 use Rattle.pref_script.proofs.Common.{exits}
-use Rattle.pref_script.proofs.OutputFacts.{script-parts-fault, script-table-fault}
+use Rattle.pref_script.proofs.OutputLaws.{script-parts-fault, script-table-fault}
 use Rattle.pref_script.proofs.reading.read_opening.Goals as goal
 
 pub returns-in_err-text-clause-fault : goal.returns-in_err-text-clause-fault

@@ -1,6 +1,6 @@
 use Rattle.pref_script.proofs.Common.{refl, IfOk-weaker, exits, names_of, running_of}
-use Rattle.pref_script.proofs.OutputFacts.{script-ok, script-parts-fault, prints-played}
-use Rattle.pref_script.proofs.PlayFacts.{prints_output}
+use Rattle.pref_script.proofs.OutputLaws.{script-ok, script-parts-fault, prints-played}
+use Rattle.pref_script.proofs.PlayLaws.{prints_output}
 use Rattle.pref_script.proofs.run.reply_text.Goals as goal
 
 pub returns-in_err-table : goal.returns-in_err-table

@@ -1,6 +1,6 @@
 use Rattle.pref_script.proofs.Common.{◌∙◌, ap, append-nil, arith, commands_of, command_lines, length, length-append, names_of, sym}
-use Rattle.pref_script.proofs.PlayFacts.{playing_line}
-use Rattle.pref_script.proofs.ScriptFacts.{lines_empty}
+use Rattle.pref_script.proofs.PlayLaws.{playing_line}
+use Rattle.pref_script.proofs.ScriptLaws.{lines_empty}
 use Rattle.pref_script.proofs.run.reply_to_lines.Goals as goal
 
 pub loop-left-preserved : goal.loop-left-preserved

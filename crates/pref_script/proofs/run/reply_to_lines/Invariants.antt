@@ -1,5 +1,5 @@
 use Rattle.pref_script.proofs.Common.{◌≡◌, ◌+◌, ◌<◌, ◌^◌, length, string_bytes, commands_of, names_of, next_number, running_of, raw_lines}
-use Rattle.pref_script.proofs.PlayFacts.{Playing}
+use Rattle.pref_script.proofs.PlayLaws.{Playing}
 use Rattle.pref_script.proofs.run.reply_to_lines.Given as goal
 
 abbrev pub invariant-loop-left : goal.invariant-loop-left

@@ -1,5 +1,5 @@
 use Rattle.pref_script.proofs.Common.{◌∙◌, sym, arith}
-use Rattle.pref_script.proofs.ScriptFacts.{seen_all, seen_found, seen_more}
+use Rattle.pref_script.proofs.ScriptLaws.{seen_all, seen_found, seen_more}
 use Rattle.pref_script.proofs.script.cut_at_end.Goals as goal
 
 pub returns-then-is_end_line : goal.returns-then-is_end_line

@@ -1,5 +1,5 @@
 use Rattle.pref_script.proofs.Common.{length}
-use Rattle.pref_script.proofs.ScriptFacts.{Seen}
+use Rattle.pref_script.proofs.ScriptLaws.{Seen}
 use Rattle.pref_script.proofs.script.cut_at_end.Given as goal
 
 abbrev pub invariant-loop-left : goal.invariant-loop-left

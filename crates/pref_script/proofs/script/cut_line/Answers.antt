@@ -1,5 +1,5 @@
 use Rattle.pref_script.proofs.Common.{arith, take_all, drop_all}
-use Rattle.pref_script.proofs.ScriptFacts.{lines_at, lines_last}
+use Rattle.pref_script.proofs.ScriptLaws.{lines_at, lines_last}
 use Rattle.pref_script.proofs.script.cut_line.Goals as goal
 
 pub returns-in-Some-clause-lines : goal.returns-in-Some-clause-lines

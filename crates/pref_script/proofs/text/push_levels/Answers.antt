@@ -1,5 +1,5 @@
 use Rattle.pref_script.proofs.Common.{arith, sym, level_line}
-use Rattle.pref_script.proofs.TextFacts.{texts-end, texts-more}
+use Rattle.pref_script.proofs.TextLaws.{texts-end, texts-more}
 use Rattle.pref_script.proofs.text.push_levels.Goals as goal
 
 pub loop-ranked-preserved : goal.loop-ranked-preserved

@@ -1,6 +1,6 @@
 use Rattle.pref_script.proofs.Common.{append_assoc, arith}
 use Rattle.std.proofs.lemmas.Int.{to_z-of_z}
-use Rattle.pref_script.proofs.BytesFacts.{row_text-more}
+use Rattle.pref_script.proofs.BytesLaws.{row_text-more}
 use Rattle.pref_script.proofs.text.push_row.Goals as goal
 
 pub loop-col-preserved : goal.loop-col-preserved

@@ -1,4 +1,4 @@
-use Rattle.pref_script.proofs.ThreadsFacts.{holds-nobody}
+use Rattle.pref_script.proofs.ThreadsLaws.{holds-nobody}
 use Rattle.pref_script.proofs.threads.run_script_on_threads.Goals as goal
 
 pub returns-clause-nobody : goal.returns-clause-nobody

@@ -1,6 +1,6 @@
 use Rattle.pref_script.proofs.Common.{◌∙◌, arith, exits}
-use Rattle.pref_script.proofs.PartFacts.{parts-few}
-use Rattle.pref_script.proofs.ThreadsFacts.{commands-short, prints-fault, prints-joint, prints-none, prints-refused}
+use Rattle.pref_script.proofs.PartLaws.{parts-few}
+use Rattle.pref_script.proofs.ThreadsLaws.{commands-short, prints-fault, prints-joint, prints-none, prints-refused}
 use Rattle.pref_script.proofs.threads.run_threads.Goals as goal
 
 pub returns-in_err-schema : goal.returns-in_err-schema

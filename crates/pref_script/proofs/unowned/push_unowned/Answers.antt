@@ -1,5 +1,5 @@
 use Rattle.pref_script.proofs.Common.{◌∙◌, length, sym}
-use Rattle.pref_script.proofs.CommandFacts.{unowned-blank, unowned-event, unowned-refused}
+use Rattle.pref_script.proofs.CommandLaws.{unowned-blank, unowned-event, unowned-refused}
 use Rattle.pref_script.proofs.unowned.push_unowned.Goals as goal
 
 pub returns-then-is_blank_line-clause-returned : goal.returns-then-is_blank_line-clause-returned

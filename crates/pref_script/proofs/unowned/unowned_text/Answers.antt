@@ -1,6 +1,6 @@
 use Rattle.pref_script.proofs.Common.{◌∙◌, ap, append-nil, arith, commands_of, exits, length, length-append, sym, texts}
-use Rattle.pref_script.proofs.CommandFacts.{unowned-more}
-use Rattle.pref_script.proofs.ScriptFacts.{lines_empty}
+use Rattle.pref_script.proofs.CommandLaws.{unowned-more}
+use Rattle.pref_script.proofs.ScriptLaws.{lines_empty}
 use Rattle.pref_script.proofs.unowned.unowned_text.Goals as goal
 
 pub loop-left-preserved : goal.loop-left-preserved

@@ -1,5 +1,5 @@
 use Rattle.pref_script.proofs.Common.{◌≡◌, ◌∙◌, ap, arith, length, sym, Some, position_or_len, ne_eqb, is_blank, is_numeral-some, word_of}
-use Rattle.pref_script.proofs.WordsFacts.{after_at, number-empty, number-is, number-over, word_size}
+use Rattle.pref_script.proofs.WordsLaws.{after_at, number-empty, number-is, number-over, word_size}
 use Rattle.pref_script.proofs.words.cut_number.Goals as goal
 
 pub returns-then-size-eq0-clause-cut : goal.returns-then-size-eq0-clause-cut

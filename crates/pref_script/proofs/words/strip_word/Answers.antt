@@ -1,5 +1,5 @@
 use Rattle.pref_script.proofs.Common.{passes_at_first, true≢false, arith, eqb-false, eqb-true, is_blank}
-use Rattle.pref_script.proofs.WordsFacts.{rest_first, word_at, word_place, word_stripped}
+use Rattle.pref_script.proofs.WordsLaws.{rest_first, word_at, word_place, word_stripped}
 use Rattle.std.proofs.lemmas.Bool.{false_from_ne_true}
 use Rattle.pref_script.proofs.words.strip_word.Goals as goal
 

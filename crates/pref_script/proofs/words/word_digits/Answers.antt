@@ -1,5 +1,5 @@
 use Rattle.pref_script.proofs.Common.{◌≡◌, ◌∙◌, ◌+◌, true, drop, length, get_or, subst, sym, ap, arith, rules, None, ◌&&◌, is_ascii_digit, all_ascii_digits, digits_next, IsDigitsWord, word_of}
-use Rattle.pref_script.proofs.WordsFacts.{digit_not_blank, digits_word, number-large, number-others, value_more, word_goes_on}
+use Rattle.pref_script.proofs.WordsLaws.{digit_not_blank, digits_word, number-large, number-others, value_more, word_goes_on}
 use Rattle.pref_script.proofs.words.word_digits.Goals as goal
 
 pub returns-then-is_blank_byte : goal.returns-then-is_blank_byte

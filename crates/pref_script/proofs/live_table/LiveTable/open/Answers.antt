@@ -1,5 +1,5 @@
 use Rattle.pref_script.proofs.Common.{arith, ◌∙◌, ap, exits, table_of}
-use Rattle.pref_script.proofs.OutputFacts.{script-core-fault, script-table-fault}
+use Rattle.pref_script.proofs.OutputLaws.{script-core-fault, script-table-fault}
 use Rattle.pref_script.proofs.live_table.LiveTable.open.Goals as goal
 
 pub returns-in_err-schema-clause-fault : goal.returns-in_err-schema-clause-fault

@@ -1,6 +1,6 @@
 use Rattle.pref_script.proofs.Common.{◌∙◌, ◌∷◌, ◌+◌, [], ap, arith, refl, Part}
 use Rattle.pref_script.specs.ClientParts.{acts_by}
-use Rattle.pref_script.proofs.PartFacts.{command-next, commands-none, gone-act, gone-refused, returned-on}
+use Rattle.pref_script.proofs.PartLaws.{command-next, commands-none, gone-act, gone-refused, returned-on}
 use Rattle.pref_script.proofs.parts.PartTask.next.Goals as goal
 
 pub loop-self-preserved : goal.loop-self-preserved

@@ -1,5 +1,5 @@
 use Rattle.pref_script.proofs.Common.{◌-◌, [], vec_len}
-use Rattle.pref_script.proofs.PartFacts.{HasGone}
+use Rattle.pref_script.proofs.PartLaws.{HasGone}
 use Rattle.pref_script.proofs.parts.PartTask.next.Given as goal
 
 abbrev pub invariant-loop-self : goal.invariant-loop-self

@@ -1,5 +1,5 @@
 use Rattle.pref_script.proofs.Common.{◌∙◌, ◌++◌, ℕ, ap, refl, string_bytes, on_ok_weaker, reply_lines}
-use Rattle.pref_script.proofs.PartFacts.{returned-more}
+use Rattle.pref_script.proofs.PartLaws.{returned-more}
 use Rattle.pref_script.proofs.parts.PartTask.take.Goals as goal
 
 pub returns-clause-taken : goal.returns-clause-taken

@@ -1,6 +1,6 @@
 use Rattle.pref_script.proofs.Common.{arith, exits, length-append, IfOk-weaker, take_rest, is_at_end, unread}
 use Rattle.std.proofs.lemmas.Result.{IfErr-weaker}
-use Rattle.pref_script.proofs.LineFacts.{last_at, long_none, long_some, whole_at}
+use Rattle.pref_script.proofs.LineLaws.{last_at, long_none, long_some, whole_at}
 use Rattle.pref_script.proofs.read_ahead.ReadAhead.read_line.Goals as goal
 
 pub returns-in-Some-clause-line : goal.returns-in-Some-clause-line

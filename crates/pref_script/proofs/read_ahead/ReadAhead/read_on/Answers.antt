@@ -1,5 +1,5 @@
 use Rattle.pref_script.proofs.Common.{◌∙◌, ap, arith, exits, length, rules, sym, take_rest, unread}
-use Rattle.pref_script.proofs.LineFacts.{behind_more, little_behind, none_found, none_more, once_more}
+use Rattle.pref_script.proofs.LineLaws.{behind_more, little_behind, none_found, none_more, once_more}
 use Rattle.pref_script.proofs.read_ahead.ReadAhead.read_on.Goals as goal
 
 pub loop-seen-init : goal.loop-seen-init

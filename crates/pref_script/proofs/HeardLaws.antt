@@ -5,9 +5,9 @@ use Rattle.pref_script.proofs.Common.{take-append-add, fails_before_first, passe
 use Rattle.pref_script.proofs.Common.{commands_of, HeardScript, Hears, EndsWithLine, IsHeard, IsTooLong, NoneLeft, RanLive, StopsEarly, StopsInLine, PrintsNext, PrintsLine, names_of, next_number}
 use Rattle.pref_script.proofs.Common.{command_lines, output, script_of, IsLittle, IsLong, ReadBehind, ReadSome, unread, Sink, Source, WroteAll, WroteBeginning, Parts, is_end_line, parts_of, raw_lines}
 use Rattle.pref_script.proofs.Common.{without_line_end, LiveTable, ReadAhead}
-use Rattle.pref_script.proofs.BlockFacts.{first_too_long, long_among}
-use Rattle.pref_script.proofs.LineFacts.{ends_more, front_is, line_at, little_later, little_left, some_none}
-use Rattle.pref_script.proofs.OutputFacts.{cut_of, script-ok}
+use Rattle.pref_script.proofs.BlockLaws.{first_too_long, long_among}
+use Rattle.pref_script.proofs.LineLaws.{ends_more, front_is, line_at, little_later, little_left, some_none}
+use Rattle.pref_script.proofs.OutputLaws.{cut_of, script-ok}
 
 -- the parts of a script, some command lines more
 pub parts_more : (lines more : List (List ℕ)) (parts : Parts) → parts_of lines ≡ Ok parts → parts_of (lines ++ more) ≡ Ok (record { table = parts.table; commands = parts.commands ++ more; first = parts.first })

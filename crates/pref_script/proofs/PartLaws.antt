@@ -19,8 +19,8 @@ use Rattle.pref_share.specs.Reports.{AreTaken}
 use Rattle.pref_share.proofs.RunsLaws.{there}
 use Rattle.pref_script.specs.ClientParts.{AreAccepted, IsCommandOf, IsWhole, act_in, acts_by, commands_left, event_by}
 use Rattle.pref_script.specs.Commands.{event_said}
-use Rattle.pref_script.proofs.CommandFacts.{accepted_events-append, event_in, events-any_number, events-in, events-of_lines, lines-few, unowned-blank, unowned-own}
-use Rattle.pref_script.proofs.TextFacts.{texts-append}
+use Rattle.pref_script.proofs.CommandLaws.{accepted_events-append, event_in, events-any_number, events-in, events-of_lines, lines-few, unowned-blank, unowned-own}
+use Rattle.pref_script.proofs.TextLaws.{texts-append}
 
 -- the event of a line is of the client that it names
 pub event-named : (names : List (List ℕ)) (line : List ℕ) (event : Event) → event_of names line ≡ Ok event → client_named line ≡ Some event.client

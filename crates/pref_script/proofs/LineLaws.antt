@@ -3,7 +3,7 @@ use Rattle.pref_script.proofs.Common.{◌≡◌, ◌∙◌, ℕ, ◌+◌, ◌-�
 use Rattle.pref_script.proofs.Common.{Some, None, ◌⊎◌, Consumes-nil, Consumes-trans, append-nil, drop-append-le, drop_all, get_or-drop, get_or-take, get_or_append_left}
 use Rattle.pref_script.proofs.Common.{length-append, length-drop, length-take, take-append-le, take_all, take-add, is_some, IsFirstByte, is_byte, EndsWithLine, IsLineAt}
 use Rattle.pref_script.proofs.Common.{IsLittle, IsLong, IsWhole, NoLineFeed, ReadBehind, ReadOnce, ReadSome, between, is_at_end, unread, raw_lines, ReadAhead}
-use Rattle.pref_script.proofs.ScriptFacts.{lines_at, lines_last, lines_none}
+use Rattle.pref_script.proofs.ScriptLaws.{lines_at, lines_last, lines_none}
 
 -- something was read, and then something more
 pub behind_more : (a b c : Option (List ℕ)) (x y z : ReadAhead) → ReadBehind a b x y → ReadBehind b c y z → ReadBehind a c x z

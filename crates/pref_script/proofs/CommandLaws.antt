@@ -4,7 +4,7 @@ use Rattle.pref_script.proofs.Common.{if◌then◌else◌, list_all, append-nil,
 use Rattle.pref_script.proofs.Common.{commands_in, commands_of, event_of, raw_lines, without_line_end, refused_line, reply_lines, texts, is_client, unowned_lines, Refusal}
 use Rattle.pref_core.specs.declared.event.Reply.TheVariants.{Refused as NotThere}
 use Rattle.pref_core.specs.declared.fault.CoreFault.TheVariants.{NoSuchClient}
-use Rattle.pref_script.proofs.TextFacts.{texts-append}
+use Rattle.pref_script.proofs.TextLaws.{texts-append}
 
 -- the events of commands and more commands
 pub accepted_events-append : (xs ys : List Command) → accepted_events (xs ++ ys) ≡ accepted_events xs ++ accepted_events ys

@@ -4,8 +4,8 @@ use Rattle.pref_script.proofs.Common.{Err, inl, inr, ◌⊎◌, append-nil, drop
 use Rattle.pref_script.proofs.Common.{take-append-le, take_all, take_at, fails_before_first, passes_at_first, position_or_len_is, get_or-append_seam, is_byte, Consumes-trans, Consumes, concat}
 use Rattle.pref_script.proofs.Common.{position_or_len, HearsNone, IsBlock, LacksBlock, ReadsBlock, EndsWithLine, HeardNone, IsTooLong, IsLineAt, IsLittle, IsLong, LineFault, NoLineFeed, ReadBehind}
 use Rattle.pref_script.proofs.Common.{ReadSome, between, is_at_end, unread, Source, block_lines, is_end_line, is_table_line, parts_of, raw_lines, RunFault, ReadAhead}
-use Rattle.pref_script.proofs.LineFacts.{behind_more, ends_more, front_is, front_more, line_at, little_left, none_behind, none_in_front, same_front}
-use Rattle.pref_script.proofs.ScriptFacts.{concat-push, lines_at, lines_last, lines_none, script-none}
+use Rattle.pref_script.proofs.LineLaws.{behind_more, ends_more, front_is, front_more, line_at, little_left, none_behind, none_in_front, same_front}
+use Rattle.pref_script.proofs.ScriptLaws.{concat-push, lines_at, lines_last, lines_none, script-none}
 use Rattle.pref_script.specs.declared.fault.RunFault.TheVariants as fault
 
 -- a text is the line `table`, which has this length, and so many lines that are no line `end`

@@ -7,7 +7,7 @@ use Rattle.std.proofs.lemmas.List.{nil_from_length}
 use Rattle.std.proofs.lemmas.List.Folds.{concat-append}
 use Rattle.std.proofs.lemmas.List.Splits.{length-slice_split}
 use Rattle.pref_script.specs.declared.fault.RunFault.TheVariants.{NoTable}
-use Rattle.pref_script.proofs.SplitFacts.{drop_here, split_first, split_none}
+use Rattle.pref_script.proofs.SplitLaws.{drop_here, split_first, split_none}
 
 -- a text cut after its first line feed
 pub lines_at : (text : List ℕ) (place : ℕ) → IsFirstByte (is_byte 10) text (Some place) → raw_lines text ≡ take (place + 1) text ∷ raw_lines (drop (place + 1) text)

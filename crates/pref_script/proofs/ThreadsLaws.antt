@@ -2,7 +2,7 @@
 use Rattle.pref_script.proofs.Common.{◌≡◌, ◌∙◌, ℕ, ◌+◌, ◌<◌, ◌≤◌, ◌^◌, arith, map, Bool, List, ◌++◌, length, refl, sym, subst, Result, Ok, Err, IfErr, ◌⊎◌, inl, inr, ℤ, Vec, string_bytes, All, [], Limits}
 use Rattle.pref_script.proofs.Common.{AllGiven, AreParts, HasReplied, acts_left, accepted_events, commands_of, ScriptFault, script_of, script_with, IsOpeningOf, share_fault, raw_lines}
 use Rattle.pref_script.proofs.Common.{texts, Sink, Wrote, AreActs, ClosesOrStops, HoldsNobody, PrintsOnThreads, always_open, opening_of, unowned_lines, RunFault, Part, Act, CoreFault}
-use Rattle.pref_script.proofs.OutputFacts.{script-core-fault, script-ok}
+use Rattle.pref_script.proofs.OutputLaws.{script-core-fault, script-ok}
 use Rattle.std.specs.declared.marker.Brand.{Brand}
 use Rattle.pref_share.specs.Openings.{Opening}
 use Rattle.pref_share.specs.Reports.{RanTasks}
@@ -12,7 +12,7 @@ use Rattle.pref_share.proofs.InterleavingsLaws.{length-newcomers}
 use Rattle.pref_share.proofs.ReportsLaws.{first_stops}
 use Rattle.pref_script.specs.ClientParts.{IsWhole}
 use Rattle.pref_script.specs.declared.reading.Opening.{Opening as OpeningRead}
-use Rattle.pref_script.proofs.PartFacts.{acts_from, acts-listed, are-acts, parts-shown, unowned-none}
+use Rattle.pref_script.proofs.PartLaws.{acts_from, acts-listed, are-acts, parts-shown, unowned-none}
 use Rattle.pref_core.specs.declared.fault.CoreFault.TheVariants as core
 use Rattle.pref_share.specs.declared.fault.ShareFault.TheVariants as share
 use Rattle.pref_script.specs.declared.fault.RunFault.TheVariants as fault

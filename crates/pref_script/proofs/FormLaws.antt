@@ -2,7 +2,7 @@
 use Rattle.pref_script.proofs.Common.{◌≡◌, ℕ, ◌-◌, ◌≤◌, true, List, [], ◌∷◌, length, drop, get_or, arith, Some}
 use Rattle.pref_script.proofs.Common.{is_ascii_digit, prefix_len_is, after_blanks, is_blank, client_named, said_in, said_by_client, after_word, word_number, word_of}
 use Rattle.std.specs.Int.{IsInRange}
-use Rattle.pref_script.proofs.WordsFacts.{digit_not_blank, number-is}
+use Rattle.pref_script.proofs.WordsLaws.{digit_not_blank, number-is}
 
 -- the number of one digit
 digit_number : (digit : ℕ) → IsInRange 48 57 digit → is_ascii_digit digit ≡ true → word_number 255 (digit ∷ []) ≡ Some (digit - 48)

@@ -5,10 +5,10 @@ use Rattle.pref_script.proofs.Common.{IsBlock, LacksBlock, OpensLive, ReadsBlock
 use Rattle.pref_script.proofs.Common.{next_number, ScriptFault, script_of, IsLittle, ReadBehind, ReadSome, between, is_at_end, unread, Keeps, NothingWritten, Sink, Source, WroteAll}
 use Rattle.pref_script.proofs.Common.{WroteBeginning, Wrote, Parts, block_lines, is_end_line, parts_of, raw_lines, RunFault, LiveTable, ReadAhead}
 use Rattle.pref_script.specs.declared.live.TableBlock.{TableBlock}
-use Rattle.pref_script.proofs.BlockFacts.{all_read, hears_part}
-use Rattle.pref_script.proofs.HeardFacts.{heard_too_long, hears_next, parts_more, since, stops_early, stops_writing}
-use Rattle.pref_script.proofs.LineFacts.{little_left}
-use Rattle.pref_script.proofs.OutputFacts.{cut_of, script-parts}
+use Rattle.pref_script.proofs.BlockLaws.{all_read, hears_part}
+use Rattle.pref_script.proofs.HeardLaws.{heard_too_long, hears_next, parts_more, since, stops_early, stops_writing}
+use Rattle.pref_script.proofs.LineLaws.{little_left}
+use Rattle.pref_script.proofs.OutputLaws.{cut_of, script-parts}
 use Rattle.pref_script.specs.declared.fault.RunFault.TheVariants as fault
 
 -- the reader has come to its end

@@ -6,7 +6,7 @@ use Rattle.std.proofs.lemmas.Bool.{cases_Bool}
 use Rattle.pref_core.specs.Changes.{commit_of}
 use Rattle.pref_core.specs.declared.changes.Change.{Change}
 use Rattle.pref_table.proofs.NumberedFacts.{all_from-all, all_from-fails_at, all_from-more, all_from-none}
-use Rattle.pref_script.proofs.SplitFacts.{drop_here}
+use Rattle.pref_script.proofs.SplitLaws.{drop_here}
 use Rattle.pref_script.specs.Pieces.{ChangeSaid}
 use Rattle.pref_script.specs.declared.command.Refusal.TheVariants.{NotCommand}
 use Rattle.pref_script.specs.declared.command.Stop.{Stop}
