@@ -1,7 +1,7 @@
 -- Lines that are read ahead.
-use Rattle.pref_script.proofs.Common.{◌≡◌, ◌∙◌, ℕ, ◌+◌, ◌-◌, ◌<◌, ◌≤◌, true, false, Bool, List, [], ◌∷◌, ◌++◌, length, take, drop, get_or, ap, refl, sym, subst, arith, append_assoc, eq-eqb, Option}
+use Rattle.pref_script.proofs.Common.{◌≡◌, ◌∙◌, ℕ, ◌+◌, ◌-◌, ◌<◌, ◌≤◌, true, List, [], ◌∷◌, ◌++◌, length, take, drop, get_or, ap, refl, sym, subst, arith, append_assoc, cases_lt, eq-eqb, eqb-true, ◌==◌, inl, inr, Option}
 use Rattle.pref_script.proofs.Common.{Some, None, ◌⊎◌, Consumes-nil, Consumes-trans, append-nil, drop-append-le, drop_all, get_or-drop, get_or-take, get_or_append_left}
-use Rattle.pref_script.proofs.Common.{length-append, length-drop, length-take, take-append-le, take_all, take-add, is_some, IsFirstByte, is_byte, EndsWithLine, IsLineAt}
+use Rattle.pref_script.proofs.Common.{length-append, length-drop, length-take, take-append-le, take_all, take-add, IsFirstByte, is_byte, EndsWithLine, IsLineAt}
 use Rattle.pref_script.proofs.Common.{IsLittle, IsLong, IsWhole, NoLineFeed, ReadBehind, ReadOnce, ReadSome, between, is_at_end, unread, raw_lines, ReadAhead}
 use Rattle.pref_script.proofs.ScriptLaws.{lines_at, lines_last, lines_none}
 
@@ -14,12 +14,8 @@ line_first : (text : List ℕ) (place : ℕ) → IsFirstByte (is_byte 10) text (
 line_first text place found = λ more. grind (arith, lines_at (take (place + 1) text ++ more) place, length-take, get_or_append_left, get_or-take, take-append-le, take_all, drop-append-le, drop_all)
 
 -- the line that a line feed ends
-pub whole_at : (a : ReadAhead) (from place : ℕ) → IsFirstByte (is_byte 10) (drop from (unread a)) (Some place) → IsLineAt from (from + place + 1) a
+whole_at : (a : ReadAhead) (from place : ℕ) → IsFirstByte (is_byte 10) (drop from (unread a)) (Some place) → IsLineAt from (from + place + 1) a
 whole_at a from place found = grind (arith, line_first (drop from (unread a)) place found)
-
--- the last line
-pub last_at : (a : ReadAhead) (from : ℕ) → from ≤ length (unread a) → IsFirstByte (is_byte 10) (drop from (unread a)) None → is_at_end a ≡ true → IsLineAt from (length (unread a)) a
-last_at a from inside none ended = grind (arith, take_all, length-drop, lines_none, lines_last)
 
 -- ---- line feeds
 
@@ -31,14 +27,29 @@ at_place text from place low = grind (arith, get_or-drop)
 pub none_met : (text : List ℕ) (from : ℕ) → IsFirstByte (is_byte 10) (drop from text) None → NoLineFeed from (length text) text
 none_met text from none = λ place low high at. none (place - from) (omega arith) (omega (arith, length-drop from text)) (eq-eqb _ 10 (at_place text from place low ∙ at))
 
--- the same where the answer says so
-pub none_found : (text : List ℕ) (from : ℕ) (found : Option ℕ) → IsFirstByte (is_byte 10) (drop from text) found → is_some found ≡ false → NoLineFeed from (length text) text
-none_found text from None none nowhere = none_met text from none
-none_found text from (Some place) none nowhere = absurd (cc)
+-- none up to a place, and none from there on
+pub none_on : (from seen : ℕ) (text : List ℕ) → NoLineFeed from seen text → IsFirstByte (is_byte 10) (drop seen text) None → NoLineFeed from (length text) text
+none_on from seen text before after = λ place low high at. elim (cases_lt place seen) [ inl left ↦ before place low left at | inr right ↦ none_met text seen after place right high at ]
 
--- none where it went on, and none before that
-pub none_more : (from : ℕ) (old more new : List ℕ) → new ≡ old ++ more → NoLineFeed from (length old) old → NoLineFeed (length old) (length new) new → NoLineFeed from (length new) new
-none_more from old more new is before after = grind (arith, get_or_append_left)
+-- none up to a place, and the first one from there on
+first_on : (text : List ℕ) (from seen place : ℕ) → from ≤ seen → NoLineFeed from seen text → IsFirstByte (is_byte 10) (drop seen text) (Some place) → IsFirstByte (is_byte 10) (drop from text) (Some (seen - from + place))
+first_on text from seen place later before found =
+    let none : NoLineFeed from (seen + place) text = λ k low high at. elim (cases_lt k seen) [
+      | inl left ↦ before k low left at
+      | inr right ↦ found.0.before (k - seen) (omega arith) (omega (arith, high, right)) (eq-eqb _ 10 (at_place text seen k right ∙ at))
+    ] in
+    let same : get_or (drop from text) (seen - from + place) 0 ≡ get_or (drop seen text) place 0 = get_or-drop from text (seen - from + place) 0 ∙ ap (λ (k : ℕ). get_or text k 0) (omega (arith, later)) ∙ sym (get_or-drop seen text place 0) in (
+      record {
+        low = omega arith;
+        high = omega (arith, found.0.high, later, length-drop from text, length-drop seen text);
+        before = λ k low high is. none (from + k) (omega arith) (omega (arith, high, later)) (sym (get_or-drop from text k 0) ∙ eqb-true _ 10 is);
+      },
+      ap (λ (byte : ℕ). byte == 10) same ∙ found.1,
+    )
+
+-- none up to the end
+first_none : (text : List ℕ) (from : ℕ) → NoLineFeed from (length text) text → IsFirstByte (is_byte 10) (drop from text) None
+first_none text from none = λ k low high is. none (from + k) (omega arith) (omega (arith, high, length-drop from text)) (sym (get_or-drop from text k 0) ∙ eqb-true _ 10 is)
 
 -- none in a text with others behind it
 pub none_in_front : (from end : ℕ) (text more : List ℕ) → NoLineFeed from end text → end ≤ length text → NoLineFeed from end (text ++ more)
@@ -74,12 +85,28 @@ little_left from text little = grind (arith, length-drop, get_or-drop)
 -- ---- a line
 
 -- the line that was found ends too far away
-pub long_some : (text : List ℕ) (from place : ℕ) → IsFirstByte (is_byte 10) (drop from text) (Some place) → 16777216 < from + place + 1 → IsLong from text
+long_some : (text : List ℕ) (from place : ℕ) → IsFirstByte (is_byte 10) (drop from text) (Some place) → 16777216 < from + place + 1 → IsLong from text
 long_some text from place found long = grind (arith, at_place, length-drop)
 
+-- the same of a search that began behind the line's begin
+pub whole_on : (a : ReadAhead) (from seen place end : ℕ) → from ≤ seen → NoLineFeed from seen (unread a) → IsFirstByte (is_byte 10) (drop seen (unread a)) (Some place) → end ≡ seen + place + 1 → IsLineAt from end a
+whole_on a from seen place end later none found is = subst (λ (n : ℕ). IsLineAt from n a) (omega (arith, later, is)) (whole_at a from (seen - from + place) (first_on (unread a) from seen place later none found))
+
+pub long_on : (text : List ℕ) (from seen place : ℕ) → from ≤ seen → NoLineFeed from seen text → IsFirstByte (is_byte 10) (drop seen text) (Some place) → 16777216 < seen + place + 1 → IsLong from text
+long_on text from seen place later none found long = long_some text from (seen - from + place) (first_on text from seen place later none found) (omega (arith, later, long))
+
 -- no line end was found, and more is there than a line has
-pub long_none : (text : List ℕ) (from : ℕ) (ended : Bool) → IsFirstByte (is_byte 10) (drop from text) None → (NoLineFeed from (length text) text → ended ≡ false → 16777216 < length text) → (ended ≡ true → 16777216 < length text) → IsLong from text
-long_none text from ended none before after = grind (arith, none_met text from none)
+pub long_none : (from : ℕ) (text : List ℕ) → NoLineFeed from (length text) text → 16777216 < length text → IsLong from text
+long_none from text none long = (λ place low high. none place low (omega arith), long)
+
+-- the last line
+last_at : (a : ReadAhead) (from : ℕ) → from ≤ length (unread a) → NoLineFeed from (length (unread a)) (unread a) → is_at_end a ≡ true → IsLineAt from (length (unread a)) a
+last_at a from inside none ended = grind (arith, take_all, length-drop, lines_none, lines_last (drop from (unread a)), first_none (unread a) from none)
+
+-- the same where a line that goes on would be too long
+pub last_within : (a : ReadAhead) (from end : ℕ) → from ≤ length (unread a) → NoLineFeed from (length (unread a)) (unread a) → (is_at_end a ≡ true) ⊎ (16777216 < length (unread a)) → end ≡ length (unread a) → end ≤ 16777216 → IsLineAt from end a
+last_within a from end inside none (inl ended) is most = subst (λ (n : ℕ). IsLineAt from n a) (sym is) (last_at a from inside none ended)
+last_within a from end inside none (inr long) is most = absurd (omega (arith, long, is, most))
 
 -- a whole line is one line
 pub one_line : (line : List ℕ) → IsWhole line → raw_lines line ≡ line ∷ []
@@ -104,6 +131,11 @@ front_more stop end text inside = grind (arith, take-add stop (end - stop) text)
 -- what stands at a line: one line, which is whole or the last
 pub line_at : (a : ReadAhead) (from end : ℕ) → IsLineAt from end a → from < end → (raw_lines (between from end (unread a)) ≡ between from end (unread a) ∷ []) × (EndsWithLine (between from end (unread a)) ⊎ (is_at_end a ≡ true) × (end ≡ length (unread a)))
 line_at a from end at inside = grind (arith, one_line)
+
+-- what was read behind what was there
+pub some_behind : (a b : Option (List ℕ)) (x y : ReadAhead) (from : ℕ) → ReadBehind a b x y → (IsLittle from (unread x) → IsLittle from (unread y)) → ReadSome a b from x
+some_behind a b x y from read little =
+    record { bytes = read.bytes; consumed = read.consumed; no_more = λ e. ((read.no_more e).0, λ end. read.at_end (λ _. end) (read.no_more e).1); little = λ few. subst (IsLittle from) read.behind (little few) }
 
 -- nothing was read
 pub some_none : (a : Option (List ℕ)) (x : ReadAhead) (from : ℕ) → ReadSome a a from x

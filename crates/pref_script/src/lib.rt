@@ -11,7 +11,6 @@ mod commits;
 mod fault;
 mod forms;
 mod input;
-mod lines;
 mod live;
 mod live_table;
 mod output;

@@ -1,57 +1,65 @@
-use Rattle.pref_script.proofs.Common.{arith, exits, length-append, IfOk-weaker, take_rest, is_at_end, unread}
+use Rattle.pref_script.proofs.Common.{◌≡◌, ◌∙◌, ◌<◌, ◌⊎◌, true, inl, inr, ap, arith, length, length-append, rules, IfOk-weaker, is_at_end, take_rest, unread}
 use Rattle.std.proofs.lemmas.Result.{IfErr-weaker}
-use Rattle.pref_script.proofs.LineLaws.{last_at, long_none, long_some, whole_at}
+use Rattle.pref_script.proofs.LineLaws.{behind_more, last_within, little_behind, long_none, long_on, none_in_front, none_on, once_more, some_behind, whole_on}
 use Rattle.pref_script.proofs.read_ahead.ReadAhead.read_line.Goals as goal
 
-pub returns-in-Some-clause-line : goal.returns-in-Some-clause-line
-returns-in-Some-clause-line g c = grind (arith, take_rest, IfOk-weaker, whole_at)
+pub loop-place-init : goal.loop-place-init
+loop-place-init g c = record { later = omega arith; inside = omega arith; behind = search rules; none = λ place low high. absurd (omega (arith, low, high)); little = λ few. few }
 
-pub returns-in-None-clause-line : goal.returns-in-None-clause-line
-returns-in-None-clause-line g c = grind (arith, take_rest, length-append, IfOk-weaker, last_at)
-
-pub returns-in-Some-clause-fault : goal.returns-in-Some-clause-fault
-returns-in-Some-clause-fault g c = grind (arith, take_rest, IfErr-weaker, long_some)
-
-pub returns-in-None-clause-fault : goal.returns-in-None-clause-fault
-returns-in-None-clause-fault g c =
-    let none = rw (take_rest (unread c.read_on.new.self) c.args.from) at (rw c.as_slice.ensures at c.in-None.ensures) in
-    IfErr-weaker c.last_end.result _ _ (λ why (is, ended). rw is (c.in_ok-read_on.ensures.ok, long_none (unread c.read_on.new.self) c.args.from (is_at_end c.read_on.new.self) none c.in_ok-read_on.ensures.long ended)) c.last_end.ensures.fault
+pub loop-place-preserved : goal.loop-place-preserved
+loop-place-preserved g c =
+    let so_far = c.loop-place.invariant in
+    let all = unread c.loop-place.self in
+    let read = c.in_ok-read_more.ensures.ok in
+    let none = none_on c.args.from c.loop-place.seen all so_far.none (rw (take_rest all c.loop-place.seen) at (rw c.as_slice.ensures at c.in_default.ensures)) in
+    record {
+      later = omega (arith, so_far.later, so_far.inside, ap length c.as_slice-seen.ensures);
+      inside = omega (arith, ap length c.as_slice-seen.ensures, ap length read.behind, length-append all read.bytes);
+      behind = behind_more _ _ _ _ _ _ so_far.behind read;
+      none = rw (read.behind, ap length c.as_slice-seen.ensures) (none_in_front c.args.from (length all) all read.bytes none (omega arith));
+      little = λ _. little_behind _ _ _ _ c.args.from read none (grind arith) c.in_ok-read_more.ensures.few;
+    }
 
 pub returns-in-Some-clause-behind : goal.returns-in-Some-clause-behind
-returns-in-Some-clause-behind g c = IfOk-weaker c.end_within.result _ _ (λ _ _. c.in_ok-read_on.ensures.ok) c.end_within.ensures.ok
+returns-in-Some-clause-behind g c = IfOk-weaker c.end_within.result _ _ (λ _ _. c.loop-place.invariant.behind) c.end_within.ensures.ok
 
-pub returns-in-None-clause-behind : goal.returns-in-None-clause-behind
-returns-in-None-clause-behind g c = IfOk-weaker c.last_end.result _ _ (λ _ _. c.in_ok-read_on.ensures.ok) c.last_end.ensures.ok
+pub returns-in-Some-clause-line : goal.returns-in-Some-clause-line
+returns-in-Some-clause-line g c =
+    let so_far = c.loop-place.invariant in
+    let all = unread c.loop-place.self in
+    let found = rw (take_rest all c.loop-place.seen) at (rw c.as_slice.ensures at c.in-Some.ensures) in
+    IfOk-weaker c.end_within.result _ _ (λ end (is, most). whole_on c.loop-place.self c.args.from c.loop-place.seen c.in-Some.place end so_far.later so_far.none found is) c.end_within.ensures.ok
 
-pub returns-in-Some-clause-little : goal.returns-in-Some-clause-little
-returns-in-Some-clause-little g c = IfOk-weaker c.end_within.result _ _ (λ _ _. c.in_ok-read_on.ensures.little) c.end_within.ensures.ok
-
-pub returns-in-None-clause-little : goal.returns-in-None-clause-little
-returns-in-None-clause-little g c = IfOk-weaker c.last_end.result _ _ (λ _ _. c.in_ok-read_on.ensures.little) c.last_end.ensures.ok
-
-pub returns-in-Some-clause-most : goal.returns-in-Some-clause-most
-returns-in-Some-clause-most g c = IfOk-weaker c.end_within.result _ _ (λ _ (is, most). rw is most) c.end_within.ensures.ok
-
-pub returns-in-None-clause-most : goal.returns-in-None-clause-most
-returns-in-None-clause-most g c = IfOk-weaker c.last_end.result _ _ (λ _ (ended, is, most). most) c.last_end.ensures.ok
+pub returns-in-Some-clause-fault : goal.returns-in-Some-clause-fault
+returns-in-Some-clause-fault g c =
+    let so_far = c.loop-place.invariant in
+    let all = unread c.loop-place.self in
+    let found = rw (take_rest all c.loop-place.seen) at (rw c.as_slice.ensures at c.in-Some.ensures) in
+    IfErr-weaker c.end_within.result _ _ (λ why (is, long). rw is (so_far.behind, long_on all c.args.from c.loop-place.seen c.in-Some.place so_far.later so_far.none found long)) c.end_within.ensures.fault
 
 pub returns-in-Some-clause-read : goal.returns-in-Some-clause-read
-returns-in-Some-clause-read g c = c.read_on.ensures.read
+returns-in-Some-clause-read g c = some_behind _ _ _ _ c.args.from c.loop-place.invariant.behind c.loop-place.invariant.little
 
-pub returns-in-None-clause-read : goal.returns-in-None-clause-read
-returns-in-None-clause-read g c = c.read_on.ensures.read
+pub returns-then-self-clause-line : goal.returns-then-self-clause-line
+returns-then-self-clause-line g c =
+    let so_far = c.loop-place.invariant in
+    let all = unread c.loop-place.self in
+    let none = none_on c.args.from c.loop-place.seen all so_far.none (rw (take_rest all c.loop-place.seen) at (rw c.as_slice.ensures at c.in_default.ensures)) in
+    let size = ap length c.as_slice-seen.ensures in
+    let over : (is_at_end c.loop-place.self ≡ true) ⊎ (16777216 < length all) = elim c.then-self.either [ inl ended ↦ inl ended | inr (goes_on, long) ↦ inr (omega (arith, size, long)) ] in
+    IfOk-weaker c.end_within-then-self.result _ _ (λ end (is, most). last_within c.loop-place.self c.args.from end (omega (arith, so_far.later, so_far.inside)) none over (is ∙ size) (omega (arith, is, most))) c.end_within-then-self.ensures.ok
 
-pub returns-in_err-read_on-clause-behind : goal.returns-in_err-read_on-clause-behind
-returns-in_err-read_on-clause-behind g c = rw (exits c.from_residual.result c.from_residual.ensures.1) tt
+pub returns-then-self-clause-fault : goal.returns-then-self-clause-fault
+returns-then-self-clause-fault g c =
+    let so_far = c.loop-place.invariant in
+    let all = unread c.loop-place.self in
+    let none = none_on c.args.from c.loop-place.seen all so_far.none (rw (take_rest all c.loop-place.seen) at (rw c.as_slice.ensures at c.in_default.ensures)) in
+    let size = ap length c.as_slice-seen.ensures in
+    IfErr-weaker c.end_within-then-self.result _ _ (λ why (is, long). rw is (so_far.behind, long_none c.args.from all none (omega (arith, size, long)))) c.end_within-then-self.ensures.fault
 
-pub returns-in_err-read_on-clause-line : goal.returns-in_err-read_on-clause-line
-returns-in_err-read_on-clause-line g c = rw (exits c.from_residual.result c.from_residual.ensures.1) tt
-
-pub returns-in_err-read_on-clause-inside : goal.returns-in_err-read_on-clause-inside
-returns-in_err-read_on-clause-inside g c = rw (exits c.from_residual.result c.from_residual.ensures.1) tt
-
-pub returns-in_err-read_on-clause-most : goal.returns-in_err-read_on-clause-most
-returns-in_err-read_on-clause-most g c = rw (exits c.from_residual.result c.from_residual.ensures.1) tt
-
-pub returns-in_err-read_on-clause-little : goal.returns-in_err-read_on-clause-little
-returns-in_err-read_on-clause-little g c = rw (exits c.from_residual.result c.from_residual.ensures.1) tt
+pub returns-in_err-read_more-clause-read : goal.returns-in_err-read_more-clause-read
+returns-in_err-read_more-clause-read g c =
+    let so_far = c.loop-place.invariant in
+    let all = unread c.loop-place.self in
+    let none = none_on c.args.from c.loop-place.seen all so_far.none (rw (take_rest all c.loop-place.seen) at (rw c.as_slice.ensures at c.in_default.ensures)) in
+    once_more _ _ _ _ _ c.args.from so_far.behind c.read_more.ensures.read none (grind arith)
