@@ -3,7 +3,7 @@ use Rattle.pref_script.proofs.Common.{◌≡◌, ◌∙◌, ℕ, zero, suc, ◌+
 use Rattle.pref_script.proofs.Common.{Err, inl, inr, ◌⊎◌, append-nil, drop-append-le, drop-take, drop_all, get_or_append_left, length-append, length-drop, length-take, take-append-drop}
 use Rattle.pref_script.proofs.Common.{take-append-le, take_all, take_at, fails_before_first, passes_at_first, position_or_len_is, get_or-append_seam, is_byte, Consumes-trans, Consumes, concat}
 use Rattle.pref_script.proofs.Common.{position_or_len, HearsNone, IsBlock, LacksBlock, ReadsBlock, EndsWithLine, HeardNone, IsTooLong, IsLineAt, IsLittle, IsLong, LineFault, NoLineFeed, ReadBehind}
-use Rattle.pref_script.proofs.Common.{ReadSome, between, is_at_end, unread, Source, block_lines, is_end_line, is_table_line, parts_of, raw_lines, RunFault, ReadAhead}
+use Rattle.pref_script.proofs.Common.{ReadSome, between, is_at_end, unread, Source, block_lines, is_end_line, is_table_line, sections_of, raw_lines, RunFault, ReadAhead}
 use Rattle.pref_script.proofs.LineLaws.{behind_more, ends_more, front_is, front_more, line_at, little_left, none_behind, none_in_front, same_front}
 use Rattle.pref_script.proofs.ScriptLaws.{concat-push, lines_at, lines_last, lines_none, script-none}
 use Rattle.pref_script.specs.declared.fault.RunFault.TheVariants as fault
@@ -33,19 +33,19 @@ block_more text line start count block ends one other = record {
 
 -- the table text of a block, whose line `end` comes now
 block_found : (text line : List ℕ) (start count : ℕ) → BlockLines text start count → EndsWithLine text → raw_lines line ≡ line ∷ [] → is_end_line line ≡ true
-    → parts_of (raw_lines (text ++ line)) ≡ Ok (record { table = drop start text; commands = []; first = count + 3 })
+    → sections_of (raw_lines (text ++ line)) ≡ Ok (record { table = drop start text; commands = []; first = count + 3 })
 block_found text line start count block ends one is_last =
     let rest = block.rest ++ line ∷ [] in
     let place = position_or_len_is is_end_line rest (length block.rest) [] (omega (arith, length-append block.rest (line ∷ []))) (λ k h. grind (arith, get_or_append_left block.rest (line ∷ []) [] k h, block.others k h)) (λ h. grind (arith, get_or-append_seam block.rest line [] [])) in
     grind (arith, ends line, block, one, length-append block.rest (line ∷ []), place, take-append-le (length block.rest) block.rest (line ∷ []), take_all (length block.rest) block.rest, drop_all, drop-append-le (length block.first) block.first (concat block.rest))
 
 -- a text without a line `end`
-block_none : (text : List ℕ) (start count : ℕ) → BlockLines text start count → parts_of (raw_lines text) ≡ Err fault.NoEnd
+block_none : (text : List ℕ) (start count : ℕ) → BlockLines text start count → sections_of (raw_lines text) ≡ Err fault.NoEnd
 block_none text start count block = grind (arith, position_or_len_is is_end_line block.rest (length block.rest) [] (omega arith) block.others (λ h. absurd (omega (arith, h))))
 
 -- a text without a line `table`
-no_table : (text line : List ℕ) (more : List (List ℕ)) → raw_lines text ≡ line ∷ more → is_table_line line ≡ false → parts_of (raw_lines text) ≡ Err fault.NoTable
-no_table text line more first other = ap parts_of first ∙ rw other refl
+no_table : (text line : List ℕ) (more : List (List ℕ)) → raw_lines text ≡ line ∷ more → is_table_line line ≡ false → sections_of (raw_lines text) ≡ Err fault.NoTable
+no_table text line more first other = ap sections_of first ∙ rw other refl
 
 -- up to a place of what was read stands the beginning of a table block
 pub record BlockAt (ahead : ReadAhead) (start stop count : ℕ) : Type 0 where
@@ -146,11 +146,11 @@ block_too_long had left old new start stop count so_far read long more =
 -- ---- no line of the block was read
 
 -- the lines of a table block so far are all of its block
-block_part : (text : List ℕ) (start count : ℕ) → BlockLines text start count → block_lines (raw_lines text) ≡ raw_lines text
-block_part text start count block = grind (arith, position_or_len_is is_end_line block.rest (length block.rest) [] (omega arith) block.others (λ h. absurd (omega (arith, h))), take_all (length block.rest + 1) block.rest)
+block_lines_so_far : (text : List ℕ) (start count : ℕ) → BlockLines text start count → block_lines (raw_lines text) ≡ raw_lines text
+block_lines_so_far text start count block = grind (arith, position_or_len_is is_end_line block.rest (length block.rest) [] (omega arith) block.others (λ h. absurd (omega (arith, h))), take_all (length block.rest + 1) block.rest)
 
-pub so_far_part : (had left : Option (List ℕ)) (old new : ReadAhead) (start stop count : ℕ) → BlockAt old start stop count → ReadBehind had left old new → block_lines (raw_lines (take stop (unread new))) ≡ raw_lines (take stop (unread new))
-so_far_part had left old new start stop count so_far read = block_part (take stop (unread new)) start count (block_still had left old new start stop count so_far read)
+pub lines_so_far : (had left : Option (List ℕ)) (old new : ReadAhead) (start stop count : ℕ) → BlockAt old start stop count → ReadBehind had left old new → block_lines (raw_lines (take stop (unread new))) ≡ raw_lines (take stop (unread new))
+lines_so_far had left old new start stop count so_far read = block_lines_so_far (take stop (unread new)) start count (block_still had left old new start stop count so_far read)
 
 -- what was read is all that stands there
 pub all_read : (had left : Option (List ℕ)) (old new : ReadAhead) → unread old ≡ [] → ReadBehind had left old new → Consumes had left (unread new)
@@ -168,20 +168,20 @@ no_lines : (text : List ℕ) → block_lines (raw_lines (take 0 text)) ≡ raw_l
 no_lines text = ap block_lines lines_none ∙ sym lines_none
 
 -- lines of the block were read up to a place
-pub hears_part : (source : Source) (old new : ReadAhead) (stop : ℕ) → ReadBehind source.had source.left old new → (IsLittle 0 (unread old) → IsLittle stop (unread new)) → block_lines (raw_lines (take stop (unread new))) ≡ raw_lines (take stop (unread new))
+pub hears_lines : (source : Source) (old new : ReadAhead) (stop : ℕ) → ReadBehind source.had source.left old new → (IsLittle 0 (unread old) → IsLittle stop (unread new)) → block_lines (raw_lines (take stop (unread new))) ≡ raw_lines (take stop (unread new))
     → HearsNone source old
-hears_part source old new stop read little lines none = heard_none source (unread new) stop (all_read source.had source.left old new none read) lines (little (little_at_first old none))
+hears_lines source old new stop read little lines none = heard_none source (unread new) stop (all_read source.had source.left old new none read) lines (little (little_at_first old none))
 
 -- the first line was read, and it is not `table`
 pub hears_first : (source : Source) (old new : ReadAhead) → ReadBehind source.had source.left old new → (IsLittle 0 (unread old) → IsLittle 0 (unread new)) → HearsNone source old
-hears_first source old new read little = hears_part source old new 0 read little (no_lines (unread new))
+hears_first source old new read little = hears_lines source old new 0 read little (no_lines (unread new))
 
 -- the next line was not read
 hears_no_more : (source : Source) (mid : Option (List ℕ)) (old now : ReadAhead) (start stop count : ℕ) → ReadBehind source.had mid old now → (IsLittle 0 (unread old) → IsLittle stop (unread now)) → BlockAt now start stop count → ReadSome mid source.left stop now
     → HearsNone source old
 hears_no_more source mid old now start stop count first little so_far next none =
     let consumed = Consumes-trans source.had mid source.left (unread now) next.bytes (all_read source.had mid old now none first) next.consumed in
-    grind (arith, consumed, take-append-le stop (unread now) next.bytes so_far.inside, heard_none, block_part (take stop (unread now)) start count so_far.block, little_at_first old none)
+    grind (arith, consumed, take-append-le stop (unread now) next.bytes so_far.inside, heard_none, block_lines_so_far (take stop (unread now)) start count so_far.block, little_at_first old none)
 
 -- a line was not read
 line_missing : (source : Source) (mid : Option (List ℕ)) (old now new : ReadAhead) (stop : ℕ) (why : RunFault) → LineFault (record { had = mid; left = source.left; failed = source.failed }) stop now new why → HearsNone source old

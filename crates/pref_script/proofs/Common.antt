@@ -32,9 +32,9 @@ pub use Rattle.pref_script.specs.LiveTable.{IsOpened, OpeningFault, PrintsLine, 
 pub use Rattle.pref_script.specs.Output.{Script, ScriptFault, PrintsOutput, fault_text, in_bytes, output, output_of, script_with}
 pub use Rattle.pref_script.specs.Pieces.{are_changes, is_semicolon, pieces_of}
 pub use Rattle.pref_script.specs.ReadAhead.{IsLineAt, IsLittle, IsLong, IsWhole, LineFault, NoLineFeed, ReadBehind, ReadOnce, ReadSome, between, is_at_end, most_ahead, unread}
-pub use Rattle.pref_script.specs.Reading.{IsDigitsWord, IsOpeningOf, Reads, core_fault, first_refusal, pieces_left, share_fault, table_fault}
+pub use Rattle.pref_script.specs.Reading.{IsDigitsWord, Reads, core_fault, first_refusal, pieces_left, share_fault, table_fault}
 pub use Rattle.pref_script.specs.Run.{NothingWritten, Sink, Source, Wrote, WroteAll, WroteBeginning, sink_of, source_of}
-pub use Rattle.pref_script.specs.Script.{Parts, block_lines, is_end_line, is_line_feed, is_table_line, parts_of, with_line_feeds, without_line_end}
+pub use Rattle.pref_script.specs.Script.{Sections, block_lines, is_end_line, is_line_feed, is_table_line, sections_of, with_line_feeds, without_line_end}
 pub use Rattle.pref_script.specs.Text.{level_line, level_lines, refused_line, reply_lines, row_text}
 pub use Rattle.pref_script.specs.Threads.{AreActs, ClosesOrStops, HoldsNobody, StopsClients, PrintsOnThreads, WereStopped, always_open, is_client, opening_of, unowned_line, unowned_lines}
 pub use Rattle.pref_script.specs.declared.command.Refusal.{Refusal}

@@ -3,20 +3,20 @@ use Rattle.pref_script.proofs.Common.{◌≡◌, ◌∙◌, ℕ, ◌+◌, ◌^�
 use Rattle.pref_script.proofs.Common.{Consumes-trans, Consumes-whole, append-nil, drop-append-le, drop_all, get_or_append_left, length-append, length-drop, take-append-drop, take-append-le}
 use Rattle.pref_script.proofs.Common.{take-append-add, fails_before_first, passes_at_first, position_or_len_is, Appends, Consumes, position_or_len, IfSome, IsOk, Limits, accepted_events, commands_in}
 use Rattle.pref_script.proofs.Common.{commands_of, HeardScript, Hears, EndsWithLine, IsHeard, IsTooLong, NoneLeft, RanLive, StopsEarly, StopsInLine, PrintsNext, PrintsLine, names_of, next_number}
-use Rattle.pref_script.proofs.Common.{command_lines, output, script_of, IsLittle, IsLong, ReadBehind, ReadSome, unread, Sink, Source, WroteAll, WroteBeginning, Parts, is_end_line, parts_of, raw_lines}
+use Rattle.pref_script.proofs.Common.{command_lines, output, script_of, IsLittle, IsLong, ReadBehind, ReadSome, unread, Sink, Source, WroteAll, WroteBeginning, Sections, is_end_line, sections_of, raw_lines}
 use Rattle.pref_script.proofs.Common.{without_line_end, LiveTable, ReadAhead}
 use Rattle.pref_script.proofs.BlockLaws.{first_too_long, long_among}
 use Rattle.pref_script.proofs.LineLaws.{ends_more, front_is, line_at, little_later, little_left, some_none}
 use Rattle.pref_script.proofs.OutputLaws.{cut_of, script-ok}
 
--- the parts of a script, some command lines more
-pub parts_more : (lines more : List (List ℕ)) (parts : Parts) → parts_of lines ≡ Ok parts → parts_of (lines ++ more) ≡ Ok (record { table = parts.table; commands = parts.commands ++ more; first = parts.first })
-parts_more lines more parts h =
-    let cut = cut_of lines parts h in
+-- the sections of a script, some command lines more
+pub sections_more : (lines more : List (List ℕ)) (sections : Sections) → sections_of lines ≡ Ok sections → sections_of (lines ++ more) ≡ Ok (record { table = sections.table; commands = sections.commands ++ more; first = sections.first })
+sections_more lines more sections h =
+    let cut = cut_of lines sections h in
     let place = position_or_len is_end_line cut.rest in
     let same = position_or_len_is is_end_line (cut.rest ++ more) place [] (omega (arith, cut.inside, length-append cut.rest more))
     (λ k before. grind (arith, cut.inside, get_or_append_left cut.rest more [] k, fails_before_first is_end_line cut.rest k [] before)) (λ there. grind (arith, get_or_append_left cut.rest more [] place cut.inside, passes_at_first is_end_line cut.rest [] cut.inside)) in
-    grind (arith, cut.lines_are, cut.parts_are, cut.table, same, cut.inside, length-append cut.rest more, take-append-le place cut.rest more, drop-append-le (place + 1) cut.rest more)
+    grind (arith, cut.lines_are, cut.sections_are, cut.table, same, cut.inside, length-append cut.rest more, take-append-le place cut.rest more, drop-append-le (place + 1) cut.rest more)
 
 -- the commands of some lines, and of one line more
 pub commands_more : (names : List (List ℕ)) (number : ℕ) (lines : List (List ℕ)) (line : List ℕ) → commands_of names number (lines ++ line ∷ []) ≡ commands_of names number lines ++ commands_in names (number + length lines) (without_line_end line)
@@ -28,26 +28,26 @@ commands_more names number (x ∷ xs) line = grind (arith, commands_more names (
 pub heard_more : (limits : Limits) (heard line : List ℕ) (live after : LiveTable) (text new : List ℕ) → HeardScript limits heard live text → raw_lines (heard ++ line) ≡ raw_lines heard ++ line ∷ []
     → PrintsLine live (without_line_end line) [] new after → HeardScript limits (heard ++ line) after (text ++ new)
 heard_more limits heard line live after text new so_far lines prints =
-    let commands = commands_of (names_of live) so_far.parts.first so_far.parts.commands in
+    let commands = commands_of (names_of live) so_far.sections.first so_far.sections.commands in
     let said = commands_in (names_of live) (next_number live) (without_line_end line) in
     let one = prints.plays.plays so_far.next so_far.stands in
     record {
-      parts = record { table = so_far.parts.table; commands = so_far.parts.commands ++ line ∷ []; first = so_far.parts.first };
+      sections = record { table = so_far.sections.table; commands = so_far.sections.commands ++ line ∷ []; first = so_far.sections.first };
       rows = so_far.rows;
-      cut = ap parts_of lines ∙ parts_more (raw_lines heard) (line ∷ []) so_far.parts so_far.cut;
+      cut = ap sections_of lines ∙ sections_more (raw_lines heard) (line ∷ []) so_far.sections so_far.cut;
       table = grind (arith, so_far.table, prints.names);
       room = so_far.room;
-      number = omega (arith, prints.number, so_far.number, length-append so_far.parts.commands (line ∷ []));
+      number = omega (arith, prints.number, so_far.number, length-append so_far.sections.commands (line ∷ []));
       bounds = prints.plays.limits ∙ so_far.bounds;
       next = one.next;
       stands = one.stands;
-      goes_on = λ more. grind (arith, commands_more (names_of live) so_far.parts.first so_far.parts.commands line, one.goes_on more, so_far.goes_on (said ++ more), append_assoc text new, append_assoc commands said more, so_far.number, so_far.bounds, prints.names);
+      goes_on = λ more. grind (arith, commands_more (names_of live) so_far.sections.first so_far.sections.commands line, one.goes_on more, so_far.goes_on (said ++ more), append_assoc text new, append_assoc commands said more, so_far.number, so_far.bounds, prints.names);
     }
 
 -- what was printed is the output of what was heard
 pub heard_output : (limits : Limits) (heard : List ℕ) (live : LiveTable) (text : List ℕ) → HeardScript limits heard live text → IsOk (script_of limits heard) × (output limits heard ≡ text)
 unfolding command_lines accepted_events
-heard_output limits heard live text so_far = grind (arith, script-ok limits heard so_far.parts (names_of live, so_far.rows) so_far.cut so_far.table so_far.room, append-nil, so_far.goes_on [])
+heard_output limits heard live text so_far = grind (arith, script-ok limits heard so_far.sections (names_of live, so_far.rows) so_far.cut so_far.table so_far.room, append-nil, so_far.goes_on [])
 
 -- where something is ahead, the lines so far end with a line
 heard_ends : (limits : Limits) (had left : Option (List ℕ)) (mid : Option (List ℕ)) (old new : ReadAhead) (live : LiveTable) (text : List ℕ) (so_far : Hears limits had mid old live text) → ReadBehind mid left old new → 0 < length (unread new) → EndsWithLine so_far.heard

@@ -3,12 +3,12 @@ use Rattle.pref_script.proofs.Common.{◌≡◌, ◌⊎◌, ℕ, ◌+◌, ◌≤
 use Rattle.pref_script.proofs.Common.{Appends-kept, Appends-trans, drop_all, length-drop, take-append-drop, take_all, Appends, Consumes, IsAtEnd, position_or_len, Limits, commands_of, Hears}
 use Rattle.pref_script.proofs.Common.{IsBlock, LacksBlock, OpensLive, ReadsBlock, EndsWithLine, HeardNone, RanLive, ShowsFault, StopsEarly, PrintsNext, Turns, IsOpened, OpeningFault}
 use Rattle.pref_script.proofs.Common.{next_number, ScriptFault, script_of, IsLittle, ReadBehind, ReadSome, between, is_at_end, unread, Keeps, NothingWritten, Sink, Source, WroteAll}
-use Rattle.pref_script.proofs.Common.{WroteBeginning, Wrote, Parts, block_lines, is_end_line, parts_of, raw_lines, RunFault, LiveTable, ReadAhead}
+use Rattle.pref_script.proofs.Common.{WroteBeginning, Wrote, Sections, block_lines, is_end_line, sections_of, raw_lines, RunFault, LiveTable, ReadAhead}
 use Rattle.pref_script.specs.declared.live.TableBlock.{TableBlock}
-use Rattle.pref_script.proofs.BlockLaws.{all_read, hears_part}
-use Rattle.pref_script.proofs.HeardLaws.{heard_too_long, hears_next, parts_more, since, stops_early, stops_writing}
+use Rattle.pref_script.proofs.BlockLaws.{all_read, hears_lines}
+use Rattle.pref_script.proofs.HeardLaws.{heard_too_long, hears_next, sections_more, since, stops_early, stops_writing}
 use Rattle.pref_script.proofs.LineLaws.{little_left}
-use Rattle.pref_script.proofs.OutputLaws.{cut_of, script-parts}
+use Rattle.pref_script.proofs.OutputLaws.{cut_of, script-sections}
 use Rattle.pref_script.specs.declared.fault.RunFault.TheVariants as fault
 
 -- the reader has come to its end
@@ -17,22 +17,22 @@ at_end had left old new fresh read ended = grind (arith, read.at_end)
 
 -- what was read has no table block
 lacks_block : (limits : Limits) (source : Source) (old new : ReadAhead) (why : RunFault) → unread old ≡ [] → is_at_end old ≡ false → ReadBehind source.had source.left old new → HeardNone source → LacksBlock new why → ShowsFault limits source why
-lacks_block limits source old new why none fresh read heard (inl all) = (heard, unread new, all_read source.had source.left old new none read, inl (λ more. script-parts limits (unread new ++ more) why (all more)))
-lacks_block limits source old new why none fresh read heard (inr last) = (heard, unread new, all_read source.had source.left old new none read, inr (at_end source.had source.left old new fresh read last.0, script-parts limits (unread new) why last.1))
+lacks_block limits source old new why none fresh read heard (inl all) = (heard, unread new, all_read source.had source.left old new none read, inl (λ more. script-sections limits (unread new ++ more) why (all more)))
+lacks_block limits source old new why none fresh read heard (inr last) = (heard, unread new, all_read source.had source.left old new none read, inr (at_end source.had source.left old new fresh read last.0, script-sections limits (unread new) why last.1))
 
 -- no table block was read
 pub refused_block : (limits : Limits) (source : Source) (old new : ReadAhead) (why : RunFault) → unread old ≡ [] → is_at_end old ≡ false → ReadsBlock source old new (Err why) → OpensLive limits source new (Err why)
 refused_block limits source old new why none fresh reads = grind (arith, lacks_block limits source old new why none fresh)
 
--- the parts of what was read, where lines of their own follow the block
+-- the sections of what was read, where lines of their own follow the block
 block_with : (block : TableBlock) (ahead : ReadAhead) (more : List ℕ) → IsBlock block ahead → EndsWithLine (take block.end (unread ahead))
-    → parts_of (raw_lines (unread ahead ++ more)) ≡ Ok (record { table = between block.start block.stop (unread ahead); commands = raw_lines (drop block.end (unread ahead) ++ more); first = block.first })
+    → sections_of (raw_lines (unread ahead ++ more)) ≡ Ok (record { table = between block.start block.stop (unread ahead); commands = raw_lines (drop block.end (unread ahead) ++ more); first = block.first })
 block_with block ahead more is ends =
-    grind (arith, take-append-drop block.end (unread ahead), append_assoc (take block.end (unread ahead)) (drop block.end (unread ahead)) more, parts_more (raw_lines (take block.end (unread ahead))) (raw_lines (drop block.end (unread ahead) ++ more)) _ is.cut)
+    grind (arith, take-append-drop block.end (unread ahead), append_assoc (take block.end (unread ahead)) (drop block.end (unread ahead)) more, sections_more (raw_lines (take block.end (unread ahead))) (raw_lines (drop block.end (unread ahead) ++ more)) _ is.cut)
 
--- the parts of what was read, where the block is all of it
+-- the sections of what was read, where the block is all of it
 block_alone : (block : TableBlock) (ahead : ReadAhead) → IsBlock block ahead → block.end ≡ length (unread ahead)
-    → parts_of (raw_lines (unread ahead)) ≡ Ok (record { table = between block.start block.stop (unread ahead); commands = []; first = block.first })
+    → sections_of (raw_lines (unread ahead)) ≡ Ok (record { table = between block.start block.stop (unread ahead); commands = []; first = block.first })
 block_alone block ahead is all = grind (arith, take_all block.end (unread ahead), is.cut)
 
 -- the fault of a script that was read, whatever follows
@@ -42,16 +42,16 @@ opening_refused limits source new why bytes heard consumed (inl all) = grind (ar
 opening_refused limits source new why bytes heard consumed (inr last) = grind (arith)
 
 -- the lines of a script that has no command lines are those of its block
-block_whole : (lines : List (List ℕ)) (parts : Parts) → parts_of lines ≡ Ok parts → parts.commands ≡ [] → block_lines lines ≡ lines
-block_whole lines parts h none =
-    let cut = cut_of lines parts h in
-    grind (arith, cut.lines_are, cut.table, cut.parts_are, take_all (position_or_len is_end_line cut.rest + 1) cut.rest, length-drop (position_or_len is_end_line cut.rest + 1) cut.rest)
+block_whole : (lines : List (List ℕ)) (sections : Sections) → sections_of lines ≡ Ok sections → sections.commands ≡ [] → block_lines lines ≡ lines
+block_whole lines sections h none =
+    let cut = cut_of lines sections h in
+    grind (arith, cut.lines_are, cut.table, cut.sections_are, take_all (position_or_len is_end_line cut.rest + 1) cut.rest, length-drop (position_or_len is_end_line cut.rest + 1) cut.rest)
 
 -- the table of the block was refused
 pub refused_table : (limits : Limits) (source : Source) (old new : ReadAhead) (block : TableBlock) (why : RunFault) → unread old ≡ [] → is_at_end old ≡ false → ReadBehind source.had source.left old new
     → (IsLittle 0 (unread old) → IsLittle block.end (unread new)) → IsBlock block new → OpeningFault limits (between block.start block.stop (unread new)) why → OpensLive limits source new (Err why)
 refused_table limits source old new block why none fresh read little is refused =
-    let heard = hears_part source old new block.end read little (block_whole (raw_lines (take block.end (unread new))) _ is.cut refl) none in
+    let heard = hears_lines source old new block.end read little (block_whole (raw_lines (take block.end (unread new))) _ is.cut refl) none in
     opening_refused limits source new why (unread new) heard (all_read source.had source.left old new none read)
     (elim is.lines [ inl ends ↦ inl (λ more. refused (unread new ++ more) _ (block_with block new more is ends) refl) | inr last ↦ inr (at_end source.had source.left old new fresh read last.0, refused (unread new) _ (block_alone block new is last.1) refl) ])
 

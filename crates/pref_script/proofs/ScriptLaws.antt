@@ -1,7 +1,7 @@
 -- A script, one line at a time.
 use Rattle.pref_script.proofs.Common.{◌≡◌, ◌∙◌, ℕ, ◌+◌, ◌-◌, ◌<◌, ◌≤◌, true, false, List, [], ◌∷◌, ◌++◌, length, take, drop, get_or, sym, ap, refl, arith, append_assoc, Some, None, Err, concat}
 use Rattle.pref_script.proofs.Common.{position_or_len, append-nil, take-append-le, take_all, length-append, length-drop, take_more, position_or_len_is, IsFirstByte}
-use Rattle.pref_script.proofs.Common.{is_byte, is_end_line, is_line_feed, parts_of, raw_lines}
+use Rattle.pref_script.proofs.Common.{is_byte, is_end_line, is_line_feed, sections_of, raw_lines}
 use borrow.Author.Count.{below_more}
 use Rattle.std.proofs.lemmas.List.{nil_from_length}
 use Rattle.std.proofs.lemmas.List.Folds.{concat-append}
@@ -67,5 +67,5 @@ pub seen_all : (rest left : List ℕ) (count : ℕ) → Seen rest left count →
 seen_all rest left count seen none = grind (arith, lines_empty left none, length-drop count (raw_lines rest), position_or_len_is is_end_line (raw_lines rest) (length (raw_lines rest)) [])
 
 -- a script by its first line
-pub script-none : (script : List ℕ) → length script ≡ 0 → parts_of (raw_lines script) ≡ Err NoTable
+pub script-none : (script : List ℕ) → length script ≡ 0 → sections_of (raw_lines script) ≡ Err NoTable
 script-none script none = rw (lines_empty script none) refl

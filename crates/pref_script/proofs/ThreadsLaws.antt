@@ -1,6 +1,6 @@
 -- What a script prints whose clients run on threads.
 use Rattle.pref_script.proofs.Common.{◌≡◌, ◌∙◌, ℕ, ◌+◌, ◌<◌, ◌≤◌, ◌^◌, arith, map, Bool, List, ◌++◌, length, refl, sym, subst, Result, Ok, Err, IfErr, ◌⊎◌, inl, inr, ℤ, Vec, string_bytes, All, [], Limits}
-use Rattle.pref_script.proofs.Common.{AllGiven, AreParts, HasReplied, acts_left, accepted_events, commands_of, ScriptFault, script_of, script_with, IsOpeningOf, share_fault, raw_lines}
+use Rattle.pref_script.proofs.Common.{AllGiven, AreParts, HasReplied, acts_left, accepted_events, commands_of, ScriptFault, Sections, sections_of, script_of, script_with, share_fault, raw_lines, table_of}
 use Rattle.pref_script.proofs.Common.{texts, Sink, Wrote, AreActs, ClosesOrStops, HoldsNobody, PrintsOnThreads, always_open, opening_of, unowned_lines, RunFault, Part, Act, CoreFault}
 use Rattle.pref_script.proofs.OutputLaws.{script-core-fault, script-ok}
 use Rattle.std.specs.declared.marker.Brand.{Brand}
@@ -11,7 +11,7 @@ use Rattle.pref_share.specs.declared.fault.ShareFault.{ShareFault}
 use Rattle.pref_share.proofs.InterleavingsLaws.{length-newcomers}
 use Rattle.pref_share.proofs.ReportsLaws.{first_stops}
 use Rattle.pref_script.specs.ClientParts.{IsWhole}
-use Rattle.pref_script.specs.declared.reading.Opening.{Opening as OpeningRead}
+use Rattle.pref_script.specs.declared.script.Sections.{Sections as Cut}
 use Rattle.pref_script.proofs.PartLaws.{acts_from, acts-listed, are-acts, parts-shown, unowned-none}
 use Rattle.pref_core.specs.declared.fault.CoreFault.TheVariants as core
 use Rattle.pref_share.specs.declared.fault.ShareFault.TheVariants as share
@@ -42,52 +42,59 @@ holds-nobody limits bytes sink returned (Err (fault.Threads (share.Held client))
     absurd (open-holds-none (opening_of limits script) stopped.acts client stopped.of_script.lists stopped.stops)
 holds-nobody limits bytes sink returned result prints wrote = tt
 
--- the command lines of a script have fewer bytes than the script
-pub commands-short : (bytes : List ℕ) (r : OpeningRead) → IsOpeningOf bytes r → r.text.first + length r.text.commands.now ≤ length bytes + 3 → length bytes < 2 ^ 63 → length r.text.commands.now < 2 ^ 63
-commands-short bytes r read few short = grind (arith)
+-- the sections of a script, as the code holds them
+abbrev sections_in : Cut → Sections
+sections_in cut = record { table = cut.table.now; commands = raw_lines cut.commands.now; first = cut.first }
 
--- A script whose clients have these parts, of which the acts are these lists.
-module _ (limits : Limits) (says : ℕ → ℕ → Bool → Type 0) (bytes : List ℕ) (r : OpeningRead) (read : IsOpeningOf bytes r) (parts : Vec Part) (count : length parts.items ≡ limits.clients)
-    (are : AreParts r.schema (raw_lines r.text.commands.now) parts.items) (few : r.text.first + length r.text.commands.now ≤ length bytes + 3) (small : length bytes < 2 ^ 63) where
+-- the command lines of a script have fewer bytes than the script
+pub commands-short : (bytes : List ℕ) (cut : Cut) → sections_of (raw_lines bytes) ≡ Ok (sections_in cut) → cut.first + length cut.commands.now ≤ length bytes + 3 → length bytes < 2 ^ 63 → length cut.commands.now < 2 ^ 63
+commands-short bytes cut is few short = grind (arith)
+
+-- A script of these sections and this table, whose clients have these parts, of which the acts are these lists.
+module _ (limits : Limits) (says : ℕ → ℕ → Bool → Type 0) (bytes : List ℕ) (cut : Cut) (is : sections_of (raw_lines bytes) ≡ Ok (sections_in cut)) (names : List (List ℕ)) (read : List (List ℤ)) (gives : table_of cut.table.now ≡ Ok (names, read)) (parts : Vec Part) (count : length parts.items ≡ limits.clients)
+    (are : AreParts names (raw_lines cut.commands.now) parts.items) (few : cut.first + length cut.commands.now ≤ length bytes + 3) (small : length bytes < 2 ^ 63) where
+  short : length cut.commands.now < 2 ^ 63
+  short = commands-short bytes cut is few small
+
   abbrev acts : List (Vec Act)
-  acts = acts_from parts r.schema r.text.commands.now (commands-short bytes r read few small) limits.clients
+  acts = acts_from parts names cut.commands.now short limits.clients
 
   listed : map (λ list. list.items) acts ≡ map acts_left parts.items
-  listed = acts-listed parts r.schema r.text.commands.now (commands-short bytes r read few small) limits.clients parts.items count are
+  listed = acts-listed parts names cut.commands.now short limits.clients parts.items count are
 
-  owned : AreActs limits.clients (accepted_events (commands_of r.schema read.parts.first read.parts.commands)) acts
-  owned = grind (arith, are-acts parts r.schema r.text.commands.now (commands-short bytes r read few small) limits.clients read.parts.first)
+  owned : AreActs limits.clients (accepted_events (commands_of names cut.first (raw_lines cut.commands.now))) acts
+  owned = grind (arith, are-acts parts names cut.commands.now short limits.clients cut.first)
 
   -- the clients were stopped
-  prints-stopped : (limits.capacity < length r.rows.items → ⊥) → (why : ShareFault) → ClosesOrStops Brand (record { limits = limits; rows = r.rows.items }) says acts why → PrintsOnThreads limits says bytes (Err (share_fault why))
-  prints-stopped room (share.Core core) stops = rw (memory-alone (record { limits = limits; rows = r.rows.items }) says acts core owned.lists stops) tt
-  prints-stopped room why stops = grind (arith, script-ok limits bytes read.parts (r.schema, r.rows.items) read.cut read.table room, owned)
+  prints-stopped : (limits.capacity < length read → ⊥) → (why : ShareFault) → ClosesOrStops Brand (record { limits = limits; rows = read }) says acts why → PrintsOnThreads limits says bytes (Err (share_fault why))
+  prints-stopped room (share.Core core) stops = rw (memory-alone (record { limits = limits; rows = read }) says acts core owned.lists stops) tt
+  prints-stopped room why stops = grind (arith, script-ok limits bytes (sections_in cut) (names, read) is gives room, owned)
 
   -- the board was not opened, or the clients were stopped
-  pub prints-refused : (rows : List (List ℤ)) (why : ShareFault) → rows ≡ r.rows.items
+  pub prints-refused : (rows : List (List ℤ)) (why : ShareFault) → rows ≡ read
       → ((limits.capacity < length rows) × (why ≡ share.Core (core.Full (length rows)))) ⊎ ((limits.capacity < length rows → ⊥)
       × ((acts : List (Vec Act)) → map (λ list. list.items) acts ≡ map acts_left parts.items → ClosesOrStops Brand (record { limits = limits; rows = rows }) says acts why))
       → PrintsOnThreads limits says bytes (Err (share_fault why))
-  prints-refused rows why same (inl (many, full)) = grind (arith, script-core-fault limits bytes read.parts (r.schema, r.rows.items) (core.Full (length r.rows.items)) read.cut read.table (λ _. refl))
+  prints-refused rows why same (inl (many, full)) = grind (arith, script-core-fault limits bytes (sections_in cut) (names, read) (core.Full (length read)) is gives (λ _. refl))
   prints-refused rows why same (inr (room, stops)) = prints-stopped (rw same at room) why (rw same at (stops acts listed))
 
   -- no line belongs to nobody, where each was given to a part and all parts are whole
-  pub prints-none : (o : Opening) (done shown : List Part) → AllGiven limits.clients (raw_lines r.text.commands.now)
+  pub prints-none : (o : Opening) (done shown : List Part) → AllGiven limits.clients (raw_lines cut.commands.now)
       → ((acts : List (Vec Act)) → map (λ list. list.items) acts ≡ map acts_left parts.items → RanTasks o HasReplied acts parts.items done) → shown ≡ done → All IsWhole shown
-      → unowned_lines (length shown) (length r.schema) (commands_of r.schema r.text.first (raw_lines r.text.commands.now)) ≡ []
+      → unowned_lines (length shown) (length names) (commands_of names cut.first (raw_lines cut.commands.now)) ≡ []
   prints-none o done shown given ran same whole =
       let run = ran acts listed in
-      let none = unowned-none r.schema r.text.commands.now r.text.first parts.items done run.replies are run.taken in
+      let none = unowned-none names cut.commands.now cut.first parts.items done run.replies are run.taken in
       grind (arith, none, given, same, whole, run.taken.tasks_done, count)
 
   -- the output of a joint run
-  pub prints-joint : (rows : List (List ℤ)) (done shown printed : List Part) (unowned text : List ℕ) → rows ≡ r.rows.items → (limits.capacity < length rows → ⊥)
+  pub prints-joint : (rows : List (List ℤ)) (done shown printed : List Part) (unowned text : List ℕ) → rows ≡ read → (limits.capacity < length rows → ⊥)
       → ((acts : List (Vec Act)) → map (λ list. list.items) acts ≡ map acts_left parts.items → RanTasks (record { limits = limits; rows = rows }) HasReplied acts parts.items done)
-      → unowned ≡ unowned_lines (length shown) (length r.schema) (commands_of r.schema r.text.first (raw_lines r.text.commands.now)) → shown ≡ done
+      → unowned ≡ unowned_lines (length shown) (length names) (commands_of names cut.first (raw_lines cut.commands.now)) → shown ≡ done
       → text ≡ unowned ++ texts (λ part. string_bytes part.text) printed → printed ≡ done → PrintsOnThreads limits says bytes (Ok text)
   prints-joint rows done shown printed unowned text same room ran first all wrote printed_all =
       let run = rw same at (ran acts listed) in (
-        script_with read.parts (r.schema, r.rows.items),
-        script-ok limits bytes read.parts (r.schema, r.rows.items) read.cut read.table (rw same at room),
-        record { acts = acts; replies = run.replies; of_script = owned; joint = run.joint; sequential = run.sequential; returned = grind (arith, wrote, printed_all, first, read.first, read.commands, all, run.taken.tasks_done, count, parts-shown r.schema r.text.commands.now parts.items done run.replies are run.taken) },
+        script_with (sections_in cut) (names, read),
+        script-ok limits bytes (sections_in cut) (names, read) is gives (rw same at room),
+        record { acts = acts; replies = run.replies; of_script = owned; joint = run.joint; sequential = run.sequential; returned = grind (arith, wrote, printed_all, first, all, run.taken.tasks_done, count, parts-shown names cut.commands.now parts.items done run.replies are run.taken) },
       )

@@ -12,7 +12,7 @@ use Rattle.pref_script.specs.LiveTable.{names_of, next_number, running_of}
 use Rattle.pref_script.specs.Playing.{printed_from}
 use Rattle.pref_script.specs.ReadAhead.{IsLittle, ReadBehind, ReadFault, between, is_at_end, unread}
 use Rattle.pref_script.specs.Run.{Source}
-use Rattle.pref_script.specs.Script.{Parts, parts_of, raw_lines}
+use Rattle.pref_script.specs.Script.{Sections, sections_of, raw_lines}
 use Rattle.pref_script.specs.declared.fault.RunFault.{RunFault}
 use Rattle.pref_script.specs.declared.fault.RunFault.TheVariants as fault
 use Rattle.pref_script.specs.declared.live.TableBlock.{TableBlock}
@@ -24,7 +24,7 @@ pub record IsBlock (block : TableBlock) (ahead : ReadAhead) : Type 0 where
   pub inside : block.end ≤ length (unread ahead)
   pub places : (block.start ≤ block.stop) × (block.stop ≤ block.end)
   pub few : block.first ≤ 16777219
-  pub cut : parts_of (raw_lines (take block.end (unread ahead))) ≡ Ok (record { table = between block.start block.stop (unread ahead); commands = []; first = block.first })
+  pub cut : sections_of (raw_lines (take block.end (unread ahead))) ≡ Ok (record { table = between block.start block.stop (unread ahead); commands = []; first = block.first })
   pub lines : EndsWithLine (take block.end (unread ahead)) ⊎ (is_at_end ahead ≡ true) × (block.end ≡ length (unread ahead))
 
 -- no command line was heard, where nothing was there before
@@ -33,7 +33,7 @@ HearsNone source old = unread old ≡ [] → HeardNone source
 
 -- what was read has no table block for this reason, whatever follows it, or it is all that there was
 abbrev pub LacksBlock : ReadAhead → RunFault → Type 0
-LacksBlock ahead why = ((more : List ℕ) → parts_of (raw_lines (unread ahead ++ more)) ≡ Err why) ⊎ (is_at_end ahead ≡ true) × (parts_of (raw_lines (unread ahead)) ≡ Err why)
+LacksBlock ahead why = ((more : List ℕ) → sections_of (raw_lines (unread ahead ++ more)) ≡ Err why) ⊎ (is_at_end ahead ≡ true) × (sections_of (raw_lines (unread ahead)) ≡ Err why)
 
 -- the table block was read, or why there is none
 abbrev pub ReadsBlock : Source → ReadAhead → ReadAhead → Result TableBlock RunFault → Type 0
@@ -45,17 +45,17 @@ ReadsBlock source old new (Err why) = ReadFault source.failed why × HearsNone s
 
 -- the script of the lines that were read so far, with the table after them
 pub record HeardScript (limits : Limits) (heard : List ℕ) (live : LiveTable) (text : List ℕ) : Type 0 where
-  pub parts : Parts
+  pub sections : Sections
   pub rows : List (List ℤ)
-  pub cut : parts_of (raw_lines heard) ≡ Ok parts
-  pub table : table_of parts.table ≡ Ok (names_of live, rows)
+  pub cut : sections_of (raw_lines heard) ≡ Ok sections
+  pub table : table_of sections.table ≡ Ok (names_of live, rows)
   pub room : limits.capacity < length rows → ⊥
-  pub number : next_number live ≡ parts.first + length parts.commands
+  pub number : next_number live ≡ sections.first + length sections.commands
   pub bounds : (running_of live).limits ≡ limits
   pub next : System
   pub stands : StandsForSystem (running_of live) next
   pub goes_on : (more : List Command) → text ++ printed_from limits (length (names_of live)) next more
-      ≡ printed_from limits (length (names_of live)) (opened limits rows) (commands_of (names_of live) parts.first parts.commands ++ more)
+      ≡ printed_from limits (length (names_of live)) (opened limits rows) (commands_of (names_of live) sections.first sections.commands ++ more)
 
 -- the lines that were read so far, what of the input is ahead, and what was printed
 pub record Hears (limits : Limits) (had left : Option (List ℕ)) (ahead : ReadAhead) (live : LiveTable) (text : List ℕ) : Type 0 where

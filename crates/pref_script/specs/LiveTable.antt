@@ -7,7 +7,7 @@ use Rattle.pref_core.specs.Systems.{Running, StandsForSystem}
 use Rattle.pref_script.specs.Commands.{commands_in}
 use Rattle.pref_script.specs.Output.{ScriptFault, script_of}
 use Rattle.pref_script.specs.Playing.{Plays}
-use Rattle.pref_script.specs.Script.{Parts, parts_of, raw_lines}
+use Rattle.pref_script.specs.Script.{Sections, sections_of, raw_lines}
 use Rattle.pref_script.specs.declared.fault.RunFault.{RunFault}
 use Rattle.pref_script.specs.declared.live_table.LiveTable.{LiveTable}
 
@@ -32,7 +32,7 @@ pub record IsOpened (limits : Limits) (table : List ℕ) (number : ℕ) (live : 
 
 -- why a text is no table that can be opened: the fault of each script that has it for its table
 abbrev pub OpeningFault : Limits → List ℕ → RunFault → Type 0
-OpeningFault limits table fault = (bytes : List ℕ) (parts : Parts) → parts_of (raw_lines bytes) ≡ Ok parts → parts.table ≡ table → ScriptFault fault (script_of limits bytes)
+OpeningFault limits table fault = (bytes : List ℕ) (sections : Sections) → sections_of (raw_lines bytes) ≡ Ok sections → sections.table ≡ table → ScriptFault fault (script_of limits bytes)
 
 -- the table was given a line, which has its number: the text has grown by what is printed for the line, and the next line has the next number
 pub record PrintsLine (before : LiveTable) (line old new : List ℕ) (after : LiveTable) : Type 0 where

@@ -9,7 +9,7 @@ use Rattle.pref_core.specs.Step.{replies}
 use Rattle.pref_core.specs.declared.fault.CoreFault.TheVariants.{Full}
 use Rattle.pref_core.specs.declared.event.Reply.{Reply}
 use Rattle.pref_script.specs.Commands.{Command, refused, runs, commands_of, accepted_events}
-use Rattle.pref_script.specs.Script.{Parts, parts_of, raw_lines}
+use Rattle.pref_script.specs.Script.{Sections, sections_of, raw_lines}
 use Rattle.pref_script.specs.Text.{◌<>◌, core_fault_text, refused_line, reply_lines, table_fault_text}
 use Rattle.pref_script.specs.declared.fault.RunFault.{RunFault}
 use Rattle.pref_script.specs.declared.fault.RunFault.TheVariants as fault
@@ -41,16 +41,16 @@ pub record Script : Type 0 where
   pub rows : List (List ℤ)
   pub commands : List Command
 
-abbrev pub script_with : Parts → Table → Script
-script_with parts (names, rows) = record { names = names; rows = rows; commands = commands_of names parts.first parts.commands }
+abbrev pub script_with : Sections → Table → Script
+script_with sections (names, rows) = record { names = names; rows = rows; commands = commands_of names sections.first sections.commands }
 
 -- the script of these bytes, or its first fault
 unfoldable pub script_of : Limits → List ℕ → Result Script RunFault
 script_of limits bytes = do
-  parts ← parts_of (raw_lines bytes)
-  table ← in_script (table_of parts.table)
+  sections ← sections_of (raw_lines bytes)
+  table ← in_script (table_of sections.table)
   opening ← with_room limits table
-  Ok (script_with parts opening)
+  Ok (script_with sections opening)
 
 -- the lines of commands: each event takes the next reply, and refused lines come between
 unfoldable pub command_lines : ℕ → List Command → List Reply → List ℕ

@@ -3,7 +3,6 @@
 use Rattle.std.specs.Prelude.{ℕ, ◌≡◌, ◌≤◌, ◌<◌, ◌^◌, ⊤, true, List, [], length, Option, Some, None, Result, Ok, Err, if◌then◌else◌}
 use Rattle.std.specs.Str.{all_ascii_digits}
 use Rattle.std.specs.Str.Parse.{digits_value}
-use Rattle.pref_table.specs.Tables.{table_of}
 use Rattle.pref_table.specs.declared.fault.TableFault.{TableFault}
 use Rattle.pref_table.specs.declared.fault.TableFault.TheVariants as table
 use Rattle.pref_core.specs.declared.fault.CoreFault.{CoreFault}
@@ -12,14 +11,12 @@ use Rattle.pref_share.specs.declared.fault.ShareFault.{ShareFault}
 use Rattle.pref_share.specs.declared.fault.ShareFault.TheVariants as share
 use Rattle.pref_script.specs.Pieces.{are_changes, pieces_of}
 use Rattle.pref_script.specs.Words.{word_number, word_of}
-use Rattle.pref_script.specs.Script.{Parts, parts_of, raw_lines}
 use Rattle.pref_script.specs.declared.command.Refusal.{Refusal}
 use Rattle.pref_script.specs.declared.command.Refusal.TheVariants.{NotCommand}
 use Rattle.pref_script.specs.declared.command.Stop.{Stop}
 use Rattle.pref_script.specs.declared.command.Stop.TheVariants.{Refused as StopRefused, OutOfMemory as StopMemory}
 use Rattle.pref_script.specs.declared.fault.RunFault.{RunFault}
 use Rattle.pref_script.specs.declared.fault.RunFault.TheVariants as fault
-use Rattle.pref_script.specs.declared.reading.Opening.{Opening as OpeningRead}
 
 -- what was read is what is said, unless memory ran out
 abbrev pub Reads : {X : Type 0} → Result X Stop → Result X Refusal → Type 0
@@ -63,11 +60,3 @@ core_fault why = fault.Opening why
 abbrev pub share_fault : ShareFault → RunFault
 share_fault (share.Core why) = core_fault why
 share_fault why = fault.Threads why
-
--- the table that was read is that of these bytes, and these are their parts
-pub record IsOpeningOf (bytes : List ℕ) (opening : OpeningRead) : Type 0 where
-  pub parts : Parts
-  pub cut : parts_of (raw_lines bytes) ≡ Ok parts
-  pub table : table_of parts.table ≡ Ok (opening.schema, opening.rows.items)
-  pub commands : raw_lines opening.text.commands.now ≡ parts.commands
-  pub first : opening.text.first ≡ parts.first

@@ -1,4 +1,4 @@
--- The lines of a script, and its parts.
+-- The lines of a script, and its sections.
 use Rattle.std.specs.Prelude.{ℕ, Bool, ◌==◌, ◌&&◌, ◌+◌, ◌-◌, List, [], ◌∷◌, ◌++◌, length, take, slice_index, Result, Ok, Err, if◌then◌else◌, nat_lt, codes}
 use Rattle.std.specs.List.{after_first, before_first, concat, position_or_len, slice_split}
 use Rattle.std.specs.Str.{bytes_eq}
@@ -8,7 +8,7 @@ use Rattle.pref_script.specs.declared.fault.RunFault.TheVariants.{NoTable, NoEnd
 abbrev pub is_line_feed : ℕ → Bool
 is_line_feed byte = byte == 10
 
--- parts with line feeds between them, each with its line feed; an empty last part is no line
+-- texts with line feeds between them, each with its line feed; an empty last text is no line
 abbrev pub with_line_feeds : List (List ℕ) → List (List ℕ)
 with_line_feeds [] = []
 with_line_feeds (part ∷ []) = if length part == 0 then [] else part ∷ []
@@ -33,15 +33,15 @@ abbrev pub is_end_line : List ℕ → Bool
 is_end_line raw = bytes_eq (without_line_end raw) (codes "end")
 
 -- the table text of a script, the command lines after it, and the number of the first of those
-pub record Parts : Type 0 where
+pub record Sections : Type 0 where
   pub table : List ℕ
   pub commands : List (List ℕ)
   pub first : ℕ
 
 -- after the line `table` comes the table text, up to the first line `end`
-abbrev pub parts_of : List (List ℕ) → Result Parts RunFault
-parts_of [] = Err NoTable
-parts_of (first ∷ rest) =
+abbrev pub sections_of : List (List ℕ) → Result Sections RunFault
+sections_of [] = Err NoTable
+sections_of (first ∷ rest) =
     if is_table_line first
     then (if nat_lt (position_or_len is_end_line rest) (length rest)
     then Ok (record { table = concat (before_first is_end_line rest); commands = after_first is_end_line rest; first = position_or_len is_end_line rest + 3 })

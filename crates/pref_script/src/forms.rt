@@ -19,7 +19,7 @@ enum Verb {
     Room,
 }
 
-/// A command line in its parts: its ids are read, its values, its pieces and its question are not.
+/// What a command line says: its ids are read, its values, its pieces and its question are not.
 #[derive(Clone, Copy)]
 pub enum Form<'a> {
     Change(ChangeForm<'a>),

@@ -18,7 +18,6 @@ mod parts;
 mod pieces;
 mod playing;
 mod read_ahead;
-mod reading;
 mod run;
 mod script;
 mod text;

@@ -15,7 +15,7 @@ pub enum ChangeVerb {
     Delete,
 }
 
-/// A change in its parts: its id is read, its values are not.
+/// What a change says: its id is read, its values are not.
 #[derive(Clone, Copy)]
 pub enum ChangeForm<'a> {
     Insert(&'a [u8]),
@@ -56,7 +56,7 @@ pub fn change_form(verb: ChangeVerb, rest: &[u8]) -> Option<ChangeForm<'_>>
     }
 }
 
-/// The change of a piece in its parts, where the piece has the form of one.
+/// What the change of a piece says, where the piece has the form of one.
 #[tactic(auto, unfolding(crate::specs::Pieces::piece_said))]
 pub fn piece_form(piece: &[u8]) -> Option<ChangeForm<'_>>
     ensures { option_map change_said result ≡ piece_said piece.now }

@@ -13,7 +13,7 @@ use crate::fault::RunFault;
 use crate::input::read_input;
 use crate::live_table::LiveTable;
 use crate::output::write_result;
-use crate::script::{ScriptText, cut_line, line_text, parts};
+use crate::script::{Sections, cut_line, cut_sections, line_text};
 use crate::watched::Watched;
 use pref_core::Setup;
 use std::alloc::Global;
@@ -39,11 +39,11 @@ fn reply_to_lines(alloc: Global, live: &mut LiveTable, lines: &[u8]) -> Result<S
 fn reply_text(alloc: Global, setup: Setup, bytes: &[u8]) -> Result<String, RunFault>
     ensures { PrintsOutput setup bytes.now (in_bytes result) }
 {
-    let ScriptText {
+    let Sections {
         table,
         commands,
         first,
-    } = parts(bytes)?;
+    } = cut_sections(bytes)?;
     let mut live = LiveTable::open(alloc, setup, table, first)?;
     reply_to_lines(alloc, &mut live, commands)
 }

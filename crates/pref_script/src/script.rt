@@ -1,8 +1,8 @@
-//! The lines of a script, and its parts.
+//! The lines of a script, and its sections.
 ghost use Rattle.std.specs.Prelude.{◌≡◌, ◌≤◌, ◌<◌, ◌+◌, ◌∷◌, ◌++◌, length, take, drop, IfOk, MatchOption, MatchResult, Ok, Err};
 ghost use Rattle.std.specs.List.{concat, list_all, position_or_len};
 ghost use Rattle.pref_table.specs.Number.{is_blank};
-ghost use Rattle.pref_script.specs.Script.{is_end_line, is_table_line, parts_of, raw_lines, without_last, without_line_end};
+ghost use Rattle.pref_script.specs.Script.{is_end_line, is_table_line, sections_of, raw_lines, without_last, without_line_end};
 
 use crate::fault::RunFault;
 use memchr::memchr;
@@ -57,16 +57,16 @@ pub fn is_end_line(raw: &[u8]) -> bool
     line_text(raw) == b"end".as_slice()
 }
 
-/// A script's table text, its command lines, and the number of the first of these lines.
+/// The sections of a script: its table text, its command lines, and the number of the first of these lines.
 #[derive(Clone, Copy)]
-pub struct ScriptText<'a> {
+pub struct Sections<'a> {
     pub table: &'a [u8],
     pub commands: &'a [u8],
     pub first: u64,
 }
 
 /// Cuts what follows the line `table` at its first line `end`.
-fn cut_at_end(rest: &[u8]) -> Option<ScriptText<'_>>
+fn cut_at_end(rest: &[u8]) -> Option<Sections<'_>>
     ensures { let lines = raw_lines rest.now in let count = position_or_len is_end_line lines in
         MatchOption result (length lines ≤ count)
         (λ script. (count < length lines) × (script.table.now ≡ concat (take count lines)) × (raw_lines script.commands.now ≡ drop (count + 1) lines)
@@ -77,7 +77,7 @@ fn cut_at_end(rest: &[u8]) -> Option<ScriptText<'_>>
     while !left.is_empty() {
         let (raw, tail) = cut_line(left);
         if is_end_line(raw) {
-            return Some(ScriptText {
+            return Some(Sections {
                 table: &rest[..rest.len() - left.len()],
                 commands: tail,
                 first: count + 3,
@@ -89,12 +89,12 @@ fn cut_at_end(rest: &[u8]) -> Option<ScriptText<'_>>
     None
 }
 
-/// The parts of a script.
-pub fn parts(script: &[u8]) -> Result<ScriptText<'_>, RunFault>
-    ensures few { IfOk result (λ parts. parts.first + length parts.commands.now ≤ length script.now + 3) }
-    ensures parts { MatchResult result
-        (λ parts. parts_of (raw_lines script.now) ≡ Ok (record { table = parts.table.now; commands = raw_lines parts.commands.now; first = parts.first }))
-        (λ fault. parts_of (raw_lines script.now) ≡ Err fault) }
+/// The sections of a script. Refused `NoTable` or `NoEnd`, in this order.
+pub fn cut_sections(script: &[u8]) -> Result<Sections<'_>, RunFault>
+    ensures few { IfOk result (λ sections. sections.first + length sections.commands.now ≤ length script.now + 3) }
+    ensures sections { MatchResult result
+        (λ sections. sections_of (raw_lines script.now) ≡ Ok (record { table = sections.table.now; commands = raw_lines sections.commands.now; first = sections.first }))
+        (λ fault. sections_of (raw_lines script.now) ≡ Err fault) }
 {
     if script.is_empty() {
         return Err(RunFault::NoTable);
@@ -104,7 +104,7 @@ pub fn parts(script: &[u8]) -> Result<ScriptText<'_>, RunFault>
         return Err(RunFault::NoTable);
     }
     match cut_at_end(rest) {
-        Some(parts) => Ok(parts),
+        Some(sections) => Ok(sections),
         None => Err(RunFault::NoEnd),
     }
 }

@@ -15,12 +15,12 @@ use crate::fault::RunFault;
 use crate::input::read_input;
 use crate::output::write_result;
 use crate::parts::{Part, client_parts, push_parts};
-use crate::reading::{Opening, read_opening};
+use crate::script::cut_sections;
 use crate::unowned::unowned_text;
 use crate::watched::Watched;
 use pref_core::Setup;
 use pref_share::{BoardBrand, BoardName, Gate, ShareFault, open_board, run_tasks};
-use pref_table::Row;
+use pref_table::{Row, read_table};
 use std::alloc::Global;
 use std::io::{Read, Write};
 use std::marker::Brand;
@@ -90,8 +90,9 @@ pub fn run_threads<R: Threads + Wait + Sync, G: Gate + Sync>(
 ) -> Result<String, RunFault>
     ensures { PrintsOnThreads setup (G.says gate.now) bytes.now (in_bytes result) }
 {
-    let Opening { schema, rows, text } = read_opening(alloc, bytes)?;
-    let (parts, all_given) = client_parts(alloc, &schema, setup.clients(), text.commands)?;
+    let sections = cut_sections(bytes)?;
+    let (schema, rows) = read_table(alloc, sections.table)?;
+    let (parts, all_given) = client_parts(alloc, &schema, setup.clients(), sections.commands)?;
     let done = joint_parts::<Brand, R, G>(
         rt,
         alloc,
@@ -101,7 +102,7 @@ pub fn run_threads<R: Threads + Wait + Sync, G: Gate + Sync>(
         parts,
         gate,
     )?;
-    let mut out = unowned_text(alloc, &schema, done.as_slice(), all_given, text)?;
+    let mut out = unowned_text(alloc, &schema, done.as_slice(), all_given, sections)?;
     push_parts(&mut out, done.as_slice())?;
     Ok(out)
 }

@@ -11,7 +11,7 @@ ghost use Rattle.pref_script.specs.Threads.{is_client, unowned_lines};
 use crate::command::{Stop, read_event};
 use crate::fault::RunFault;
 use crate::parts::{Part, are_whole};
-use crate::script::{ScriptText, cut_line, is_blank_line, line_text};
+use crate::script::{Sections, cut_line, is_blank_line, line_text};
 use crate::text::{push_refused, push_reply};
 use pref_core::{CoreFault, Reply};
 use pref_table::Schema;
@@ -70,7 +70,7 @@ pub fn unowned_text(
     schema: &Schema,
     parts: &[Part<'_>],
     all_given: bool,
-    script: ScriptText<'_>,
+    script: Sections<'_>,
 ) -> Result<String, RunFault>
     requires few { script.first + length script.commands.now < 2 ^ 64 }
     requires none { all_given ≡ true → All IsWhole parts.now → unowned_lines (length parts.now) (length schema.now) (commands_of schema.now script.first (raw_lines script.commands.now)) ≡ [] }

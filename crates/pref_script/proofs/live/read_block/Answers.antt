@@ -1,5 +1,5 @@
 use Rattle.pref_script.proofs.Common.{◌<◌, ℕ, arith, sym, subst, ◌∙◌, exits, IsLineAt, source_of}
-use Rattle.pref_script.proofs.BlockLaws.{block_end, block_next, block_open, end_missing, first_missing, hears_first, hears_part, input_missing, next_missing, so_far_part, table_missing}
+use Rattle.pref_script.proofs.BlockLaws.{block_end, block_next, block_open, end_missing, first_missing, hears_first, hears_lines, input_missing, next_missing, lines_so_far, table_missing}
 use Rattle.pref_script.proofs.LineLaws.{behind_more, little_later}
 use Rattle.pref_script.proofs.live.read_block.Goals as goal
 
@@ -49,7 +49,7 @@ returns-then-end-stop g c =
     let behind = behind_more source.had _ source.left _ _ new so_far.read c.in_ok-end.ensures.behind in
     let line = subst (λ (n : ℕ). IsLineAt c.loop-end.stop n new) c.if-end-stop.true c.in_ok-end.ensures.line in (
       behind,
-      hears_part source c.args.ahead.now new c.loop-end.stop behind (λ few. c.in_ok-end.ensures.little (so_far.little few)) (so_far_part _ _ _ _ _ _ _ so_far.block c.in_ok-end.ensures.behind),
+      hears_lines source c.args.ahead.now new c.loop-end.stop behind (λ few. c.in_ok-end.ensures.little (so_far.little few)) (lines_so_far _ _ _ _ _ _ _ so_far.block c.in_ok-end.ensures.behind),
       end_missing _ _ _ _ _ _ _ so_far.block c.in_ok-end.ensures.behind line,
     )
 
