@@ -2,9 +2,8 @@
 use Rattle.pref_script.proofs.Common.{◌≡◌, ◌⊎◌, ℕ, ◌+◌, ◌≤◌, true, false, List, [], ◌++◌, length, take, drop, refl, subst, arith, append-nil, append_assoc, Option, Result, Ok, Err, inl, inr}
 use Rattle.pref_script.proofs.Common.{Appends-kept, Appends-trans, drop_all, length-drop, take-append-drop, take_all, Appends, Consumes, IsAtEnd, position_or_len, Limits, commands_of, Hears}
 use Rattle.pref_script.proofs.Common.{IsBlock, LacksBlock, OpensLive, ReadsBlock, EndsWithLine, HeardNone, RanLive, ShowsFault, StopsEarly, PrintsNext, Turns, IsOpened, OpeningFault}
-use Rattle.pref_script.proofs.Common.{next_number, ScriptFault, script_of, IsLittle, ReadBehind, ReadSome, between, is_at_end, unread, Keeps, NothingWritten, Sink, Source, WroteAll}
+use Rattle.pref_script.proofs.Common.{next_number, ScriptFault, script_of, IsLittle, ReadBehind, ReadSome, is_at_end, unread, Keeps, NothingWritten, Sink, Source, WroteAll}
 use Rattle.pref_script.proofs.Common.{WroteBeginning, Wrote, Sections, block_lines, is_end_line, sections_of, raw_lines, RunFault, LiveTable, ReadAhead}
-use Rattle.pref_script.specs.declared.live.TableBlock.{TableBlock}
 use Rattle.pref_script.proofs.BlockLaws.{all_read, hears_lines}
 use Rattle.pref_script.proofs.HeardLaws.{heard_too_long, hears_next, sections_more, since, stops_early, stops_writing}
 use Rattle.pref_script.proofs.LineLaws.{little_left}
@@ -24,16 +23,22 @@ lacks_block limits source old new why none fresh read heard (inr last) = (heard,
 pub refused_block : (limits : Limits) (source : Source) (old new : ReadAhead) (why : RunFault) → unread old ≡ [] → is_at_end old ≡ false → ReadsBlock source old new (Err why) → OpensLive limits source new (Err why)
 refused_block limits source old new why none fresh reads = grind (arith, lacks_block limits source old new why none fresh)
 
+-- lines have one cut into sections, and where they have one, they have no fault
+pub same_sections : (lines : List (List ℕ)) (cut block : Sections) → sections_of lines ≡ Ok cut → sections_of lines ≡ Ok block → cut ≡ block
+same_sections lines cut block one other = grind (arith, one, other)
+
+pub no_fault : {P : Type 0} (lines : List (List ℕ)) (block : Sections) (why : RunFault) → sections_of lines ≡ Ok block → sections_of lines ≡ Err why → P
+no_fault lines block why one other = absurd (cc)
+
 -- the sections of what was read, where lines of their own follow the block
-block_with : (block : TableBlock) (ahead : ReadAhead) (more : List ℕ) → IsBlock block ahead → EndsWithLine (take block.end (unread ahead))
-    → sections_of (raw_lines (unread ahead ++ more)) ≡ Ok (record { table = between block.start block.stop (unread ahead); commands = raw_lines (drop block.end (unread ahead) ++ more); first = block.first })
-block_with block ahead more is ends =
-    grind (arith, take-append-drop block.end (unread ahead), append_assoc (take block.end (unread ahead)) (drop block.end (unread ahead)) more, sections_more (raw_lines (take block.end (unread ahead))) (raw_lines (drop block.end (unread ahead) ++ more)) _ is.cut)
+block_with : (end : ℕ) (table : List ℕ) (first : ℕ) (ahead : ReadAhead) (more : List ℕ) → IsBlock end table first ahead → EndsWithLine (take end (unread ahead))
+    → sections_of (raw_lines (unread ahead ++ more)) ≡ Ok (record { table = table; commands = raw_lines (drop end (unread ahead) ++ more); first = first })
+block_with end table first ahead more is ends =
+    grind (arith, take-append-drop end (unread ahead), append_assoc (take end (unread ahead)) (drop end (unread ahead)) more, sections_more (raw_lines (take end (unread ahead))) (raw_lines (drop end (unread ahead) ++ more)) _ is.cut)
 
 -- the sections of what was read, where the block is all of it
-block_alone : (block : TableBlock) (ahead : ReadAhead) → IsBlock block ahead → block.end ≡ length (unread ahead)
-    → sections_of (raw_lines (unread ahead)) ≡ Ok (record { table = between block.start block.stop (unread ahead); commands = []; first = block.first })
-block_alone block ahead is all = grind (arith, take_all block.end (unread ahead), is.cut)
+block_alone : (end : ℕ) (table : List ℕ) (first : ℕ) (ahead : ReadAhead) → IsBlock end table first ahead → end ≡ length (unread ahead) → sections_of (raw_lines (unread ahead)) ≡ Ok (record { table = table; commands = []; first = first })
+block_alone end table first ahead is all = grind (arith, take_all end (unread ahead), is.cut)
 
 -- the fault of a script that was read, whatever follows
 opening_refused : (limits : Limits) (source : Source) (new : ReadAhead) (why : RunFault) (bytes : List ℕ) → HeardNone source → Consumes source.had source.left bytes
@@ -48,18 +53,18 @@ block_whole lines sections h none =
     grind (arith, cut.lines_are, cut.table, cut.sections_are, take_all (position_or_len is_end_line cut.rest + 1) cut.rest, length-drop (position_or_len is_end_line cut.rest + 1) cut.rest)
 
 -- the table of the block was refused
-pub refused_table : (limits : Limits) (source : Source) (old new : ReadAhead) (block : TableBlock) (why : RunFault) → unread old ≡ [] → is_at_end old ≡ false → ReadBehind source.had source.left old new
-    → (IsLittle 0 (unread old) → IsLittle block.end (unread new)) → IsBlock block new → OpeningFault limits (between block.start block.stop (unread new)) why → OpensLive limits source new (Err why)
-refused_table limits source old new block why none fresh read little is refused =
-    let heard = hears_lines source old new block.end read little (block_whole (raw_lines (take block.end (unread new))) _ is.cut refl) none in
+pub refused_table : (limits : Limits) (source : Source) (old new : ReadAhead) (end : ℕ) (table : List ℕ) (first : ℕ) (why : RunFault) → unread old ≡ [] → is_at_end old ≡ false → ReadBehind source.had source.left old new
+    → (IsLittle 0 (unread old) → IsLittle end (unread new)) → IsBlock end table first new → OpeningFault limits table why → OpensLive limits source new (Err why)
+refused_table limits source old new end table first why none fresh read little is refused =
+    let heard = hears_lines source old new end read little (block_whole (raw_lines (take end (unread new))) _ is.cut refl) none in
     opening_refused limits source new why (unread new) heard (all_read source.had source.left old new none read)
-    (elim is.lines [ inl ends ↦ inl (λ more. refused (unread new ++ more) _ (block_with block new more is ends) refl) | inr last ↦ inr (at_end source.had source.left old new fresh read last.0, refused (unread new) _ (block_alone block new is last.1) refl) ])
+    (elim is.lines [ inl ends ↦ inl (λ more. refused (unread new ++ more) _ (block_with end table first new more is ends) refl) | inr last ↦ inr (at_end source.had source.left old new fresh read last.0, refused (unread new) _ (block_alone end table first new is last.1) refl) ])
 
 -- the table of the block was opened
-pub opened_live : (limits : Limits) (had left : Option (List ℕ)) (old mid new : ReadAhead) (block : TableBlock) (live : LiveTable) → unread old ≡ [] → is_at_end old ≡ false → ReadBehind had left old mid → (IsLittle 0 (unread old) → IsLittle block.end (unread mid)) → IsBlock block mid
-    → IsOpened limits (between block.start block.stop (unread mid)) block.first live → unread new ≡ drop block.end (unread mid) → is_at_end new ≡ is_at_end mid → Hears limits had left new live [] × (next_number live ≤ 16777219)
+pub opened_live : (limits : Limits) (had left : Option (List ℕ)) (old mid new : ReadAhead) (end : ℕ) (table : List ℕ) (first : ℕ) (live : LiveTable) → unread old ≡ [] → is_at_end old ≡ false → ReadBehind had left old mid → (IsLittle 0 (unread old) → IsLittle end (unread mid))
+    → IsBlock end table first mid → IsOpened limits table first live → first ≤ 16777219 → unread new ≡ drop end (unread mid) → is_at_end new ≡ is_at_end mid → Hears limits had left new live [] × (next_number live ≤ 16777219)
 unfolding commands_of
-opened_live limits had left old mid new block live none fresh read little is opens taken ended = grind (arith, take-append-drop block.end (unread mid), drop_all, little_left block.end (unread mid))
+opened_live limits had left old mid new end table first live none fresh read little is opens small taken ended = grind (arith, take-append-drop end (unread mid), drop_all, little_left end (unread mid))
 
 -- a run so far: what it printed was written
 pub record Replying (limits : Limits) (had left held holds : Option (List ℕ)) (ahead : ReadAhead) (live : LiveTable) : Type 0 where

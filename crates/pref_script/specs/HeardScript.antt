@@ -10,22 +10,20 @@ use Rattle.pref_script.specs.Commands.{Command, commands_of}
 use Rattle.pref_script.specs.Live.{EndsWithLine, IsTooLong, HeardNone, ShowsFault}
 use Rattle.pref_script.specs.LiveTable.{names_of, next_number, running_of}
 use Rattle.pref_script.specs.Playing.{printed_from}
-use Rattle.pref_script.specs.ReadAhead.{IsLittle, ReadBehind, ReadFault, between, is_at_end, unread}
+use Rattle.pref_script.specs.ReadAhead.{IsLittle, ReadBehind, ReadFault, is_at_end, unread}
 use Rattle.pref_script.specs.Run.{Source}
 use Rattle.pref_script.specs.Script.{Sections, sections_of, raw_lines}
 use Rattle.pref_script.specs.declared.fault.RunFault.{RunFault}
 use Rattle.pref_script.specs.declared.fault.RunFault.TheVariants as fault
-use Rattle.pref_script.specs.declared.live.TableBlock.{TableBlock}
 use Rattle.pref_script.specs.declared.live_table.LiveTable.{LiveTable}
 use Rattle.pref_script.specs.declared.read_ahead.ReadAhead.{ReadAhead}
 
--- this many bytes of what was read are the lines up to the first line `end`, and these are the places of their table text
-pub record IsBlock (block : TableBlock) (ahead : ReadAhead) : Type 0 where
-  pub inside : block.end ≤ length (unread ahead)
-  pub places : (block.start ≤ block.stop) × (block.stop ≤ block.end)
-  pub few : block.first ≤ 16777219
-  pub cut : sections_of (raw_lines (take block.end (unread ahead))) ≡ Ok (record { table = between block.start block.stop (unread ahead); commands = []; first = block.first })
-  pub lines : EndsWithLine (take block.end (unread ahead)) ⊎ (is_at_end ahead ≡ true) × (block.end ≡ length (unread ahead))
+-- this many bytes of what was read are the lines up to the first line `end`, of which this is the table text; the next line has this number
+pub record IsBlock (end : ℕ) (table : List ℕ) (first : ℕ) (ahead : ReadAhead) : Type 0 where
+  pub inside : end ≤ length (unread ahead)
+  pub few : end ≤ 16777216
+  pub cut : sections_of (raw_lines (take end (unread ahead))) ≡ Ok (record { table = table; commands = []; first = first })
+  pub lines : EndsWithLine (take end (unread ahead)) ⊎ (is_at_end ahead ≡ true) × (end ≡ length (unread ahead))
 
 -- no command line was heard, where nothing was there before
 abbrev pub HearsNone : Source → ReadAhead → Type 0
@@ -35,9 +33,9 @@ HearsNone source old = unread old ≡ [] → HeardNone source
 abbrev pub LacksBlock : ReadAhead → RunFault → Type 0
 LacksBlock ahead why = ((more : List ℕ) → sections_of (raw_lines (unread ahead ++ more)) ≡ Err why) ⊎ (is_at_end ahead ≡ true) × (sections_of (raw_lines (unread ahead)) ≡ Err why)
 
--- the table block was read, or why there is none
-abbrev pub ReadsBlock : Source → ReadAhead → ReadAhead → Result TableBlock RunFault → Type 0
-ReadsBlock source old new (Ok block) = ReadBehind source.had source.left old new × (IsLittle 0 (unread old) → IsLittle block.end (unread new)) × IsBlock block new
+-- the table block was read, which has this many bytes, or why there is none
+abbrev pub ReadsBlock : Source → ReadAhead → ReadAhead → Result ℕ RunFault → Type 0
+ReadsBlock source old new (Ok end) = ReadBehind source.had source.left old new × (IsLittle 0 (unread old) → IsLittle end (unread new)) × (table : List ℕ) × (first : ℕ) × IsBlock end table first new
 ReadsBlock source old new (Err fault.NoTable) = ReadBehind source.had source.left old new × HearsNone source old × LacksBlock new fault.NoTable
 ReadsBlock source old new (Err fault.NoEnd) = ReadBehind source.had source.left old new × HearsNone source old × LacksBlock new fault.NoEnd
 ReadsBlock source old new (Err fault.TooLarge) = ReadBehind source.had source.left old new × ((more : List ℕ) → IsTooLong (unread new ++ more)) × HearsNone source old

@@ -12,7 +12,7 @@ use crate::fault::RunFault;
 use crate::live_table::LiveTable;
 use crate::output::{write_output, write_result};
 use crate::read_ahead::ReadAhead;
-use crate::script::{is_end_line, is_table_line, line_text};
+use crate::script::{cut_sections, is_end_line, is_table_line, line_text};
 use crate::watched::Watched;
 use pref_core::Setup;
 use std::alloc::Global;
@@ -30,20 +30,7 @@ pub enum Turn {
     End,
 }
 
-/// The table block of a script, by its places in what was read: the lines up to the first line `end`.
-#[derive(Clone, Copy)]
-pub struct TableBlock {
-    /// Where the table text starts.
-    pub start: usize,
-    /// Where the table text stops.
-    pub stop: usize,
-    /// Where the line `end` ends.
-    pub end: usize,
-    /// The number of the line after it.
-    pub first: u64,
-}
-
-/// Reads the table block.
+/// Reads the table block of a script, which is the lines up to the first line `end`. Returns how many bytes it has.
 ///
 /// Refused `NoTable` as soon as the first line is there, `NoEnd` where the input ends before a line `end`, and as
 /// [`ReadAhead::read_line`] is.
@@ -51,33 +38,22 @@ fn read_block<R: Read>(
     alloc: Global,
     reader: &mut Watched<R>,
     ahead: &mut ReadAhead,
-) -> Result<TableBlock, RunFault>
+) -> Result<usize, RunFault>
     ensures { ReadsBlock (source_of R.remaining reader.old reader.new) ahead.old ahead.new result }
 {
-    let start = ahead.read_line(alloc, reader, 0)?;
-    if start == 0 {
+    let mut stop = ahead.read_line(alloc, reader, 0)?;
+    if !is_table_line(&ahead.as_slice()[..stop]) {
         return Err(RunFault::NoTable);
     }
-    if !is_table_line(&ahead.as_slice()[..start]) {
-        return Err(RunFault::NoTable);
-    }
-    let mut stop = start;
-    let mut count = 0;
     loop {
         let end = ahead.read_line(alloc, reader, stop)?;
         if end == stop {
             return Err(RunFault::NoEnd);
         }
         if is_end_line(&ahead.as_slice()[stop..end]) {
-            return Ok(TableBlock {
-                start,
-                stop,
-                end,
-                first: count + 3,
-            });
+            return Ok(end);
         }
         stop = end;
-        count += 1;
     }
 }
 
@@ -93,9 +69,9 @@ fn open_live<R: Read>(
     ensures { OpensLive setup (source_of R.remaining reader.old reader.new) ahead.new result }
 {
     let block = read_block(alloc, reader, ahead)?;
-    let table = &ahead.as_slice()[block.start..block.stop];
-    let live = LiveTable::open(alloc, setup, table, block.first)?;
-    ahead.take(block.end);
+    let sections = cut_sections(&ahead.as_slice()[..block])?;
+    let live = LiveTable::open(alloc, setup, sections.table, sections.first)?;
+    ahead.take(block);
     Ok(live)
 }
 

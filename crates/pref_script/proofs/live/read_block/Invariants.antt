@@ -6,7 +6,7 @@ abbrev pub invariant-loop-end : goal.invariant-loop-end
 invariant-loop-end g l =
     let remaining = g.R.Read.remaining in record {
       read : ReadBehind (remaining l.fn.reader.inner) (remaining l.reader.inner) l.fn.ahead l.ahead;
-      block : BlockAt l.ahead l.start l.stop l.count;
+      block : BlockAt l.ahead l.stop;
       little : IsLittle 0 (unread l.fn.ahead) → IsLittle l.stop (unread l.ahead);
     }
 
