@@ -55,8 +55,8 @@ module _ (clients width : ℕ) (names : List (List ℕ)) (number : ℕ) (line : 
   unowned-refused old new why some said wrote = grind (arith, append-nil)
 
   -- an event of one of the clients
-  pub unowned-own : (out : List ℕ) (place : ℕ) (event : Event) → event_of names line ≡ Ok event → event.client ≡ suc place → place < clients → out ≡ out ++ unowned_lines clients width (commands_in names number line)
-  unowned-own out place event said own inside = grind (arith, unowned-blank out, unowned-event out out event, append-nil out)
+  pub unowned-own : (out : List ℕ) (index : ℕ) (event : Event) → event_of names line ≡ Ok event → event.client ≡ suc index → index < clients → out ≡ out ++ unowned_lines clients width (commands_in names number line)
+  unowned-own out index event said own inside = grind (arith, unowned-blank out, unowned-event out out event, append-nil out)
 
 -- one line more
 pub unowned-more : (clients width : ℕ) (names : List (List ℕ)) (number : ℕ) (left raw tail old new all : List ℕ) → old ++ unowned_lines clients width (commands_of names number (raw_lines left)) ≡ all

@@ -114,9 +114,9 @@ returned-more first old new replies reply returned client schema left refused wr
 -- the parts of clients before they have commands, and one part more
 pub are-more : (names raws : List (List ℕ)) (parts : List Part) (part : Part) → ArePartsUpTo names raws raws parts → part.schema.now ≡ names → part.client ≡ suc (length parts) → commands_left part ≡ [] → part.read ≡ 0
     → string_bytes part.text ≡ [] → ArePartsUpTo names raws raws (parts ++ part ∷ [])
-are-more names raws parts part are schema client commands read returned place other here = elim (cases_lt place (length parts)) [
-  | inl inside ↦ are place other (slice_get_read parts (length parts) place other refl inside (grind (arith, get_or_from_slice_get (parts ++ part ∷ []) place other other here, get_or_append_left parts (part ∷ []) other place inside)))
-  | inr past ↦ grind (arith, past, slice_get_within (parts ++ part ∷ []) place other here, length-append parts (part ∷ []), get_or_push parts part part place, get_or_from_slice_get (parts ++ part ∷ []) place other part here)
+are-more names raws parts part are schema client commands read returned index other here = elim (cases_lt index (length parts)) [
+  | inl inside ↦ are index other (slice_get_read parts (length parts) index other refl inside (grind (arith, get_or_from_slice_get (parts ++ part ∷ []) index other other here, get_or_append_left parts (part ∷ []) other index inside)))
+  | inr past ↦ grind (arith, past, slice_get_within (parts ++ part ∷ []) index other here, length-append parts (part ∷ []), get_or_push parts part part index, get_or_from_slice_get (parts ++ part ∷ []) index other part here)
 ]
 
 -- a line that does not name the client is nothing to its part
@@ -126,7 +126,7 @@ part-next names raws left raw client part is other =
     grind (arith, acts-line names client raw left, first-unnamed names client (without_line_end raw) other)
 
 pub given-nobody : (names raws left : List (List ℕ)) (raw : List ℕ) (parts : List Part) → NamesNone (length parts) (without_line_end raw) → ArePartsUpTo names raws (raw ∷ left) parts → ArePartsUpTo names raws left parts
-given-nobody names raws left raw parts nobody are place part here = part-next names raws left raw (suc place) part (are place part here) (nobody place (slice_get_within parts place part here))
+given-nobody names raws left raw parts nobody are index part here = part-next names raws left raw (suc index) part (are index part here) (nobody index (slice_get_within parts index part here))
 
 -- the command of a line that names the client is given to its part
 commands-push : (old new : Part) (command : Bor (List ℕ)) → old.read ≡ 0 → new.read ≡ old.read → new.commands.items ≡ old.commands.items ++ command ∷ [] → commands_left new ≡ commands_left old ++ command.now ∷ []
@@ -145,24 +145,24 @@ part-given names raws left raw command client old new was of schema number comma
   returned = text ∙ was.returned;
 }
 
-pub given-here : (names raws left : List (List ℕ)) (raw : List ℕ) (command : Bor (List ℕ)) (parts : List Part) (place : ℕ) (old new : Part) → place < length parts → old ≡ get_or parts place old
-    → IsCommandOf (suc place) (without_line_end raw) command.now → new.schema.now ≡ old.schema.now → new.client ≡ old.client → new.commands.items ≡ old.commands.items ++ command ∷ [] → new.read ≡ old.read
-    → string_bytes new.text ≡ string_bytes old.text → ArePartsUpTo names raws (raw ∷ left) parts → ArePartsUpTo names raws left (set parts place new)
-given-here names raws left raw command parts place old new inside held of schema client pushed read text are spot part here = elim (cases_Bool (spot == place)) [
-  | inl e ↦ grind (arith, eqb-true spot place e, get_or-set_at parts place spot new new, get_or_from_slice_get (set parts place new) spot part new here, given)
+pub given-here : (names raws left : List (List ℕ)) (raw : List ℕ) (command : Bor (List ℕ)) (parts : List Part) (index : ℕ) (old new : Part) → index < length parts → old ≡ get_or parts index old
+    → IsCommandOf (suc index) (without_line_end raw) command.now → new.schema.now ≡ old.schema.now → new.client ≡ old.client → new.commands.items ≡ old.commands.items ++ command ∷ [] → new.read ≡ old.read
+    → string_bytes new.text ≡ string_bytes old.text → ArePartsUpTo names raws (raw ∷ left) parts → ArePartsUpTo names raws left (set parts index new)
+given-here names raws left raw command parts index old new inside held of schema client pushed read text are spot part here = elim (cases_Bool (spot == index)) [
+  | inl e ↦ grind (arith, eqb-true spot index e, get_or-set_at parts index spot new new, get_or_from_slice_get (set parts index new) spot part new here, given)
   | inr e ↦
-      let stays : part ≡ get_or parts spot part = grind (arith, get_or_from_slice_get (set parts place new) spot part part here, get_or-set_other parts place spot new part (eqb-false spot place e)) in
-      part-next names raws left raw (suc spot) part (are spot part (slice_get_read parts (length parts) spot part refl within stays)) (λ its. grind (arith, eqb-false spot place e, of.named, its))
+      let stays : part ≡ get_or parts spot part = grind (arith, get_or_from_slice_get (set parts index new) spot part part here, get_or-set_other parts index spot new part (eqb-false spot index e)) in
+      part-next names raws left raw (suc spot) part (are spot part (slice_get_read parts (length parts) spot part refl within stays)) (λ its. grind (arith, eqb-false spot index e, of.named, its))
 ]
   where
     within : spot < length parts
-    within = omega (arith, slice_get_within (set parts place new) spot part here, length-set parts place new)
+    within = omega (arith, slice_get_within (set parts index new) spot part here, length-set parts index new)
 
-    was : IsPart names raws (raw ∷ left) (suc place) old
-    was = are place old (slice_get_read parts (length parts) place old refl inside held)
+    was : IsPart names raws (raw ∷ left) (suc index) old
+    was = are index old (slice_get_read parts (length parts) index old refl inside held)
 
-    given : IsPart names raws left (suc place) new
-    given = part-given names raws left raw command.now (suc place) old new was of schema client (commands-push old new command was.unread read pushed) read text
+    given : IsPart names raws left (suc index) new
+    given = part-given names raws left raw command.now (suc index) old new was of schema client (commands-push old new command was.unread read pushed) read text
 
 -- all lines were given to the parts: these are the acts of each
 pub part-acts : (names raws : List (List ℕ)) (client : ℕ) (part : Part) → IsPart names raws [] client part → acts_left part ≡ acts_in names client raws
@@ -187,59 +187,59 @@ module _ {X : Type 0} (given : Vec X) (names : List (List ℕ)) (text : List ℕ
   acts-listed clients parts many are =
       let each = λ (client : ℕ). acts_in names client (raw_lines text) in
       let size = length-map-range_with_len each 1 clients in
-      map-map (λ (list : Vec Act). list.items) held (range_with_len 1 clients) ∙ same_lists (map each (range_with_len 1 clients)) (map acts_left parts) (omega (arith, size, many, length-map parts acts_left)) (λ place d within.
-      let (part, here) = there parts place (omega (arith, within, size, many)) in
-      grind (arith, within, size, many, get_or-map acts_left parts place part d, get_or_from_slice_get parts place part part here, part-acts names (raw_lines text) (suc place) part (are place part here), get_or-map-range_with_len each 1 clients place (suc place) d))
+      map-map (λ (list : Vec Act). list.items) held (range_with_len 1 clients) ∙ same_lists (map each (range_with_len 1 clients)) (map acts_left parts) (omega (arith, size, many, length-map parts acts_left)) (λ index d within.
+      let (part, here) = there parts index (omega (arith, within, size, many)) in
+      grind (arith, within, size, many, get_or-map acts_left parts index part d, get_or_from_slice_get parts index part part here, part-acts names (raw_lines text) (suc index) part (are index part here), get_or-map-range_with_len each 1 clients index (suc index) d))
 
   pub are-acts : (clients first : ℕ) → AreActs clients (accepted_events (commands_of names first (raw_lines text))) (acts_from clients)
   are-acts clients first = record {
     lists = length-map-range_with_len held 1 clients;
-    each = λ place list here. grind (arith, slice_get_within (acts_from clients) place list here, length-map-range_with_len held 1 clients, get_or_from_slice_get (acts_from clients) place list list here, get_or-map-range_with_len held 1 clients place (suc place) list, events-any_number names 0 first (raw_lines text));
+    each = λ index list here. grind (arith, slice_get_within (acts_from clients) index list here, length-map-range_with_len held 1 clients, get_or_from_slice_get (acts_from clients) index list list here, get_or-map-range_with_len held 1 clients index (suc index) list, events-any_number names 0 first (raw_lines text));
   }
 
 -- the texts of the parts, one after the other
 parts-returned : (names : List (List ℕ)) (client : ℕ) (done : List Part) (replies : List (Vec Reply)) → length done ≡ length replies
-    → ((place : ℕ) (part : Part) (list : Vec Reply) → slice_get done place ≡ Some part → slice_get replies place ≡ Some list → string_bytes part.text ≡ texts (reply_lines (length names) (client + place)) list.items)
+    → ((index : ℕ) (part : Part) (list : Vec Reply) → slice_get done index ≡ Some part → slice_get replies index ≡ Some list → string_bytes part.text ≡ texts (reply_lines (length names) (client + index)) list.items)
     → texts (λ part. string_bytes part.text) done ≡ clients_lines (length names) client replies
 unfolding texts clients_lines
 parts-returned names client [] [] same each = refl
 parts-returned names client (part ∷ more) (list ∷ lists) same each =
-    grind (arith, each 0 part list refl refl, parts-returned names (client + 1) more lists (omega (arith, same)) (λ place p l p_at l_at. let next : client + suc place ≡ (client + 1) + place = omega arith in rw next at (each (suc place) p l p_at l_at)))
+    grind (arith, each 0 part list refl refl, parts-returned names (client + 1) more lists (omega (arith, same)) (λ index p l p_at l_at. let next : client + suc index ≡ (client + 1) + index = omega arith in rw next at (each (suc index) p l p_at l_at)))
 parts-returned names client done replies same each = absurd (omega (arith, same))
 
 -- the texts of done parts are the lines of the replies that they took
 pub parts-shown : (names : List (List ℕ)) (text : List ℕ) (parts done : List Part) (replies : List (Vec Reply)) → AreParts names (raw_lines text) parts → AreTaken HasReplied parts done replies
     → texts (λ part. string_bytes part.text) done ≡ clients_lines (length names) 1 replies
-parts-shown names text parts done replies are taken = parts-returned names 1 done replies (taken.tasks_done ∙ sym taken.lists) (λ place part list part_at list_at.
-    let (first, first_at) = there parts place (omega (arith, slice_get_within done place part part_at, taken.tasks_done)) in
-    let (returned, returned_at, has) = taken.each place first part first_at part_at in
-    grind (arith, are place first first_at, returned_at, list_at, has.text))
+parts-shown names text parts done replies are taken = parts-returned names 1 done replies (taken.tasks_done ∙ sym taken.lists) (λ index part list part_at list_at.
+    let (first, first_at) = there parts index (omega (arith, slice_get_within done index part part_at, taken.tasks_done)) in
+    let (returned, returned_at, has) = taken.each index first part first_at part_at in
+    grind (arith, are index first first_at, returned_at, list_at, has.text))
 
 -- no line that names a client whose part is whole was refused
 whole-accepts : (names : List (List ℕ)) (text : List ℕ) (parts done : List Part) (replies : List (Vec Reply)) → AreParts names (raw_lines text) parts → AreTaken HasReplied parts done replies → All IsWhole done
-    → (place : ℕ) → place < length done → AllAccepted names (suc place) (raw_lines text)
-whole-accepts names text parts done replies are taken all place inside =
-    let (first, first_at) = there parts place (omega (arith, inside, taken.tasks_done)) in
-    let (part, part_at) = there done place inside in
-    let (returned, returned_at, has) = taken.each place first part first_at part_at in
-    let whole : IsWhole part = grind (arith, get_or_from_slice_get done place part part part_at, all place part inside) in
-    (are place first first_at).accepted (has.accepted whole.accepted (rw (commands-none part (omega (arith, whole.through))) tt)) tt
+    → (index : ℕ) → index < length done → AllAccepted names (suc index) (raw_lines text)
+whole-accepts names text parts done replies are taken all index inside =
+    let (first, first_at) = there parts index (omega (arith, inside, taken.tasks_done)) in
+    let (part, part_at) = there done index inside in
+    let (returned, returned_at, has) = taken.each index first part first_at part_at in
+    let whole : IsWhole part = grind (arith, get_or_from_slice_get done index part part part_at, all index part inside) in
+    (are index first first_at).accepted (has.accepted whole.accepted (rw (commands-none part (omega (arith, whole.through))) tt)) tt
 
 -- a line that was given to a part, and that is not refused, is none of nobody's
-unowned-given : (clients width : ℕ) (names : List (List ℕ)) (number : ℕ) (raw : List ℕ) → IsGiven clients raw → ((place : ℕ) → place < clients → IsAccepted names (suc place) (without_line_end raw))
+unowned-given : (clients width : ℕ) (names : List (List ℕ)) (number : ℕ) (raw : List ℕ) → IsGiven clients raw → ((index : ℕ) → index < clients → IsAccepted names (suc index) (without_line_end raw))
     → unowned_lines clients width (commands_in names number (without_line_end raw)) ≡ []
 unowned-given clients width names number raw (inl blank) accept = sym (unowned-blank clients width names number (without_line_end raw) [] blank)
-unowned-given clients width names number raw (inr (place, inside, named)) accept =
+unowned-given clients width names number raw (inr (index, inside, named)) accept =
     let line = without_line_end raw in
-    let (event, is) = accept place inside named in
-    sym (unowned-own clients width names number line [] place event is (grind (arith, event-named names line event is, named)) inside)
+    let (event, is) = accept index inside named in
+    sym (unowned-own clients width names number line [] index event is (grind (arith, event-named names line event is, named)) inside)
 
-all-given : (clients width : ℕ) (names : List (List ℕ)) (number : ℕ) (raws : List (List ℕ)) → AllGiven clients raws → ((place : ℕ) → place < clients → AllAccepted names (suc place) raws)
+all-given : (clients width : ℕ) (names : List (List ℕ)) (number : ℕ) (raws : List (List ℕ)) → AllGiven clients raws → ((index : ℕ) → index < clients → AllAccepted names (suc index) raws)
     → unowned_lines clients width (commands_of names number raws) ≡ []
 unfolding commands_of texts
 all-given clients width names number [] given accept = refl
 all-given clients width names number (raw ∷ more) given accept =
-    grind (arith, unowned-given clients width names number raw given.0 (λ place inside. (accept place inside).0), all-given clients width names (number + 1) more given.1 (λ place inside. (accept place inside).1))
+    grind (arith, unowned-given clients width names number raw given.0 (λ index inside. (accept index inside).0), all-given clients width names (number + 1) more given.1 (λ index inside. (accept index inside).1))
 
 -- no line belongs to nobody, where each was given to a part and all parts are whole
 pub unowned-none : (names : List (List ℕ)) (text : List ℕ) (number : ℕ) (parts done : List Part) (replies : List (Vec Reply)) → AreParts names (raw_lines text) parts → AreTaken HasReplied parts done replies

@@ -89,7 +89,7 @@ pub record IsPart (names raws left : List (List ℕ)) (client : ℕ) (part : Par
 
 -- the parts of the clients, from client 1 on
 abbrev pub ArePartsUpTo : List (List ℕ) → List (List ℕ) → List (List ℕ) → List Part → Type 0
-ArePartsUpTo names raws left parts = (place : ℕ) (part : Part) → slice_get parts place ≡ Some part → IsPart names raws left (suc place) part
+ArePartsUpTo names raws left parts = (index : ℕ) (part : Part) → slice_get parts index ≡ Some part → IsPart names raws left (suc index) part
 
 -- the same with all their commands
 abbrev pub AreParts : List (List ℕ) → List (List ℕ) → List Part → Type 0
@@ -97,11 +97,11 @@ AreParts names raws parts = ArePartsUpTo names raws [] parts
 
 -- a line names none of this many clients
 abbrev pub NamesNone : ℕ → List ℕ → Type 0
-NamesNone clients line = (place : ℕ) → place < clients → client_named line ≡ Some (suc place) → ⊥
+NamesNone clients line = (index : ℕ) → index < clients → client_named line ≡ Some (suc index) → ⊥
 
 -- a line is blank, or it names one of this many clients
 abbrev pub IsGiven : ℕ → List ℕ → Type 0
-IsGiven clients raw = (list_all is_blank (without_line_end raw) ≡ true) ⊎ ((place : ℕ) × (place < clients) × (client_named (without_line_end raw) ≡ Some (suc place)))
+IsGiven clients raw = (list_all is_blank (without_line_end raw) ≡ true) ⊎ ((index : ℕ) × (index < clients) × (client_named (without_line_end raw) ≡ Some (suc index)))
 
 -- so is each of these
 abbrev pub AllGiven : ℕ → List (List ℕ) → Type 0

@@ -1,5 +1,5 @@
 -- No public contract cites this.
--- How the code goes through a script. (this project)
+-- What reading a line gives, and the faults of the crates below as those of a run. (this project)
 use Rattle.std.specs.Prelude.{ℕ, ◌≡◌, ◌≤◌, ◌<◌, ◌^◌, ⊤, true, List, [], length, Option, Some, None, Result, Ok, Err, if◌then◌else◌}
 use Rattle.std.specs.Str.{all_ascii_digits}
 use Rattle.std.specs.Str.Parse.{digits_value}

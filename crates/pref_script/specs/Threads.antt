@@ -28,7 +28,7 @@ is_client clients number = nat_lt 0 number && nat_le number clients
 -- the acts of this many clients, a list for each
 pub record AreActs (clients : ℕ) (events : List Event) (acts : List (Vec Act)) : Type 0 where
   pub lists : length acts ≡ clients
-  pub each : (place : ℕ) (list : Vec Act) → slice_get acts place ≡ Some list → list.items ≡ acts_of (suc place) events
+  pub each : (index : ℕ) (list : Vec Act) → slice_get acts index ≡ Some list → list.items ≡ acts_of (suc index) events
 
 -- what is printed for a command that belongs to no client: a refused line, or an event of a client that does not exist
 abbrev pub unowned_line : ℕ → ℕ → Command → List ℕ

@@ -78,8 +78,8 @@ fn empty_parts(alloc: Global, schema: &Schema, clients: u8) -> Result<Vec<Part<'
     Ok(parts)
 }
 
-/// The place of the client that a line names among this many clients, and its command, where it is one of them.
-fn cut_place(clients: usize, line: &[u8]) -> Option<(usize, &[u8])>
+/// The index of the client that a line names among this many clients, and its command, where it is one of them.
+fn cut_owner(clients: usize, line: &[u8]) -> Option<(usize, &[u8])>
     ensures { MatchOption result (NamesNone clients line.now)
         (λ cut. (cut.0 < clients) × IsCommandOf (suc cut.0) line.now cut.1.now) }
 {
@@ -103,8 +103,8 @@ fn give_line<'script>(
     ensures given { IfOk result (λ given. given ≡ true → IsGiven (length parts.old.items) raw.now) }
 {
     let line = line_text(raw);
-    if let Some((place, command)) = cut_place(parts.len(), line) {
-        parts[place].commands.push(command)?;
+    if let Some((index, command)) = cut_owner(parts.len(), line) {
+        parts[index].commands.push(command)?;
         return Ok(true);
     }
     Ok(is_blank_line(line))

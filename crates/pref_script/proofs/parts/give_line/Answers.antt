@@ -7,13 +7,13 @@ returns-in-Some-clause-parts c = λ names raws left are.
     let parts = c.args.parts.now in
     let old = c.index_mut.result.now in
     let new : Part = record { schema = old.schema; client = old.client; commands = c.push.new.self; read = old.read; text = old.text; refused = old.refused } in
-    given-here names raws left c.args.raw.now c.in-Some.command parts.items c.in-Some.place old new (omega (arith, c.in-Some.ensures.0, c.len.ensures, parts.ok.0)) c.index_mut.ensures.value
+    given-here names raws left c.args.raw.now c.in-Some.command parts.items c.in-Some.index old new (omega (arith, c.in-Some.ensures.0, c.len.ensures, parts.ok.0)) c.index_mut.ensures.value
     (rw c.line_text-line.ensures at c.in-Some.ensures.1) refl refl c.in_ok-push.ensures.items refl refl are
 
 pub returns-clause-parts : goal.returns-clause-parts
 returns-clause-parts c = λ names raws left are.
     let parts = c.args.parts.now in
-    given-nobody names raws left c.args.raw.now parts.items (λ place inside named. c.in_default.ensures place (omega (arith, inside, c.len.ensures, parts.ok.0)) (ap client_named c.line_text-line.ensures ∙ named)) are
+    given-nobody names raws left c.args.raw.now parts.items (λ index inside named. c.in_default.ensures index (omega (arith, inside, c.len.ensures, parts.ok.0)) (ap client_named c.line_text-line.ensures ∙ named)) are
 
 pub returns-clause-given : goal.returns-clause-given
 returns-clause-given c = λ blank. inl (rw (← c.line_text-line.ensures, ← c.is_blank_line.ensures) blank)
