@@ -34,6 +34,7 @@ fn room_after(len: usize) -> usize
 /// let mut reader = Watched::new(b"table\nx\nend\n".as_slice());
 /// let script = read_input(alloc, &mut reader)?;
 /// ```
+#[tactic(auto, using(crate::proofs::ExitLaws::exits))]
 pub fn read_input<R: Read>(alloc: Global, reader: &mut Watched<R>) -> Result<Vec<u8>, RunFault>
     ensures most { (bytes : List ℕ) × Consumes (R.remaining (inside reader.old)) (R.remaining (inside reader.new)) bytes × (length bytes ≤ 16777217) }
     ensures ok { IfOk result (λ input. Consumes (R.remaining (inside reader.old)) (R.remaining (inside reader.new)) input.items × IsAtEnd (R.remaining (inside reader.new)) × (length input.items ≤ 16777216)) }

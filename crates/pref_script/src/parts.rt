@@ -111,6 +111,7 @@ fn give_line<'script>(
 }
 
 /// The part of each of this many clients, before its first command is read, and whether each line that is not blank went to one of them.
+#[tactic(auto, using(crate::proofs::ExitLaws::exits))]
 pub fn client_parts<'script>(
     alloc: Global,
     schema: &'script Schema,

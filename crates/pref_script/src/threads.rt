@@ -43,6 +43,7 @@ impl Gate for OpenGate {
 }
 
 /// The clients' parts of a script once they are done, on threads of their own over one new board.
+#[tactic(auto, using(crate::proofs::ExitLaws::exits))]
 fn joint_parts<'script, J: BoardBrand + Send + Sync, R: Threads + Wait + Sync, G: Gate + Sync>(
     rt: &R,
     alloc: Global,

@@ -1,4 +1,4 @@
-use Rattle.pref_script.proofs.Common.{◌≡◌, ◌∙◌, ◌++◌, ap, drop, take, take-append-le, length, arith, exits, Consumes-trans, length-append, length-take}
+use Rattle.pref_script.proofs.Common.{◌≡◌, ◌∙◌, ◌++◌, ap, drop, take, take-append-le, length, arith, Consumes-trans, length-append, length-take}
 use Rattle.pref_script.proofs.input.read_input.Goals as goal
 
 -- the bytes so far and those of the last read were read, and no more
@@ -12,9 +12,6 @@ returns-in_err-extend_from_slice-clause-most g c =
       Consumes-trans _ _ _ input part c.loop-chunk.invariant.1 c.in-Ok.ensures.bytes.0,
       omega (arith, length-append input part, length-take c.in-Ok.count c.read.new.buf, size, length-take room c.loop-chunk.chunk, c.room_after-room.ensures.most, c.len-in-loop-chunk.ensures, c.loop-chunk.input.ok.0),
     )
-
-pub returns-in_err-extend_from_slice-clause-ok : goal.returns-in_err-extend_from_slice-clause-ok
-returns-in_err-extend_from_slice-clause-ok g c = rw (exits c.from_residual.result c.from_residual.ensures.1) tt
 
 pub loop-chunk-preserved : goal.loop-chunk-preserved
 loop-chunk-preserved g c =

@@ -1,4 +1,4 @@
-use Rattle.pref_script.proofs.Common.{◌∙◌, arith, exits, raw_lines}
+use Rattle.pref_script.proofs.Common.{◌∙◌, arith, raw_lines}
 use Rattle.pref_script.proofs.ScriptLaws.{lines_empty}
 use Rattle.pref_script.proofs.parts.client_parts.Goals as goal
 
@@ -26,21 +26,3 @@ returns-clause-parts c = rw (lines_empty c.loop-left.left.now (grind arith)) at 
 
 pub returns-clause-given : goal.returns-clause-given
 returns-clause-given c = λ all. c.loop-left.invariant.given all (rw (lines_empty c.loop-left.left.now (grind arith)) tt)
-
-pub returns-in_err-parts-clause-count : goal.returns-in_err-parts-clause-count
-returns-in_err-parts-clause-count c = rw (exits c.from_residual.result c.from_residual.ensures.1) tt
-
-pub returns-in_err-parts-clause-parts : goal.returns-in_err-parts-clause-parts
-returns-in_err-parts-clause-parts c = rw (exits c.from_residual.result c.from_residual.ensures.1) tt
-
-pub returns-in_err-parts-clause-given : goal.returns-in_err-parts-clause-given
-returns-in_err-parts-clause-given c = rw (exits c.from_residual.result c.from_residual.ensures.1) tt
-
-pub returns-in_err-give_line-clause-count : goal.returns-in_err-give_line-clause-count
-returns-in_err-give_line-clause-count c = rw (exits c.from_residual-in_err-give_line.result c.from_residual-in_err-give_line.ensures.1) tt
-
-pub returns-in_err-give_line-clause-parts : goal.returns-in_err-give_line-clause-parts
-returns-in_err-give_line-clause-parts c = rw (exits c.from_residual-in_err-give_line.result c.from_residual-in_err-give_line.ensures.1) tt
-
-pub returns-in_err-give_line-clause-given : goal.returns-in_err-give_line-clause-given
-returns-in_err-give_line-clause-given c = rw (exits c.from_residual-in_err-give_line.result c.from_residual-in_err-give_line.ensures.1) tt

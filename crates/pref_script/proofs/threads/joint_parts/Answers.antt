@@ -1,4 +1,4 @@
-use Rattle.pref_script.proofs.Common.{append-nil, arith, exits, refl, sym, texts}
+use Rattle.pref_script.proofs.Common.{append-nil, arith, refl, sym, texts}
 use Rattle.pref_share.proofs.InterleavingsLaws.{length-newcomers}
 use Rattle.pref_script.proofs.threads.joint_parts.Goals as goal
 
@@ -8,9 +8,3 @@ run_tasks-done-requires-clause-lists g c κs within = grind (arith, length-newco
 pub run_tasks-done-requires-clause-fresh : goal.run_tasks-done-requires-clause-fresh
 unfolding texts
 run_tasks-done-requires-clause-fresh g c κs within = λ i d lt. record { client = refl; schema = refl; text = sym (append-nil _); accepted = λ _ rest. rest }
-
-pub returns-in_err-board-clause-ran : goal.returns-in_err-board-clause-ran
-returns-in_err-board-clause-ran g c = rw (exits c.from_residual.result c.from_residual.ensures.1) tt
-
-pub returns-in_err-board-clause-room : goal.returns-in_err-board-clause-room
-returns-in_err-board-clause-room g c = rw (exits c.from_residual.result c.from_residual.ensures.1) tt

@@ -17,8 +17,5 @@ pub returns-clause-returned : goal.returns-clause-returned
 unfolding commands_of texts
 returns-clause-returned c = sym (append-nil _) ∙ (rw (lines_empty c.loop-left.left.now (grind arith)) at c.loop-left.invariant.returned)
 
-pub returns-in_err-push_unowned-clause-returned : goal.returns-in_err-push_unowned-clause-returned
-returns-in_err-push_unowned-clause-returned c = rw (exits c.from_residual.result c.from_residual.ensures.1) tt
-
 pub returns-in_err-push_unowned-clause-memory : goal.returns-in_err-push_unowned-clause-memory
 returns-in_err-push_unowned-clause-memory c = rw (exits c.from_residual.result c.from_residual.ensures.1) c.in_err-push_unowned.ensures.memory
