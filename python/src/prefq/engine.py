@@ -70,7 +70,7 @@ class Engine:
         self._width = c_size_t(self.width)
         self._row = ctypes.c_int64 * self.width
         self.rows: Optional[int] = 0            # None where an interruption came between a change and its count
-        self.changes = 0                        # how many calls were begun that may make rows more or fewer
+        self.changes = 0                        # how many calls were begun that may change rows
         self.lock = threading.RLock()
         self.queries: Dict[int, "ref[Asker]"] = {}     # by their clients
 
@@ -172,11 +172,16 @@ class Engine:
 
     def update(self, id: int, values: bytes) -> None:
         """Gives a row these values."""
-        if self.queries:
-            self.settle()
-        result = self._calls.prefq_update(self._pointer, id, values, self._width)
-        if result:
-            self._fail(result, self._calls.prefq_update, (self._pointer, id, values, self._width))
+        # As `_change` does it, without what that takes by itself.
+        if self._forks != _forks:
+            self.ours()
+        with self.lock:
+            self.changes += 1
+            if self.queries:
+                self.settle()
+            result = self._calls.prefq_update(self._pointer, id, values, self._width)
+            if result:
+                self._fail(result, self._calls.prefq_update, (self._pointer, id, values, self._width))
 
     def delete(self, id: int) -> None:
         """Deletes a row."""
@@ -211,6 +216,20 @@ class Engine:
             self.settle()
         self._call(self._calls.prefq_room, self._pointer, room)
         return room.value
+
+    def version(self) -> Optional[int]:
+        """How many changes were begun. What is begun from now on sees all of these, since it has the lock behind them.
+
+        None in the middle of a call of this thread, as in a signal handler or a finalizer, and where this thread has an open query: it waits for no other one then,
+        which may wait for it.
+        """
+        self.check()
+        thread = threading.get_ident()
+        askers = [held() for held in list(self.queries.values())]
+        # As `threading.Condition` asks it.
+        if self.lock._is_owned() or any(asker is not None and asker.thread == thread for asker in askers):     # type: ignore[attr-defined]
+            return None
+        return self.changes
 
     def counted(self, rows: int, changes: int) -> None:
         """So many rows were counted, once so many changes were begun: where one has begun since, that is no longer their number."""

@@ -15,9 +15,9 @@ from .dealt import Begun, Dealt, Found, Key, Numbers, ordered
 from .dealt_questions import Asked, asked_of, moment_of_pairs
 from .errors import Ended, Refused
 from .follow_source import Changes, Source
-from .kept import Kept
+from .kept import Answered, Kept
 from .keyed_values import column_at_keys, numbers_of_rows
-from .loading import check_known, decoded
+from .loading import check_known, records_of
 from .preferences import Asked as AskedFor, Operand, text_asked
 from .records import Record
 from .rows import Zipped
@@ -28,7 +28,6 @@ from .why import dominators
 
 TRIES = 3           # how often a call reads the table anew where its own were refused memory
 PAUSE = 0.002       # seconds between two looks at a place that is waited for
-MOST_ROWS_KEPT = 2000       # of one of the answers that are kept while the rows stay as they are
 INTERRUPTS = 0.05   # seconds between two interruptions of a call that waits for others
 
 
@@ -42,19 +41,6 @@ class Snapshot(NamedTuple):
     best: Sequence[Found]
     asked: Sequence[Column]
     unknown: Sequence[str]
-
-
-class Answered(NamedTuple):
-    """The answer to a question, as numbers, which was begun at this place; `unknown` is what is said of the question's values."""
-
-    at: int
-    columns: Sequence[Column]
-    rows: Sequence[Found]
-    unknown: Sequence[str]
-
-    def is_small(self) -> bool:
-        """Whether it may be kept."""
-        return len(self.rows) <= MOST_ROWS_KEPT
 
 
 class Followed:
@@ -170,7 +156,7 @@ class Followed:
             numbers = dealt.get(key)
             if numbers is None:
                 raise missing_row(key)
-            return _records(dealt.columns, [(None, key, numbers)])[0]
+            return records_of(dealt.columns, [(None, key, numbers)])[0]
 
         row: Record = self._surviving(found)
         return row
@@ -181,7 +167,7 @@ class Followed:
             return dealt.columns, dealt.begin_all()
 
         columns, pairs = self._answered(begun, lambda begun: (begun[0], begun[1].pairs()))
-        return _records(columns, [(None, key, numbers) for key, numbers in pairs.items()])
+        return records_of(columns, [(None, key, numbers) for key, numbers in pairs.items()])
 
     def best(self, question: AskedFor, *, at_least: Any = None, wait: float = 60.0, where: Optional[Operand] = None, top: Optional[int] = None,
              ties: Optional[AskedFor] = None, by: Names = None) -> Answer:
@@ -208,7 +194,7 @@ class Followed:
         found_version, found = made() if selection.ties is not None else self._kept.get((question, selection), version, made)
         warn_of(found.unknown)
         # Where no row has changed since, it is the answer at each place up to now.
-        return Answer(question, found.columns, _records(found.columns, found.rows), others=self.rows, at=at if found_version == version else found.at)
+        return Answer(question, found.columns, records_of(found.columns, found.rows), others=self.rows, at=at if found_version == version else found.at)
 
     def _made(self, question: str, selection: Selection) -> Tuple[int, Answered]:
         """The answer to a question over the rows as they are in the tables, with their version."""
@@ -218,7 +204,7 @@ class Followed:
         def answered(begun: Tuple[int, int, Asked]) -> Tuple[int, Answered]:
             version, at, asked = begun
             rows = asked.answer()
-            return version, Answered(at, asked.columns, rows, asked.unknown)
+            return version, Answered(asked.columns, rows, asked.unknown, at)
 
         found: Tuple[int, Answered] = self._answered(begun, answered, is_there=True)
         return found
@@ -252,7 +238,7 @@ class Followed:
             raise missing_row(id) if number is None else Refused(f"row {id!r} does not meet the condition", "arguments")
         found = [(level, pairs[moment.id(other + 1) - 1]) for other, level in dominators(read, place)]
         warn_of(read.unknown)
-        return Answer(text, dealt.columns, _records(dealt.columns, [(level, key, numbers) for level, (key, numbers) in found]), others=self.rows, at=at)
+        return Answer(text, dealt.columns, records_of(dealt.columns, [(level, key, numbers) for level, (key, numbers) in found]), others=self.rows, at=at)
 
     def _is_ours(self) -> bool:
         return os.getpid() == self._owner
@@ -359,13 +345,9 @@ class Followed:
             if changes.rows:
                 dealt.change(rows, gone)
             if changes.rows or changes.is_cleared:
-                self._count_change()
+                self.version += 1
             self.at, self._is_whole = changes.place, True
             return True
-
-    def _count_change(self) -> None:
-        self.version += 1
-        self._kept.drop()
 
     def _read_everything(self) -> None:
         """Reads the table, and opens tables with its rows in place of those before. Until then these stay as they are."""
@@ -379,7 +361,7 @@ class Followed:
             with self._alone():
                 self._is_whole = False
                 self._dealt, self.at = dealt, found.place
-                self._count_change()
+                self.version += 1
                 self._is_whole = self._is_followed = True
         finally:
             if self._dealt is not dealt:
@@ -402,10 +384,3 @@ def key_given(id: Any) -> Key:
 def missing_row(key: Key) -> Refused:
     """What is said of a row that is not there."""
     return Refused(f"no such row {key!r}", "client", 7)
-
-
-def _records(columns: Sequence[Column], rows: Sequence[Tuple[Optional[int], Any, Numbers]]) -> List[Record]:
-    """The records of rows, each with its level and key."""
-    names = [column.name for column in columns]
-    values = decoded(columns, [numbers for _, _, numbers in rows])
-    return [Record(zip(names, row), id=key, level=level) for (level, key, _), row in zip(rows, values)]

@@ -11,8 +11,9 @@ from .follow_source import source_of
 from .frame_query import FrameQuery
 from .hasse import Hasse, ranked
 from .kinds.forms import Form
-from .live_rows import Found, LiveRows, Path
-from .loading import Encoded, File, check_known, chosen, column_of_values, encoded
+from .kept import Answered
+from .live_rows import LiveRows, Path
+from .loading import Encoded, File, Found, check_known, chosen, column_of_values, encoded, records_of
 from .missing import Missing
 from .opened import Ids, Opened
 from .options import check_options
@@ -220,8 +221,18 @@ class Frame(LiveRows):
 
     def answer(self, question: str, selection: Selection, progress: Optional[Progress] = None) -> Answer:
         """The same with what is asked beside the question."""
-        with self._query(question, selection) as query:
-            return query.answer(partial(progress, "scanning") if progress else None)
+        opened = self._opened
+
+        def asked() -> Answered:
+            with self._query(opened, question, selection) as query:
+                return query.answered(partial(progress, "scanning") if progress else None)
+
+        # What decides between equally good rows warns where it is asked.
+        version = None if progress or selection.ties is not None else opened.table._engine.version()
+        if version is None:
+            return self._answer(question, asked())
+        now = version
+        return self._answer(question, opened.kept.get((question, selection), now, lambda: (now, asked()))[1])
 
     def query(self, question: Asked, *, where: Optional[Operand] = None, top: Optional[int] = None, ties: Optional[Asked] = None, by: Names = None) -> FrameQuery:
         """Begins a query, which asks the frame as it is now, as `best` asks it; see `Table.query`.
@@ -232,10 +243,9 @@ class Frame(LiveRows):
         ...     query.answer().ids
         [1]
         """
-        return self._query(text_asked(question), Selection.of(where=where, top=top, ties=ties, by=by))
+        return self._query(self._opened, text_asked(question), Selection.of(where=where, top=top, ties=ties, by=by))
 
-    def _query(self, question: str, selection: Selection) -> FrameQuery:
-        opened = self._opened
+    def _query(self, opened: Opened, question: str, selection: Selection) -> FrameQuery:
         read = selection.read(question, opened.by_name.get, opened.names)
         if selection.is_answered_by(read, opened.columns):
             return self._of_table(opened, question, read, selection)
@@ -252,11 +262,11 @@ class Frame(LiveRows):
                 break
             query.abandon()         # It may have the only client.
 
-        def answered(rows: List[Row]) -> Answer:
+        def found(rows: List[Row]) -> Answered:
             some = first_rows(without_twins(rows, asked), asked, selection.top)
-            return self._answer(question, opened, [(row.level, opened.ids.outside(row.id), row.values) for row in some])
+            return answered(opened, [(row.level, row.id, row.values) for row in some], asked.unknown)
 
-        return FrameQuery(query, asked.unknown, answered)
+        return FrameQuery(query, found, partial(self._answer, question))
 
     def _of_moment(self, opened: Opened, question: str, selection: Selection) -> FrameQuery:
         """A query of a table of what is computed over the rows as they are now."""
@@ -264,14 +274,14 @@ class Frame(LiveRows):
         moment = opened.moment(pairs)
         read = reading(question, selection, moment)
 
-        def answered(rows: List[Row]) -> Answer:
-            some = [(row.level, pairs[row.id - 1]) for row in picked(rows, read, selection, moment)]
-            return self._answer(question, opened, [(level, opened.ids.outside(number), numbers) for level, (number, numbers) in some])
+        def found(rows: List[Row]) -> Answered:
+            return answered(opened, [(row.level, *pairs[row.id - 1]) for row in picked(rows, read, selection, moment)], read.unknown)
 
-        return FrameQuery(query_of(read), read.unknown, answered)
+        return FrameQuery(query_of(read), found, partial(self._answer, question))
 
-    def _answer(self, question: str, opened: Opened, found: Sequence[Found]) -> Answer:
-        return Answer(question, opened.columns, self._records(opened, found), others=self.rows, index=self._index)
+    def _answer(self, question: str, found: Answered) -> Answer:
+        warn_of(found.unknown)
+        return Answer(question, found.columns, records_of(found.columns, found.rows), others=self.rows, index=self._index)
 
     def why(self, id: int, question: Asked, *, where: Optional[Operand] = None, by: Names = None) -> Answer:
         """The rows that dominate this one in a question: those because of which it is not in the answer. Each has its own level.
@@ -290,9 +300,8 @@ class Frame(LiveRows):
         place = None if number is None else moment.place(number)
         if place is None:
             raise opened.missing_row(id) if number is None else Refused(f"row {id} does not meet the condition", "arguments")
-        found = [(level, pairs[moment.id(other + 1) - 1]) for other, level in dominators(read, place)]
-        warn_of(read.unknown)
-        return self._answer(text, opened, [(level, opened.ids.outside(number), numbers) for level, (number, numbers) in found])
+        found = [(level, *pairs[moment.id(other + 1) - 1]) for other, level in dominators(read, place)]
+        return self._answer(text, answered(opened, found, read.unknown))
 
     def hasse(self, question: Asked, *, where: Optional[Operand] = None, by: Names = None) -> Hasse:
         """The better-than graph of a question or a preference: which rows dominate which with none in between. There may be 10,000 rows.
@@ -307,9 +316,14 @@ class Frame(LiveRows):
         moment = opened.moment(pairs)
         read = reading(text, Selection.of(("best", 1), where=where, by=by), moment)
         order, worse = ranked(read)
-        there = [pairs[moment.id(place + 1) - 1] for place in order]
-        warn_of(read.unknown)
-        return Hasse(text, opened.columns, self._records(opened, [(None, opened.ids.outside(number), numbers) for number, numbers in there]), worse)
+        there = answered(opened, [(None, *pairs[moment.id(place + 1) - 1]) for place in order], read.unknown)
+        warn_of(there.unknown)
+        return Hasse(text, there.columns, records_of(there.columns, there.rows), worse)
+
+
+def answered(opened: Opened, rows: Sequence[Found], unknown: Sequence[str]) -> Answered:
+    """An answer of rows as they stand in the table."""
+    return Answered(opened.columns, [(level, opened.ids.outside(inside), numbers) for level, inside, numbers in rows], unknown)
 
 
 def fitting(some: Iterable[Any], what: str) -> Iterator[Any]:

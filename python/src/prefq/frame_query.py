@@ -1,10 +1,10 @@
 """A query of a frame, and what is to be done about what its question says."""
-from typing import Any, Callable, List, Optional, Sequence
+from typing import Any, Callable, List, Optional
 
 from .answer import Answer
+from .kept import Answered
 from .query import Progress, Query
 from .rows import Row
-from .warned import warn_of
 
 
 class FrameQuery:
@@ -16,9 +16,9 @@ class FrameQuery:
     (0, [1])
     """
 
-    def __init__(self, query: Query, unknown: Sequence[str], answered: Callable[[List[Row]], Answer]) -> None:
-        """`unknown` is what is said of values that no row has, and `answered` makes the answer of the rows of the query."""
-        self._query, self._unknown, self._answered = query, unknown, answered
+    def __init__(self, query: Query, found: Callable[[List[Row]], Answered], answer: Callable[[Answered], Answer]) -> None:
+        """`found` finds the rows of the frame by those of the query, and `answer` makes the answer of them."""
+        self._query, self._found, self._answer = query, found, answer
 
     def __repr__(self) -> str:
         return f"<prefq.FrameQuery {self._query!r}>"
@@ -44,9 +44,11 @@ class FrameQuery:
 
     def answer(self, progress: Optional[Progress] = None) -> Answer:
         """See `Query.answer`. A value that no row has is warned of (`UnknownValue`)."""
-        rows = self._query.rows(progress)
-        warn_of(self._unknown)
-        return self._answered(rows)
+        return self._answer(self.answered(progress))
+
+    def answered(self, progress: Optional[Progress] = None) -> Answered:
+        """The same as it is kept."""
+        return self._found(self._query.rows(progress))
 
     def abandon(self) -> None:
         """See `Query.abandon`."""

@@ -1,22 +1,48 @@
 """What is asked by many: each answer is made once for each version of the rows, kept while that version stands, and shared by all who ask meanwhile."""
 import threading
-from typing import Callable, Dict, Generic, Hashable, Optional, Tuple, TypeVar
+from typing import Any, Callable, Dict, Generic, Hashable, NamedTuple, Optional, Sequence, Tuple, TypeVar
+
+from .columns import Column
 
 Value = TypeVar("Value")
 MOST_KEPT = 64
+MOST_ROWS_KEPT = 2000       # of one of the answers
+
+
+class Answered(NamedTuple):
+    """The answer to a question, whose rows have their level, their id and their numbers; `unknown` is what is said of the question's values, and `at` the place in a
+    database at which it was begun."""
+
+    columns: Sequence[Column]
+    rows: Sequence[Tuple[Optional[int], Any, Sequence[int]]]
+    unknown: Sequence[str]
+    at: Optional[int] = None
+
+    def is_small(self) -> bool:
+        """Whether it may be kept."""
+        return len(self.rows) <= MOST_ROWS_KEPT
 
 
 class Made(Generic[Value]):
     """An answer with the version of which it is, once it is made. Who makes it has the lock, for which those wait that ask the same."""
 
     def __init__(self) -> None:
-        # A signal handler may ask what its own thread is about to make.
-        self.lock = threading.RLock()
+        self.lock = threading.Lock()
         self.found: Optional[Tuple[int, Value]] = None
 
 
+class _Asking(threading.local):
+    """Whether this thread asks for something that is kept."""
+
+    is_under_way = False
+
+
+_asking = _Asking()
+
+
 class Kept(Generic[Value]):
-    """Answers by what was asked: at most 64, those that were asked for last, of which each `is_small` enough to be kept.
+    """Answers by what was asked: at most 64, those that were asked for last, of which each `is_small` enough to be kept. Once a later version was asked for, those
+    before it are dropped.
 
     >>> kept: Kept[str] = Kept()
     >>> kept.get("best low(x)", 1, lambda: (1, "the answer")), kept.get("best low(x)", 1, lambda: (1, "another one"))
@@ -27,31 +53,36 @@ class Kept(Generic[Value]):
 
     def __init__(self, is_small: Callable[[Value], bool] = lambda _: True) -> None:
         self._is_small = is_small
-        self._lock = threading.RLock()
+        self._lock = threading.Lock()
+        self._version = 0
         self._made: Dict[Hashable, Made[Value]] = {}
 
     def get(self, key: Hashable, version: int, make: Callable[[], Tuple[int, Value]]) -> Tuple[int, Value]:
-        """An answer of this version or a later one, and its version. `make` makes one of those that stand by then."""
-        made = self._of(key)
-        with made.lock:
-            if made.found is not None and made.found[0] >= version:
+        """An answer of this version or a later one, and its version. `make` makes one of those that stand by then.
+
+        A signal handler or a finalizer in the middle of this gets an answer of its own: it waits for no other thread, which might wait for its own one.
+        """
+        if _asking.is_under_way:
+            return make()
+        try:
+            _asking.is_under_way = True
+            made = self._of(key, version)
+            with made.lock:
+                if made.found is None or made.found[0] < version:
+                    made.found = make()
+                    if not self._is_small(made.found[1]):
+                        self._forget(key, made)
                 return made.found
-            found = make()
-            if made.found is None or made.found[0] <= found[0]:
-                made.found = found
-            if not self._is_small(found[1]):
-                self._forget(key, made)
-            return found
+        finally:
+            _asking.is_under_way = False
 
-    def drop(self) -> None:
-        """Forgets all answers, since there is another version. Those who wait for one get it all the same, and look at its version."""
+    def _of(self, wanted: Hashable, version: int) -> Made[Value]:
         with self._lock:
-            self._made.clear()
-
-    def _of(self, key: Hashable) -> Made[Value]:
-        with self._lock:
-            made = self._made.pop(key, None) or Made[Value]()
-            self._made[key] = made              # the last one is the newest
+            if version > self._version:
+                self._version = version
+                self._made = {key: made for key, made in self._made.items() if made.found is None or made.found[0] >= version}
+            made = self._made.pop(wanted, None) or Made[Value]()
+            self._made[wanted] = made              # the last one is the newest
             if len(self._made) > MOST_KEPT:
                 del self._made[next(iter(self._made))]
             return made

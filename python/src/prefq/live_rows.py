@@ -6,7 +6,7 @@ from typing import Any, Callable, Dict, Iterable, Iterator, List, Mapping, Optio
 from .columns import Column
 from .errors import Refused
 from .kinds import Kind
-from .loading import decoded
+from .loading import records_of
 from .opened import Ids, Opened
 from .records import Record, mapping_of
 from .rows import WholeRows
@@ -14,8 +14,6 @@ from .table import Table, check_changes
 
 Result = TypeVar("Result")
 Self = TypeVar("Self", bound="LiveRows")
-# A row by its level, its id and its numbers.
-Found = Tuple[Optional[int], int, Sequence[int]]
 Path = Union[str, "os.PathLike[str]"]
 
 
@@ -152,12 +150,12 @@ class LiveRows:
     def get(self, id: int) -> Record:
         """The row with this id."""
         opened = self._opened
-        return self._records(opened, [(None, id, self._of_row(id, opened.table.get, opened))])[0]
+        return records_of(opened.columns, [(None, id, self._of_row(id, opened.table.get, opened))])[0]
 
     def rows(self) -> List[Record]:
         """All rows, in order of id."""
         opened = self._opened
-        return self._records(opened, [(None, opened.ids.outside(id), numbers) for id, numbers in opened.table.rows()])
+        return records_of(opened.columns, [(None, opened.ids.outside(id), numbers) for id, numbers in opened.table.rows()])
 
     def save(self, path: Path) -> None:
         """Saves the frame as it is now in one file, in place of one that is there: whoever opens that finds the frame before or this one, whole.
@@ -262,8 +260,3 @@ class LiveRows:
             return call(inside)
         except Refused as why:
             raise (self._opened.missing_row(id) if why.kind == "client" and why.number == 7 else why) from None
-
-    def _records(self, opened: Opened, found: Sequence[Found]) -> List[Record]:
-        """The records of rows, each with its level and id."""
-        values = decoded(opened.columns, [numbers for _, _, numbers in found])
-        return [Record(zip(opened.names, row), id=id, level=level) for (level, id, _), row in zip(found, values)]

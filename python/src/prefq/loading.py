@@ -14,11 +14,14 @@ from .kinds.forms import PLAIN, Form
 from .kinds.numbers import Number, are_in_range
 from .missing import Missing, folded, note_of
 from .reading import Cells, Chunk, check_names, is_blank
+from .records import Record
 from .rows import WholeRows, Zipped
 from .standing import Standing
 
 Kinds = Optional[Mapping[str, str]]
 Encoded = Tuple[Column, Sequence[int]]
+# A row by its level, its id and its numbers.
+Found = Tuple[Optional[int], Any, Sequence[int]]
 # Where a column has more different texts, none is kept.
 MOST_KNOWN = 65_536
 
@@ -412,6 +415,17 @@ def decoded(columns: Sequence[Column], rows: Sequence[Sequence[int]]) -> Iterato
         return [None if number == LEAST else decode(number) for number in numbers]
 
     return zip(*(values(column, numbers) for column, numbers in zip(columns, zip(*rows))))
+
+
+def records_of(columns: Sequence[Column], rows: Sequence[Found]) -> List[Record]:
+    """The records of rows, each with its level and its id."""
+    names, new, records = [column.name for column in columns], Record.__new__, []
+    for (level, id, _), values in zip(rows, decoded(columns, [numbers for _, _, numbers in rows])):
+        record = new(Record)        # without its `__init__`, which is written in Python, and takes longer
+        record.level, record.id = level, id
+        record.update(zip(names, values))
+        records.append(record)
+    return records
 
 
 def check_width(columns: Sequence[Column]) -> None:

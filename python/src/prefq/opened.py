@@ -6,6 +6,7 @@ from typing import Any, Dict, List, Mapping, Sequence, Tuple
 from .checks import LEAST, MOST_IDS, whole
 from .columns import Column
 from .errors import Refused
+from .kept import Answered, Kept
 from .kinds import Decimals, Kind, Texts, Whole
 from .loading import Encoded, check_width
 from .moment import Moment
@@ -41,7 +42,8 @@ class Ids:
 
 
 class Opened:
-    """A table, the columns that its numbers stand for, and the ids of its rows. Whoever has a query of it keeps it, when a frame has another one already."""
+    """A table, the columns that its numbers stand for, the ids of its rows, and answers that are kept while these stay as they are. Whoever has a query of it keeps
+    it, when a frame has another one already."""
 
     def __init__(self, columns: Sequence[Column], rows: WholeRows, options: Dict[str, Any], ids: Ids = Ids()) -> None:
         check_names(column.name for column in columns)
@@ -54,6 +56,7 @@ class Opened:
         self._code_books = size_of_code_books(self.columns)
         self._order = texts_last(self.columns)
         self.table = Table(list(self.below.values()), rows, **options)
+        self.kept: Kept[Answered] = Kept(Answered.is_small)
 
     @property
     def names(self) -> List[str]:

@@ -14,7 +14,7 @@ from .desk import Desk, Held, Numbers, moment_of_picture
 from .errors import Refused
 from .kept import Kept
 from .kinds import Booleans, Choices, Clock, Dates, Texts
-from .records import Record
+from .loading import records_of
 from .selection import Selection, reading
 from .why import dominators
 
@@ -93,9 +93,7 @@ class Groups:
 def answer(desk: Desk, asked: Asked) -> Answer:
     """The whole answer at one version."""
     seen = desk.picture(asked.question, asked.selection())
-    names = [column.name for column in seen.columns]
-    values = (zip(names, (column.decode(number) for column, number in zip(seen.columns, row.numbers))) for row in seen.best)
-    return Answer(asked.question, seen.columns, [Record(pairs, id=row.id, level=row.level) for row, pairs in zip(seen.best, values)])
+    return Answer(asked.question, seen.columns, records_of(seen.columns, seen.best))
 
 
 def why(desk: Desk, asked: Asked, id: int) -> Dict[str, Any]:
@@ -127,7 +125,6 @@ class Shown:
         self._desk = desk
         self._making = threading.BoundedSemaphore(MOST_AT_ONCE)
         self._kept: Kept[str] = Kept()
-        desk.subscribe(self._kept.drop)
 
     def get(self, asked: Asked, axes: Sequence[Optional[str]]) -> Tuple[int, str]:
         """The version of the picture as it is now, and the picture as JSON."""
