@@ -14,7 +14,7 @@ from .errors import Ended, Error
 from .infer import kind_of_texts, oddity
 from .kinds import Texts
 from .kinds.forms import Form
-from .loading import Encoded, File, decoded
+from .loading import Encoded, File, records_of
 from .missing import Missing
 from .moment import Moment
 from .partition import Reading
@@ -215,10 +215,8 @@ class FileAnswer(Answer):
 
     def _records(self, found: Iterable[Tuple[Optional[int], int]]) -> List[Record]:
         """The rows with the values of the columns that are understood."""
-        pairs = list(found)
-        lists = [numbers for _, numbers in self._loaded.values()]
-        values = decoded([column for column, _ in self._loaded.values()], [[numbers[id - 1] for numbers in lists] for _, id in pairs])
-        return [Record(zip(self._loaded, row), id=id, level=level) for (level, id), row in zip(pairs, values)]
+        columns, lists = [column for column, _ in self._loaded.values()], [numbers for _, numbers in self._loaded.values()]
+        return records_of(columns, [(level, id, [numbers[id - 1] for numbers in lists]) for level, id in found])
 
 
 class Progress:

@@ -10,7 +10,7 @@ from .carried import CellRows
 from .engines import watched
 from .errors import Ended, Refused
 from .partition import Reading
-from .parts import Found, Job, found_in, notes_of, records_of
+from .parts import Found, Job, found_in, notes_of, records_left
 from .reading import Progress
 from .records import Record
 from .selection import Selection
@@ -48,7 +48,7 @@ class FilesAnswer(Answer):
     """An answer that writes the cells of the files as they stand there; what comes from a Parquet file is written as its column has it."""
 
     def __init__(self, job: Job, found: Found) -> None:
-        columns, records = records_of(found.rows, found.levels, job.reading)
+        columns, records = records_left(found.rows, found.levels, job.reading)
         self._cells = {record.id: cells for record, cells in zip(records, in_one_order(found, [column.name for column in columns])) if cells is not None}
         super().__init__(job.question, columns, sorted(records, key=lambda row: (row.level, row.id)), notes=notes_of(found.rows, job.reading))
 

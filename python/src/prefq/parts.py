@@ -35,7 +35,7 @@ from .conditions import absent_in, moments_in, names_in, rows_that_meet
 from .errors import Refused
 from .expressions import Node, read_condition, unmade
 from .kinds import Texts
-from .loading import decoded
+from .loading import records_of
 from .missing import note_of
 from .once import ask_once
 from .partial import Absent, Partial, together
@@ -365,7 +365,7 @@ def waited_for(found: Any) -> Any:
 def answer_of(found: Found, job: Job) -> Answer:
     """The rows of an answer as records, by level and then by id."""
     warn_of(found.rows.absent.values())
-    columns, rows = records_of(found.rows, found.levels, job.reading)
+    columns, rows = records_left(found.rows, found.levels, job.reading)
     return Answer(job.question, columns, sorted(rows, key=lambda row: (row.level, row.id)), notes=notes_of(found.rows, job.reading))
 
 
@@ -375,14 +375,14 @@ def notes_of(rows: Partial, reading: Reading) -> List[str]:
     return [note_of(name, counts) for name, counts in rows.words.items() if name not in texts or reading.missing is not None]
 
 
-def records_of(left: Partial, levels: Sequence[Optional[int]], reading: Reading) -> Tuple[List[Column], List[Record]]:
+def records_left(left: Partial, levels: Sequence[Optional[int]], reading: Reading) -> Tuple[List[Column], List[Record]]:
     """The columns and the records of these rows, which have these levels."""
     by_name = {segment.column.name: segment for segment in left.asked}
     _check_names(left)
     segments = [by_name.get(name) or column_of(left.rows, name, reading, [place + 1 for place in left.places]) for name in left.names]
     columns = [segment.column for segment in segments]
-    values = decoded(columns, list(zip(*(segment.numbers for segment in segments))))
-    return columns, [Record(zip(left.names, row), id=place + 1, level=level) for level, place, row in zip(levels, left.places, values)]
+    numbers = zip(*(segment.numbers for segment in segments))
+    return columns, records_of(columns, [(level, place + 1, row) for level, place, row in zip(levels, left.places, numbers)])
 
 
 def _check_names(left: Partial) -> None:
