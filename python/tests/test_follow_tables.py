@@ -32,20 +32,20 @@ class ManyTables(OfSqlite):
 
     def test_more_rows_than_one_table_holds_are_left_by_all_of_them(self):
         frame = self.offers(*((number, "x", number, 40 - number) for number in range(40)), capacity=16)
-        with unittest.mock.patch("prefq.dealt_questions.MOST_ROWS", 30), self.refuses(prefq.parts.RowsLeft, "40 rows of 40 are left after each part was asked", kind="parts"):
+        with unittest.mock.patch("prefq.parts.MOST_ROWS", 30), self.refuses(prefq.parts.RowsLeft, "40 rows of 40 are left after each part was asked", kind="parts"):
             frame.best(QUESTION)
         self.assertEqual(len(frame.best(QUESTION)), 40)
 
     def test_many_rows_that_are_left_are_asked_in_pieces(self):
         frame = self.offers(*((number, "x", number % 20, number // 20) for number in range(60)), capacity=16)
         found = frame.best("top_level 5 low(price) * low(dist)")
-        with unittest.mock.patch("prefq.dealt_questions.MOST_ROWS", 30):
+        with unittest.mock.patch("prefq.parts.MOST_ROWS", 30):
             self.assertEqual(frame.best("top_level 5 low(price) * low(dist)").ids, found.ids)
 
     def test_rows_of_which_hardly_one_is_dominated_are_refused_soon(self):
         frame, asked = self.offers(*((number, "x", number, 200 - number + (number == 100)) for number in range(200)), (200, "x", 100, 100), capacity=64), []
         once = prefq.dealt_questions.ask_once
-        with unittest.mock.patch("prefq.dealt_questions.MOST_ROWS", 150), unittest.mock.patch("prefq.dealt_questions.ask_once", lambda *words: asked.append(words) or once(*words)):
+        with unittest.mock.patch("prefq.parts.MOST_ROWS", 150), unittest.mock.patch("prefq.dealt_questions.ask_once", lambda *words: asked.append(words) or once(*words)):
             with self.refuses(prefq.parts.RowsLeft, "200 rows of 201 are left", kind="parts"):
                 frame.best(QUESTION)
         self.assertEqual(len(asked), 2)

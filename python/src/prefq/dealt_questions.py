@@ -4,14 +4,14 @@ What the tables answer is merged as parts are: the levels 1 to n of all rows are
 why). What no table answers by itself, as a condition, is computed over all rows as they were at the begin.
 """
 from dataclasses import replace
+from itertools import chain
 from typing import Iterator, List, Sequence, Tuple
 
-from .checks import MOST_ROWS
 from .columns import Column
 from .dealt import Begun, Dealt, Found, Key, Numbers, ordered
 from .moment import Moment, moment_of
 from .once import ask_once
-from .parts import SHRINKS, RowsLeft
+from .parts import fitting
 from .questions import Question
 from .rows import Row, Zipped
 from .selection import Selection, answered, picked, reading
@@ -50,7 +50,7 @@ class AskedOfTables(Asked):
 
     def answer(self) -> List[Found]:
         parts = self._begun.answers()
-        rows = parts[0] if len(parts) == 1 else self._merged([row for part in parts for row in part])
+        rows = parts[0] if len(parts) == 1 else self._merged(list(chain.from_iterable(parts)))
         rows.sort(key=lambda row: (row.level, ordered(row.key)))
         if self._twins is not None:
             rows = list(_first_of_twins(rows, self._twins))
@@ -65,22 +65,12 @@ class AskedOfTables(Asked):
 
     def _merged(self, rows: List[Found]) -> List[Found]:
         """The answer over the rows that the tables' answers have together. Refused where too many are left, and another pass has no use."""
-        while len(rows) > MOST_ROWS:
-            count = -(-len(rows) // MOST_ROWS)
-            # They are dealt out in turn, so that rows of all tables meet in each piece.
-            fewer = [row for number in range(count) for row in self._asked_of(rows[number::count], self._text_of_parts)]
-            if len(fewer) > max(MOST_ROWS, SHRINKS * len(rows)):
-                raise RowsLeft(len(fewer), self._count)
-            rows = fewer
-        return self._asked_of(rows, self._plan.text)
+        def asked(text: str, at: Sequence[int]) -> List[Row]:
+            with self._plan.refusing():
+                return ask_once(self._names, Zipped(list(zip(*(rows[number].numbers for number in at)))), text) if at else []
 
-    def _asked_of(self, rows: List[Found], text: str) -> List[Found]:
-        """The answer over these rows, as many as one table holds."""
-        if not rows:
-            return []
-        with self._plan.refusing():
-            found = ask_once(self._names, Zipped(list(zip(*(row.numbers for row in rows)))), text)
-        return [rows[row.id - 1]._replace(level=row.level) for row in found]
+        at = fitting(len(rows), self._count, lambda some: [some[row.id - 1] for row in asked(self._text_of_parts, some)])
+        return [rows[at[row.id - 1]]._replace(level=row.level) for row in asked(self._plan.text, at)]
 
 
 class AskedOfRows(Asked):

@@ -24,6 +24,7 @@ import builtins
 import csv
 import os
 from dataclasses import dataclass, field, replace
+from functools import partial
 from typing import Any, Callable, Dict, Iterable, Iterator, List, Optional, Sequence, Tuple
 from uuid import uuid4
 
@@ -134,14 +135,12 @@ class Job:
         """The answer over all partitions."""
         left = together(partials)
         if len(left) > MOST_ROWS:
-            left = self._narrowed(left, self.views(left))
-        if len(left) > MOST_ROWS:
-            raise RowsLeft(len(left), left.count)
+            left = left.kept(fitting(len(left), left.count, partial(_left, self.views(left))))
         left = replace(left, asked=tuple(map(as_in_a_frame, left.asked)))
         if not left.count:
             return Found(left, [], True)
         read = self.read(left)
-        found = sorted((at, level) for level, at in _ask(read, range(len(left))))
+        found = sorted((at, level) for level, at in _ask(read))
         places, levels = [at for at, _ in found], [level for _, level in found]
         read = read.at(places)
         whole = Found(left.kept(places), levels, self._is_whole(read, levels))
@@ -222,16 +221,11 @@ class Job:
         """The question over these rows, or the one that asks for so many levels in its place. What it computes is computed anew, of the columns as they are here."""
         return QuestionRead.over(partial.moment(), self.question, self.selection, levels)
 
-    def _narrowed(self, partial: Partial, views: List[QuestionRead]) -> Partial:
-        """Asks for the levels, one table after the other, and again of what is left, while that is more than one table holds and clearly shrinks. What may be left
-        by any view stays: a row too many lies behind the levels that are asked for, there as in the whole, and changes none of them."""
-        while True:
-            pieces, before = _pieces(len(partial)), len(partial)
-            at = sorted({at for piece in pieces for view in views for _, at in _ask(view, piece)})
-            partial = partial.kept(at)
-            if len(pieces) == 1 or len(partial) > SHRINKS * before:
-                return partial
-            views = [view.at(at) for view in views]
+    def _narrowed(self, rows: Partial, views: List[QuestionRead]) -> Partial:
+        """Asks for the levels. What may be left by any view stays: a row too many lies behind the levels that are asked for, there as in the whole, and changes none
+        of them."""
+        at = narrowed(len(rows), partial(_left, views))
+        return rows.kept(_left(views, at) if len(at) <= MOST_ROWS else at)
 
     def _is_whole(self, read: QuestionRead, levels: Sequence[int]) -> bool:
         """Whether an answer of `at_least k` over the rows that are left is that over all rows.
@@ -394,19 +388,41 @@ def _check_names(left: Partial) -> None:
             raise in_partition(why, numbered(None, number)) from None
 
 
-def _ask(read: QuestionRead, piece: range) -> List[Tuple[int, int]]:
-    """The level and the number of each row of a piece that answers a question."""
-    if not piece:
+def _ask(read: QuestionRead) -> List[Tuple[int, int]]:
+    """The level and the number, from 0, of each row that answers a question."""
+    rows = Zipped(read.lists)
+    if not rows:
         return []
     with read.plan.refusing():
-        found = ask_once(read.names, Zipped([numbers[piece.start::piece.step] for numbers in read.lists]), read.plan.text)
-    return [(row.level, piece[row.id - 1]) for row in without_twins(found, read.plan)]
+        found = ask_once(read.names, rows, read.plan.text)
+    return [(row.level, row.id - 1) for row in without_twins(found, read.plan)]
 
 
-def _pieces(count: int) -> List[range]:
-    """So many rows as tables hold them: they are dealt out in turn, so that rows of all partitions meet in each piece."""
-    tables = max(1, -(-count // MOST_ROWS))
-    return [range(number, count, tables) for number in range(tables)]
+def _left(views: Sequence[QuestionRead], at: Sequence[int]) -> List[int]:
+    """Which of these rows, as many as one table holds, are in the answer of some view, in their order."""
+    return [at[place] for place in sorted({place for view in views for _, place in _ask(view.at(at))})]
+
+
+def narrowed(count: int, left: Callable[[Sequence[int]], Iterable[int]]) -> Sequence[int]:
+    """The numbers, from 0, of the rows that are left of so many where each table is asked which are `left` of its own, and again of what is left, while that is more
+    than one table holds and clearly shrinks."""
+    rows: Sequence[int] = range(count)
+    while len(rows) > MOST_ROWS:
+        tables = -(-len(rows) // MOST_ROWS)
+        # They are dealt out in turn, so that rows of all partitions meet in each table.
+        fewer = sorted(row for number in range(tables) for row in left(rows[number::tables]))
+        if len(fewer) > SHRINKS * len(rows):
+            return fewer
+        rows = fewer
+    return rows
+
+
+def fitting(count: int, of: int, left: Callable[[Sequence[int]], Iterable[int]]) -> Sequence[int]:
+    """The same, which is refused where more are left than one table holds; there are so many rows in all."""
+    rows = narrowed(count, left)
+    if len(rows) > MOST_ROWS:
+        raise RowsLeft(len(rows), of)
+    return rows
 
 
 def in_partition(why: Exception, partition: Source) -> Exception:

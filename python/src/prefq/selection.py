@@ -193,6 +193,8 @@ class Reading(NamedTuple):
 
     def at(self, places: Sequence[int]) -> "Reading":
         """The same of only the rows at these places, from 0."""
+        if isinstance(places, range):
+            return self._replace(lists=[numbers[places.start:places.stop:places.step] for numbers in self.lists])
         return self._replace(lists=[array("q", map(numbers.__getitem__, places)) for numbers in self.lists])
 
     @property
