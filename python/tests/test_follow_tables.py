@@ -3,6 +3,7 @@ import unittest.mock
 
 import prefq
 from plain import Ask, Low, Pareto
+from prefq.follow_source import Changes
 from test_follow import QUESTION, OfSqlite
 
 
@@ -61,6 +62,14 @@ class ManyTables(OfSqlite):
         self.db.execute("delete from offers where id = 4")
         self.assertEqual(len(frame), 8)
         self.assertEqual(sum(len(shard.keys) for shard in frame._dealt._shards), 8 + 1)     # that of the row that has just gone
+
+    def test_the_number_of_rows_behind_a_clearing_is_that_of_the_rows_that_came_since(self):
+        frame = self.offers(*((number, "x", number, number) for number in range(12)), capacity=4)
+        rows = {number: ("y", number, 1) for number in range(10, 15)}
+        self.assertFalse(frame._take(Changes(frame.at + 1, True, rows, 12 + 3)))
+        self.assertEqual(len(frame), 12)
+        self.assertTrue(frame._take(Changes(frame.at + 1, True, {**rows, 3: None}, 5)))
+        self.assertEqual(sorted(key for key in frame._tables._places), list(rows))
 
     def test_a_question_that_is_wrong_is_refused_at_its_place(self):
         frame = self.offers(*((number, "x", number, number) for number in range(12)), capacity=4)

@@ -337,7 +337,8 @@ class Followed:
             except (TypeError, ValueError):
                 return False        # where it is refused, if need be
             gone = [key for key, cells in changes.rows.items() if cells is None]
-            if changes.total is not None and changes.total != dealt.count_with(rows, gone):
+            count = len(rows) if changes.is_cleared else dealt.count_with(rows, gone)
+            if changes.total not in (None, count):
                 return False
             self._is_whole = False
             if changes.is_cleared:
