@@ -168,6 +168,22 @@ class OfATable(TestCase):
             self.assertIn("other rows (3)", answer.to_svg())
         self.assertNotIn("other rows", answer.to_svg())     # They ended with the table.
 
+    def test_an_answer_is_drawn_while_all_clients_ask(self):
+        with hotels(clients=1) as table, prefq.Frame.from_records([{"x": 1}, {"x": 2}], clients=1) as frame:
+            answers = [table.best(QUESTION), frame.best("best low(x)")]
+            with table.query(QUESTION), frame.query("best low(x)"):
+                for answer in answers:
+                    self.assertNotIn("other rows", answer.to_svg())
+            for answer in answers:
+                self.assertIn("other rows", answer.to_svg())
+
+    def test_what_else_is_refused_of_the_other_rows_is_not_passed_over(self):
+        def others():
+            raise prefq.Refused("the table was changed", "follow")
+
+        with self.refuses(prefq.Refused, "the table was changed"):
+            Answer(QUESTION, [prefq.Column("x", "whole")], [prefq.Record({"x": 1}, id=1, level=1)], others=others).to_svg()
+
     def test_columns_of_a_table_that_are_called_as_a_row_has_it(self):
         with prefq.Table(["level", "id", "values"], [[-2**63, 2**63 - 1, 7]]) as table:
             answer = table.best("best low(id)")

@@ -9,7 +9,7 @@ from decimal import Decimal
 from typing import Any, Callable, Iterable, List, Optional, Sequence, SupportsIndex, TextIO, Union, cast, overload
 
 from .columns import Column
-from .errors import Ended
+from .errors import Ended, Refused
 from .records import Record
 from .visible import SURROGATE, in_xml, visible, width
 
@@ -20,6 +20,7 @@ UTF_8 = "UTF-8"
 ROWS_IN_A_NOTEBOOK = 200
 WIDEST = 40
 LINE_END = "\r\n"
+ALL_CLIENTS_ASK = ("client", 3)
 ON_THE_RIGHT = ' style="text-align: right"'
 
 
@@ -219,10 +220,13 @@ class Answer(List[Record]):
         return _given(svg_of(self, x, y), target)
 
     def all_records(self) -> List[Record]:
-        """The rows behind the answer, as they are now, where they can still be had; else those of the answer."""
+        """The rows behind the answer, as they are now, where they can be had: not once the table has ended, nor while each of its clients has an open query. Else those
+        of the answer."""
         try:
             return list(self if self._others is None else self._others())
-        except Ended:
+        except (Ended, Refused) as why:
+            if isinstance(why, Refused) and (why.kind, why.number) != ALL_CLIENTS_ASK:
+                raise
             return list(self)
 
 
