@@ -1,4 +1,5 @@
 """Answers that are kept while the rows stay as they are, and shared by those who ask meanwhile."""
+import asyncio
 import contextlib
 import os
 import random
@@ -322,6 +323,26 @@ class OfAFrame(TestCase):
                 frame.best("best high(x)")
             self.assertEqual(query.answer().ids, [1])
         waiting.join()
+
+    def test_tasks_get_what_is_kept(self):
+        async def ask(frame):
+            first = await frame.best(QUESTION)
+            more = await asyncio.gather(*(frame.best(QUESTION) for _ in range(20)))
+            self.assertEqual([answer.ids for answer in (first, *more)], [[1, 2]] * 21)
+            self.assertEqual(self.asked.call_count, 1)
+            change, answer = frame.update(3, {"price": 1}), frame.best(QUESTION)
+            self.assertEqual((await asyncio.gather(change, answer))[1].ids, [1, 2, 3])
+            with self.assertWarns(prefq.UnknownValue):
+                await frame.best("best pos(hotel, 'Lion')")
+            with self.assertWarns(prefq.UnknownValue):
+                await frame.best("best pos(hotel, 'Lion')")
+            self.assertEqual(self.asked.call_count, 3)
+
+        async def main():
+            async with await prefq.AsyncFrame.open(lambda: self.frame) as frame:
+                await ask(frame)
+
+        asyncio.run(main())
 
     def test_eight_ask_while_one_changes(self):
         """Each answer is that of the rows behind the changes that had ended when it was asked for, or behind some that had begun before it came."""

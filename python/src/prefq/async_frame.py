@@ -10,9 +10,9 @@ from .follow import Followed
 from .frame import Frame
 from .hasse import Hasse
 from .live_rows import Path
-from .preferences import Asked, Operand
+from .preferences import Asked, Operand, text_asked
 from .records import Record
-from .selection import Names
+from .selection import Names, Selection
 
 
 class AsyncFrame(Awaited):
@@ -84,7 +84,7 @@ class AsyncFrame(Awaited):
         self._usable()
         client = await self._free.get()
         try:
-            with await self._call(partial(self._frame.query, question, where=where, top=top, ties=ties, by=by)) as query:
+            with await self._call(self._frame.begun, text_asked(question), Selection.of(where=where, top=top, ties=ties, by=by)) as query:
                 while query.left:
                     await self._call(query.scan_piece)
                 return await self._call(query.answer)

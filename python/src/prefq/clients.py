@@ -29,7 +29,7 @@ class Clients:
             self._engine.check()
             if client is not None:
                 raise Refused(f"client {client} has an open query", "client", 3)
-            waited, waits_for_itself = time.monotonic() - begun, self._all_are_of_this_thread()
+            waited, waits_for_itself = time.monotonic() - begun, self._engine.threads() == {threading.get_ident()}
             if waited > (SECONDS_TO_COLLECTION if waits_for_itself else SECONDS_TO_WAIT):
                 raise Refused(f"each of the {self._count} clients has an open query", "client", 3)
             if waits_for_itself:
@@ -49,10 +49,6 @@ class Clients:
             gc.collect()
             end = time.monotonic()
             self._collects_from = end + max(SECONDS_TO_COLLECTION, (end - begun) / MOST_TIME_FOR_COLLECTIONS)
-
-    def _all_are_of_this_thread(self) -> bool:
-        askers = [held() for held in list(self._engine.queries.values())]
-        return {asker.thread for asker in askers if asker is not None} == {threading.get_ident()}
 
     def _is_given(self, asker: Asker, client: Optional[int]) -> bool:
         """Gives a client that is free now, if there is one."""

@@ -9,7 +9,7 @@ import threading
 from ctypes import c_size_t, c_uint32, c_uint64, c_void_p
 from itertools import compress
 from operator import is_
-from typing import Any, Callable, Dict, List, Optional, Sequence, Tuple, TypeVar
+from typing import Any, Callable, Dict, List, Optional, Sequence, Set, Tuple, TypeVar
 from weakref import ref
 
 from .errors import Ended, Error, Refused
@@ -218,18 +218,15 @@ class Engine:
         return room.value
 
     def version(self) -> Optional[int]:
-        """How many changes were begun. What is begun from now on sees all of these, since it has the lock behind them.
-
-        None in the middle of a call of this thread, as in a signal handler or a finalizer, and where this thread has an open query: it waits for no other one then,
-        which may wait for it.
-        """
+        """How many changes were begun. What is begun from now on sees all of these, since it has the lock behind them. None in the middle of a call of this thread, as
+        in a signal handler or a finalizer."""
         self.check()
-        thread = threading.get_ident()
-        askers = [held() for held in list(self.queries.values())]
         # As `threading.Condition` asks it.
-        if self.lock._is_owned() or any(asker is not None and asker.thread == thread for asker in askers):     # type: ignore[attr-defined]
-            return None
-        return self.changes
+        return None if self.lock._is_owned() else self.changes      # type: ignore[attr-defined]
+
+    def threads(self) -> Set[int]:
+        """The threads that have open queries."""
+        return {asker.thread for asker in [held() for held in list(self.queries.values())] if asker is not None}
 
     def counted(self, rows: int, changes: int) -> None:
         """So many rows were counted, once so many changes were begun: where one has begun since, that is no longer their number."""

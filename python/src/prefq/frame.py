@@ -1,4 +1,5 @@
 """Frames: live tables of columns of every kind."""
+import threading
 from functools import partial
 from typing import Any, Dict, Iterable, Iterator, List, Mapping, Optional, Sequence
 
@@ -8,7 +9,7 @@ from .columns import Column, listed
 from .errors import Refused
 from .follow import Followed
 from .follow_source import source_of
-from .frame_query import FrameQuery
+from .frame_query import FrameQuery, Over
 from .hasse import Hasse, ranked
 from .kinds.forms import Form
 from .kept import Answered
@@ -227,12 +228,23 @@ class Frame(LiveRows):
             with self._query(opened, question, selection) as query:
                 return query.answered(partial(progress, "scanning") if progress else None)
 
-        # What decides between equally good rows warns where it is asked.
-        version = None if progress or selection.ties is not None else opened.table._engine.version()
-        if version is None:
+        version = None if progress else version_kept(opened, selection)
+        # A thread that has an open query waits for no other one, which may wait for its client.
+        if version is None or threading.get_ident() in opened.table._engine.threads():
             return self._answer(question, asked())
         now = version
         return self._answer(question, opened.kept.get((question, selection), now, lambda: (now, asked()))[1])
+
+    def begun(self, question: str, selection: Selection) -> FrameQuery:
+        """A query, whose answer is kept; one that is over where it was."""
+        opened, key = self._opened, (question, selection)
+        version = version_kept(opened, selection)
+        found = None if version is None else opened.kept.find(key, version)
+        if found is not None:
+            kept: Answered = found
+            return FrameQuery(Over(), lambda _: kept, partial(self._answer, question))
+        query = self._query(opened, question, selection)
+        return query if version is None else query.keeping(partial(opened.kept.keep, key, version))
 
     def query(self, question: Asked, *, where: Optional[Operand] = None, top: Optional[int] = None, ties: Optional[Asked] = None, by: Names = None) -> FrameQuery:
         """Begins a query, which asks the frame as it is now, as `best` asks it; see `Table.query`.
@@ -319,6 +331,11 @@ class Frame(LiveRows):
         there = answered(opened, [(None, *pairs[moment.id(place + 1) - 1]) for place in order], read.unknown)
         warn_of(there.unknown)
         return Hasse(text, there.columns, records_of(there.columns, there.rows), worse)
+
+
+def version_kept(opened: Opened, selection: Selection) -> Optional[int]:
+    """The version of which an answer is kept; None where it is not, as of what decides between equally good rows, which warns where it is asked."""
+    return None if selection.ties is not None else opened.table._engine.version()
 
 
 def answered(opened: Opened, rows: Sequence[Found], unknown: Sequence[str]) -> Answered:

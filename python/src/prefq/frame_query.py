@@ -3,8 +3,21 @@ from typing import Any, Callable, List, Optional
 
 from .answer import Answer
 from .kept import Answered
-from .query import Progress, Query
+from .query import Progress
 from .rows import Row
+
+
+class Over:
+    """What is there in place of a query whose answer was kept."""
+
+    left = 0
+
+    def rows(self, progress: Optional[Progress]) -> List[Row]:
+        """None of them is looked at."""
+        return []
+
+    def __exit__(self, *failed: Any) -> None:
+        pass
 
 
 class FrameQuery:
@@ -16,7 +29,7 @@ class FrameQuery:
     (0, [1])
     """
 
-    def __init__(self, query: Query, found: Callable[[List[Row]], Answered], answer: Callable[[Answered], Answer]) -> None:
+    def __init__(self, query: Any, found: Callable[[List[Row]], Answered], answer: Callable[[Answered], Answer]) -> None:
         """`found` finds the rows of the frame by those of the query, and `answer` makes the answer of them."""
         self._query, self._found, self._answer = query, found, answer
 
@@ -49,6 +62,12 @@ class FrameQuery:
     def answered(self, progress: Optional[Progress] = None) -> Answered:
         """The same as it is kept."""
         return self._found(self._query.rows(progress))
+
+    def keeping(self, keep: Callable[[Answered], Answered]) -> "FrameQuery":
+        """The same query, whose answer is kept by this."""
+        found = self._found
+        self._found = lambda rows: keep(found(rows))
+        return self
 
     def abandon(self) -> None:
         """See `Query.abandon`."""

@@ -40,6 +40,17 @@ class _Asking(threading.local):
 _asking = _Asking()
 
 
+def _alone(call: Callable[[], Optional[Value]]) -> Optional[Value]:
+    """What a call returns; None in the middle of one of this thread, as in a signal handler or a finalizer: it waits for no other thread, which might wait for it."""
+    if _asking.is_under_way:
+        return None
+    try:
+        _asking.is_under_way = True
+        return call()
+    finally:
+        _asking.is_under_way = False
+
+
 class Kept(Generic[Value]):
     """Answers by what was asked: at most 64, those that were asked for last, of which each `is_small` enough to be kept. Once a later version was asked for, those
     before it are dropped.
@@ -58,23 +69,33 @@ class Kept(Generic[Value]):
         self._made: Dict[Hashable, Made[Value]] = {}
 
     def get(self, key: Hashable, version: int, make: Callable[[], Tuple[int, Value]]) -> Tuple[int, Value]:
-        """An answer of this version or a later one, and its version. `make` makes one of those that stand by then.
+        """An answer of this version or a later one, and its version. `make` makes one of those that stand by then."""
+        return _alone(lambda: self._get(key, version, make)) or make()
 
-        A signal handler or a finalizer in the middle of this gets an answer of its own: it waits for no other thread, which might wait for its own one.
-        """
-        if _asking.is_under_way:
-            return make()
-        try:
-            _asking.is_under_way = True
+    def find(self, key: Hashable, version: int) -> Optional[Value]:
+        """An answer of this version or a later one, where it is kept."""
+        found = _alone(lambda: self._of(key, version).found)
+        return None if found is None or found[0] < version else found[1]
+
+    def keep(self, key: Hashable, version: int, value: Value) -> Value:
+        """Keeps an answer of this version, and returns it."""
+        def keep() -> None:
             made = self._of(key, version)
-            with made.lock:
-                if made.found is None or made.found[0] < version:
-                    made.found = make()
-                    if not self._is_small(made.found[1]):
-                        self._forget(key, made)
-                return made.found
-        finally:
-            _asking.is_under_way = False
+            if made.found is None or made.found[0] < version:
+                made.found = version, value
+
+        if self._is_small(value):
+            _alone(keep)
+        return value
+
+    def _get(self, key: Hashable, version: int, make: Callable[[], Tuple[int, Value]]) -> Tuple[int, Value]:
+        made = self._of(key, version)
+        with made.lock:
+            if made.found is None or made.found[0] < version:
+                made.found = make()
+                if not self._is_small(made.found[1]):
+                    self._forget(key, made)
+            return made.found
 
     def _of(self, wanted: Hashable, version: int) -> Made[Value]:
         with self._lock:
