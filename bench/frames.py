@@ -15,6 +15,7 @@ import sys
 import time
 
 import prefq
+from prefq.questions import read_question
 from prefq.translate import plan
 
 COUNT = 60_000
@@ -47,8 +48,9 @@ def of_a_frame(text):
     with frame:
         yield "from_csv, eight columns", *opened
         opened_below = frame._opened
-        below = plan(QUESTION, frame._read(opened_below, QUESTION), opened_below.below).text
+        below = plan(QUESTION, read_question(QUESTION, opened_below.by_name.get, frame.names), opened_below.below).text
         yield "best", *measured(lambda: frame.best(QUESTION))[1:]
+        yield "best again, which is kept", *measured(lambda: frame.best(QUESTION))[1:]
         yield "best of the table below", *measured(lambda: frame.table.best(below))[1:]
         yield "rows", *measured(frame.rows)[1:]
         yield "why", *measured(lambda: frame.why(COUNT, QUESTION))[1:]
