@@ -8,7 +8,7 @@ from types import MappingProxyType
 from typing import Any, Callable, Dict, Iterable, List, Mapping, NamedTuple, Optional, Sequence, Tuple, TypeVar
 
 from .columns import Column, listed
-from .errors import Ended, Refused
+from .errors import Ended, Refused, no_such_row
 from .frame import Frame
 from .hints import unknown_column
 from .kinds import Kind, Texts
@@ -229,7 +229,7 @@ class Desk:
 
     def _place(self, id: int) -> int:
         if id not in self._at:
-            raise Refused(f"no such row {id}", "client", 7)
+            raise no_such_row(id)
         return self._at[id]
 
     def _versions(self, id: int) -> Tuple[int, ...]:

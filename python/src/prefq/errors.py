@@ -1,5 +1,5 @@
 """What goes wrong, as exceptions with one base class."""
-from typing import Optional
+from typing import Any, Optional
 
 from .visible import UNSEEN, visible, width
 
@@ -66,6 +66,16 @@ class Refused(Error):
         if self.question is not None:
             message += "\n" + pointed(self.question, self.place)
         return message
+
+
+def no_such_row(id: Any) -> Refused:
+    """What is said of a row that is not there."""
+    return Refused(f"no such row {called(id)}", "client", 7)
+
+
+def called(id: Any) -> Any:
+    """A row's id or key as a message has it."""
+    return repr(id) if isinstance(id, str) else id
 
 
 class Ended(Error):

@@ -13,7 +13,7 @@ from .checks import LEAST, MOST, seconds, whole
 from .columns import Column
 from .dealt import Begun, Dealt, Found, Key, Numbers, ordered
 from .dealt_questions import Asked, asked_of, moment_of_pairs
-from .errors import Ended, Refused
+from .errors import Ended, Refused, no_such_row
 from .follow_source import Changes, Source
 from .kept import Answered, Kept
 from .keyed_values import column_at_keys, numbers_of_rows
@@ -21,10 +21,10 @@ from .loading import check_known, records_of
 from .preferences import Asked as AskedFor, Operand, text_asked
 from .records import Record
 from .rows import Zipped
-from .selection import Names, Selection, reading
+from .selection import Names, Selection
 from .turns import Turns
 from .warned import warn_of
-from .why import dominators
+from .why import explained, number_of
 
 TRIES = 3           # how often a call reads the table anew where its own were refused memory
 PAUSE = 0.002       # seconds between two looks at a place that is waited for
@@ -155,7 +155,7 @@ class Followed:
         def found(dealt: Dealt) -> Record:
             numbers = dealt.get(key)
             if numbers is None:
-                raise missing_row(key)
+                raise no_such_row(key)
             return records_of(dealt.columns, [(None, key, numbers)])[0]
 
         row: Record = self._surviving(found)
@@ -230,15 +230,9 @@ class Followed:
             return dealt, dealt.begin_all(), self.at
 
         dealt, at, pairs = self._answered(begun, lambda begun: (begun[0], begun[2], list(begun[1].pairs().items())))
-        moment = moment_of_pairs(dealt.columns, pairs)
-        read = reading(text, selection, moment)
-        number = next((number for number, (key, _) in enumerate(pairs, 1) if key == id), None)
-        place = None if number is None else moment.place(number)
-        if place is None:
-            raise missing_row(id) if number is None else Refused(f"row {id!r} does not meet the condition", "arguments")
-        found = [(level, pairs[moment.id(other + 1) - 1]) for other, level in dominators(read, place)]
-        warn_of(read.unknown)
-        return Answer(text, dealt.columns, records_of(dealt.columns, [(level, key, numbers) for level, (key, numbers) in found]), others=self.rows, at=at)
+        found, unknown = explained(text, selection, moment_of_pairs(dealt.columns, pairs), pairs, number_of(pairs, id), id)
+        warn_of(unknown)
+        return Answer(text, dealt.columns, records_of(dealt.columns, found), others=self.rows, at=at)
 
     def _is_ours(self) -> bool:
         return os.getpid() == self._owner
@@ -380,8 +374,3 @@ class Followed:
 def key_given(id: Any) -> Key:
     """A key as it was given."""
     return id if isinstance(id, str) else whole(id, "id", LEAST, MOST)
-
-
-def missing_row(key: Key) -> Refused:
-    """What is said of a row that is not there."""
-    return Refused(f"no such row {key!r}", "client", 7)

@@ -26,7 +26,7 @@ from .rows import Row, WholeRows, Zipped
 from .selection import Names, Selection, first_rows, picked, query_of, reading, without_twins
 from .translate import plan
 from .warned import warn_of
-from .why import dominators
+from .why import explained, number_of
 
 TABLE_OPTIONS = ("capacity", "clients", "block", "window")
 CSV_OPTIONS = ("columns", "kinds", "missing", "encoding", "delimiter", "decimal", "thousands", "skip", "null_padding")
@@ -305,15 +305,8 @@ class Frame(LiveRows):
         """
         text, opened = text_asked(question), self._opened
         pairs = opened.table.rows()
-        moment = opened.moment(pairs)
-        read = reading(text, Selection.of(where=where, by=by), moment)
-        inside = opened.ids.inside(id)
-        number = next((number for number, (other, _) in enumerate(pairs, 1) if other == inside), None)
-        place = None if number is None else moment.place(number)
-        if place is None:
-            raise opened.missing_row(id) if number is None else Refused(f"row {id} does not meet the condition", "arguments")
-        found = [(level, *pairs[moment.id(other + 1) - 1]) for other, level in dominators(read, place)]
-        return self._answer(text, answered(opened, found, read.unknown))
+        number = number_of(pairs, opened.ids.inside(id))
+        return self._answer(text, answered(opened, *explained(text, Selection.of(where=where, by=by), opened.moment(pairs), pairs, number, id)))
 
     def hasse(self, question: Asked, *, where: Optional[Operand] = None, by: Names = None) -> Hasse:
         """The better-than graph of a question or a preference: which rows dominate which with none in between. There may be 10,000 rows.

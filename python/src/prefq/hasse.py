@@ -7,7 +7,7 @@ from typing import Any, Callable, Dict, Iterator, List, Optional, Sequence, Tupl
 
 from .better_than import Order, places_in, rows_alike
 from .columns import Column
-from .errors import Refused
+from .errors import Refused, no_such_row
 from .records import Record
 from .selection import Reading
 from .translate import terms_columns
@@ -89,7 +89,7 @@ class Hasse(List[Edge]):
 
     def _place(self, id: int) -> int:
         if id not in self._places:
-            raise Refused(f"no such row {id}", "client", 7)
+            raise no_such_row(id)
         return self._places[id]
 
     def _label(self, record: Record, label: Label) -> str:

@@ -4,7 +4,7 @@ import threading
 from typing import Any, Callable, Dict, Iterable, Iterator, List, Mapping, Optional, Sequence, Tuple, TypeVar, Union
 
 from .columns import Column
-from .errors import Refused
+from .errors import Refused, no_such_row
 from .kinds import Kind
 from .loading import records_of
 from .opened import Ids, Opened
@@ -259,4 +259,4 @@ class LiveRows:
         try:
             return call(inside)
         except Refused as why:
-            raise (self._opened.missing_row(id) if why.kind == "client" and why.number == 7 else why) from None
+            raise (no_such_row(id) if why.kind == "client" and why.number == 7 else why) from None

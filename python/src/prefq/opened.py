@@ -5,7 +5,6 @@ from typing import Any, Dict, List, Mapping, Sequence, Tuple
 
 from .checks import LEAST, MOST_IDS, whole
 from .columns import Column
-from .errors import Refused
 from .kept import Answered, Kept
 from .kinds import Decimals, Kind, Texts, Whole
 from .loading import Encoded, check_width
@@ -99,10 +98,6 @@ class Opened:
         kept = [self.ids.outside(id) for id, _ in pairs]
         # An interruption may have come between an insert and the note of its id.
         return Opened(columns, Zipped(lists), {**self._options, "capacity": self.table.capacity}, Ids(kept, max([last, *kept[-1:]])))
-
-    def missing_row(self, id: int) -> Refused:
-        """What is said of a row that is not there."""
-        return Refused(f"no such row {id}", "client", 7)
 
 
 def texts_last(columns: Sequence[Column]) -> List[int]:

@@ -11,12 +11,11 @@ from .answer import Answer
 from .checks import LEAST
 from .columns import Column, spelled
 from .desk import Desk, Held, Numbers, moment_of_picture
-from .errors import Refused
 from .kept import Kept
 from .kinds import Booleans, Choices, Clock, Dates, Texts
 from .loading import records_of
-from .selection import Selection, reading
-from .why import dominators
+from .selection import Selection
+from .why import explained, number_of
 
 MOST_BEST = 500         # rows of an answer that are sent; a page is no place for more
 MOST_OTHERS = 2000      # other rows that are drawn
@@ -56,11 +55,11 @@ def picture(desk: Desk, asked: Asked, axes: Sequence[Optional[str]] = (None, Non
     label = next((place for place, column in enumerate(columns) if isinstance(column.kind, (Texts, Choices))), None)
     groups = Groups.of(asked.question, columns, seen.best)
     shown = seen.best[:MOST_BEST]
-    best = [{"id": id_of(row), "level": row.level, "cells": texts(columns, row.numbers), "ranks": places, "group": groups.place(row), "x": at(columns, row, x), "y": at(columns, row, y)}
+    best = [{"id": sent(row.id), "level": row.level, "cells": texts(columns, row.numbers), "ranks": places, "group": groups.place(row), "x": at(columns, row, x), "y": at(columns, row, y)}
             for row, places in zip(shown, ranks(columns, [row.numbers for row in shown]))]
     among = {row.id for row in seen.best}
     others = sample([row for row in seen.rows if row.id not in among])
-    points = [[id_of(row), at(columns, row, x), at(columns, row, y), "" if label is None else texts(columns, row.numbers)[label], groups.place(row)] for row in others]
+    points = [[sent(row.id), at(columns, row, x), at(columns, row, y), "" if label is None else texts(columns, row.numbers)[label], groups.place(row)] for row in others]
     return {"version": seen.version, **asked._asdict(), "count": len(seen.rows), "found": len(seen.best), "best": best, "others": points, "groups": groups.names,
             "notes": list(seen.notes), "asked": [column.name for column in seen.asked], "axes": [None if axis is None else columns[axis].name for axis in (x, y)]}
 
@@ -99,17 +98,11 @@ def answer(desk: Desk, asked: Asked) -> Answer:
 def why(desk: Desk, asked: Asked, id: int) -> Dict[str, Any]:
     """A row and the rows that are better than it, at one version."""
     seen = desk.picture(asked.question, asked.selection())
-    number = next((number for number, row in enumerate(seen.rows, 1) if row.id == id), None)
-    if number is None:
-        raise Refused(f"no such row {id}", "client", 7)
-    moment = moment_of_picture(seen.columns, seen.rows)
-    read = reading(asked.question, replace(asked.selection(), top=None), moment)
-    place = moment.place(number)
-    if place is None:
-        raise Refused(f"row {id} does not meet the condition", "arguments")
-    found = [(level, seen.rows[moment.id(better + 1) - 1]) for better, level in dominators(read, place)]
-    rows = [{"id": id_of(row), "level": level, "cells": texts(seen.columns, row.numbers)} for level, row in found[:MOST_BEST]]
-    return {"version": seen.version, "row": {"id": id_of(seen.rows[number - 1]), "cells": texts(seen.columns, seen.rows[number - 1].numbers)}, "rows": rows, "count": len(found),
+    number = number_of(seen.rows, id)
+    found, _ = explained(asked.question, replace(asked.selection(), top=None), moment_of_picture(seen.columns, seen.rows), seen.rows, number, id)
+    [own] = [row for row in seen.rows if row.id == id]
+    rows = [{"id": sent(other), "level": level, "cells": texts(seen.columns, numbers)} for level, other, numbers in found[:MOST_BEST]]
+    return {"version": seen.version, "row": {"id": sent(id), "cells": texts(seen.columns, own.numbers)}, "rows": rows, "count": len(found),
             "asked": [column.name for column in seen.asked]}
 
 
@@ -172,12 +165,12 @@ def at(columns: Sequence[Column], row: Any, axis: Optional[int]) -> Any:
     return float(value) if isinstance(value, Decimal) else value
 
 
-def id_of(row: Any) -> Union[int, str]:
+def sent(id: int) -> Union[int, str]:
     """The id of a row, as a text where the numbers of browsers do not have it."""
-    return row.id if abs(row.id) < 2**53 else str(row.id)
+    return id if abs(id) < 2**53 else str(id)
 
 
-def texts(columns: Sequence[Column], numbers: Numbers) -> List[str]:
+def texts(columns: Sequence[Column], numbers: Sequence[int]) -> List[str]:
     """The values of a row as a file has them."""
     return [column.text(column.decode(number)) for column, number in zip(columns, numbers)]
 

@@ -1,12 +1,14 @@
 """Which rows dominate a row: by one comparison with each row of its group."""
-from typing import Dict, List, Optional, Sequence, Tuple
+from typing import Any, Dict, List, Optional, Sequence, Tuple
 
 from .better_than import Order, bits, places_in, ranks
 from .checks import MOST_COLUMNS, MOST_ROWS
-from .errors import Refused
+from .errors import Refused, called, no_such_row
+from .loading import Found
+from .moment import Moment
 from .once import ask_once
 from .rows import Zipped
-from .selection import Reading, below
+from .selection import Reading, Selection, below, reading
 from .translate import clause_of, term_below, terms_columns
 
 LEVELS = 1000
@@ -22,6 +24,24 @@ def dominators(read: Reading, target: int) -> List[Tuple[int, Optional[int]]]:
     check_count(len(found), "the row")
     levels = levels_of(read, found)
     return sorted(((place, levels.get(place)) for place in found), key=lambda pair: (pair[1] or LEVELS + 1, pair[0]))
+
+
+def explained(text: str, selection: Selection, moment: Moment, pairs: Sequence[Tuple[Any, Sequence[int]]], number: Optional[int],
+              id: Any) -> Tuple[List[Found], List[str]]:
+    """The rows that dominate the one with this number, each with its level; and what is said of the question's values. The rows of the moment are pairs of what they
+    are known by, and their numbers. None is the number of a row that is not there: that one is refused, as is one that does not meet the condition."""
+    read = reading(text, selection, moment)
+    if number is None:
+        raise no_such_row(id)
+    place = moment.place(number)
+    if place is None:
+        raise Refused(f"row {called(id)} does not meet the condition", "arguments")
+    return [(level, *pairs[moment.id(other + 1) - 1]) for other, level in dominators(read, place)], read.unknown
+
+
+def number_of(pairs: Sequence[Tuple[Any, Sequence[int]]], known_by: Any) -> Optional[int]:
+    """The number, from 1, of the row that is known by this; None where there is none."""
+    return next((number for number, (other, _) in enumerate(pairs, 1) if other == known_by), None)
 
 
 def check_count(count: int, called: str) -> None:

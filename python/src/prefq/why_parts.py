@@ -5,7 +5,7 @@ from functools import partial as with_words
 from typing import Any, Callable, List, NamedTuple, Optional, Sequence, Tuple
 
 from .answer import Answer
-from .errors import Refused
+from .errors import Refused, no_such_row
 from .partial import Partial, together
 from .parts import Job, in_partition, records_left, waited_for
 from .partition import Source, called
@@ -95,7 +95,7 @@ def dominators(job: Rivalry, sources: Sequence[Any], map: Callable[..., Any], id
     firsts = [sum(counts[:number]) for number in range(len(counts))]
     home = next((number for number, first in enumerate(firsts) if first < id <= first + counts[number]), None)
     if home is None:
-        raise Refused(f"no such row {id}", "client", 7)
+        raise no_such_row(id)
     [found] = map(with_words(job.target, place=id - 1 - firsts[home], id=id), [sources[home]])
     target = waited_for(found)
     items: List[Any] = [(source, target, id - 1 - first) for source, first in zip(sources, firsts)]
