@@ -288,6 +288,16 @@ class OfADesk(TestCase):
             # A picture keeps the columns that its numbers stand for.
             self.assertEqual([before.columns[0].decode(row.numbers[0]) for row in before.rows], [60, 50])
 
+    def test_a_frame_that_has_grown_has_its_ids_on_a_desk(self):
+        frame = prices(60, 50, 40)
+        frame.delete(1)
+        frame.delete(3)
+        frame.update(2, {"price": "0.5"})
+        with Desk(frame) as desk:
+            self.assertEqual(desk.insert({"price": 7}), 4)
+            desk.update(2, {"price": 8})
+            self.assertEqual({id: row[0] for id, row in self.rows(desk).items()}, {2: 8, 4: 7})
+
     def test_a_refusal_leaves_it_as_it_was(self):
         with Desk(prices(60, 50)) as desk:
             before, version = self.rows(desk), desk.version

@@ -17,6 +17,7 @@ import test_follow
 import test_random_frames
 from plain import Ask, Low, Pareto
 from prefq import dealt_questions
+from prefq.desk import Desk
 from prefq.kept import MOST_KEPT, Kept
 from support import TestCase, around, in_a_fork
 from test_follow import QUESTION, SEED
@@ -323,6 +324,13 @@ class OfAFrame(TestCase):
                 frame.best("best high(x)")
             self.assertEqual(query.answer().ids, [1])
         waiting.join()
+
+    def test_a_page_asks_for_its_pictures_of_a_version_once(self):
+        with Desk(self.frame) as desk:
+            for wanted in (1, 2):
+                self.assertEqual([[row.id for row in desk.picture(QUESTION).best] for _ in range(3)], [[1, 2]] * 3)
+                self.assertEqual(self.asked.call_count, wanted)
+                desk.update(3, {"price": 96})
 
     def test_tasks_get_what_is_kept(self):
         async def ask(frame):

@@ -400,7 +400,8 @@ class ManyThreads(TestCase):
             def opens_anew():
                 while not stop.is_set():
                     with desk._changed:
-                        desk._open(list(desk._rows.values()))
+                        desk._frame._open_anew({})
+                        desk._read()
                     self.assertEqual(len(desk.picture("best low(Distance)").best) > 0, True)
                     stop.wait(0.1)
             with ThreadPoolExecutor(5) as pool:

@@ -1,24 +1,20 @@
 """Rows that several people change and ask at once: what the page of `python -m prefq serve` shows.
 
-A desk keeps its rows in Python too. Each change is made there and in the table under one lock, and a query is begun under the same lock, so the rows and the
-answer of a picture are those of one version.
+A desk keeps the rows of its frame in Python too. Each change is made there and in the frame under one lock, and a query is begun under the same lock, so the rows
+and the answer of a picture are those of one version.
 """
 import threading
-from types import MappingProxyType
 from typing import Any, Callable, Dict, Iterable, List, Mapping, NamedTuple, Optional, Sequence, Tuple, TypeVar
 
 from .columns import Column, listed
 from .errors import Ended, Refused, no_such_row
 from .frame import Frame
 from .hints import unknown_column
-from .kinds import Kind, Texts
 from .moment import Moment, moment_of
-from .opened import is_outgrown, moved_columns, size_of_code_books, wider_kinds
-from .query import Query
 from .questions import Question
-from .selection import Selection, first_rows, picked, query_of, reading, without_twins
+from .selection import Selection, picked, query_of, reading
 from .table import Table
-from .translate import Plan, columns_in, plan
+from .translate import columns_in
 
 Numbers = Tuple[int, ...]
 Result = TypeVar("Result")
@@ -80,17 +76,13 @@ class Desk:
 
     def __init__(self, frame: Frame) -> None:
         self.version = 1
-        self.table = frame.table                # that is asked now
-        self._take_columns(frame.columns)
+        self._frame: Any = frame        # or one that follows a table
         self._changed = threading.Condition()
         self._closed = False
-        # By their ids in the table, and the ids in the table by those of the desk.
-        self._rows: Dict[int, Held] = {number: Held(number, tuple(numbers)) for number, numbers in frame.table.rows()}
-        self._at = {number: number for number in self._rows}
-        self._next = max(self._rows, default=0) + 1
         # The versions in which the cells of a row changed last, by its id; none of a row that is as it came.
         self._since: Dict[int, Tuple[int, ...]] = {}
         self._subscribed: List[Callable[[], None]] = []
+        self._read()
 
     def __enter__(self) -> "Desk":
         return self
@@ -99,11 +91,17 @@ class Desk:
         self.close()
 
     def close(self) -> None:
-        """Ends the table, and wakes who waits for a change."""
+        """Ends the frame, and wakes who waits for a change."""
         with self._changed:
             self._closed = True
             self._wake()
-        self.table.close()
+        self._frame.close()
+
+    @property
+    def table(self) -> Table:
+        """The table that is asked now."""
+        table: Table = self._frame.table
+        return table
 
     @property
     def is_closed(self) -> bool:
@@ -118,39 +116,33 @@ class Desk:
 
     def insert(self, values: Mapping[str, Any]) -> int:
         """Adds a row of these values, by the names of their columns, and returns its id. A value that is not given is missing. Kinds grow as by `Frame.insert`."""
-        def change(table: Table) -> int:
-            numbers = self._encoded(values, {})
-            at = table.insert(numbers)
-            self._rows[at] = Held(self._next, numbers)
-            self._at[self._next] = at
-            self._next += 1
-            return self._next - 1
+        def change() -> int:
+            id = self._frame.insert(values)
+            self._note(id)
+            return id
         return self._change(change, values)
 
     def update(self, id: int, values: Mapping[str, Any], *, seen: Optional[int] = None) -> None:
         """Gives a row these values; the others stay. With the version that was `seen`, no value is overwritten that others have changed since: `Changed` has
         what it is now. Without it the last one counts."""
-        def change(table: Table) -> None:
-            at = self._place(id)
-            before = self._rows[at].numbers
+        def change() -> None:
+            before = self.record(self._row(id).numbers)
             self._check_unchanged(id, [name in values for name in self._named], seen)
-            numbers = self._encoded(values, dict(zip(self._named, before)))
-            table.update(at, numbers)
-            self._rows[at] = Held(id, numbers)
-            self._since[id] = tuple(version if new == old else self.version + 1 for new, old, version in zip(numbers, before, self._versions(id)))
-        with self._changed:
-            self._place(id)
-            self._change(change, values)
+            self._frame.update(id, values)
+            self._note(id)
+            after = self.record(self._row(id).numbers)
+            self._since[id] = tuple(version if after[name] == before[name] else self.version + 1 for name, version in zip(after, self._versions(id)))
+        self._change(change, values)
 
     def delete(self, id: int, *, seen: Optional[int] = None) -> Dict[str, Any]:
         """Deletes a row, and returns its values. With the version that was `seen`, a row that others have changed since stays: `Changed` has what is new."""
-        def change(table: Table) -> Dict[str, Any]:
-            at = self._place(id)
+        def change() -> Dict[str, Any]:
+            row = self._row(id)
             self._check_unchanged(id, [True] * len(self.columns), seen)
-            table.delete(at)
-            del self._at[id]
+            self._frame.delete(id)
+            del self._rows[id]
             self._since.pop(id, None)
-            return self.record(self._rows.pop(at).numbers)
+            return self.record(row.numbers)
         return self._change(change)
 
     def subscribe(self, call: Callable[[], None]) -> Callable[[], None]:
@@ -174,63 +166,36 @@ class Desk:
     def picture(self, text: str, selection: Selection = Selection()) -> Picture:
         """The rows and the answer to a question, and to what is asked beside it, at one version."""
         with self._changed:
-            question, columns = self.read(text, selection), self.columns
-            planned = plan(text, question, self._names) if selection.is_answered_by(question, columns) else None
-            query = self._query(planned) if planned else None
-            version, rows = self.version, dict(self._rows)
-        if planned is None or query is None:
+            question, columns, version, rows = self.read(text, selection), self.columns, self.version, dict(self._rows)
+            query = self._frame.begun(text, selection) if selection.is_answered_by(question, columns) else None
+        if query is None:
             return computed_picture(text, selection, version, columns, list(rows.values()))
         with query:
-            some = first_rows(without_twins(query.rows(), planned), planned, selection.top)
-        return Picture(version, columns, list(rows.values()), [Found(row.level, *rows[row.id]) for row in some], columns_in(question), planned.unknown)
+            found = query.answered()
+        return Picture(version, columns, list(rows.values()), [Found(level or 0, id, rows[id].numbers) for level, id, _ in found.rows], columns_in(question), tuple(found.unknown))
 
-    def _query(self, planned: Plan) -> Query:
-        """Begins a query of the table."""
-        with planned.refusing():
-            return self.table.query(planned.text)
+    def _read(self) -> None:
+        """Takes the columns and the rows as they are in the frame."""
+        self._opened = self._frame._opened
+        self._show_columns(self._opened.columns)
+        outside = self._opened.ids.outside
+        self._rows = {id: Held(id, tuple(numbers)) for id, numbers in ((outside(inside), numbers) for inside, numbers in self.table.rows())}
 
-    def _encoded(self, values: Mapping[str, Any], before: Mapping[str, int]) -> Numbers:
-        """The numbers of a row; those from before where no value is given. Texts come last, so that one that is refused with another value leaves nothing behind."""
-        given = [column for name, column in self._named.items() if name in values or name not in before]
-        numbers = dict(before)
-        for column in sorted(given, key=lambda column: isinstance(column.kind, Texts)):
-            numbers[column.name] = column.encode(values.get(column.name))
-        return tuple(numbers[name] for name in self._named)
+    def _note(self, id: int) -> None:
+        """Takes a row as it is in the frame; all of them where that has opened another table for it."""
+        if self._opened is not self._frame._opened:
+            self._read()
+        else:
+            self._rows[id] = Held(id, tuple(self.table.get(self._opened.ids.inside(id))))
 
-    def _take_columns(self, columns: Iterable[Column]) -> None:
+    def _show_columns(self, columns: Iterable[Column]) -> None:
         self.columns = list(columns)
         self._named = {column.name: column for column in self.columns}
-        self._names = {id(column): name for column, name in zip(self.columns, self.table.columns)}
-        self._code_books = size_of_code_books(self.columns)
 
-    def _fit(self, values: Mapping[str, Any]) -> None:
-        """Makes the columns wider that are too narrow for these values, and code books smaller that are mostly texts of no row: the table is opened anew then."""
-        if self._closed:
-            raise Ended("the desk was closed", "closed")
-        for name in values:
-            if name not in self._named:
-                raise ValueError(unknown_column(name, list(self._named)))
-        kinds = wider_kinds(self.columns, [values.get(column.name) for column in self.columns])
-        if kinds:
-            self._check(values, kinds)
-        if kinds or is_outgrown(self.columns, self._code_books, len(self._rows)):
-            held = list(self._rows.values())
-            columns, lists = moved_columns(self.columns, kinds, [list(numbers) for numbers in zip(*(row.numbers for row in held))])
-            self._take_columns(columns)
-            self._open([Held(row.id, numbers) for row, numbers in zip(held, zip(*lists))])
-
-    def _check(self, values: Mapping[str, Any], kinds: Mapping[str, Kind]) -> None:
-        """Refuses values that columns of these kinds do not take either, before anything is changed for them."""
-        for name, column in self._named.items():
-            if name in values:
-                # A code book of its own, which nobody keeps.
-                kind = Texts() if isinstance(column.kind, Texts) else kinds.get(name, column.kind)
-                column.of_kind(kind).encode(values[name])
-
-    def _place(self, id: int) -> int:
-        if id not in self._at:
+    def _row(self, id: int) -> Held:
+        if id not in self._rows:
             raise no_such_row(id)
-        return self._at[id]
+        return self._rows[id]
 
     def _versions(self, id: int) -> Tuple[int, ...]:
         """The versions in which the cells of a row changed last."""
@@ -244,15 +209,20 @@ class Desk:
             seen = 0
         are_new = [version > seen for version in self._versions(id)]
         if any(is_new and is_wanted for is_new, is_wanted in zip(are_new, wanted)):
-            values = self.record(self._rows[self._at[id]].numbers)
+            values = self.record(self._rows[id].numbers)
             names = [column.name for column, is_new, is_wanted in zip(self.columns, are_new, wanted) if is_new and is_wanted]
             raise Changed(f"somebody else has changed {listed(names)} of row {id} since", self.version,
                           {column.name: values[column.name] for column, is_new in zip(self.columns, are_new) if is_new})
 
-    def _change(self, change: Callable[[Table], Result], values: Mapping[str, Any] = MappingProxyType({})) -> Result:
+    def _change(self, change: Callable[[], Result], values: Iterable[str] = ()) -> Result:
+        """A change, for which columns of these names have values."""
         with self._changed:
-            self._fit(values)
-            result = change(self.table)
+            if self._closed:
+                raise Ended("the desk was closed", "closed")
+            for name in values:
+                if name not in self._named:
+                    raise ValueError(unknown_column(name, list(self._named)))
+            result = change()
             self.version += 1
             self._wake()
             return result
@@ -261,12 +231,6 @@ class Desk:
         self._changed.notify_all()
         for call in list(self._subscribed):
             call()
-
-    def _open(self, rows: List[Held]) -> None:
-        """Opens a table with these rows, in their order. Queries of the one before go on."""
-        self.table = Table(self.table.columns, [row.numbers for row in rows])
-        self._rows = dict(enumerate(rows, 1))
-        self._at = {row.id: at for at, row in self._rows.items()}
 
 
 def computed_picture(text: str, selection: Selection, version: int, columns: List[Column], rows: List[Held]) -> Picture:

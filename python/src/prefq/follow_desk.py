@@ -100,8 +100,7 @@ class FollowedDesk(Desk):
 
     def _show(self, version: int, columns: Sequence[Column]) -> None:
         self.version = version + self._turns
-        self.columns = list(columns)
-        self._named = {column.name: column for column in self.columns}
+        self._show_columns(columns)
 
 
 def changed_elsewhere() -> Refused:
