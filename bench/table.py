@@ -3,11 +3,10 @@
 
     PYTHONPATH=python/src python3 bench/table.py [ROUNDS]
 
-Needs the built library. The rounds alternate, and each figure is a median.
+Needs the built library. The rounds alternate, and each figure is the least of them, which others' work makes longer least of all.
 """
 import random
 import sqlite3
-import statistics
 import sys
 import time
 
@@ -79,9 +78,9 @@ def main(rounds=5):
                 found.setdefault(name, []).append((microseconds(count, ours), microseconds(count, theirs)))
         questions.append((question(1024), question(65_536)))
     for name, pairs in found.items():
-        mine, other = (statistics.median(some) for some in zip(*pairs))
-        print(f"{name}: {mine:.2f} microseconds, sqlite3 {other:.2f}, ratio {statistics.median(one / two for one, two in pairs):.2f}")
-    small, large = (statistics.median(some) for some in zip(*questions))
+        mine, other = map(min, zip(*pairs))
+        print(f"{name}: {mine:.2f} microseconds, sqlite3 {other:.2f}, ratio {mine / other:.2f}")
+    small, large = map(min, zip(*questions))
     print(f"best 10 of 1,000 rows: {small:.1f} microseconds at a capacity of 1,024, {large:.1f} at 65,536")
 
 
