@@ -1,8 +1,9 @@
 """What is asked by many: each answer is made once for each version of the rows, kept while that version stands, and shared by all who ask meanwhile."""
 import threading
-from typing import Any, Callable, Dict, Generic, Hashable, NamedTuple, Optional, Sequence, Tuple, TypeVar
+from typing import Callable, Dict, Generic, Hashable, NamedTuple, Optional, Sequence, Tuple, TypeVar
 
 from .columns import Column
+from .loading import Found
 
 Value = TypeVar("Value")
 MOST_KEPT = 64
@@ -14,7 +15,7 @@ class Answered(NamedTuple):
     database at which it was begun."""
 
     columns: Sequence[Column]
-    rows: Sequence[Tuple[Optional[int], Any, Sequence[int]]]
+    rows: Sequence[Found]
     unknown: Sequence[str]
     at: Optional[int] = None
 
@@ -103,7 +104,7 @@ class Kept(Generic[Value]):
                 self._version = version
                 self._made = {key: made for key, made in self._made.items() if made.found is None or made.found[0] >= version}
             made = self._made.pop(wanted, None) or Made[Value]()
-            self._made[wanted] = made              # the last one is the newest
+            self._made[wanted] = made           # the last one is the newest
             if len(self._made) > MOST_KEPT:
                 del self._made[next(iter(self._made))]
             return made
