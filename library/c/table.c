@@ -2,7 +2,7 @@
 #define _GNU_SOURCE
 #include "table.h"
 #include "refusal.h"
-#include <errno.h>
+#include <signal.h>
 #include <stdlib.h>
 
 /* ---- the proved calls: crates/prefq_c/src/calls.rt says what each does ---- */
@@ -77,18 +77,49 @@ static prefq_result test_stack(void)
     return PREFQ_OK;
 }
 
+/* The tables of the calls of this thread that are under way: of one, and of those that signal handlers make in its middle. A table stands here before its lock is
+   waited for and until that is open again, since the lock itself does not tell at each moment whose it is. NULL stands for a call that has not begun, or is over. */
+enum { MOST_CALLS = 8 };
+static _Thread_local prefq *volatile called[MOST_CALLS];
+static _Thread_local volatile sig_atomic_t calls;
+
+/* Notes a call, unless one of this thread on the same table is under way. */
+static int begin_call(prefq *table)
+{
+    sig_atomic_t place = calls;
+    for (sig_atomic_t call = 0; call < place; call++)
+        if (called[call] == table)
+            return 0;
+    if (place == MOST_CALLS)
+        return 0;
+    calls = place + 1;
+    called[place] = table;
+    atomic_signal_fence(memory_order_seq_cst);
+    return 1;
+}
+
+static void end_call(void)
+{
+    atomic_signal_fence(memory_order_seq_cst);
+    called[calls - 1] = NULL;
+    calls = calls - 1;
+}
+
 prefq_result enter(prefq *table)
 {
     if (table == NULL)
         return wrong_argument("the table is NULL");
     if (!is_ours(table))
         return ended(table);
-    prefq_result result = test_stack();
-    if (result != PREFQ_OK)
-        return result;
     /* The last refusal may be that of the call that was interrupted. */
-    if (pthread_mutex_lock(&table->lock) == EDEADLK)
+    if (!begin_call(table))
         return PREFQ_BUSY;
+    prefq_result result = test_stack();
+    if (result != PREFQ_OK) {
+        end_call();
+        return result;
+    }
+    pthread_mutex_lock(&table->lock);
     table->said.length = 0;
     return table->proved.at != NULL && !atomic_load(&table->is_ending) ? PREFQ_OK : leave(table, ended(table));
 }
@@ -100,6 +131,7 @@ prefq_result leave(prefq *table, prefq_result result)
         table->said = (struct buffer){NULL, 0, 0};
     }
     pthread_mutex_unlock(&table->lock);
+    end_call();
     return result;
 }
 
@@ -155,16 +187,6 @@ prefq_result ask(prefq *table, char *end, size_t blanks, const char *words, cons
 }
 
 /* ---- opening ---- */
-
-static prefq_result make_lock(pthread_mutex_t *lock)
-{
-    pthread_mutexattr_t kind;
-    if (pthread_mutexattr_init(&kind) != 0)
-        return out_of_memory();
-    int is_made = pthread_mutexattr_settype(&kind, PTHREAD_MUTEX_ERRORCHECK) == 0 && pthread_mutex_init(lock, &kind) == 0;
-    pthread_mutexattr_destroy(&kind);
-    return is_made ? PREFQ_OK : out_of_memory();
-}
 
 static int is_letter(char byte)
 {
@@ -241,7 +263,7 @@ prefq_result prefq_open_text(const char *text, size_t length, const prefq_setup 
         return result;
     pthread_once(&once, begin_to_count_forks);
     prefq *made = calloc(1, sizeof *made);
-    if (made == NULL || !forks_are_counted || make_lock(&made->lock) != PREFQ_OK) {
+    if (made == NULL || !forks_are_counted || pthread_mutex_init(&made->lock, NULL) != 0) {
         free(made);
         return out_of_memory();
     }
@@ -303,8 +325,9 @@ void prefq_end(prefq *table)
     if (table == NULL)
         return;
     atomic_store(&table->is_ending, 1);
-    if (!is_ours(table) || pthread_mutex_lock(&table->lock) != 0)
+    if (!is_ours(table) || !begin_call(table))
         return;
+    pthread_mutex_lock(&table->lock);
     if (table->proved.at != NULL)
         prefq_table_close(&table->proved);
     leave(table, PREFQ_OK);

@@ -15,6 +15,7 @@
 #include <stdlib.h>
 #include <string.h>
 #include <sys/mman.h>
+#include <sys/time.h>
 #include <sys/wait.h>
 #include <time.h>
 #include <unistd.h>
@@ -362,8 +363,7 @@ static void call_from_handler(int number)
     handled++;
 }
 
-/* A signal that comes here, where the call has the table for sure. One that comes while a call takes the table may find it locked by nobody yet, and a call of its
-   handler would wait for ever. */
+/* A signal that comes here, where the call has the table for sure. */
 static void raise_signal(prefq *table)
 {
     (void)table;
@@ -396,6 +396,46 @@ static void test_calls_around_requests(void)
         prefq_close(table);
     }
     EXPECT(handled >= 2);
+}
+
+static prefq *interrupted;
+static atomic_int done, refused_as_busy;
+
+static void call_at_any_place(int number)
+{
+    (void)number;
+    uint32_t left;
+    prefq_result result = prefq_room(interrupted, &left);
+    EXPECT(result == PREFQ_OK || result == PREFQ_BUSY);
+    (result == PREFQ_OK ? &done : &refused_as_busy)[0]++;
+}
+
+/* Signals come at any place of a call, also where it is about to take the table or has just let it go: the handler's call waits for nothing. */
+static void interrupt_calls(void)
+{
+    const struct itimerval soon = {{0, 20}, {0, 20}}, never = {{0, 0}, {0, 0}};
+    interrupted = open_hotels();
+    signal(SIGALRM, call_at_any_place);
+    EXPECT(setitimer(ITIMER_REAL, &soon, NULL) == 0);
+    while (done < 100 || refused_as_busy < 3000)
+        EXPECT(prefq_update(interrupted, 1, hotels, 2) == PREFQ_OK);
+    EXPECT(setitimer(ITIMER_REAL, &never, NULL) == 0);
+    prefq_close(interrupted);
+}
+
+static void test_signals(void)
+{
+    pid_t child = fork();
+    if (child == 0) {
+        interrupt_calls();
+        _exit(0);
+    }
+    int status = 1, tenths = 0;
+    for (; waitpid(child, &status, WNOHANG) == 0 && tenths < 600; tenths++)
+        usleep(100000);
+    if (tenths == 600)
+        kill(child, SIGKILL);
+    EXPECT(tenths < 600 && status == 0);
 }
 
 /* ---- stacks ---- */
@@ -530,6 +570,7 @@ int main(int count, char **words)
     test_end_beside_calls();
     test_forks();
     test_calls_around_requests();
+    test_signals();
     test_stacks();
     printf("all calls are as prefq.h says\n");
     return 0;
