@@ -464,6 +464,45 @@ class AtRandom(TestCase):
         print(f"\n{kept} of {COUNT} answers were kept ones")
         self.assertGreater(kept, 0)
 
+    def test_random_pictures_of_a_desk_by_a_plain_evaluation(self):
+        for number in range(max(1, COUNT // QUESTIONS_OF_A_FRAME)):
+            door_of = test_random_frames.DOORS[number % len(test_random_frames.DOORS)]
+            chance = random.Random(SEED + 1000 + number)
+            columns, records = random_frames.frame(chance, door_of.further)
+            door, rows = door_of(chance, columns, records), dict(enumerate(records, 1))
+            questions = [random_frames.Questions(chance, columns).question() for _ in range(4)]
+            with self.subTest(frame=number, door=door_of.__name__), Desk(door.opened()) as desk:
+                for _ in range(QUESTIONS_OF_A_FRAME):
+                    if chance.random() < 0.3:
+                        self.change_on(desk, door, rows)
+                    asked = chance.choice(questions)
+                    seen = desk.picture(asked.text)
+                    values = {row.id: {column.name: column.decode(number) for column, number in zip(seen.columns, row.numbers)} for row in seen.rows}
+                    self.assertEqual(values, rows)
+                    self.assertEqual([(row.level, row.id) for row in seen.best], asked.answer(rows), asked.text)
+
+    def change_on(self, desk, door, rows):
+        """One change of a desk, which is refused where the frame does not take it."""
+        columns, chance = door.columns, door.random
+        record, id = random_frames.record(chance, columns, dict.fromkeys(columns, 0.2)), chance.choice(list(rows))
+        if len(rows) > 1 and chance.random() < 0.2:
+            self.assertEqual(desk.delete(id), rows.pop(id))
+            return
+        numbers = [name for name, kind in columns.items() if isinstance(kind, random_frames.Numbers)]
+        if numbers and chance.random() < 0.3:
+            name = chance.choice(numbers)
+            record[name] = columns[name].draw_finer(chance)
+        is_new, before = chance.random() < 0.5, desk.version
+        if not test_random_frames.takes(desk, door, rows, record):
+            with self.assertRaises(ValueError):
+                desk.insert(door.record(record)) if is_new else desk.update(id, door.record(record))
+            self.assertEqual(desk.version, before)
+        elif is_new:
+            rows[desk.insert(door.record(record))] = record
+        else:
+            desk.update(id, door.record(record))
+            rows[id] = record
+
     def change(self, helper, door, frame, rows):
         """One change, in the frame or below it."""
         columns, chance = door.columns, door.random
