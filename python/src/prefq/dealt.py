@@ -15,10 +15,8 @@ from .columns import Column
 from .engine import BYTES, VERBS
 from .errors import Refused
 from .library import Change
-from .loading import check_width
-from .opened import is_outgrown, size_of_code_books, texts_last
+from .opened import Columns
 from .query import Query
-from .reading import check_names
 from .rows import Zipped
 from .table import IN_COMMIT, Table
 
@@ -84,18 +82,12 @@ def updates(ids: Sequence[int], numbers: "array[int]") -> Any:
     return (Change * len(ids)).from_buffer(changes)
 
 
-class Dealt:
+class Dealt(Columns):
     """The rows in their tables, with the columns that their numbers stand for. Whoever has a question of them keeps them, when a frame has others already."""
 
     def __init__(self, columns: Sequence[Column], keys: Sequence[Key], rows: Zipped, options: Mapping[str, Any]) -> None:
-        check_names(column.name for column in columns)
-        check_width(columns)
-        self.columns = tuple(columns)
-        self.by_name = {column.name: column for column in columns}
-        self.below = {id(column): f"c{place}" for place, column in enumerate(columns)}
-        self.order = texts_last(columns)
+        super().__init__(columns)
         self._options = dict(options)
-        self._code_books = size_of_code_books(self.columns)
         self._shards: List[Shard] = []
         self._places: Dict[Key, Tuple[Shard, int]] = {}
         # Questions that are under way, each with the number of changes before its begin; and rows that have gone, with the number of changes before that.
@@ -121,14 +113,9 @@ class Dealt:
         """The tables that have the rows now."""
         return [shard.table for shard in self._shards]
 
-    @property
-    def names(self) -> List[str]:
-        """The names of the columns."""
-        return list(self.by_name)
-
     def is_outgrown(self) -> bool:
         """Whether the code books may be mostly texts that no row has any more."""
-        return is_outgrown(self.columns, self._code_books, len(self))
+        return self.have_outgrown(len(self))
 
     def get(self, key: Key) -> Optional[Numbers]:
         """The numbers of a row, None where there is none."""

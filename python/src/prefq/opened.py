@@ -40,27 +40,39 @@ class Ids:
         return place + 1 if place < len(self.kept) and self.kept[place] == number else 0
 
 
-class Opened:
-    """A table, the columns that its numbers stand for, the ids of its rows, and answers that are kept while these stay as they are. Whoever has a query of it keeps
-    it, when a frame has another one already."""
+class Columns:
+    """The columns that the numbers of tables stand for: the names that these have there, and the order in which the values of a row are read."""
 
-    def __init__(self, columns: Sequence[Column], rows: WholeRows, options: Dict[str, Any], ids: Ids = Ids()) -> None:
+    def __init__(self, columns: Sequence[Column]) -> None:
         check_names(column.name for column in columns)
         check_width(columns)
         self.columns = tuple(columns)
         self.by_name = {column.name: column for column in columns}
         self.below = {id(column): f"c{place}" for place, column in enumerate(columns)}
-        self.ids = ids
-        self._options = options
-        self._code_books = size_of_code_books(self.columns)
-        self._order = texts_last(self.columns)
-        self.table = Table(list(self.below.values()), rows, **options)
-        self.kept: Kept[Answered] = Kept(Answered.is_small)
+        # Texts last, so that a record that another column refuses adds none to a code book.
+        self.order = sorted(range(len(columns)), key=lambda place: isinstance(columns[place].kind, Texts))
+        self._code_books = size_of_code_books(columns)
 
     @property
     def names(self) -> List[str]:
         """The names of the columns."""
         return list(self.by_name)
+
+    def have_outgrown(self, rows: int) -> bool:
+        """Whether their code books may be mostly texts that none of so many rows has any more."""
+        return size_of_code_books(self.columns) > 2 * self._code_books + BYTES_OF_GROWTH + BYTES_A_ROW * rows
+
+
+class Opened(Columns):
+    """A table, the columns that its numbers stand for, the ids of its rows, and answers that are kept while these stay as they are. Whoever has a query of it keeps
+    it, when a frame has another one already."""
+
+    def __init__(self, columns: Sequence[Column], rows: WholeRows, options: Dict[str, Any], ids: Ids = Ids()) -> None:
+        super().__init__(columns)
+        self.ids = ids
+        self._options = options
+        self.table = Table(list(self.below.values()), rows, **options)
+        self.kept: Kept[Answered] = Kept(Answered.is_small)
 
     def moment(self, rows: Sequence[Tuple[int, Sequence[int]]]) -> Moment:
         """Rows of the table as they are at one moment, counted from 1."""
@@ -74,7 +86,7 @@ class Opened:
         """The numbers of a record, where these columns have other kinds."""
         values = values_of(record, self.columns)
         numbers = [0] * len(values)
-        for place in self._order:
+        for place in self.order:
             column = self.columns[place]
             numbers[place] = (column.of_kind(kinds[column.name]) if column.name in kinds else column).encode(values[place])
         return numbers
@@ -88,7 +100,7 @@ class Opened:
 
     def is_outgrown(self) -> bool:
         """Whether the code books may be mostly texts that no row has any more."""
-        return is_outgrown(self.columns, self._code_books, self.table.count)
+        return self.have_outgrown(self.table.count)
 
     def anew(self, kinds: Mapping[str, Kind], last: int) -> "Opened":
         """The same rows under the same ids in a new table, whose columns have these kinds; `last` is the last id that was given. Takes the time of reading all
@@ -100,19 +112,9 @@ class Opened:
         return Opened(columns, Zipped(lists), {**self._options, "capacity": self.table.capacity}, Ids(kept, max([last, *kept[-1:]])))
 
 
-def texts_last(columns: Sequence[Column]) -> List[int]:
-    """The places of columns, those of texts last, so that a record that another column refuses adds none to a code book."""
-    return sorted(range(len(columns)), key=lambda place: isinstance(columns[place].kind, Texts))
-
-
 def size_of_code_books(columns: Sequence[Column]) -> int:
     """About how many bytes the code books of columns take."""
     return sum(column.kind.size for column in columns if isinstance(column.kind, Texts))
-
-
-def is_outgrown(columns: Sequence[Column], size: int, rows: int) -> bool:
-    """Whether code books that had this size may be mostly texts that none of so many rows has any more."""
-    return size_of_code_books(columns) > 2 * size + BYTES_OF_GROWTH + BYTES_A_ROW * rows
 
 
 def wider_kinds(columns: Sequence[Column], values: Sequence[Any]) -> Dict[str, Kind]:
