@@ -1,6 +1,7 @@
 """Answers that are kept while the rows stay as they are, and shared by those who ask meanwhile."""
 import asyncio
 import contextlib
+import json
 import os
 import random
 import sqlite3
@@ -16,7 +17,7 @@ import random_frames
 import test_follow
 import test_random_frames
 from plain import Ask, Low, Pareto
-from prefq import dealt_questions
+from prefq import dealt_questions, pictures
 from prefq.desk import Desk
 from prefq.kept import MOST_KEPT, Kept
 from support import TestCase, around, in_a_fork
@@ -102,6 +103,12 @@ class OfNumbers(TestCase):
 
         self.assertEqual(self.kept.get("a", 1, make), (1, 5))
         self.assertEqual(self.kept.get("a", 1, self.make(1, 7)), (1, 5))
+
+    def test_what_is_made_may_be_of_what_is_kept_elsewhere(self):
+        other = Kept()
+        for key in ("a", "b"):
+            self.assertEqual(self.kept.get(key, 1, lambda: (1, other.find("c", 1) or other.keep("c", 1, self.make(1, 50)()[1]))), (1, 50))
+        self.assertEqual(self.made, [50])
 
     def test_two_threads_whose_handlers_ask_what_the_other_one_makes(self):
         both = threading.Barrier(2)
@@ -327,8 +334,10 @@ class OfAFrame(TestCase):
 
     def test_a_page_asks_for_its_pictures_of_a_version_once(self):
         with Desk(self.frame) as desk:
+            shows = pictures.Shown(desk)
             for wanted in (1, 2):
-                self.assertEqual([[row.id for row in desk.picture(QUESTION).best] for _ in range(3)], [[1, 2]] * 3)
+                shown = [shows.get(pictures.Asked(QUESTION), axes) for axes in ((None, None), ("dist", "price"), ("price", None))]
+                self.assertEqual([[row["id"] for row in json.loads(picture)["best"]] for _, picture in shown], [[1, 2]] * 3)
                 self.assertEqual(self.asked.call_count, wanted)
                 desk.update(3, {"price": 96})
 

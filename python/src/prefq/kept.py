@@ -6,6 +6,7 @@ from .columns import Column
 from .loading import Found
 
 Value = TypeVar("Value")
+Result = TypeVar("Result")
 MOST_KEPT = 64
 MOST_ROWS_KEPT = 2000       # of one of the answers
 
@@ -33,23 +34,12 @@ class Made(Generic[Value]):
 
 
 class _Asking(threading.local):
-    """Whether this thread asks for something that is kept."""
+    """Of which this thread asks for something that is kept."""
 
-    is_under_way = False
+    of: Tuple[object, ...] = ()
 
 
 _asking = _Asking()
-
-
-def _alone(call: Callable[[], Optional[Value]]) -> Optional[Value]:
-    """What a call returns; None in the middle of one of this thread, as in a signal handler or a finalizer: it waits for no other thread, which might wait for it."""
-    if _asking.is_under_way:
-        return None
-    try:
-        _asking.is_under_way = True
-        return call()
-    finally:
-        _asking.is_under_way = False
 
 
 class Kept(Generic[Value]):
@@ -71,11 +61,11 @@ class Kept(Generic[Value]):
 
     def get(self, key: Hashable, version: int, make: Callable[[], Tuple[int, Value]]) -> Tuple[int, Value]:
         """An answer of this version or a later one, and its version. `make` makes one of those that stand by then."""
-        return _alone(lambda: self._get(key, version, make)) or make()
+        return self._alone(lambda: self._get(key, version, make), not _asking.of) or make()
 
     def find(self, key: Hashable, version: int) -> Optional[Value]:
-        """An answer of this version or a later one, where it is kept."""
-        found = _alone(lambda: self._of(key, version).found)
+        """An answer of this version or a later one, where it is kept. Waits for nobody who makes one."""
+        found = self._alone(lambda: self._of(key, version).found, self not in _asking.of)
         return None if found is None or found[0] < version else found[1]
 
     def keep(self, key: Hashable, version: int, value: Value) -> Value:
@@ -86,8 +76,20 @@ class Kept(Generic[Value]):
                 made.found = version, value
 
         if self._is_small(value):
-            _alone(keep)
+            self._alone(keep, self not in _asking.of)
         return value
+
+    def _alone(self, call: Callable[[], Result], may_begin: bool) -> Optional[Result]:
+        """What a call returns; None where it may not begin, as in a signal handler or a finalizer in the middle of one of this thread: it waits for no other thread then,
+        which might wait for this one."""
+        before = _asking.of
+        if not may_begin:
+            return None
+        try:
+            _asking.of = (*before, self)
+            return call()
+        finally:
+            _asking.of = before
 
     def _get(self, key: Hashable, version: int, make: Callable[[], Tuple[int, Value]]) -> Tuple[int, Value]:
         made = self._of(key, version)
