@@ -1,20 +1,23 @@
 """Runs the tests of this folder, or those of the modules that are named, and says why what is skipped is skipped.
 
     python3 python/tests/run.py [MODULE..]
+
+A run that stands still ends after half an hour, and later where PREFQ_TEST_SECONDS makes single tests longer.
 """
 import faulthandler
+import os
 import sys
 import unittest
 from collections import Counter
 from pathlib import Path
 
 HERE = Path(__file__).resolve().parent
-SECONDS = 1_800
+LONGEST = 1_800 + 4 * float(os.environ.get("PREFQ_TEST_SECONDS", 0))     # seconds
 
 
 def main(names):
     sys.path.insert(0, str(HERE))
-    faulthandler.dump_traceback_later(SECONDS, exit=True)
+    faulthandler.dump_traceback_later(LONGEST, exit=True)
     loader = unittest.TestLoader()
     tests = loader.loadTestsFromNames(names) if names else loader.discover(str(HERE))
     result = unittest.TextTestRunner(verbosity=1).run(tests)
