@@ -170,9 +170,9 @@ fn an_answer_is_gone_through(rt: HostRuntime) -> Result<(), Fail> {
     let answer = two_rows(rt.alloc())?;
     let sizes = (answer.len(), answer.is_empty());
     assert_same(&rt, "rows", sizes, (2, false));
-    let mut ids = 0;
+    let mut ids: u64 = 0;
     for best in &answer {
-        ids = 10 * ids + best.id;
+        ids = ids.wrapping_mul(10).wrapping_add(best.id);
     }
     assert_same(&rt, "ids", ids, 35);
     let last = answer.iter().last().map(|best| best.id);
