@@ -17,6 +17,7 @@ from pathlib import Path
 from xml.etree import ElementTree
 
 import prefq
+from prefq.desk import Desk
 from prefq.questions import read_question
 from support import TestCase
 
@@ -195,6 +196,27 @@ class Missing(TestCase):
         question = "skyline of distinct " + ", ".join(f"{name} min, {name} max" for name in names)
         with prefq.Frame.from_records(records) as frame, self.assertRaisesRegex(prefq.Refused, "a distinct clause of 18 criteria"):
             frame.why(1, question)
+
+    def test_a_column_that_an_update_does_not_name_gets_no_gap(self):
+        """A question that asks for the rows with values first takes many times as long."""
+        changes = {"update": lambda frame: frame.update(1, {"x": 3}), "commit": lambda frame: frame.commit(("update", 1, {"x": 3}), ("delete", 2)),
+                   "desk": lambda frame: Desk(frame).update(1, {"x": 3}), "wider": lambda frame: frame.update(1, {"x": "3.5"})}
+        for name, change in changes.items():
+            with self.subTest(name), prefq.Frame.from_records([{"x": 1, "y": 2}, {"x": 2, "y": 1}]) as frame:
+                change(frame)
+                self.assertEqual([column.has_gaps for column in frame.columns], [False, False])
+                self.assertEqual(frame.get(1).y, 2)
+
+    def test_each_change_that_brings_a_gap_notes_it(self):
+        changes = {"insert": lambda frame: frame.insert({"x": 3}), "many": lambda frame: frame.insert_many([{"x": 3, "y": 1}, [3, None]]),
+                   "update": lambda frame: frame.update(1, {"y": None}), "list": lambda frame: frame.update(1, [3, float("nan")]),
+                   "commit": lambda frame: frame.commit(("delete", 2), ("insert", {"x": 3})), "wider": lambda frame: frame.insert({"x": "3.5"}),
+                   "desk": lambda frame: Desk(frame).insert({"x": 3})}
+        for name, change in changes.items():
+            with self.subTest(name), prefq.Frame.from_records([{"x": 1, "y": 2}, {"x": 2, "y": 5}]) as frame:
+                change(frame)
+                self.assertEqual([column.has_gaps for column in frame.columns], [False, True])
+                self.assertIsNotNone(frame.best("best low(y)")[0].y)
 
     def test_not_a_number_is_missing(self):
         nan = float("nan")

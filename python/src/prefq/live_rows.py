@@ -78,6 +78,7 @@ class LiveRows:
         """
         def insert() -> int:
             [numbers] = self._numbers([record])
+            self._opened.note_gaps([numbers])
             self._last = self._opened.ids.outside(self.table.insert(numbers))
             return self._last
         return self._change(insert)
@@ -92,6 +93,7 @@ class LiveRows:
         """
         def insert_many() -> range:
             numbers = self._numbers(list(records))      # By this the table may become another one.
+            self._opened.note_gaps(numbers)
             inside = self.table.insert_many(numbers)
             if not inside:
                 return inside
@@ -112,6 +114,7 @@ class LiveRows:
         def update() -> None:
             [numbers] = self._numbers([record], [id])
             whole = self._whole(id, record, numbers)
+            self._opened.note_gaps([whole])
             self._of_row(id, lambda row: self.table.update(row, whole))
         self._change(update)
 
@@ -223,6 +226,7 @@ class LiveRows:
             made.append((verb, *row) if verb == "delete" else (verb, *row, next(numbers) if verb == "insert" else self._whole(id, record, next(numbers))))
         for id in ids:
             self._of_row(id, self.table.get)
+        self._opened.note_gaps(change[-1] for change in made if change[0] != "delete")
         first = self.table.commit(*made)
         if first == 0:
             return 0

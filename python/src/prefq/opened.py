@@ -1,7 +1,7 @@
 """A table as it is open below a frame, and how it is opened anew with wider columns under the same ids."""
 from bisect import bisect_left
 from dataclasses import dataclass
-from typing import Any, Dict, List, Mapping, Sequence, Tuple
+from typing import Any, Dict, Iterable, List, Mapping, Sequence, Tuple
 
 from .checks import LEAST, MOST_IDS, whole
 from .columns import Column
@@ -83,13 +83,21 @@ class Opened(Columns):
         return Moment(self.names, load, called=lambda number: self.ids.outside(rows[number - 1][0]))
 
     def numbers(self, record: Any, kinds: Mapping[str, Kind] = {}) -> List[int]:
-        """The numbers of a record, where these columns have other kinds."""
+        """The numbers of a record, where these columns have other kinds. What it does not name is missing, which is not noted yet: a row may have a value there."""
         values = values_of(record, self.columns)
-        numbers = [0] * len(values)
+        numbers = [LEAST] * len(values)
         for place in self.order:
-            column = self.columns[place]
-            numbers[place] = (column.of_kind(kinds[column.name]) if column.name in kinds else column).encode(values[place])
+            if values[place] is not None:
+                column = self.columns[place]
+                numbers[place] = (column.of_kind(kinds[column.name]) if column.name in kinds else column).encode(values[place])
         return numbers
+
+    def note_gaps(self, rows: Iterable[Sequence[int]]) -> None:
+        """Notes which columns have gaps once these rows are there: before they are, so that whoever sees such a row reads its question with them."""
+        for numbers in rows:
+            if LEAST in numbers:
+                for column, number in zip(self.columns, numbers):
+                    column.has_gaps = column.has_gaps or number == LEAST
 
     def wider(self, records: Sequence[Any]) -> Dict[str, Kind]:
         """The kinds of the columns that become wider so that they have the values of these records."""
