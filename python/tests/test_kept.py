@@ -96,6 +96,18 @@ class OfNumbers(TestCase):
         self.assertEqual(self.kept.get("a", 1, self.make(1, 5)), (1, 5))
         failing.join()
 
+    def test_those_who_wait_for_one_that_fails_do_not_wait_for_one_another(self):
+        def fail():
+            self.made.append("failed")
+            time.sleep(0.5)
+            raise ValueError("this one")
+
+        begun = time.monotonic()
+        together([lambda: self.assertRaises(ValueError, self.kept.get, "a", 1, fail)] * ASKERS)
+        self.assertEqual(len(self.made), ASKERS)
+        self.assertLess(time.monotonic() - begun, 0.5 * (ASKERS - 2))
+        self.assertEqual([self.kept.get("a", 1, self.make(1, value)) for value in (5, 6)], [(1, 5)] * 2)
+
     def test_a_handler_asks_what_its_thread_is_about_to_make(self):
         def make():
             self.assertEqual(self.kept.get("a", 1, self.make(2, 6)), (2, 6))        # as a signal handler may

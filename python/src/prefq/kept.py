@@ -26,11 +26,13 @@ class Answered(NamedTuple):
 
 
 class Made(Generic[Value]):
-    """An answer with the version of which it is, once it is made. Who makes it has the lock, for which those wait that ask the same."""
+    """An answer with the version of which it is, once it is made. Who makes it has the lock, for which those wait that ask the same. Where that has failed, each of them
+    makes its own: one after the other, each would wait for all that fail before it."""
 
     def __init__(self) -> None:
         self.lock = threading.Lock()
         self.found: Optional[Tuple[int, Value]] = None
+        self.has_failed = False
 
 
 class _Asking(threading.local):
@@ -91,11 +93,17 @@ class Kept(Generic[Value]):
         finally:
             _asking.of = before
 
-    def _get(self, key: Hashable, version: int, make: Callable[[], Tuple[int, Value]]) -> Tuple[int, Value]:
+    def _get(self, key: Hashable, version: int, make: Callable[[], Tuple[int, Value]]) -> Optional[Tuple[int, Value]]:
         made = self._of(key, version)
         with made.lock:
+            if made.has_failed:
+                return None
             if made.found is None or made.found[0] < version:
-                made.found = make()
+                try:
+                    made.found = make()
+                except BaseException:
+                    made.has_failed = True
+                    raise
                 if not self._is_small(made.found[1]):
                     self._forget(key, made)
             return made.found
@@ -105,7 +113,9 @@ class Kept(Generic[Value]):
             if version > self._version:
                 self._version = version
                 self._made = {key: made for key, made in self._made.items() if made.found is None or made.found[0] >= version}
-            made = self._made.pop(wanted, None) or Made[Value]()
+            made = self._made.pop(wanted, None)
+            if made is None or made.has_failed:
+                made = Made[Value]()
             self._made[wanted] = made           # the last one is the newest
             if len(self._made) > MOST_KEPT:
                 del self._made[next(iter(self._made))]
