@@ -330,6 +330,27 @@ class OfAFrame(TestCase):
                 thread.join()
         self.assertEqual(self.asked.call_count, 1)
 
+    def test_those_who_ask_between_changes_share_the_one_that_is_begun_behind_them(self):
+        """Each of them had to wait for those of all versions before its own."""
+        begun, release, waiting, query = threading.Event(), threading.Event(), [], self.asked.side_effect
+
+        def stands(*words):
+            begun.set()
+            release.wait(60)
+            return query(*words)
+
+        self.asked.side_effect = stands
+        for price in range(ASKERS):
+            waiting.append(threading.Thread(target=self.frame.best, args=[QUESTION]))
+            waiting[-1].start()
+            begun.wait(60)
+            time.sleep(0.05)
+            self.frame.update(3, {"price": 100 + price})
+        release.set()
+        for thread in waiting:
+            thread.join()
+        self.assertLessEqual(self.asked.call_count, 2)
+
     def test_a_thread_that_has_an_open_query_waits_for_no_other_one(self):
         """Which may wait for the only client."""
         frame = prefq.Frame.from_records([{"x": 1}, {"x": 2}], clients=1)

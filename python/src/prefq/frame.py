@@ -1,7 +1,7 @@
 """Frames: live tables of columns of every kind."""
 import threading
 from functools import partial
-from typing import Any, Dict, Iterable, Iterator, List, Mapping, Optional, Sequence
+from typing import Any, Dict, Iterable, Iterator, List, Mapping, Optional, Sequence, Tuple
 
 from .answer import Answer
 from .checks import MOST_ROWS
@@ -232,8 +232,13 @@ class Frame(LiveRows):
         # A thread that has an open query waits for no other one, which may wait for its client.
         if version is None or threading.get_ident() in opened.table._engine.threads():
             return self._answer(question, asked())
-        now = version
-        return self._answer(question, opened.kept.get((question, selection), now, lambda: (now, asked()))[1])
+        least = version
+
+        def made() -> Tuple[int, Answered]:
+            # The version now, behind the wait for others: that of who asks meanwhile.
+            return version_kept(opened, selection) or least, asked()
+
+        return self._answer(question, opened.kept.get((question, selection), least, made)[1])
 
     def begun(self, question: str, selection: Selection) -> FrameQuery:
         """A query, whose answer is kept; one that is over where it was."""
