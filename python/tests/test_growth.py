@@ -308,6 +308,18 @@ class OfADesk(TestCase):
             self.assertEqual((self.rows(desk), desk.version), (before, version))
             self.assertEqual([str(column.kind) for column in desk.columns][0], "whole")
 
+    def test_an_interruption_between_a_change_of_the_frame_and_its_note(self):
+        with Desk(prices(60, 50)) as desk:
+            for change, price in ((lambda: desk.insert({"price": 40}), 40), (lambda: desk.update(3, {"price": "30.5"}), Decimal("30.5"))):
+                seen = desk.version
+                with unittest.mock.patch.object(desk, "_note", side_effect=KeyboardInterrupt), self.assertRaises(KeyboardInterrupt):
+                    change()
+                picture = desk.picture("best low(price)")
+                self.assertEqual([(row.id, desk.record(row.numbers)["price"]) for row in picture.best], [(3, price)])
+                self.assertGreater(picture.version, seen)
+                with self.refuses(prefq.Refused, "somebody else has changed"):
+                    desk.update(3, {"price": 1}, seen=seen)
+
     def test_a_closed_desk_grows_nothing(self):
         with Desk(prices(60, 50)) as desk:
             desk.close()

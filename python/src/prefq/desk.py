@@ -7,7 +7,7 @@ import threading
 from typing import Any, Callable, Dict, Iterable, List, Mapping, NamedTuple, Optional, Sequence, Tuple, TypeVar
 
 from .columns import Column, listed
-from .errors import Ended, Refused, no_such_row
+from .errors import Ended, Error, Refused, no_such_row
 from .frame import Frame
 from .hints import unknown_column
 from .moment import Moment, moment_of
@@ -82,6 +82,8 @@ class Desk:
         # The versions in which the cells of a row changed last, by its id; none of a row that is as it came.
         self._since: Dict[int, Tuple[int, ...]] = {}
         self._subscribed: List[Callable[[], None]] = []
+        # Whether the rows here are those of the frame: not where a change was interrupted.
+        self._is_whole = True
         self._read()
 
     def __enter__(self) -> "Desk":
@@ -166,6 +168,7 @@ class Desk:
     def picture(self, text: str, selection: Selection = Selection()) -> Picture:
         """The rows and the answer to a question, and to what is asked beside it, at one version."""
         with self._changed:
+            self._look_again()
             question, columns, version, rows = self.read(text, selection), self.columns, self.version, dict(self._rows)
             query = self._frame.begun(text, selection) if selection.is_answered_by(question, columns) else None
         if query is None:
@@ -222,10 +225,28 @@ class Desk:
             for name in values:
                 if name not in self._named:
                     raise ValueError(unknown_column(name, list(self._named)))
-            result = change()
+            self._look_again()
+            self._is_whole = False
+            try:
+                result = change()
+            except (Error, TypeError, ValueError):      # so nothing was changed
+                self._is_whole = True
+                raise
             self.version += 1
+            self._is_whole = True
             self._wake()
             return result
+
+    def _look_again(self) -> None:
+        """Takes the rows as they are in the frame where a change was interrupted, which may have been made there."""
+        if self._is_whole:
+            return
+        before = self._rows
+        self._read()
+        self.version += 1
+        self._since = {id: self._versions(id) if before.get(id) == row else (self.version,) * len(self.columns) for id, row in self._rows.items()}
+        self._is_whole = True
+        self._wake()
 
     def _wake(self) -> None:
         self._changed.notify_all()
