@@ -12,8 +12,8 @@
               client are for one thread at a time for each client: an answer stands in the client's own memory, until the next prefq_ask, prefq_rows or
               prefq_finish of this client, or prefq_close.
    Threads.   Any thread may call a table, and calls of several threads wait for one another. A thread with less than PREFQ_STACK bytes of stack left is refused
-              (PREFQ_ARGUMENTS). Calls ask for memory, so a signal handler makes none: one that has interrupted a call on the same table, wherever that was, does
-              nothing and returns PREFQ_BUSY, and so does the ninth of calls that interrupt one another.
+              (PREFQ_ARGUMENTS). Calls ask for memory, so a signal handler makes none: one in the middle of a call on the same table changes no row and returns
+              PREFQ_BUSY, and so does the ninth of calls that interrupt one another.
    Processes. A table belongs to the process that opened it. In the child of a fork each call returns PREFQ_ENDED, and prefq_close gives back the arrays of answers
               alone, and where the fork came in the middle of a call nothing: the memory of the rows stays as it was, until the child ends.
    The end.   A table that is refused memory in the middle of a call may have to end: then this call returns PREFQ_OUT_OF_MEMORY, and each later one PREFQ_ENDED.

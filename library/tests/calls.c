@@ -413,7 +413,7 @@ static void call_at_any_place(int number)
 /* Signals come at any place of a call, also where it is about to take the table or has just let it go: the handler's call waits for nothing. */
 static void interrupt_calls(void)
 {
-    const struct itimerval soon = {{0, 20}, {0, 20}}, never = {{0, 0}, {0, 0}};
+    const struct itimerval soon = {{0, 100}, {0, 100}}, never = {{0, 0}, {0, 0}};
     interrupted = open_hotels();
     signal(SIGALRM, call_at_any_place);
     EXPECT(setitimer(ITIMER_REAL, &soon, NULL) == 0);
