@@ -2,13 +2,14 @@
 use Rattle.pref_table.proofs.Common.{◌≡◌, ℕ, ◌+◌, ◌-◌, ◌<◌, ◌≤◌, ◌*◌, ◌^◌, Bool, true, false, List, [], ◌∷◌, length, take, drop, get_or, sym, refl, arith, suc, Ok, ℤ, pos}
 use Rattle.pref_table.proofs.Common.{◌==◌, all_ascii_digits, digits_value, starts_with_minus, without_leading_sign, eqb-true, le-leb}
 use Rattle.pref_table.proofs.Common.{ne_eqb, get_or-drop, get_or-take, length-drop, length-take-le, take_all, fits_cell, is_blank, number_of, signed_by, without_blanks, ArePlain, IsPlain}
-use Rattle.pref_table.proofs.Common.{below_more}
+use Rattle.pref_table.proofs.Common.{below_more, length-take, ◌∙◌, ap, subst}
+use Rattle.std.proofs.lemmas.List.{drop-take, take-take, take_rest}
 use Rattle.std.proofs.Math.Nat.{pow-le-pow_right, pow-suc}
 use Rattle.std.proofs.lemmas.Int.Digits.{digits_value_more}
 use Rattle.std.proofs.lemmas.List.Sums.{prefix_len-drop_no, suffix_len-take_no}
 use Rattle.std.proofs.lemmas.Str.Parse.{without_leading_plus_none}
 use Rattle.pref_table.specs.Capped.{IsCapped}
-use Rattle.pref_table.specs.Fields.{AreLeadingDigits, IsPlainField}
+use Rattle.pref_table.specs.Fields.{AreLeadingDigits, IsFront, IsPlainField}
 use Rattle.pref_table.proofs.NumberFacts.{digit_value-of, number-fits}
 use Rattle.pref_table.proofs.RowsFacts.{cut_at, cut_none}
 
@@ -82,6 +83,23 @@ last_not_blank digits sign some are = grind (arith)
 each_signed : (sign : ℕ) (line : List ℕ) (count : ℕ) → IsSigned sign → AreDigits line count → (k : ℕ) → k < suc count → IsSigned (get_or (sign ∷ line) k 0)
 each_signed sign line count signed are k h = grind (arith)
 
+pub leading_small : (text : List ℕ) (value count : ℕ) → AreLeadingDigits text value count → value < 10 ^ 18
+leading_small text value count led = room_below count 18 value led.few led.small
+
+front_take : (line text : List ℕ) (count : ℕ) → IsFront line text → count ≤ length line → take count text ≡ take count line
+front_take line text count front within = sym (ap (take count) front ∙ take-take count (length line) text within)
+
+-- digits that a text begins with, where they are within a line that it begins with
+pub leading_within : (line text : List ℕ) (value count : ℕ) → IsFront line text → count ≤ length line → AreLeadingDigits text value count → AreLeadingDigits line value count
+leading_within line text value count front within led =
+    record {
+      inside = within;
+      digits = λ k h. rw (front, get_or-take (length line) text k 0 (omega arith)) (led.digits k h);
+      reads = led.reads ∙ ap (digits_value 10) (front_take line text count front within);
+      few = led.few;
+      small = led.small;
+    }
+
 module _ (line : List ℕ) (value count : ℕ) (some : 0 < count) where
   -- digits alone
   pub unsigned_field : AreLeadingDigits line value count → (count < length line → get_or line count 0 ≡ 44) → IsPlainField line (pos value) count
@@ -93,7 +111,7 @@ module _ (line : List ℕ) (value count : ℕ) (some : 0 < count) where
       let blanks = no_blanks field (omega (arith, size)) (not_blank _ (digit_signed _ first)) (not_blank _ (digit_signed _ (are (length field - 1) (omega (arith, size))))) in
       let minus : starts_with_minus field ≡ false = ne_eqb (get_or field 0 0) 45 (λ e. absurd (omega (arith, first))) in
       let sign : field ≡ without_leading_sign field = rw minus (sym (without_leading_plus_none field (λ e. absurd (omega (arith, first))))) in
-      let reads = field_reads field field value sign (omega (arith, size)) are blanks led.reads led.small in
+      let reads = field_reads field field value sign (omega (arith, size)) are blanks led.reads (leading_small line value count led) in
       field_ends line (pos value) count some led.inside (rw minus at reads) (λ k h. digit_signed _ (led.digits k h)) comma
 
   -- digits behind a sign
@@ -105,7 +123,7 @@ module _ (line : List ℕ) (value count : ℕ) (some : 0 < count) where
       let are : AreDigits digits (length digits) = λ k h. rw (get_or-take count line k 0 (omega (arith, size))) (led.digits k (omega (arith, size))) in
       let end : length (sign ∷ digits) - 1 ≡ length digits = omega arith in
       let blanks = no_blanks (sign ∷ digits) (omega arith) (not_blank sign signed) (rw end (last_not_blank digits sign (omega (arith, size)) are)) in
-      let reads = field_reads (sign ∷ digits) digits value (sym rest) (omega (arith, size)) are blanks led.reads led.small in
+      let reads = field_reads (sign ∷ digits) digits value (sym rest) (omega (arith, size)) are blanks led.reads (leading_small line value count led) in
       field_ends (sign ∷ line) (signed_by negative value) (suc count) (omega arith) (omega (arith, led.inside)) (rw minus at reads) (each_signed sign line count signed led.digits) (λ h. comma (omega arith))
 
 -- a line that begins with so many digits behind an optional sign, and then ends or goes on with a comma
@@ -135,3 +153,25 @@ plain_is (c ∷ cs) value count size some = by (c == 45) (c == 43) refl refl
         let at : size ≡ count = omega (arith, behind) in
         let more = rw at at comma in
         rw (at, e) (unsigned_field (c ∷ cs) value count some (rw (e, f) at led) more)
+
+pub front_length : (line text : List ℕ) → IsFront line text → length line ≤ length text
+front_length line text front = omega (arith, ap length front, length-take (length line) text)
+
+-- behind so many bytes of both
+pub behind_front : (line text : List ℕ) (size : ℕ) → size ≤ length line → IsFront line text → IsFront (drop size line) (drop size text)
+behind_front line text size inside front =
+    let more = length line - size in
+    ap (drop size) (front ∙ ap (λ n. take n text) {x = length line} {y = size + more} (omega arith)) ∙ drop-take size more text
+    ∙ ap (λ n. take n (drop size text)) {x = more} {y = length (drop size line)} (omega (arith, length-drop size line))
+
+sign_before : (line : List ℕ) → without_leading_sign line ≡ drop (length line - length (without_leading_sign line)) line
+sign_before [] = refl
+sign_before (c ∷ cs) = grind (arith)
+
+-- what stands behind a line's sign is the front of what stands behind as many bytes of the text
+pub without_sign_front : (line text digits : List ℕ) → digits ≡ without_leading_sign line → IsFront line text
+    → let sign = length line - length digits in IsFront digits (take (length text - sign) (drop sign text))
+without_sign_front line text digits is front =
+    let sign = length line - length digits in
+    let whole : digits ≡ drop sign line = is ∙ sign_before line ∙ ap (λ n. drop (length line - n) line) (ap length (sym is)) in
+    rw (take_rest text sign) (subst (λ d. IsFront d (drop sign text)) (sym whole) (behind_front line text sign (omega arith) front))

@@ -17,7 +17,12 @@ pub record AreLeadingDigits (text : List ℕ) (value count : ℕ) : Type 0 where
   pub inside : count ≤ length text
   pub digits : (k : ℕ) → k < count → (48 ≤ slice_index text k) × (slice_index text k < 58)
   pub reads : value ≡ digits_value 10 (take count text)
-  pub small : value < 10 ^ 18
+  pub few : count ≤ 18
+  pub small : value < 10 ^ count
+
+-- what a text begins with
+abbrev pub IsFront : List ℕ → List ℕ → Type 0
+IsFront line text = line ≡ take (length line) text
 
 -- the first size bytes of a line are its first field, which is plain, and read as this number
 pub record IsPlainField (line : List ℕ) (number : ℤ) (size : ℕ) : Type 0 where

@@ -1,4 +1,5 @@
 pub mod Columns
+pub mod Digits
 pub mod Number
 pub mod Numbered
 pub mod Names

@@ -1,6 +1,7 @@
 //! A table's schema and rows, and how they are read from text.
 #![tactic(auto)]
 
+mod digits;
 mod fault;
 mod line;
 mod lines;

@@ -1,6 +1,6 @@
 //! A row from a line of text.
 ghost use Rattle.std.specs.Prelude.{◌≡◌, ◌==◌, ◌+◌, ◌<◌, ◌≤◌, ℕ, length, drop, count_by, List, IfSome, MatchResult, Ok, Err};
-ghost use Rattle.pref_table.specs.Fields.{FirstCell, IsCutInto};
+ghost use Rattle.pref_table.specs.Fields.{FirstCell, IsCutInto, IsFront};
 ghost use Rattle.pref_table.specs.Lines.{IsPlainLine};
 ghost use Rattle.pref_table.specs.Rows.{line_row};
 
@@ -62,19 +62,23 @@ fn cut_row(schema: &Schema, line: &[u8]) -> Result<Row, TableFault>
     Ok(Row::of_cells(cells))
 }
 
-/// The row of a line whose fields are each 1 to 18 digits, perhaps behind a sign, and no other byte. Reads it in one pass.
-pub(crate) fn plain_row(width: usize, line: &[u8]) -> Option<Row>
-    requires { width ≤ 16 }
+/// The row of a line whose fields are each 1 to 18 digits, perhaps behind a sign, and no other byte. Reads it in one pass. The text begins
+/// with the line.
+pub(crate) fn plain_row(width: usize, line: &[u8], text: &[u8]) -> Option<Row>
+    requires few { width ≤ 16 }
+    requires front { IsFront line.now text.now }
     ensures row { IfSome result (λ row. line_row width line.now ≡ Ok row) }
     ensures plain { IfSome result (λ _. IsPlainLine line.now) }
 {
     let mut cells = [0; MAX_COLUMNS];
     let mut rest = line;
+    let mut ahead = text;
     for col in 0..width {
-        let (number, size) = plain_field(rest)?;
+        let (number, size) = plain_field(rest, ahead)?;
         cells[col] = number;
         if size < rest.len() {
             rest = after_comma(rest, size);
+            ahead = after_comma(ahead, size);
         } else if col + 1 == width {
             return Some(Row::of_cells(cells));
         } else {
@@ -93,7 +97,7 @@ pub(crate) fn plain_row(width: usize, line: &[u8]) -> Option<Row>
 pub fn read_row(schema: &Schema, line: &[u8]) -> Result<Row, TableFault>
     ensures { result ≡ line_row (length schema.now) line.now }
 {
-    match plain_row(schema.width(), line) {
+    match plain_row(schema.width(), line, line) {
         Some(row) => Ok(row),
         None => cut_row(schema, line),
     }

@@ -60,7 +60,7 @@ fn next_row(width: usize, text: &[u8]) -> Option<NextRow<'_>>
         return None;
     };
     let (line, left) = cut_line(lines);
-    let row = plain_row(width, line)?;
+    let row = plain_row(width, line, lines)?;
     Some(NextRow { row, left })
 }
 

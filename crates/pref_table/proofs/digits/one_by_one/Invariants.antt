@@ -1,5 +1,5 @@
 use Rattle.pref_table.proofs.Common.{◌≡◌, ◌<◌, ◌≤◌, ◌^◌, ℕ, get_or, take, digits_value}
-use Rattle.pref_table.proofs.number.leading_digits.Given as goal
+use Rattle.pref_table.proofs.digits.one_by_one.Given as goal
 
 -- the bytes so far are digits, and the value is theirs
 abbrev pub invariant-loop-place : goal.invariant-loop-place

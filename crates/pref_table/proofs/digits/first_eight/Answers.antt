@@ -1,0 +1,22 @@
+use Rattle.pref_table.proofs.Common.{◌∙◌, ℕ, get_or, arith}
+use Rattle.pref_table.specs.Digits.{digit_at}
+use Rattle.pref_table.proofs.DigitsFacts.{digit_below, value_of_front}
+use Rattle.pref_table.proofs.digits.first_eight.Goals as goal
+
+pub returns-clause-digits : goal.returns-clause-digits
+returns-clause-digits c =
+    let text = c.args.text.now in
+    let count = c.count_digits-count.result in
+    let are = c.count_digits-count.ensures.digits in
+    let few = c.count_digits-count.ensures.few in
+    let byte = λ (k : ℕ). get_or text k 0 in
+    let word = c.aligned.ensures byte (λ k. (c.type_inv.text k).fits) c.word.ensures are in
+    let value = c.value_of_eight.ensures (digit_at byte count) (digit_below byte count few are) word in
+    let known = value_of_front text count few (omega (arith, few, c.requires)) are in
+    record {
+      inside = omega (arith, few, c.requires);
+      digits = are;
+      reads = value ∙ known.0;
+      few = omega (arith, few);
+      small = omega (arith, value, known.1);
+    }
