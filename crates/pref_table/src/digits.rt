@@ -94,8 +94,8 @@ fn first_eight(text: &[u8]) -> (u64, usize)
     (value_of_eight(aligned(word(text), count)), count)
 }
 
-/// Goes on from digits that were read, one by one.
-#[inline(always)]
+/// Goes on from digits that were read, one by one. A call of its own, since few digits are read so.
+#[inline(never)]
 fn one_by_one(text: &[u8], so_far: u64, begin: usize) -> (u64, usize)
     requires few { begin ≤ 16 }
     requires digits { AreLeadingDigits text.now so_far begin }
@@ -113,7 +113,8 @@ fn one_by_one(text: &[u8], so_far: u64, begin: usize) -> (u64, usize)
     (value, most)
 }
 
-/// Goes on from eight digits.
+/// Goes on from eight digits. A call of its own, since few fields have as many.
+#[inline(never)]
 fn more_digits(text: &[u8], eight: u64) -> (u64, usize)
     requires { AreLeadingDigits text.now eight 8 }
     ensures { AreLeadingDigits text.now result.0 result.1 }
@@ -129,12 +130,12 @@ fn more_digits(text: &[u8], eight: u64) -> (u64, usize)
     one_by_one(text, value, 16)
 }
 
-/// The value of the digits that a text begins with, of which it takes at most 18, and how many it took. One to three are read one by one.
+/// The value of the digits that a text begins with, of which it takes at most 18, and how many it took.
 #[inline(always)]
 pub(crate) fn leading_digits(text: &[u8]) -> (u64, usize)
     ensures { AreLeadingDigits text.now result.0 result.1 }
 {
-    if text.len() < 8 || !text[3].is_ascii_digit() {
+    if text.len() < 8 {
         return one_by_one(text, 0, 0);
     }
     let (value, count) = first_eight(text);
