@@ -157,6 +157,9 @@ plain_is (c ∷ cs) value count size some = by (c == 45) (c == 43) refl refl
 pub front_length : (line text : List ℕ) → IsFront line text → length line ≤ length text
 front_length line text front = omega (arith, ap length front, length-take (length line) text)
 
+pub take_front : (n : ℕ) (text : List ℕ) → n ≤ length text → IsFront (take n text) text
+take_front n text within = ap (λ k. take k text) {x = n} {y = length (take n text)} (omega (arith, length-take-le n text within))
+
 -- behind so many bytes of both
 pub behind_front : (line text : List ℕ) (size : ℕ) → size ≤ length line → IsFront line text → IsFront (drop size line) (drop size text)
 behind_front line text size inside front =

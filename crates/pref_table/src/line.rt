@@ -71,13 +71,13 @@ pub(crate) fn plain_row(width: usize, line: &[u8], text: &[u8]) -> Option<Row>
     ensures plain { IfSome result (λ _. IsPlainLine line.now) }
 {
     let mut cells = [0; MAX_COLUMNS];
-    let mut rest = line;
     let mut ahead = text;
+    let mut left = line.len();
     for col in 0..width {
-        let (number, size) = plain_field(rest, ahead)?;
+        let (number, size) = plain_field(&ahead[..left], ahead)?;
         cells[col] = number;
-        if size < rest.len() {
-            rest = after_comma(rest, size);
+        if size < left {
+            left -= size + 1;
             ahead = after_comma(ahead, size);
         } else if col + 1 == width {
             return Some(Row::of_cells(cells));
