@@ -1,30 +1,63 @@
 -- Entries that were held already, when others come: as many levels are above them as before, or more, and none that was of a level is over one that was of it or of one above.
 use Rattle.pref_sky.proofs.Common.{◌≡◌, ℕ, suc, ◌<◌, ◌≤◌, ◌-◌, Bool, true, false, not, ◌&&◌, inl, inr, List, [], ◌∷◌, refl, sym, ◌∙◌, ap, subst, arith, length, get_or, get_or-map, map, filter, nat_lt, All}
 use Rattle.pref_sky.proofs.Common.{and_from, both_ways, cases_lt, false_from_ne_true, IsStrictOrder, Entry, Among, comes_after, count_above, entry_at, entry_of, level_of, own_levels, own_order, AreInOrder, AreLeveled, AreLowest, comes_before, HaveDifferentIds, Item, OwnOrder}
-use Rattle.pref_sky.proofs.Common.{◌+◌, ◌++◌, get_or_append_left, get_or_push}
+use Rattle.pref_sky.proofs.Common.{◌+◌, ◌++◌, drop, get_or_append_left, get_or_push, length_push}
+use Rattle.std.proofs.lemmas.List.{get_or-append_right, get_or-drop, length-append}
 use Rattle.pref_sky.proofs.ChainLaws.{filter_in_order}
 use Rattle.pref_sky.proofs.OwnOrders.{own_is_strict}
 use Rattle.pref_sky.proofs.LeveledLaws.{HasChain, kept_are, level_is, levels_of_kept}
 use Rattle.pref_sky.proofs.ListLaws.{among_place, any_from, from_filter, in_filter}
 use Rattle.pref_sky.proofs.Merges.{comes_after_among_more, comes_after_upto, same_chains}
 use Rattle.pref_sky.proofs.SweepLaws.{chain_of_count}
-use Rattle.pref_sky.specs.Held.{AreHeld, AreTakenOver, IsTakenOver}
+use Rattle.pref_sky.specs.Held.{AreHeld, AreLevelsBehind, AreTakenOver, IsTakenOver}
 
 -- ---- among more entries
 
--- one more is listed
-pub taken_more : (held : List Entry) (levels : List ℕ) (all : List Entry) (found new : List ℕ) (i level : ℕ) → length found ≡ i → new ≡ found ++ level ∷ [] → IsTakenOver held levels (entry_at all i) level
-    → ((p : ℕ) → p < i → IsTakenOver held levels (entry_at all p) (get_or found p 0)) → (p : ℕ) → p < i + 1 → IsTakenOver held levels (entry_at all p) (get_or new p 0)
-taken_more held levels all found new i level long is here before p near =
-    elim (cases_lt p i) [
-      | inl old ↦
-          let same : get_or new p 0 ≡ get_or found p 0 = ap (λ l. get_or l p 0) is ∙ get_or_append_left found (level ∷ []) 0 p (omega (arith, old, long)) in
-          subst (IsTakenOver held levels (entry_at all p)) (sym same) (before p old)
-      | inr past ↦
-          let last : i ≡ p = omega (arith, past, near) in
-          let same : get_or new i 0 ≡ level = ap (λ l. get_or l i 0) is ∙ get_or_push found level 0 i long in
-          subst (λ q. IsTakenOver held levels (entry_at all q) (get_or new q 0)) last (subst (IsTakenOver held levels (entry_at all i)) (sym same) here)
-    ]
+-- one level more
+pub levels_more : (levels : List ℕ) (begin n : ℕ) (found more : List ℕ) (level : ℕ) → AreLevelsBehind levels begin n found more → level ≡ get_or levels (begin + n) 0
+    → AreLevelsBehind levels begin (n + 1) found (more ++ level ∷ [])
+levels_more levels begin n found more level are is =
+    record {
+      long = omega (arith, are.long, length_push more level);
+      before = λ k inside. get_or_append_left more (level ∷ []) 0 k (omega (arith, are.long)) ∙ are.before k inside;
+      behind = λ k inside. elim (cases_lt k n) [
+        | inl old ↦ get_or_append_left more (level ∷ []) 0 (length found + k) (omega (arith, are.long)) ∙ are.behind k old
+        | inr last ↦
+            let same : k ≡ n = omega (arith, last, inside) in
+            get_or_push more level 0 (length found + k) (omega (arith, are.long, same)) ∙ is ∙ ap (λ j. get_or levels (begin + j) 0) (sym same)
+      ];
+    }
+
+-- a front of those from a place on
+pub stretch_is : (held left front back : List Entry) (next : ℕ) → left ≡ drop next held → left ≡ front ++ back → (k : ℕ) → k < length front → entry_at front k ≡ entry_at held (next + k)
+stretch_is held left front back next behind parts k inside =
+    let none : Entry = record { id = 0; row = [] } in
+    sym (get_or_append_left front back none k inside) ∙ ap (λ l. get_or l k none) (sym parts ∙ behind) ∙ get_or-drop next held k none
+
+module _ (held : List Entry) (levels : List ℕ) (all : List Entry) (found : List ℕ) (long : length found ≡ length all) (before : AreTakenOver held levels all found) where
+  -- a new one behind them
+  pub taken_new : (e : Entry) → AreTakenOver held levels (all ++ e ∷ []) (found ++ 0 ∷ [])
+  taken_new e p inside =
+      elim (cases_lt p (length all)) [
+        | inl old ↦ subst (λ x. IsTakenOver held levels x (get_or (found ++ 0 ∷ []) p 0)) (sym (get_or_append_left all (e ∷ []) (record { id = 0; row = [] }) p old))
+            (subst (IsTakenOver held levels (entry_at all p)) (sym (get_or_append_left found (0 ∷ []) 0 p (omega (arith, old, long)))) (before p old))
+        | inr past ↦ inl (get_or_push found 0 0 p (omega (arith, past, inside, long, length_push all e)))
+      ]
+
+  -- a stretch of those that were held, with their levels
+  pub taken_on : (front : List Entry) (more : List ℕ) (next : ℕ) → next + length front ≤ length held → ((k : ℕ) → k < length front → entry_at front k ≡ entry_at held (next + k))
+      → AreLevelsBehind levels next (length front) found more → AreTakenOver held levels (all ++ front) more
+  taken_on front more next within is behind p inside =
+      elim (cases_lt p (length all)) [
+        | inl old ↦ subst (λ x. IsTakenOver held levels x (get_or more p 0)) (sym (get_or_append_left all front (record { id = 0; row = [] }) p old))
+            (subst (IsTakenOver held levels (entry_at all p)) (sym (behind.before p (omega (arith, old, long)))) (before p old))
+        | inr past ↦
+            let k = p - length all in
+            let near : k < length front = omega (arith, past, inside, length-append all front) in
+            let here : entry_at (all ++ front) p ≡ entry_at held (next + k) = get_or-append_right all front (length all) p (record { id = 0; row = [] }) refl past ∙ is k near in
+            let level : get_or more p 0 ≡ get_or levels (next + k) 0 = ap (λ j. get_or more j 0) {x = p} {y = length found + k} (omega (arith, long, past)) ∙ behind.behind k near in
+            inr (next + k, omega (arith, near, within), sym here, sym level)
+      ]
 
 pub held_among : (over : Entry → Entry → Bool) (cut : ℕ) (held all : List Entry) (levels found : List ℕ) → AreHeld over cut (λ k. get_or levels k 0) held → AreTakenOver held levels all found
     → ((x : Entry) → Among x held → Among x all) → AreHeld over cut (λ p. get_or found p 0) all

@@ -1,6 +1,6 @@
 -- No public contract cites this.
 -- Entries that were held already when others come, and the levels that they were of.
-use Rattle.std.specs.Prelude.{◌≡◌, ◌<◌, ◌≤◌, ◌-◌, ◌⊎◌, Bool, true, false, ℕ, List, get_or, length}
+use Rattle.std.specs.Prelude.{◌≡◌, ◌<◌, ◌≤◌, ◌+◌, ◌-◌, ◌⊎◌, Bool, true, false, ℕ, List, get_or, length}
 use Rattle.pref_sky.specs.Items.{entry_at}
 use Rattle.pref_sky.specs.OwnOrders.{comes_after}
 use Rattle.pref_sky.specs.declared.entry.Entry.{Entry}
@@ -14,6 +14,12 @@ pub record AreHeld (over : Entry → Entry → Bool) (cut : ℕ) (mark : ℕ →
 -- the level of an entry that is one of those that were held, or 0
 abbrev pub IsTakenOver : List Entry → List ℕ → Entry → ℕ → Type 0
 IsTakenOver held levels e level = (level ≡ 0) ⊎ ((k : ℕ) × (k < length held) × (entry_at held k ≡ e) × (get_or levels k 0 ≡ level))
+
+-- behind some levels stand so many of others, from a place on
+pub record AreLevelsBehind (levels : List ℕ) (begin count : ℕ) (found more : List ℕ) : Type 0 where
+  pub long : length more ≡ length found + count
+  pub before : (k : ℕ) → k < length found → get_or more k 0 ≡ get_or found k 0
+  pub behind : (k : ℕ) → k < count → get_or more (length found + k) 0 ≡ get_or levels (begin + k) 0
 
 -- such levels of the entries of a list
 abbrev pub AreTakenOver : List Entry → List ℕ → List Entry → List ℕ → Type 0

@@ -1,6 +1,6 @@
 -- No public contract cites this.
 -- How many levels are above the entries of a list. A question's order of entries, and the one in which they are kept: their levels are found only when they are asked for.
-use Rattle.std.specs.Prelude.{◌≡◌, ◌<◌, Bool, true, not, ◌&&◌, cond, nat_lt, ℕ, zero, suc, List, [], ◌∷◌, length, filter, map, All}
+use Rattle.std.specs.Prelude.{◌≡◌, ◌<◌, Bool, true, not, ◌&&◌, cond, nat_lt, ℕ, zero, suc, List, [], ◌∷◌, length, map, All}
 use Rattle.std.specs.List.{list_any}
 use Rattle.std.specs.List.Sorted.{IsPermutation}
 use Rattle.std.specs.Coded.{Coded-set, Unit-prop, coded_bool, ×_prop, Π_prop, →_prop}
@@ -8,7 +8,7 @@ use Rattle.pref_term.specs.AskOrder.{order_of}
 use Rattle.pref_term.specs.Extension.{ask_keys}
 use Rattle.pref_sky.specs.Chains.{IsInOrder, better_in, by_row, in_turn}
 use Rattle.pref_sky.specs.Items.{entry_at}
-use Rattle.pref_sky.specs.Levels.{at_level, entry_order, levels}
+use Rattle.pref_sky.specs.Levels.{entry_order, levels}
 use Rattle.pref_sky.specs.Partials.{KeepsAllBut}
 use Rattle.pref_sky.specs.declared.entry.Entry.{Entry}
 use Rattle.pref_sky.specs.declared.entry.Ranked.{Ranked}

@@ -1,7 +1,7 @@
 //! Entries in the order of a question's keys: new ones are merged into those that are in order.
 
-ghost use Rattle.std.specs.Prelude.{◌≡◌, ◌≤◌, ◌++◌, true, false, length, take, drop, IfOk, OnOk};
-ghost use Rattle.pref_sky.specs.Held.{AreTakenOver, IsTakenOver};
+ghost use Rattle.std.specs.Prelude.{◌≡◌, ◌<◌, ◌≤◌, ◌+◌, ◌++◌, ◌^◌, true, false, length, take, drop, IfOk, OnOk};
+ghost use Rattle.pref_sky.specs.Held.{AreLevelsBehind, AreTakenOver};
 ghost use Rattle.pref_sky.specs.OwnOrders.{AreInOrder, AreSorted, comes_before};
 ghost use Rattle.pref_sky.specs.Members.{Among};
 ghost use Rattle.pref_sky.specs.declared.entry.Entry.{Entry};
@@ -52,76 +52,82 @@ fn push_all(all: &mut Vec<Entry>, entries: &[Entry]) -> Result<(), AllocError>
     Ok(())
 }
 
-/// Two lists that are in order as one. Stretches of the first one are copied as they are, so that few entries go in among many fast.
+/// Puts so many levels behind others, from a place on; 0 where a list has none there.
+fn push_levels(
+    found: &mut Vec<u32>,
+    levels: &[u32],
+    begin: usize,
+    count: usize,
+) -> Result<(), AllocError>
+    requires { begin + count < 2 ^ 64 }
+    ensures { OnOk result (AreLevelsBehind levels.now begin count found.old.items found.new.items) }
+{
+    for place in begin..begin + count {
+        found.push(if place < levels.len() {
+            levels[place]
+        } else {
+            0
+        })?;
+    }
+    Ok(())
+}
+
+/// Entries that are in order, and of each the level that it had where it was held before, and 0 where it is new.
+#[derive(Drop)]
+pub(crate) struct Merged {
+    pub(crate) entries: Vec<Entry>,
+    pub(crate) held: Vec<u32>,
+}
+
+/// Two lists that are in order as one. Stretches of the first one, which was held, are copied as they are with their levels, so that few
+/// entries go in among many fast.
 fn merge(
     alloc: Global,
     order: &OwnOrder,
     sorted: &[Entry],
+    levels: &[u32],
     coming: &[Entry],
-) -> Result<Vec<Entry>, AllocError>
+) -> Result<Merged, AllocError>
     requires sorted { AreInOrder order.now sorted.now }
     requires coming { AreInOrder order.now coming.now }
-    ensures { IfOk result (λ all. AreSorted order.now (sorted.now ++ coming.now) all.items) }
+    ensures sorted { IfOk result (λ merged. AreSorted order.now (sorted.now ++ coming.now) merged.entries.items) }
+    ensures held { IfOk result (λ merged. AreTakenOver sorted.now levels.now merged.entries.items merged.held.items) }
 {
-    let mut all = Vec::with_capacity(alloc, sorted.len().saturating_add(coming.len()))?;
+    let size = sorted.len().saturating_add(coming.len());
+    let mut all = Vec::with_capacity(alloc, size)?;
+    let mut held = Vec::with_capacity(alloc, size)?;
     let mut rest = sorted;
+    let mut next = 0;
     for entry in coming {
         let (front, back) = rest.split_at(count_before(order, rest, entry));
         push_all(&mut all, front)?;
+        push_levels(&mut held, levels, next, front.len())?;
         all.push(*entry)?;
+        held.push(0)?;
+        next += front.len();
         rest = back;
     }
     push_all(&mut all, rest)?;
-    Ok(all)
+    push_levels(&mut held, levels, next, rest.len())?;
+    Ok(Merged { entries: all, held })
 }
 
-/// The entries of a list in order, and those of one in any order, in order.
+/// The entries of a list in order, which were held and have these levels, and those of one in any order, in order.
 ///
-/// Cost: a copy of all, and for each of the others what a sort of them takes and a search among the first list. Memory: the copy, and
-/// one of the others.
+/// Cost: a copy of all, and for each of the others what a sort of them takes and a search among the first list. Memory: the copy, one of
+/// the others, and four bytes for each.
 pub(crate) fn merge_all(
     alloc: Global,
     order: &OwnOrder,
     sorted: &[Entry],
+    levels: &[u32],
     recent: &[Entry],
-) -> Result<Vec<Entry>, AllocError>
+) -> Result<Merged, AllocError>
     requires { AreInOrder order.now sorted.now }
-    ensures { IfOk result (λ all. AreSorted order.now (sorted.now ++ recent.now) all.items) }
+    ensures sorted { IfOk result (λ merged. AreSorted order.now (sorted.now ++ recent.now) merged.entries.items) }
+    ensures held { IfOk result (λ merged. AreTakenOver sorted.now levels.now merged.entries.items merged.held.items) }
 {
     let mut coming = Vec::from_slice(alloc, recent)?;
     order.sort(&mut coming);
-    merge(alloc, order, sorted, &coming)
-}
-
-/// The level of the next one of those that were held, where that is this entry; else 0.
-fn level_if_next(held: &[Entry], levels: &[u32], next: usize, entry: &Entry) -> u32
-    ensures { IsTakenOver held.now levels.now entry.now result }
-{
-    if next < held.len() && next < levels.len() && held[next] == *entry {
-        levels[next]
-    } else {
-        0
-    }
-}
-
-/// For each entry its level where it is one of those that were held, and 0 where it is new. Those that were held stand in the same order
-/// among the others: where one does not, 0 is right as well.
-pub(crate) fn levels_among(
-    alloc: Global,
-    held: &[Entry],
-    levels: &[u32],
-    entries: &[Entry],
-) -> Result<Vec<u32>, AllocError>
-    ensures { IfOk result (λ found. AreTakenOver held.now levels.now entries.now found.items) }
-{
-    let mut found = Vec::with_capacity(alloc, entries.len())?;
-    let mut next = 0;
-    for entry in entries {
-        let level = level_if_next(held, levels, next, entry);
-        if level > 0 {
-            next += 1;
-        }
-        found.push(level)?;
-    }
-    Ok(found)
+    merge(alloc, order, sorted, levels, &coming)
 }

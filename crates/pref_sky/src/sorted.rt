@@ -13,7 +13,7 @@ use crate::grouped::compare_groups;
 use crate::item::Item;
 use crate::lately::Lately;
 use crate::lead::Lead;
-use crate::merging::{levels_among, merge_all};
+use crate::merging::{Merged, merge_all};
 use crate::own_order::OwnOrder;
 use crate::ranking::{drop_below, in_order_of_level};
 use crate::sweep::find_levels;
@@ -190,8 +190,13 @@ impl Pruned {
     fn with_levels(&self, alloc: Global, recent: &[Entry]) -> Result<Leveled, AllocError>
         ensures { IfOk result (λ leveled. AreLeveled self.now.order (self.now.entries.items ++ recent.now) leveled.entries.items leveled.levels.items) }
     {
-        let entries = merge_all(alloc, &self.order, &self.entries, recent)?;
-        let held = levels_among(alloc, &self.entries, &self.levels, &entries)?;
+        let Merged { entries, held } = merge_all(
+            alloc,
+            &self.order,
+            &self.entries,
+            &self.levels,
+            recent,
+        )?;
         let lead = Lead::of(alloc, &self.order, &entries, held)?;
         let levels = find_levels(alloc, &self.order, &lead, &entries)?;
         // Scales of what stands behind chains say nothing of entries that these tell apart. Among the last level the order itself finds the one

@@ -1,6 +1,9 @@
-use Rattle.pref_sky.proofs.Common.{◌≡◌, ◌∙◌, ◌++◌, ◌+◌, [], ◌∷◌, true, false, not, take, drop, sym, ap, subst, append-nil, append_assoc, arith, take_all, IsPermutation-refl, take-append-drop, IsPermutation, drop_more, Entry, AreInOrder}
+use Rattle.pref_sky.proofs.Common.{◌≡◌, ◌∙◌, ◌++◌, ◌+◌, [], ◌∷◌, length, length_push, true, false, not, take, drop, sym, ap, subst, append-nil, append_assoc, arith, take_all, IsPermutation-refl, take-append-drop, IsPermutation, drop_more, Entry, AreInOrder}
 use Rattle.pref_sky.proofs.Common.{comes_before, Among}
 use Rattle.pref_sky.proofs.OwnOrders.{before_is_chain}
+use Rattle.pref_sky.proofs.HeldLaws.{stretch_is, taken_new, taken_on}
+use Rattle.pref_sky.specs.Held.{AreLevelsBehind, AreTakenOver}
+use Rattle.std.proofs.lemmas.List.{drop-drop, length-append, length-take-le}
 use Rattle.pref_sky.proofs.ListLaws.{front_more, below_later, in_order_back, merged_more, moved_more}
 use Rattle.pref_sky.proofs.merging.merge.Goals as goal
 
@@ -27,6 +30,13 @@ loop-entry-preserved c =
     subst (AreInOrder order) next (in_order_back (λ a b. not (comes_before order b a)) (take place coming) (drop place coming) (subst (AreInOrder order) (sym (take-append-drop place coming)) c.requires.coming)) in
     let sorted : AreInOrder order (all ++ (front ++ back)) = subst (λ l. AreInOrder order (all ++ l)) c.split_at.ensures.by_index.0 inv.sorted in
     let below : (a b : Entry) → Among a all → Among b (e ∷ later) → comes_before order b a ≡ false = subst (λ l. (a b : Entry) → Among a all → Among b l → comes_before order b a ≡ false) next inv.below in
+    let held = c.args.sorted.now in
+    let levels = c.push_levels.new.found.items in
+    let stretch : AreLevelsBehind c.args.levels.now c.loop-entry.next (length front) c.loop-entry.held.items levels = c.in_ok-push_levels.ensures {u = tt} in
+    let found : c.push-in-loop-entry.new.self.items ≡ levels ++ 0 ∷ [] = (c.in_ok-push-2.ensures {u = tt}).items in
+    let parts : length c.loop-entry.rest.now ≡ length front + length back = ap length c.split_at.ensures.by_index.0 ∙ length-append front back in
+    let taken = taken_on held c.args.levels.now all c.loop-entry.held.items inv.long inv.taken front levels c.loop-entry.next (omega (arith, inv.next, parts))
+    (stretch_is held c.loop-entry.rest.now front back c.loop-entry.next inv.rest c.split_at.ensures.by_index.0) stretch in
     let passed : (x : Entry) → Among x front → comes_before order x e ≡ true = λ x m. c.count_before.ensures.front x (subst (Among x) c.split_at.ensures.front m) in
     let left : (x : Entry) → Among x back → comes_before order x e ≡ false = λ x m. c.count_before.ensures.back x (subst (Among x) c.split_at.ensures.back m) in
     record {
@@ -35,10 +45,32 @@ loop-entry-preserved c =
           (moved_more (c.args.sorted.now ++ take place coming) all front back e (subst (λ l. IsPermutation (c.args.sorted.now ++ take place coming) (all ++ l)) c.split_at.ensures.by_index.0 inv.moved)));
       sorted = subst (AreInOrder order) (sym whole) (merged_more (comes_before order) chain all front back e later sorted ordered below passed left);
       below = λ a b m k. below_later (comes_before order) chain all front back e later sorted ordered below passed left a b (subst (Among a) new m) k;
+      long = omega (arith, ap length found, length_push levels 0, ap length new, length_push (all ++ front) e, length-append all front, stretch.long, inv.long);
+      next = omega (arith, inv.next, parts);
+      rest = c.split_at.ensures.back ∙ ap (drop c.count_before.result) inv.rest ∙ drop-drop c.count_before.result c.loop-entry.next held
+          ∙ ap (λ n. drop n held) {x = c.loop-entry.next + c.count_before.result} {y = c.loop-entry.next + length front} (omega (arith, ap length c.split_at.ensures.front, length-take-le c.count_before.result c.loop-entry.rest.now c.count_before.ensures.within));
+      taken = subst (λ l. AreTakenOver held c.args.levels.now l c.push-in-loop-entry.new.self.items) (sym new) (subst (AreTakenOver held c.args.levels.now ((all ++ front) ++ e ∷ [])) (sym found)
+          (taken_new held c.args.levels.now (all ++ front) levels (omega (arith, length-append all front, stretch.long, inv.long)) taken e));
     }
 
-pub returns : goal.returns
-returns c = grind (arith, take_all)
+pub returns-clause-sorted : goal.returns-clause-sorted
+returns-clause-sorted c =
+    let inv = c.loop-entry.invariant in
+    let coming = c.args.coming.now in
+    let all = sym (c.in_ok-push_all-2.ensures {u = tt}) in
+    record {
+      moved = subst (λ l. IsPermutation (c.args.sorted.now ++ l) c.push_all-2.new.all.items) (take_all c.loop-entry.entry-index coming (omega arith)) (subst (IsPermutation (c.args.sorted.now ++ take c.loop-entry.entry-index coming)) all inv.moved);
+      in_order = subst (AreInOrder c.args.order.now) all inv.sorted;
+    }
+
+pub returns-clause-held : goal.returns-clause-held
+returns-clause-held c =
+    let inv = c.loop-entry.invariant in
+    let left = c.loop-entry.rest.now in
+    let held = c.args.sorted.now in
+    subst (λ l. AreTakenOver held c.args.levels.now l c.push_levels-2.new.found.items) (sym (c.in_ok-push_all-2.ensures {u = tt}))
+    (taken_on held c.args.levels.now c.loop-entry.all.items c.loop-entry.held.items inv.long inv.taken left c.push_levels-2.new.found.items c.loop-entry.next (omega (arith, inv.next))
+    (stretch_is held left left [] c.loop-entry.next inv.rest (sym (append-nil left))) (c.in_ok-push_levels-2.ensures {u = tt}))
 
 pub loop-entry-init : goal.loop-entry-init
 loop-entry-init c = grind (arith, append-nil, IsPermutation-refl)

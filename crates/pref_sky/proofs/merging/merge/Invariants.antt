@@ -1,4 +1,5 @@
-use Rattle.pref_sky.proofs.Common.{◌≡◌, ◌++◌, false, drop, take, IsPermutation, Entry, AreInOrder, comes_before, Among}
+use Rattle.pref_sky.proofs.Common.{◌≡◌, ◌++◌, ◌+◌, false, drop, length, take, IsPermutation, Entry, AreInOrder, comes_before, Among}
+use Rattle.pref_sky.specs.Held.{AreTakenOver}
 use Rattle.pref_sky.proofs.merging.merge.Given as goal
 
 -- what is merged stands in order in front of what is left of both lists
@@ -8,4 +9,8 @@ invariant-loop-entry l =
       moved : IsPermutation (l.sorted ++ take l.entry-index l.coming) (l.all.items ++ l.rest);
       sorted : AreInOrder l.order (l.all.items ++ l.rest);
       below : (a b : Entry) → Among a l.all.items → Among b (drop l.entry-index l.coming) → comes_before l.order b a ≡ false;
+      long : length l.held.items ≡ length l.all.items;
+      next : l.next + length l.rest ≡ length l.sorted;
+      rest : l.rest ≡ drop l.next l.sorted;
+      taken : AreTakenOver l.sorted l.levels l.all.items l.held.items;
     }
