@@ -1,8 +1,8 @@
 -- What building a question finds of its parts.
 use Rattle.pref_term.proofs.Common.{ℕ, Bool, true, List, ◌≡◌, ◌<◌, ◌≤◌, ◌+◌, arith, refl, subst, sym, length, take, All, get_or, Result, Ok, Err, MatchResult, IsErrAnd}
-use Rattle.pref_term.proofs.Common.{Preference, ReadsBelow, IsWritable, Question, IsAsk, IsClause, IsSkyline, IsCount, cut_of, Mode, inl, inr}
-use Rattle.pref_term.proofs.Common.{ℤ, [], ◌∷◌, ◌∙◌, ◌≢◌, ap, drop, Option, Some, None, option_or}
-use Rattle.pref_term.specs.Built.{IsRefused, IsRefusedFor, count_fault, first_among, first_fault, layers_fault, set_fault, term_fault, column_fault}
+use Rattle.pref_term.proofs.Common.{Preference, Question, IsAsk, IsClause, cut_of, Mode, inl, inr}
+use Rattle.pref_term.proofs.Common.{◌∙◌, ap, drop, Option, Some, None, option_or}
+use Rattle.pref_term.specs.Built.{IsRefused, IsRefusedFor, count_fault, first_among, first_fault, term_fault, column_fault}
 use Rattle.pref_term.specs.declared.fault.AskFault.{AskFault}
 use Rattle.pref_term.specs.declared.fault.AskFault.TheVariants.{NotSkyline, OutOfMemory}
 use Rattle.std.proofs.lemmas.List.Elements.{All-push}
@@ -31,30 +31,14 @@ first_skips fault xs i x lt at none =
     at_drop_more (first_among fault) xs i x lt
     ∙ ap (λ found. option_or found (first_among fault (drop (i + 1) xs))) (ap fault (sym at) ∙ none)
 
--- the first that has one decides
-pub first_found : {X : Type 0} (fault : X → Option AskFault) (xs : List X) (i : ℕ) (x : X) (f : AskFault) → i < length xs → x ≡ get_or xs i x → fault x ≡ Some f
-    → first_among fault (drop i xs) ≡ Some f
-first_found fault xs i x f lt at some =
-    at_drop_more (first_among fault) xs i x lt
-    ∙ ap (λ found. option_or found (first_among fault (drop (i + 1) xs))) (ap fault (sym at) ∙ some)
-
 -- the same, where the element is read with another default
 pub first_skips_at : {X : Type 0} (fault : X → Option AskFault) (xs : List X) (i : ℕ) (d : X) → i < length xs → fault (get_or xs i d) ≡ None
     → first_among fault (drop i xs) ≡ first_among fault (drop (i + 1) xs)
 first_skips_at fault xs i d lt none = at_drop_more (first_among fault) xs i d lt ∙ ap (λ found. option_or found (first_among fault (drop (i + 1) xs))) none
 
-pub first_found_at : {X : Type 0} (fault : X → Option AskFault) (xs : List X) (i : ℕ) (d : X) (f : AskFault) → i < length xs → fault (get_or xs i d) ≡ Some f
-    → first_among fault (drop i xs) ≡ Some f
-first_found_at fault xs i d f lt some = at_drop_more (first_among fault) xs i d lt ∙ ap (λ found. option_or found (first_among fault (drop (i + 1) xs))) some
-
 -- behind the last there is none
 pub first_ends : {X : Type 0} (fault : X → Option AskFault) (xs : List X) (i : ℕ) → length xs ≤ i → first_among fault (drop i xs) ≡ None
 first_ends fault xs i le = at_drop_all (first_among fault) xs i le
-
--- layers are their sets where there are some
-pub layers_first : (col : ℕ) (sets : List (List ℤ)) → sets ≢ [] → layers_fault col sets ≡ first_among (set_fault col) sets
-layers_first col [] some = absurd (some refl)
-layers_first col (set ∷ sets) some = refl
 
 -- that of the term, of the group, and of how many are wanted
 pub of_term : (p : Preference) (group : List ℕ) (mode : Mode) (f : AskFault) → term_fault p ≡ Some f → first_fault p group mode ≡ Some f
@@ -92,11 +76,6 @@ weaker (Err f) A B P Q ok err h = err f h
 -- the parts as contracts see them
 abbrev pub parts : Preference → List ℕ → Mode → Bool → Question
 parts p group mode distinct = record { preference = p; group = group; mode = mode; distinct = distinct }
-
-pub parts_ask : (p : Preference) (group : List ℕ) (mode : Mode) (distinct : Bool)
-    → ReadsBelow 16 p × IsWritable p × All (λ col. col < 16) group × IsCount (cut_of mode)
-    → (distinct ≡ true → IsSkyline (parts p group mode distinct)) → IsAsk (parts p group mode distinct)
-parts_ask p group mode distinct h clause = record { columns = record { preference = h.0; group = h.2 }; writable = h.1; count = h.3; clause = clause }
 
 -- nothing was found, and the question is made, or there was no memory for it
 pub made : (r : Result Question AskFault) (q : Question) → first_fault q.preference q.group q.mode ≡ None → IsAsk q → MatchResult r (λ ask. ask ≡ q) (λ f. f ≡ OutOfMemory)

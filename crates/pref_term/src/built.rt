@@ -46,8 +46,7 @@ impl Ask {
         ensures { let parts : Question = record { preference = preference_of term; group = group.items; mode = mode; distinct = false } in
             MatchResult result (λ ask. IsAsk ask × (ask ≡ parts)) (λ fault. IsRefused parts fault) }
     {
-        check_parts(&term, &group, mode)?;
-        Ask::new(alloc, term, group, mode, false).map_err(|_| AskFault::OutOfMemory)
+        Ask::of_parts(alloc, term, group, mode, false)
     }
 
     /// A skyline clause that keeps one of equal rows, as its word `distinct` asks: the product of its MIN and MAX columns as a term, and its
@@ -66,11 +65,26 @@ impl Ask {
         ensures { let parts : Question = record { preference = preference_of term; group = group.items; mode = Best; distinct = true } in
             MatchResult result (λ ask. IsAsk ask × (ask ≡ parts)) (λ fault. IsRefused parts fault) }
     {
-        check_parts(&term, &group, Mode::Best)?;
-        if !is_clause(&term) {
+        Ask::of_parts(alloc, term, group, Mode::Best, true)
+    }
+
+    /// A question of these parts. Of equal rows one is kept only where the best are wanted.
+    fn of_parts(
+        alloc: Global,
+        term: Term,
+        group: Vec<usize>,
+        mode: Mode,
+        distinct: bool,
+    ) -> Result<Ask, AskFault>
+        requires { distinct ≡ true → mode ≡ Best }
+        ensures { let parts : Question = record { preference = preference_of term; group = group.items; mode = mode; distinct = distinct } in
+            MatchResult result (λ ask. IsAsk ask × (ask ≡ parts)) (λ fault. IsRefused parts fault) }
+    {
+        check_parts(&term, &group, mode)?;
+        if distinct && !is_clause(&term) {
             return Err(AskFault::NotSkyline);
         }
-        Ask::new(alloc, term, group, Mode::Best, true).map_err(|_| AskFault::OutOfMemory)
+        Ask::new(alloc, term, group, mode, distinct).map_err(|_| AskFault::OutOfMemory)
     }
 }
 
