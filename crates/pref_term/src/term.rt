@@ -151,6 +151,7 @@ impl Term {
     ghost use Rattle.pref_term.specs.Preference.{preference_of};
 
     /// A copy. Takes memory for its parts and for their sets.
+    #[cycle(copy)]
     pub(crate) fn copy(&self, alloc: Global) -> Result<Term, AllocError>
         ensures { IfOk result (λ copied. preference_of copied ≡ preference_of self.now) }
     {
@@ -174,18 +175,18 @@ impl Term {
                 col: *col,
                 sets: sets.copy(alloc)?,
             }),
-            Term::Pareto(p, q) => {
-                let p = Box::new(alloc, p.copy(alloc)?)?;
-                let q = Box::new(alloc, q.copy(alloc)?)?;
-                Ok(Term::Pareto(p, q))
-            }
-            Term::Prior(p, q) => {
-                let p = Box::new(alloc, p.copy(alloc)?)?;
-                let q = Box::new(alloc, q.copy(alloc)?)?;
-                Ok(Term::Prior(p, q))
-            }
-            Term::Reverse(p) => Ok(Term::Reverse(Box::new(alloc, p.copy(alloc)?)?)),
+            Term::Pareto(p, q) => Ok(Term::Pareto(p.boxed(alloc)?, q.boxed(alloc)?)),
+            Term::Prior(p, q) => Ok(Term::Prior(p.boxed(alloc)?, q.boxed(alloc)?)),
+            Term::Reverse(p) => Ok(Term::Reverse(p.boxed(alloc)?)),
         }
+    }
+
+    /// A copy in a box.
+    #[cycle(copy)]
+    fn boxed(&self, alloc: Global) -> Result<Box<Term>, AllocError>
+        ensures { IfOk result (λ copied. preference_of copied.value ≡ preference_of self.now) }
+    {
+        Ok(Box::new(alloc, self.copy(alloc)?)?)
     }
 }
 
