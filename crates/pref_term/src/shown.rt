@@ -155,6 +155,21 @@ fn show_base(
     text.extend_from_slice(b")")
 }
 
+/// A base term of sets: the name of the column, and the sets, each after a comma.
+fn show_layers(
+    text: &mut Vec<u8>,
+    schema: &Schema,
+    col: usize,
+    sets: &[Numbers],
+) -> Result<(), AllocError>
+    requires { col < length schema.now }
+    ensures { OnOk result (text.new.items ≡ text.old.items ++ (codes "layered(" ++ shown.name_at schema.now col ++ shown.shown_sets sets.now ++ codes ")")) }
+{
+    show_named(text, schema, b"layered(", col)?;
+    show_sets(text, sets)?;
+    text.extend_from_slice(b")")
+}
+
 #[cycle(term)]
 fn show_term(text: &mut Vec<u8>, schema: &Schema, term: &Term) -> Result<(), AllocError>
     requires { ReadsBelow (length schema.now) (preference_of term.now) }
@@ -168,26 +183,35 @@ fn show_term(text: &mut Vec<u8>, schema: &Schema, term: &Term) -> Result<(), All
             show_base(text, schema, b"between(", *col, &[*left, *right])
         }
         Term::Pos { col, set } => show_base(text, schema, b"pos(", *col, set.as_slice()),
-        Term::Layered { col, sets } => {
-            show_named(text, schema, b"layered(", *col)?;
-            show_sets(text, sets.as_slice())?;
-            text.extend_from_slice(b")")
-        }
+        Term::Layered { col, sets } => show_layers(text, schema, *col, sets.as_slice()),
         Term::Pareto(p, q) => {
-            show_part(text, schema, p, is_prior(p))?;
-            text.extend_from_slice(b" * ")?;
-            show_part(text, schema, q, is_composed(q))
+            show_parts(text, schema, (p, is_prior(p)), b" * ", (q, is_composed(q)))
         }
-        Term::Prior(p, q) => {
-            show_term(text, schema, p)?;
-            text.extend_from_slice(b" & ")?;
-            show_part(text, schema, q, is_prior(q))
-        }
+        Term::Prior(p, q) => show_parts(text, schema, (p, false), b" & ", (q, is_prior(q))),
         Term::Reverse(p) => {
             text.extend_from_slice(b"-")?;
             show_part(text, schema, p, is_composed(p))
         }
     }
+}
+
+/// Two parts of a term, each with whether it is held in parentheses, and these bytes between them.
+#[cycle(term)]
+fn show_parts(
+    text: &mut Vec<u8>,
+    schema: &Schema,
+    first: (&Term, bool),
+    between: &[u8],
+    second: (&Term, bool),
+) -> Result<(), AllocError>
+    requires first { ReadsBelow (length schema.now) (preference_of first.0.now) }
+    requires second { ReadsBelow (length schema.now) (preference_of second.0.now) }
+    ensures { OnOk result (text.new.items ≡ text.old.items ++ (shown.held first.entry.1 (shown.shown_term schema.now (preference_of first.entry.0.now))
+        ++ between.now ++ shown.held second.entry.1 (shown.shown_term schema.now (preference_of second.entry.0.now)))) }
+{
+    show_part(text, schema, first.0, first.1)?;
+    text.extend_from_slice(between)?;
+    show_part(text, schema, second.0, second.1)
 }
 
 /// A part of a term, held in parentheses where it needs them.
@@ -204,20 +228,29 @@ fn show_part(text: &mut Vec<u8>, schema: &Schema, part: &Term, held: bool) -> Re
     text.extend_from_slice(b")")
 }
 
+/// These bytes, the name of the column, and what is said of it.
+fn show_said(
+    text: &mut Vec<u8>,
+    schema: &Schema,
+    before: &[u8],
+    col: usize,
+    said: &[u8],
+) -> Result<(), AllocError>
+    requires { col < length schema.now }
+    ensures { OnOk result (text.new.items ≡ text.old.items ++ (before.now ++ (shown.name_at schema.now col ++ said.now))) }
+{
+    show_named(text, schema, before, col)?;
+    text.extend_from_slice(said)
+}
+
 /// The MIN and MAX columns of a clause.
 fn show_dimensions(text: &mut Vec<u8>, schema: &Schema, term: &Term) -> Result<(), AllocError>
     requires { ReadsBelow (length schema.now) (preference_of term.now) }
     ensures { OnOk result (text.new.items ≡ text.old.items ++ shown.shown_dims schema.now (preference_of term.now)) }
 {
     match term {
-        Term::Low { col } => {
-            show_named(text, schema, b"", *col)?;
-            text.extend_from_slice(b" min")
-        }
-        Term::High { col } => {
-            show_named(text, schema, b"", *col)?;
-            text.extend_from_slice(b" max")
-        }
+        Term::Low { col } => show_said(text, schema, b"", *col, b" min"),
+        Term::High { col } => show_said(text, schema, b"", *col, b" max"),
         Term::Pareto(p, q) => {
             show_dimensions(text, schema, p)?;
             text.extend_from_slice(b", ")?;
@@ -233,8 +266,7 @@ fn show_differing(text: &mut Vec<u8>, schema: &Schema, columns: &[usize]) -> Res
     ensures { OnOk result (text.new.items ≡ text.old.items ++ shown.shown_diffs schema.now columns.now) }
 {
     for col in columns {
-        show_named(text, schema, b", ", *col)?;
-        text.extend_from_slice(b" diff")?;
+        show_said(text, schema, b", ", *col, b" diff")?;
     }
     Ok(())
 }
