@@ -1,5 +1,8 @@
 //! Why a text is no question, and why parts make none.
+ghost use Rattle.std.specs.Prelude.{◌≡◌};
+ghost use Rattle.pref_term.specs.declared.fault.TermFault.TheVariants.{OutOfMemory};
 
+use std::alloc::{AllocError, AllocFailed};
 use thiserror::Error;
 
 /// Why a text is no question. A place counts the bytes before it, from 0.
@@ -32,6 +35,22 @@ pub enum TermFault {
     /// There was no memory for the ask.
     #[error("out of memory")]
     OutOfMemory,
+}
+
+impl From<AllocError> for TermFault {
+    ghost from_gives = { λ _ fault. fault ≡ OutOfMemory };
+
+    fn from(_error: AllocError) -> TermFault {
+        TermFault::OutOfMemory
+    }
+}
+
+impl<T: Drop> From<AllocFailed<T>> for TermFault {
+    ghost from_gives = { λ _ fault. fault ≡ OutOfMemory };
+
+    fn from(_error: AllocFailed<T>) -> TermFault {
+        TermFault::OutOfMemory
+    }
 }
 
 /// Why parts make no question. A column counts from 0; beside a range or a set it is that of the base term that has it.

@@ -10,7 +10,7 @@ ghost use Rattle.pref_term.specs.Spells as spells;
 ghost use Rattle.pref_term.specs.Question.{FitsWidth, IsAsk, IsCount, cut_of};
 ghost use Rattle.pref_term.specs.Preference.{preference_of};
 
-use super::base_term::{Parsed, column, expect, push, take_word};
+use super::base_term::{Parsed, column, expect, take_word};
 use super::term::{pareto, prior};
 use crate::ask::{Ask, Mode};
 use crate::cursor::Cursor;
@@ -20,7 +20,7 @@ use crate::number::count_value;
 use crate::term::Term;
 use crate::token::{CasedWord, Direction, Keyword, Sign, cased_word, word_of_grammar};
 use pref_table::Schema;
-use std::alloc::Global;
+use std::alloc::{AllocError, Global};
 
 /// Takes a count.
 fn count<'a>(cursor: Cursor<'a>) -> Parsed<'a, u32>
@@ -48,7 +48,7 @@ fn group_columns(
     let mut place = cursor;
     loop {
         let (col, next) = column(schema, place)?;
-        push(&mut columns, col)?;
+        columns.push(col)?;
         if next.take().ends() {
             return Ok(columns);
         }
@@ -85,7 +85,7 @@ fn read_rated_term(
 {
     let (term, next) = prior(alloc, schema, 0, cursor)?;
     let group = grouping(alloc, schema, next)?;
-    Ask::new(alloc, term, group, mode, false).map_err(|_| TermFault::OutOfMemory)
+    Ok(Ask::new(alloc, term, group, mode, false)?)
 }
 
 /// Takes the word `of`.
@@ -142,9 +142,8 @@ struct Clause {
 }
 
 /// The product with one more order.
-fn product_with(alloc: Global, product: Option<Term>, order: Term) -> Result<Term, TermFault>
-    ensures ok { IfOk result (λ term. preference_of term ≡ led.joined (option_map preference_of product) (preference_of order)) }
-    ensures err { IfErr result (λ f. f ≡ TermFault.OutOfMemory) }
+fn product_with(alloc: Global, product: Option<Term>, order: Term) -> Result<Term, AllocError>
+    ensures { IfOk result (λ term. preference_of term ≡ led.joined (option_map preference_of product) (preference_of order)) }
 {
     match product {
         None => Ok(order),
@@ -153,10 +152,9 @@ fn product_with(alloc: Global, product: Option<Term>, order: Term) -> Result<Ter
 }
 
 /// The clause with one more dimension.
-fn with_dimension(alloc: Global, clause: Clause, dimension: Dimension) -> Result<Clause, TermFault>
+fn with_dimension(alloc: Global, clause: Clause, dimension: Dimension) -> Result<Clause, AllocError>
     ensures product { IfOk result (λ longer. option_map preference_of longer.product ≡ led.with_order (option_map preference_of clause.product) dimension.direction dimension.col) }
     ensures group { IfOk result (λ longer. longer.group.items ≡ clause.group.items ++ spells.group_by dimension.direction dimension.col) }
-    ensures err { IfErr result (λ f. f ≡ TermFault.OutOfMemory) }
 {
     let Clause { product, mut group } = clause;
     let col = dimension.col;
@@ -164,7 +162,7 @@ fn with_dimension(alloc: Global, clause: Clause, dimension: Dimension) -> Result
         Direction::Min => Term::Low { col },
         Direction::Max => Term::High { col },
         Direction::Diff => {
-            push(&mut group, col)?;
+            group.push(col)?;
             return Ok(Clause { product, group });
         }
     };
@@ -207,7 +205,7 @@ fn clause_ask(
     let Some(term) = product else {
         return Err(TermFault::NoMinOrMax);
     };
-    Ask::new(alloc, term, group, Mode::Best, distinct).map_err(|_| TermFault::OutOfMemory)
+    Ok(Ask::new(alloc, term, group, Mode::Best, distinct)?)
 }
 
 /// Takes a whole question, in which no word `distinct` is a word of the clause.

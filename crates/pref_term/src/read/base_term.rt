@@ -1,5 +1,5 @@
 //! Reading base terms.
-ghost use Rattle.std.specs.Prelude.{◌≡◌, ◌<◌, ◌+◌, [], ◌∷◌, ◌++◌, length, IfOk, IfErr, OnOk};
+ghost use Rattle.std.specs.Prelude.{◌≡◌, ◌<◌, ◌+◌, [], ◌∷◌, ◌++◌, length, IfOk, IfErr};
 ghost use Rattle.pref_term.specs.Ahead.{ahead};
 ghost use Rattle.pref_term.specs.Token as tokens;
 ghost use Rattle.pref_term.specs.ReaderResults as led;
@@ -86,14 +86,6 @@ fn number<'a>(cursor: Cursor<'a>) -> Parsed<'a, i64>
     }
 }
 
-/// Puts an entry behind a list.
-pub(super) fn push<T: Drop>(list: &mut Vec<T>, entry: T) -> Result<(), TermFault>
-    ensures ok { OnOk result (list.new.items ≡ list.old.items ++ entry ∷ []) }
-    ensures err { IfErr result (λ f. f ≡ TermFault.OutOfMemory) }
-{
-    list.push(entry).map_err(|_| TermFault::OutOfMemory)
-}
-
 /// Takes the numbers of a list and the sign that closes it.
 fn numbers<'a>(alloc: Global, cursor: Cursor<'a>, close: Sign) -> Parsed<'a, Vec<i64>>
     ensures ok { IfOk result (λ x. led.ReadsNumbers close (ahead cursor.entry) x.0.items (ahead x.1)) }
@@ -104,7 +96,7 @@ fn numbers<'a>(alloc: Global, cursor: Cursor<'a>, close: Sign) -> Parsed<'a, Vec
     let mut place = cursor;
     loop {
         let (value, next) = number(place)?;
-        push(&mut set, value)?;
+        set.push(value)?;
         let taken = next.take();
         if taken.is(close) {
             return Ok((set, taken.next));
@@ -186,7 +178,7 @@ fn sets<'a>(alloc: Global, cursor: Cursor<'a>) -> Parsed<'a, Vec<Numbers>>
     loop {
         let inside = expect(place, Sign::LeftBrace)?;
         let (numbers, next) = numbers(alloc, inside, Sign::RightBrace)?;
-        push(&mut sets, Numbers::of(numbers))?;
+        sets.push(Numbers::of(numbers))?;
         let taken = next.take();
         if taken.is(Sign::Right) {
             return Ok((sets, taken.next));

@@ -12,7 +12,7 @@ use crate::front::Token;
 use crate::term::Term;
 use crate::token::{Keyword, Sign, word_of_grammar};
 use pref_table::Schema;
-use std::alloc::Global;
+use std::alloc::{AllocError, Global};
 
 /// The deepest nesting that a text may open.
 const DEEPEST: usize = 64;
@@ -128,28 +128,22 @@ pub(super) fn prior<'a>(
     }
 }
 
-fn reverse_of(alloc: Global, part: Term) -> Result<Term, TermFault>
-    ensures ok { IfOk result (λ term. preference_of term ≡ terms.reverse (preference_of part)) }
-    ensures err { IfErr result (λ f. f ≡ TermFault.OutOfMemory) }
+fn reverse_of(alloc: Global, part: Term) -> Result<Term, AllocError>
+    ensures { IfOk result (λ term. preference_of term ≡ terms.reverse (preference_of part)) }
 {
-    let part = Box::new(alloc, part).map_err(|_| TermFault::OutOfMemory)?;
-    Ok(Term::Reverse(part))
+    Ok(Term::Reverse(Box::new(alloc, part)?))
 }
 
-pub(super) fn pareto(alloc: Global, left: Term, right: Term) -> Result<Term, TermFault>
-    ensures ok { IfOk result (λ term. preference_of term ≡ terms.pareto (preference_of left) (preference_of right)) }
-    ensures err { IfErr result (λ f. f ≡ TermFault.OutOfMemory) }
+pub(super) fn pareto(alloc: Global, left: Term, right: Term) -> Result<Term, AllocError>
+    ensures { IfOk result (λ term. preference_of term ≡ terms.pareto (preference_of left) (preference_of right)) }
 {
-    let left = Box::new(alloc, left).map_err(|_| TermFault::OutOfMemory)?;
-    let right = Box::new(alloc, right).map_err(|_| TermFault::OutOfMemory)?;
-    Ok(Term::Pareto(left, right))
+    let left = Box::new(alloc, left)?;
+    Ok(Term::Pareto(left, Box::new(alloc, right)?))
 }
 
-fn priority_of(alloc: Global, first: Term, then: Term) -> Result<Term, TermFault>
-    ensures ok { IfOk result (λ term. preference_of term ≡ terms.prior (preference_of first) (preference_of then)) }
-    ensures err { IfErr result (λ f. f ≡ TermFault.OutOfMemory) }
+fn priority_of(alloc: Global, first: Term, then: Term) -> Result<Term, AllocError>
+    ensures { IfOk result (λ term. preference_of term ≡ terms.prior (preference_of first) (preference_of then)) }
 {
-    let first = Box::new(alloc, first).map_err(|_| TermFault::OutOfMemory)?;
-    let then = Box::new(alloc, then).map_err(|_| TermFault::OutOfMemory)?;
-    Ok(Term::Prior(first, then))
+    let first = Box::new(alloc, first)?;
+    Ok(Term::Prior(first, Box::new(alloc, then)?))
 }

@@ -1,4 +1,4 @@
-use Rattle.pref_term.proofs.Common.{rules, ◌≡◌, Option, refl, sym, subst, length, arith, ◌∷◌, option_map, IfOk-weaker, ahead, preference_of, ReadsClause, FitsWidth, Question, Best, Term}
+use Rattle.pref_term.proofs.Common.{Option, refl, sym, subst, length, arith, ◌∷◌, option_map, ahead, preference_of, ReadsClause, FitsWidth, Best, Term}
 use Rattle.pref_term.proofs.Common.{meant, ap}
 use Rattle.pref_term.proofs.LedLemmas.{err_exit, unless_map}
 use Rattle.pref_term.proofs.AskLemmas.{is_ask, fits_width}
@@ -17,7 +17,5 @@ new-requires c =
 pub returns-clause-known : goal.returns-clause-known
 returns-clause-known c =
     let r = subst (λ (o : Option Term). ReadsClause c.args.schema.now (ahead c.args.cursor) (option_map preference_of o) c.in_ok-product.field-0.group.items) c.in-Some.is c.in_ok-product.ensures.ok in
-    IfOk-weaker c.map_err.result (λ (a : Question). a ≡ record { preference = preference_of c.in-Some.term; group = c.in_ok-product.field-0.group.items; mode = Best; distinct = c.args.distinct }) _
-    (λ a is. subst (FitsWidth (length c.args.schema.now)) (sym is)
-    (fits_width c.args.schema.now (preference_of c.in-Some.term) c.in_ok-product.field-0.group.items Best r.product_known r.group_known c.args.distinct))
-    (search rules)
+    subst (FitsWidth (length c.args.schema.now)) (sym (c.in_ok-new.ensures {u = tt}))
+    (fits_width c.args.schema.now (preference_of c.in-Some.term) c.in_ok-product.field-0.group.items Best r.product_known r.group_known c.args.distinct)

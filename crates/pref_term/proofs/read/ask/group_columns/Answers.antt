@@ -14,7 +14,7 @@ returns-in_err-col-clause-err c =
 pub returns-then-ends-clause-ok : goal.returns-then-ends-clause-ok
 returns-then-ends-clause-ok c =
     let v = c.in_ok-col in
-    subst (λ (xs : List ℕ). ReadsColumns c.args.schema.now (ahead c.args.cursor) xs) (sym c.in_ok-push.ensures.ok)
+    subst (λ (xs : List ℕ). ReadsColumns c.args.schema.now (ahead c.args.cursor) xs) (sym c.in_ok-push.ensures.items)
     (columns_all c.args.schema.now _ (ahead c.loop-columns.place) (ahead v.next) c.loop-columns.columns.items v.col c.loop-columns.invariant v.ensures.ok (c.take.result.at, c.take.ensures ∙ c.if-ends.ensures.yes))
 
 pub returns-in_err-place-clause-err : goal.returns-in_err-place-clause-err
@@ -26,5 +26,5 @@ pub loop-columns-preserved : goal.loop-columns-preserved
 loop-columns-preserved c =
     let v = c.in_ok-col in
     let p = c.in_ok-place in
-    subst (λ (xs : List ℕ). ReadsSomeColumns c.args.schema.now (ahead c.args.cursor) xs (ahead p.place)) (sym c.in_ok-push.ensures.ok)
+    subst (λ (xs : List ℕ). ReadsSomeColumns c.args.schema.now (ahead c.args.cursor) xs (ahead p.place)) (sym c.in_ok-push.ensures.items)
     (columns_more c.args.schema.now _ (ahead c.loop-columns.place) (ahead v.next) c.loop-columns.columns.items v.col c.loop-columns.invariant v.ensures.ok (ahead p.place) p.ensures.ok)

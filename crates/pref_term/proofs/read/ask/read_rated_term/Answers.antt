@@ -1,4 +1,4 @@
-use Rattle.pref_term.proofs.Common.{false≢true, ◌≡◌, false, rules, sym, subst, length, IfOk-weaker, ahead, operand, in_whole, preference_of, FitsWidth, Question, Asks, whole, refl}
+use Rattle.pref_term.proofs.Common.{false≢true, false, sym, subst, length, ahead, operand, in_whole, preference_of, FitsWidth, Asks, whole, refl}
 use Rattle.pref_term.proofs.LedLemmas.{err_exit}
 use Rattle.pref_term.proofs.AskLemmas.{rated_read, rated_group_fails, is_ask, fits_width, fails_asks}
 use Rattle.pref_term.proofs.read.ask.read_rated_term.Goals as goal
@@ -18,19 +18,15 @@ new-requires c =
     is_ask c.args.schema.now (preference_of v.term) g.group.items c.args.mode v.ensures.ok.products.known g.ensures.ok.known c.requires false (λ h. absurd (false≢true h))
 
 pub returns-clause-ok : goal.returns-clause-ok
-returns-clause-ok c =
+returns-clause-ok c head e =
     let v = c.in_ok-term in
     let g = c.in_ok-group in
-    IfOk-weaker c.map_err.result (λ (a : Question). a ≡ record { preference = preference_of v.term; group = g.group.items; mode = c.args.mode; distinct = false }) _
-    (λ a is head e. subst (Asks c.args.schema.now (operand (in_whole head)) (ahead c.args.cursor)) (sym is)
-    (rated_read c.args.schema.now (ahead c.args.cursor) (ahead v.next) (preference_of v.term) g.group.items c.args.mode v.ensures.ok g.ensures.ok head e))
-    (search rules)
+    subst (Asks c.args.schema.now (operand (in_whole head)) (ahead c.args.cursor)) (sym (c.in_ok-new.ensures {u = tt}))
+    (rated_read c.args.schema.now (ahead c.args.cursor) (ahead v.next) (preference_of v.term) g.group.items c.args.mode v.ensures.ok g.ensures.ok head e)
 
 pub returns-clause-known : goal.returns-clause-known
 returns-clause-known c =
     let v = c.in_ok-term in
     let g = c.in_ok-group in
-    IfOk-weaker c.map_err.result (λ (a : Question). a ≡ record { preference = preference_of v.term; group = g.group.items; mode = c.args.mode; distinct = false }) _
-    (λ a is. subst (FitsWidth (length c.args.schema.now)) (sym is)
-    (fits_width c.args.schema.now (preference_of v.term) g.group.items c.args.mode v.ensures.ok.products.known g.ensures.ok.known false))
-    (search rules)
+    subst (FitsWidth (length c.args.schema.now)) (sym (c.in_ok-new.ensures {u = tt}))
+    (fits_width c.args.schema.now (preference_of v.term) g.group.items c.args.mode v.ensures.ok.products.known g.ensures.ok.known false)

@@ -17,7 +17,7 @@ pub returns-then-is-clause-ok : goal.returns-then-is-clause-ok
 returns-then-is-clause-ok c =
     let v = c.in_ok-value in
     let t = c.take-taken.result in
-    let items = c.in_ok-push.ensures.ok ∙ ap (λ (x : ℤ). c.loop-set.set.items ++ x ∷ []) (to_z-of_z w64 v.value (search rules)) in
+    let items = c.in_ok-push.ensures.items ∙ ap (λ (x : ℤ). c.loop-set.set.items ++ x ∷ []) (to_z-of_z w64 v.value (search rules)) in
     subst (λ (xs : List ℤ). ReadsNumbers c.args.close (ahead c.args.cursor) xs (ahead t.next)) (sym items)
     (some_all c.args.close _ (ahead c.loop-set.place) (ahead v.next) c.loop-set.set.items v.value c.loop-set.invariant.so_far v.ensures.ok (ahead t.next) (t.at, c.take-taken.ensures ∙ c.if-is.ensures.yes))
 
@@ -31,7 +31,7 @@ loop-set-preserved c =
     let v = c.in_ok-value in
     let p = c.in_ok-place in
     let k = ap (λ (xs : List Placed). length xs) p.ensures.ok.1 in
-    let items = c.in_ok-push.ensures.ok ∙ ap (λ (x : ℤ). c.loop-set.set.items ++ x ∷ []) (to_z-of_z w64 v.value (search rules)) in
+    let items = c.in_ok-push.ensures.items ∙ ap (λ (x : ℤ). c.loop-set.set.items ++ x ∷ []) (to_z-of_z w64 v.value (search rules)) in
     record {
       so_far = subst (λ (xs : List ℤ). ReadsSome c.args.close (ahead c.args.cursor) xs (ahead p.place)) (sym items)
           (some_more c.args.close _ (ahead c.loop-set.place) (ahead v.next) c.loop-set.set.items v.value c.loop-set.invariant.so_far v.ensures.ok (ahead p.place) p.ensures.ok);

@@ -19,7 +19,7 @@ pub returns-then-is-clause-ok : goal.returns-then-is-clause-ok
 returns-then-is-clause-ok c =
     let n = c.in_ok-numbers in
     let t = c.take-taken.result in
-    subst (λ (xs : List (List ℤ)). ReadsSets (ahead c.args.cursor) xs (ahead t.next)) (sym {A = List (List ℤ)} c.in_ok-push.ensures.ok)
+    subst (λ (xs : List (List ℤ)). ReadsSets (ahead c.args.cursor) xs (ahead t.next)) (sym {A = List (List ℤ)} c.in_ok-push.ensures.items)
     (subst (λ (set : List ℤ). ReadsSets (ahead c.args.cursor) (c.loop-sets.sets.items ++ set ∷ []) (ahead t.next)) (sym c.of.ensures)
     (some_sets_all _ (ahead c.loop-sets.place) (ahead c.in_ok-inside.inside) _ c.loop-sets.invariant.so_far c.in_ok-inside.ensures.ok (ahead n.next) n.numbers.items n.ensures.ok (ahead t.next) (t.at, c.take-taken.ensures ∙ c.if-is.ensures.yes)))
 
@@ -36,7 +36,7 @@ loop-sets-preserved c =
     let p = c.in_ok-place in
     let opened = ap (λ (xs : List Placed). length xs) i.ensures.ok.1 in
     let passed = ap (λ (xs : List Placed). length xs) p.ensures.ok.1 in
-    let items = c.in_ok-push.ensures.ok ∙ ap (λ (set : List ℤ). c.loop-sets.sets.items ++ set ∷ []) c.of.ensures in
+    let items = ◌∙◌ {A = List (List ℤ)} c.in_ok-push.ensures.items (ap (λ (set : List ℤ). c.loop-sets.sets.items ++ set ∷ []) c.of.ensures) in
     record {
       so_far = subst (λ (xs : List (List ℤ)). ReadsSomeSets (ahead c.args.cursor) xs (ahead p.place)) (sym items)
           (some_sets_more _ (ahead c.loop-sets.place) (ahead i.inside) _ c.loop-sets.invariant.so_far i.ensures.ok (ahead n.next) n.numbers.items n.ensures.ok (ahead p.place) p.ensures.ok);

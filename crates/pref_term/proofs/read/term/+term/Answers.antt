@@ -40,7 +40,7 @@ prior-loop-taken-preserved t c =
     let k = ap (λ (xs : List Placed). length xs) e in
     let so_far = more_products c.args.schema.now c.args.depth (ahead c.args.cursor) (ahead c.loop-taken.place) (ahead u.next) (ahead v.next) (preference_of c.loop-taken.term) (preference_of v.last) c.loop-taken.invariant.so_far (u.at, e) v.ensures.ok in
     record {
-      so_far = subst (λ (p : Preference). ReadsProducts c.args.schema.now c.args.depth (ahead c.args.cursor) p (ahead v.next)) (sym c.in_ok-term-2.ensures.ok) so_far;
+      so_far = subst (λ (p : Preference). ReadsProducts c.args.schema.now c.args.depth (ahead c.args.cursor) p (ahead v.next)) (sym (c.in_ok-term-2.ensures {u = tt})) so_far;
       stops = v.ensures.ok.stops;
       shorter = omega (arith, v.ensures.shorter, c.loop-taken.invariant.shorter, k);
     }
@@ -64,7 +64,7 @@ product-loop-taken-preserved t c =
     let k = ap (λ (xs : List Placed). length xs) e in
     let so_far = more_factors c.args.schema.now c.args.depth (ahead c.args.cursor) (ahead c.loop-taken.place) (ahead u.next) (ahead v.next) (preference_of c.loop-taken.term) (preference_of v.factor) c.loop-taken.invariant.so_far (u.at, e) v.ensures.ok in
     record {
-      so_far = subst (λ (p : Preference). ReadsFactors c.args.schema.now c.args.depth (ahead c.args.cursor) p (ahead v.next)) (sym c.in_ok-term-2.ensures.ok) so_far;
+      so_far = subst (λ (p : Preference). ReadsFactors c.args.schema.now c.args.depth (ahead c.args.cursor) p (ahead v.next)) (sym (c.in_ok-term-2.ensures {u = tt})) so_far;
       shorter = omega (arith, v.ensures.shorter, c.loop-taken.invariant.shorter, k);
     }
 
@@ -73,7 +73,7 @@ unary-returns-in_err-part-clause-err t c = err_exit _ _ c.from_residual-in_err-p
 
 pub unary-returns-then-is-clause-ok : goal.unary-returns-then-is-clause-ok
 unary-returns-then-is-clause-ok t c =
-    subst (λ (p : Preference). ReadsUnary c.args.schema.now c.args.depth (ahead c.args.cursor) p (ahead c.in_ok-part.next)) (sym c.in_ok-reverse_of.ensures.ok)
+    subst (λ (p : Preference). ReadsUnary c.args.schema.now c.args.depth (ahead c.args.cursor) p (ahead c.in_ok-part.next)) (sym (c.in_ok-reverse_of.ensures {u = tt}))
     (minus_read c.args.schema.now c.args.depth _ _ (ahead c.take-taken.result.next) c.in_ok-inside.ensures.ok (c.take-taken.result.at, c.take-taken.ensures ∙ c.if-is.ensures.yes) _ _ c.in_ok-part.ensures.ok)
 
 pub unary-returns-then-is-2-clause-ok : goal.unary-returns-then-is-2-clause-ok
@@ -127,7 +127,7 @@ pub unary-returns-in_ok-reverse_of-in-Some-Reverse-clause-ok : goal.unary-return
 unary-returns-in_ok-reverse_of-in-Some-Reverse-clause-ok t c =
     let u = c.take-taken.result in
     let v = c.in_ok-part-in-Some-Reverse in
-    subst (λ (p : Preference). ReadsUnary c.args.schema.now c.args.depth (ahead c.args.cursor) p (ahead v.next)) (sym c.in_ok-reverse_of-in-Some-Reverse.ensures.ok)
+    subst (λ (p : Preference). ReadsUnary c.args.schema.now c.args.depth (ahead c.args.cursor) p (ahead v.next)) (sym (c.in_ok-reverse_of-in-Some-Reverse.ensures {u = tt}))
     (word_reverse_read c.args.schema.now c.args.depth c.in-Word.letters.now (ahead c.args.cursor) (ahead u.next) (u.at, taken_is _ u _ c.take-taken.ensures c.in-Word.is) (sym c.in-Some-Reverse.ensures ∙ ap Some c.in-Some-Reverse.field-0-is) (ahead v.next) (preference_of v.part) v.ensures.ok)
 
 pub prior-returns-then-not-is-clause-ok : goal.prior-returns-then-not-is-clause-ok
