@@ -3,7 +3,7 @@ use Rattle.pref_term.proofs.Common.{◌≡◌, arith, ◌<◌, ℤ, Bool, true, 
 use Rattle.pref_term.proofs.Common.{All, All-append, All-cons, All-contains, All-nil, All-head, All-tail, AreInRow, ReadsBelow, by_chain, is_chain, in_same_group, better, is_better, is_same, is_worse, key_for}
 use Rattle.pref_term.proofs.Common.{Preference, scored, pareto, prior, reverse, Question, IsAsk, in_priority, in_product, Key, Relation, Same}
 use Rattle.std.proofs.lemmas.List.Elements.{All-pop, All-push, All-weaker}
-use Rattle.std.specs.Prelude.{◌&&◌, Contains, Some}
+use Rattle.std.specs.Prelude.{Contains, Some}
 use Rattle.pref_term.specs.Extension.{all_keys, group_keys}
 use Rattle.pref_term.specs.Keys.{IsNoGreater, leading}
 use Rattle.pref_term.specs.LeadingChains.{AreBoth, IsLedBy, Leads, by_product, each_behind, joined}
@@ -258,9 +258,6 @@ better_or_same r s h k = grind (arith, h)
 
 not_worse : (r s t : Relation) → is_same r ≡ true → Decides s t → is_worse (in_priority r t) ≡ false → is_worse s ≡ false
 not_worse r s t h k l = grind (arith, h, k)
-
-near_better : (near is : Bool) → near ≡ true → (near && is) ≡ is
-near_better near is h = grind (arith, h)
 
 -- the chains that lead the preference of a question lead it
 pub leading_lead : (q : Question) (chains : List (List Key)) (keys : List Key) (whole : Bool) → IsAsk q → IsLedBy q.preference false chains keys whole → Leads q chains keys
