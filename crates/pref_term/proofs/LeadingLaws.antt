@@ -176,11 +176,9 @@ chain_leads p s h =
       alone = λ _. refl;
     }
 
-pub one_leads : (p : Preference) (turned whole : Bool) (chain keys : List Key) (chains : List (List Key)) → is_chain p ≡ true → chain ≡ all_keys p turned → chains ≡ chain ∷ [] → keys ≡ [] → whole ≡ true
-    → IsLedBy p turned chains keys whole
-one_leads p turned whole chain keys chains h k e none w =
-    subst (IsLedBy p turned chains keys) (sym w)
-    (subst (λ (ks : List Key). IsLedBy p turned chains ks true) (sym none) (subst (λ (cs : List (List Key)). IsLedBy p turned cs [] true) (sym (e ∙ ap (λ (c : List Key). c ∷ []) k)) (chain_leads p turned h)))
+pub one_leads : (p : Preference) (turned : Bool) (chain keys : List Key) (chains : List (List Key)) → is_chain p ≡ true → chain ≡ all_keys p turned → chains ≡ chain ∷ [] → keys ≡ [] → IsLedBy p turned chains keys true
+one_leads p turned chain keys chains h k e none =
+    subst (λ (ks : List Key). IsLedBy p turned chains ks true) (sym none) (subst (λ (cs : List (List Key)). IsLedBy p turned cs [] true) (sym (e ∙ ap (λ (c : List Key). c ∷ []) k)) (chain_leads p turned h))
 
 -- the chains of both factors lead a product of chains
 pub both_lead : (p q : Preference) (s : Bool) (xs ys all : List (List Key)) (keys others : List Key) → IsLedBy p s xs keys true → IsLedBy q s ys others true → AreBoth xs ys all → IsLedBy (pareto p q) s all [] true

@@ -172,12 +172,13 @@ impl LeadingChains {
         })
     }
 
-    /// A chain that is all that a term says.
-    fn one(alloc: Global, chain: Chain) -> Result<LeadingChains, AllocError>
-        ensures { IfOk result (λ lead. (lead.chains.items ≡ chain ∷ []) × (lead.behind.items ≡ []) × (lead.is_whole ≡ true)) }
+    /// All keys of a term that is a chain: this chain is all that it says.
+    fn one(alloc: Global, term: &Term, turned: bool) -> Result<LeadingChains, AllocError>
+        ensures { IfOk result (λ lead. is_chain (preference_of term.now) ≡ true
+            → IsLedBy (preference_of term.now) turned lead.chains.items lead.behind.items lead.is_whole) }
     {
         let mut chains = Vec::new(alloc);
-        chains.push(chain)?;
+        chains.push(Chain::of(alloc, term, turned)?)?;
         Ok(LeadingChains {
             chains,
             behind: Vec::new(alloc),
@@ -219,16 +220,20 @@ impl LeadingChains {
         Ok(self)
     }
 
-    /// This chain before each of those that lead the second part of a priority.
+    /// The first part of a priority, where it is a chain, before each of these, which lead the second part, or before none of many.
     fn with_prefix(
+        self,
         alloc: Global,
-        first: Chain,
-        second: LeadingChains,
+        first: &Term,
+        term: &Term,
+        turned: bool,
     ) -> Result<LeadingChains, AllocError>
-        ensures { IfOk result (λ lead. (p q : Preference) (turned : Bool) → is_chain p ≡ true → first ≡ all_keys p turned
-            → IsLedBy q turned second.chains.items second.behind.items second.is_whole → IsLedBy (prior p q) turned lead.chains.items lead.behind.items lead.is_whole) }
+        ensures { IfOk result (λ lead. is_chain (preference_of first.now) ≡ true → IsLedBy (preference_of term.now) turned self.chains.items self.behind.items self.is_whole
+            → IsLedBy (prior (preference_of first.now) (preference_of term.now)) turned lead.chains.items lead.behind.items lead.is_whole) }
     {
-        let chains = each_behind(alloc, first, &second.chains)?;
+        let second = self.few(alloc, term, turned)?;
+        let chain = Chain::of(alloc, first, turned)?;
+        let chains = each_behind(alloc, chain, &second.chains)?;
         Ok(LeadingChains {
             chains,
             behind: second.behind,
@@ -263,7 +268,7 @@ impl LeadingChains {
         ensures { IfOk result (λ lead. IsLedBy (preference_of term.now) turned lead.chains.items lead.behind.items lead.is_whole) }
     {
         if is_chain(term) {
-            return LeadingChains::one(alloc, Chain::of(alloc, term, turned)?);
+            return LeadingChains::one(alloc, term, turned);
         }
         match term {
             Term::Pareto(p, q) => {
@@ -272,12 +277,10 @@ impl LeadingChains {
                 LeadingChains::product(alloc, term, turned, first, second)
             }
             Term::Prior(p, q) => {
-                if !is_chain(p) {
-                    return LeadingChains::of(alloc, p, turned)?.before(alloc, q, turned);
+                if is_chain(p) {
+                    return LeadingChains::of(alloc, q, turned)?.with_prefix(alloc, p, q, turned);
                 }
-                let first = Chain::of(alloc, p, turned)?;
-                let second = LeadingChains::of(alloc, q, turned)?.few(alloc, q, turned)?;
-                LeadingChains::with_prefix(alloc, first, second)
+                LeadingChains::of(alloc, p, turned)?.before(alloc, q, turned)
             }
             Term::Reverse(p) => LeadingChains::of(alloc, p, !turned),
             _ => LeadingChains::none(alloc, term, turned),
