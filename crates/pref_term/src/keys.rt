@@ -1,6 +1,6 @@
 //! The keys that lead a term, and the order of a term whose leading keys are all that it has: a product of base terms without sets and of
 //! their converses.
-ghost use Rattle.std.specs.Prelude.{◌≡◌, ◌<◌, ◌++◌, false, true, All, Contains, List, ℤ, IfOk, OnOk};
+ghost use Rattle.std.specs.Prelude.{◌≡◌, ◌<◌, ◌++◌, [], ◌∷◌, false, true, All, Contains, List, ℤ, IfOk, OnOk};
 ghost use Rattle.pref_term.specs.Better.{in_same_group};
 ghost use Rattle.pref_term.specs.Chains.{AreInRow, by_chain};
 ghost use Rattle.pref_term.specs.Extension.{IsShortened, all_keys, group_keys};
@@ -25,6 +25,14 @@ pub(crate) fn leading_keys(alloc: Global, term: &Term, turned: bool) -> Result<V
     Ok(keys)
 }
 
+/// Puts a key behind these.
+fn push_key(keys: &mut Vec<Key>, col: usize, score: Score, turned: bool) -> Result<(), AllocError>
+    ensures { OnOk result (keys.new.items ≡ keys.old.items ++ record { col = col; score = score; turned = turned } ∷ []) }
+{
+    keys.push(Key { col, score, turned })?;
+    Ok(())
+}
+
 /// Puts the keys that lead a term behind these, or those that lead its converse.
 pub(crate) fn push_leading(
     alloc: Global,
@@ -34,22 +42,36 @@ pub(crate) fn push_leading(
 ) -> Result<(), AllocError>
     ensures { OnOk result (keys.new.items ≡ keys.old.items ++ leading (preference_of term.now) turned) }
 {
-    let (col, score, turned) = match term {
-        Term::Low { col } => (*col, Score::Value, turned),
-        Term::High { col } => (*col, Score::Value, !turned),
-        Term::Around { col, centre } => (*col, Score::distance(*centre, *centre), turned),
-        Term::Between { col, left, right } => (*col, Score::distance(*left, *right), turned),
-        Term::Pos { col, set } => (*col, Score::Sets(NumberSets::one(alloc, set)?), turned),
-        Term::Layered { col, sets } => (*col, Score::Sets(sets.copy(alloc)?), turned),
+    match term {
+        Term::Low { col } => push_key(keys, *col, Score::Value, turned),
+        Term::High { col } => push_key(keys, *col, Score::Value, !turned),
+        Term::Around { col, centre } => push_key(
+            keys,
+            *col,
+            Score::distance(*centre, *centre),
+            turned,
+        ),
+        Term::Between { col, left, right } => {
+            push_key(keys, *col, Score::distance(*left, *right), turned)
+        }
+        Term::Pos { col, set } => {
+            push_key(
+                keys,
+                *col,
+                Score::Sets(NumberSets::one(alloc, set)?),
+                turned,
+            )
+        }
+        Term::Layered { col, sets } => {
+            push_key(keys, *col, Score::Sets(sets.copy(alloc)?), turned)
+        }
         Term::Pareto(p, q) => {
             push_leading(alloc, keys, p, turned)?;
-            return push_leading(alloc, keys, q, turned);
+            push_leading(alloc, keys, q, turned)
         }
-        Term::Prior(p, _) => return push_leading(alloc, keys, p, turned),
-        Term::Reverse(p) => return push_leading(alloc, keys, p, !turned),
-    };
-    keys.push(Key { col, score, turned })?;
-    Ok(())
+        Term::Prior(p, _) => push_leading(alloc, keys, p, turned),
+        Term::Reverse(p) => push_leading(alloc, keys, p, !turned),
+    }
 }
 
 /// Puts all keys of a term behind these, or those of its converse.
