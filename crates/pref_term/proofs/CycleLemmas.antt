@@ -2,7 +2,7 @@
 use Rattle.pref_term.proofs.Common.{◌≡◌, ◌<◌, ◌+◌, ℕ, List, ◌∷◌, Bor, Result, true, cond, Some, None, nat_lt, refl, sym, ap, subst, ◌∙◌, arith, ◌≢◌, IfOk, IfErr, IfOk-weaker, nat_tests, Sign}
 use Rattle.pref_term.proofs.Common.{left, right, star, ampersand, minus, Token, word, sign, Placed, reverse_word, keyword_of, based, reversed, negated, then_factor, PriorText}
 use Rattle.pref_term.proofs.Common.{then_product, name, mark, opens, Names, own_fault, too_deep, unary_meaning, product_meaning, BaseKind, kind_word, named, UnaryHole, in_minus}
-use Rattle.pref_term.proofs.Common.{first_factor, next_factor, next_product, in_group, in_reverse, unary_depth, State, operand, reverse_named, reading, after, ranked, next}
+use Rattle.pref_term.proofs.Common.{first_factor, next_factor, next_product, in_group, in_reverse, unary_depth, State, operand, reverse_named, reading, after, completed, ranked, next}
 use Rattle.pref_term.proofs.Common.{operand_word, Goes, Fails, IsOther, Passes, ReadsBase, ReadsUnary, ReadsFactors, ReadsProducts, ReadsProduct, ReadsPrior, ReadsGroup, FailsBase, NotNext, ahead, taken, seen, Unexpected, TooDeep, ◌≤◌}
 use Rattle.pref_term.proofs.Common.{FailsUnary, FailsGroup, FailsProduct, FailsPrior, Preference, pareto, prior, reverse, preference_of, Cursor, Lexeme, Word, Term, TermFault}
 use Rattle.pref_term.proofs.GrammarComplete.{ranked_goes_on, ranked_right}
@@ -89,19 +89,18 @@ by_kind : (h : UnaryHole) (k : BaseKind) → operand_word h (Some (kind_word k))
 by_kind h k = grind arith
 
 -- a base term behind the word that was taken
-module _ (names : Names) (depth : ℕ) (k : BaseKind) (ts : List Placed) (t : Lexeme) (letters : Bor (List ℕ)) (e : ts ≡ taken t) (f : t.token ≡ Word letters) (word_is : keyword_of letters.now ≡ Some (kind_word k))
-    (r : Result (Term × Cursor) TermFault) where
-  word_goes : (h : UnaryHole) → Goes names (operand h) ts (reading h (named k)) (ahead t.next)
+module _ (names : Names) (k : BaseKind) (t : Lexeme) (letters : Bor (List ℕ)) (f : t.token ≡ Word letters) (word_is : keyword_of letters.now ≡ Some (kind_word k)) (r : Result (Term × Cursor) TermFault) where
+  word_goes : (h : UnaryHole) → Goes names (operand h) (taken t) (reading h (named k)) (ahead t.next)
   word_goes h =
-      passes_goes names (word letters.now) ts (ahead t.next) (operand h) (reading h (named k)) (name (kind_word k)) (t.at, taken_is ts t _ e f) (ap (operand_word h) word_is ∙ by_kind h k) refl
+      passes_goes names (word letters.now) (taken t) (ahead t.next) (operand h) (reading h (named k)) (name (kind_word k)) (t.at, taken_is (taken t) t _ refl f) (ap (operand_word h) word_is ∙ by_kind h k) refl
 
-  pub taken_base_read : IfOk r (λ x. ReadsBase names k (ahead t.next) (preference_of x.0) (ahead x.1)) → IfOk r (λ x. ReadsUnary names depth ts (preference_of x.0) (ahead x.1))
+  pub taken_base_read : IfOk r (λ x. ReadsBase names k (ahead t.next) (preference_of x.0) (ahead x.1)) → IfOk r (λ x. (depth : ℕ) → ReadsUnary names depth (taken t) (preference_of x.0) (ahead x.1))
   taken_base_read read =
       IfOk-weaker r (λ x. ReadsBase names k (ahead t.next) (preference_of x.0) (ahead x.1)) _
-      (λ x b. record { tree = based b.tree; meaning = b.meaning; known = b.known; goes = λ h _. goes_then names _ _ _ ts (ahead t.next) (ahead x.1) (word_goes h) (b.goes h) }) read
+      (λ x b depth. record { tree = based b.tree; meaning = b.meaning; known = b.known; goes = λ h _. goes_then names (operand h) (reading h (named k)) (completed h (based b.tree)) (taken t) (ahead t.next) (ahead x.1) (word_goes h) (b.goes h) }) read
 
-  pub taken_base_fails : IfErr r (FailsBase names k (ahead t.next)) → IfErr r (FailsUnary names depth ts)
-  taken_base_fails fails = if_err_map r (λ fault b h _. goes_fails names _ _ ts (ahead t.next) fault (word_goes h) (b h)) fails
+  pub taken_base_fails : IfErr r (FailsBase names k (ahead t.next)) → IfErr r (λ fault. (depth : ℕ) → FailsUnary names depth (taken t) fault)
+  taken_base_fails fails = if_err_map r (λ fault b depth h _. goes_fails names (operand h) (reading h (named k)) (taken t) (ahead t.next) fault (word_goes h) (b h)) fails
 
 -- a group behind the word `reverse`
 module _ (names : Names) (depth : ℕ) (letters : List ℕ) (ts us : List Placed) (c : Passes (word letters) ts us) (e : keyword_of letters ≡ Some reverse_word) where

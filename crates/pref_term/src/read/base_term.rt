@@ -1,6 +1,9 @@
 //! Reading base terms.
-ghost use Rattle.std.specs.Prelude.{◌≡◌, ◌<◌, ◌+◌, [], ◌∷◌, ◌++◌, length, IfOk, IfErr};
+ghost use Rattle.std.specs.Prelude.{◌≡◌, ℕ, Some, ◌<◌, ◌+◌, [], ◌∷◌, ◌++◌, length, IfOk, IfErr};
+ghost use Rattle.pref_term.specs.Ahead as places;
 ghost use Rattle.pref_term.specs.Ahead.{ahead};
+ghost use Rattle.pref_term.specs.Grammar.{keyword_of, reverse_word};
+ghost use Rattle.pref_term.specs.declared.front.Token.TheVariants.{Word};
 ghost use Rattle.pref_term.specs.Token as tokens;
 ghost use Rattle.pref_term.specs.ReaderResults as led;
 ghost use Rattle.pref_term.specs.Reading as reading;
@@ -10,7 +13,7 @@ use crate::cursor::{Cursor, Lexeme};
 use crate::fault::TermFault;
 use crate::front::Token;
 use crate::term::{NumberSets, Numbers, Term};
-use crate::token::Sign;
+use crate::token::{Keyword, Sign, word_of_grammar};
 use pref_table::Schema;
 use pref_table::engine::signed_number;
 use std::alloc::Global;
@@ -106,7 +109,7 @@ fn numbers<'a>(alloc: Global, cursor: Cursor<'a>, close: Sign) -> Parsed<'a, Vec
 }
 
 /// Takes what follows `low`.
-pub(super) fn low<'a>(schema: &Schema, cursor: Cursor<'a>) -> Parsed<'a, Term>
+fn low<'a>(schema: &Schema, cursor: Cursor<'a>) -> Parsed<'a, Term>
     ensures ok { IfOk result (λ x. led.ReadsBase schema.now reading.low_kind (ahead cursor.entry) (preference_of x.0) (ahead x.1)) }
     ensures shorter { IfOk result (λ x. length (ahead x.1) < length (ahead cursor.entry)) }
     ensures err { IfErr result (λ f. led.FailsBase schema.now reading.low_kind (ahead cursor.entry) f) }
@@ -116,7 +119,7 @@ pub(super) fn low<'a>(schema: &Schema, cursor: Cursor<'a>) -> Parsed<'a, Term>
 }
 
 /// Takes what follows `high`.
-pub(super) fn high<'a>(schema: &Schema, cursor: Cursor<'a>) -> Parsed<'a, Term>
+fn high<'a>(schema: &Schema, cursor: Cursor<'a>) -> Parsed<'a, Term>
     ensures ok { IfOk result (λ x. led.ReadsBase schema.now reading.high_kind (ahead cursor.entry) (preference_of x.0) (ahead x.1)) }
     ensures shorter { IfOk result (λ x. length (ahead x.1) < length (ahead cursor.entry)) }
     ensures err { IfErr result (λ f. led.FailsBase schema.now reading.high_kind (ahead cursor.entry) f) }
@@ -126,7 +129,7 @@ pub(super) fn high<'a>(schema: &Schema, cursor: Cursor<'a>) -> Parsed<'a, Term>
 }
 
 /// Takes what follows `around`.
-pub(super) fn around<'a>(schema: &Schema, cursor: Cursor<'a>) -> Parsed<'a, Term>
+fn around<'a>(schema: &Schema, cursor: Cursor<'a>) -> Parsed<'a, Term>
     ensures ok { IfOk result (λ x. led.ReadsBase schema.now reading.around_kind (ahead cursor.entry) (preference_of x.0) (ahead x.1)) }
     ensures shorter { IfOk result (λ x. length (ahead x.1) < length (ahead cursor.entry)) }
     ensures err { IfErr result (λ f. led.FailsBase schema.now reading.around_kind (ahead cursor.entry) f) }
@@ -138,7 +141,7 @@ pub(super) fn around<'a>(schema: &Schema, cursor: Cursor<'a>) -> Parsed<'a, Term
 }
 
 /// Takes what follows `between`. The right end of a range is no less than its left end.
-pub(super) fn between<'a>(schema: &Schema, cursor: Cursor<'a>) -> Parsed<'a, Term>
+fn between<'a>(schema: &Schema, cursor: Cursor<'a>) -> Parsed<'a, Term>
     ensures ok { IfOk result (λ x. led.ReadsBase schema.now reading.between_kind (ahead cursor.entry) (preference_of x.0) (ahead x.1)) }
     ensures shorter { IfOk result (λ x. length (ahead x.1) < length (ahead cursor.entry)) }
     ensures err { IfErr result (λ f. led.FailsBase schema.now reading.between_kind (ahead cursor.entry) f) }
@@ -156,7 +159,7 @@ pub(super) fn between<'a>(schema: &Schema, cursor: Cursor<'a>) -> Parsed<'a, Ter
 }
 
 /// Takes what follows `pos`.
-pub(super) fn pos<'a>(alloc: Global, schema: &Schema, cursor: Cursor<'a>) -> Parsed<'a, Term>
+fn pos<'a>(alloc: Global, schema: &Schema, cursor: Cursor<'a>) -> Parsed<'a, Term>
     ensures ok { IfOk result (λ x. led.ReadsBase schema.now reading.pos_kind (ahead cursor.entry) (preference_of x.0) (ahead x.1)) }
     ensures shorter { IfOk result (λ x. length (ahead x.1) < length (ahead cursor.entry)) }
     ensures err { IfErr result (λ f. led.FailsBase schema.now reading.pos_kind (ahead cursor.entry) f) }
@@ -188,7 +191,7 @@ fn sets<'a>(alloc: Global, cursor: Cursor<'a>) -> Parsed<'a, Vec<Numbers>>
 }
 
 /// Takes what follows `layered`.
-pub(super) fn layered<'a>(alloc: Global, schema: &Schema, cursor: Cursor<'a>) -> Parsed<'a, Term>
+fn layered<'a>(alloc: Global, schema: &Schema, cursor: Cursor<'a>) -> Parsed<'a, Term>
     ensures ok { IfOk result (λ x. led.ReadsBase schema.now reading.layered_kind (ahead cursor.entry) (preference_of x.0) (ahead x.1)) }
     ensures shorter { IfOk result (λ x. length (ahead x.1) < length (ahead cursor.entry)) }
     ensures err { IfErr result (λ f. led.FailsBase schema.now reading.layered_kind (ahead cursor.entry) f) }
@@ -197,4 +200,28 @@ pub(super) fn layered<'a>(alloc: Global, schema: &Schema, cursor: Cursor<'a>) ->
     let (sets, rest) = sets(alloc, inside)?;
     let sets = NumberSets::of(sets);
     Ok((Term::Layered { col, sets }, rest))
+}
+
+/// Takes a base term, whose word was taken. It is not `reverse`.
+pub(super) fn base_term<'a>(
+    alloc: Global,
+    schema: &Schema,
+    letters: &'a [u8],
+    taken: Lexeme<'a>,
+) -> Parsed<'a, Term>
+    requires word { taken.token ≡ Word letters }
+    requires other { keyword_of letters.now ≡ Some reverse_word → ⊥ }
+    ensures ok { IfOk result (λ x. (depth : ℕ) → led.ReadsUnary schema.now depth (places.taken taken.entry) (preference_of x.0) (ahead x.1)) }
+    ensures shorter { IfOk result (λ x. length (ahead x.1) < length (places.taken taken.entry)) }
+    ensures err { IfErr result (λ f. (depth : ℕ) → led.FailsUnary schema.now depth (places.taken taken.entry) f) }
+{
+    match word_of_grammar(letters) {
+        Some(Keyword::Low) => low(schema, taken.next),
+        Some(Keyword::High) => high(schema, taken.next),
+        Some(Keyword::Around) => around(schema, taken.next),
+        Some(Keyword::Between) => between(schema, taken.next),
+        Some(Keyword::Pos) => pos(alloc, schema, taken.next),
+        Some(Keyword::Layered) => layered(alloc, schema, taken.next),
+        _ => Err(taken.unexpected()),
+    }
 }

@@ -5,7 +5,7 @@ ghost use Rattle.pref_term.specs.ReaderResults as led;
 ghost use Rattle.pref_term.specs.Preference.{preference_of};
 ghost use Rattle.pref_term.specs.Preference as terms;
 
-use super::base_term::{Parsed, around, between, expect, high, layered, low, pos};
+use super::base_term::{Parsed, base_term, expect};
 use crate::cursor::Cursor;
 use crate::fault::TermFault;
 use crate::front::Token;
@@ -55,13 +55,7 @@ fn unary<'a>(alloc: Global, schema: &Schema, depth: usize, cursor: Cursor<'a>) -
             let (part, next) = group(alloc, schema, depth, taken.next)?;
             Ok((reverse_of(alloc, part)?, next))
         }
-        Some(Keyword::Low) => low(schema, taken.next),
-        Some(Keyword::High) => high(schema, taken.next),
-        Some(Keyword::Around) => around(schema, taken.next),
-        Some(Keyword::Between) => between(schema, taken.next),
-        Some(Keyword::Pos) => pos(alloc, schema, taken.next),
-        Some(Keyword::Layered) => layered(alloc, schema, taken.next),
-        _ => Err(taken.unexpected()),
+        _ => base_term(alloc, schema, letters, taken),
     }
 }
 

@@ -1,8 +1,8 @@
-use Rattle.pref_term.proofs.Common.{List, Some, arith, sym, ap, subst, ◌∙◌, length, IfOk-weaker, Placed, low_kind, high_kind, around_kind, between_kind, pos_kind, layered_kind, ahead, FailsGroup, grouped}
+use Rattle.pref_term.proofs.Common.{List, Some, arith, sym, ap, subst, ◌∙◌, length, IfOk-weaker, Placed, ahead, FailsGroup, grouped}
 use Rattle.pref_term.proofs.Common.{NotNext, sign, star, ampersand, ReadsUnary, ReadsFactors, ReadsProducts, Preference, preference_of, one_product, one_factor, first_product, first_factor}
 use Rattle.pref_term.proofs.LedLemmas.{err_exit, if_err_map, taken_is}
 use Rattle.pref_term.proofs.CycleLemmas.{group_read, group_end_fails, group_not_opened, group_too_deep, group_within_fails, more_factors, more_factors_fail, more_products, more_products_fail, minus_read, minus_fails}
-use Rattle.pref_term.proofs.CycleLemmas.{taken_base_read, taken_base_fails, word_reverse_read, word_reverse_fails}
+use Rattle.pref_term.proofs.CycleLemmas.{word_reverse_read, word_reverse_fails}
 use Rattle.pref_term.proofs.read.term.+term.Goals as goal
 
 pub group-returns-then-not-is-clause-err : goal.group-returns-then-not-is-clause-err
@@ -81,42 +81,6 @@ unary-returns-then-is-2-clause-ok t c = IfOk-weaker c.group.result _ _ (λ x g. 
 
 pub unary-returns-then-is-2-clause-err : goal.unary-returns-then-is-2-clause-err
 unary-returns-then-is-2-clause-err t c = if_err_map c.group.result (λ f g. g.alone (ahead c.take-taken.result.next) (c.take-taken.result.at, c.take-taken.ensures ∙ c.if-is-2.ensures.yes)) c.group.ensures.err
-
-pub unary-returns-in-Some-Low-clause-ok : goal.unary-returns-in-Some-Low-clause-ok
-unary-returns-in-Some-Low-clause-ok t c = taken_base_read c.args.schema.now _ low_kind _ c.take-taken.result _ c.take-taken.ensures c.in-Word.is (sym c.in-Some-Low.ensures ∙ ap Some c.in-Some-Low.field-0-is) _ c.low.ensures.ok
-
-pub unary-returns-in-Some-Low-clause-err : goal.unary-returns-in-Some-Low-clause-err
-unary-returns-in-Some-Low-clause-err t c = taken_base_fails c.args.schema.now _ low_kind _ c.take-taken.result _ c.take-taken.ensures c.in-Word.is (sym c.in-Some-Low.ensures ∙ ap Some c.in-Some-Low.field-0-is) _ c.low.ensures.err
-
-pub unary-returns-in-Some-High-clause-ok : goal.unary-returns-in-Some-High-clause-ok
-unary-returns-in-Some-High-clause-ok t c = taken_base_read c.args.schema.now _ high_kind _ c.take-taken.result _ c.take-taken.ensures c.in-Word.is (sym c.in-Some-High.ensures ∙ ap Some c.in-Some-High.field-0-is) _ c.high.ensures.ok
-
-pub unary-returns-in-Some-High-clause-err : goal.unary-returns-in-Some-High-clause-err
-unary-returns-in-Some-High-clause-err t c = taken_base_fails c.args.schema.now _ high_kind _ c.take-taken.result _ c.take-taken.ensures c.in-Word.is (sym c.in-Some-High.ensures ∙ ap Some c.in-Some-High.field-0-is) _ c.high.ensures.err
-
-pub unary-returns-in-Some-Around-clause-ok : goal.unary-returns-in-Some-Around-clause-ok
-unary-returns-in-Some-Around-clause-ok t c = taken_base_read c.args.schema.now _ around_kind _ c.take-taken.result _ c.take-taken.ensures c.in-Word.is (sym c.in-Some-Around.ensures ∙ ap Some c.in-Some-Around.field-0-is) _ c.around.ensures.ok
-
-pub unary-returns-in-Some-Around-clause-err : goal.unary-returns-in-Some-Around-clause-err
-unary-returns-in-Some-Around-clause-err t c = taken_base_fails c.args.schema.now _ around_kind _ c.take-taken.result _ c.take-taken.ensures c.in-Word.is (sym c.in-Some-Around.ensures ∙ ap Some c.in-Some-Around.field-0-is) _ c.around.ensures.err
-
-pub unary-returns-in-Some-Between-clause-ok : goal.unary-returns-in-Some-Between-clause-ok
-unary-returns-in-Some-Between-clause-ok t c = taken_base_read c.args.schema.now _ between_kind _ c.take-taken.result _ c.take-taken.ensures c.in-Word.is (sym c.in-Some-Between.ensures ∙ ap Some c.in-Some-Between.field-0-is) _ c.between.ensures.ok
-
-pub unary-returns-in-Some-Between-clause-err : goal.unary-returns-in-Some-Between-clause-err
-unary-returns-in-Some-Between-clause-err t c = taken_base_fails c.args.schema.now _ between_kind _ c.take-taken.result _ c.take-taken.ensures c.in-Word.is (sym c.in-Some-Between.ensures ∙ ap Some c.in-Some-Between.field-0-is) _ c.between.ensures.err
-
-pub unary-returns-in-Some-Pos-clause-ok : goal.unary-returns-in-Some-Pos-clause-ok
-unary-returns-in-Some-Pos-clause-ok t c = taken_base_read c.args.schema.now _ pos_kind _ c.take-taken.result _ c.take-taken.ensures c.in-Word.is (sym c.in-Some-Pos.ensures ∙ ap Some c.in-Some-Pos.field-0-is) _ c.pos.ensures.ok
-
-pub unary-returns-in-Some-Pos-clause-err : goal.unary-returns-in-Some-Pos-clause-err
-unary-returns-in-Some-Pos-clause-err t c = taken_base_fails c.args.schema.now _ pos_kind _ c.take-taken.result _ c.take-taken.ensures c.in-Word.is (sym c.in-Some-Pos.ensures ∙ ap Some c.in-Some-Pos.field-0-is) _ c.pos.ensures.err
-
-pub unary-returns-in-Some-Layered-clause-ok : goal.unary-returns-in-Some-Layered-clause-ok
-unary-returns-in-Some-Layered-clause-ok t c = taken_base_read c.args.schema.now _ layered_kind _ c.take-taken.result _ c.take-taken.ensures c.in-Word.is (sym c.in-Some-Layered.ensures ∙ ap Some c.in-Some-Layered.field-0-is) _ c.layered.ensures.ok
-
-pub unary-returns-in-Some-Layered-clause-err : goal.unary-returns-in-Some-Layered-clause-err
-unary-returns-in-Some-Layered-clause-err t c = taken_base_fails c.args.schema.now _ layered_kind _ c.take-taken.result _ c.take-taken.ensures c.in-Word.is (sym c.in-Some-Layered.ensures ∙ ap Some c.in-Some-Layered.field-0-is) _ c.layered.ensures.err
 
 pub unary-returns-in_err-part-in-Some-Reverse-clause-err : goal.unary-returns-in_err-part-in-Some-Reverse-clause-err
 unary-returns-in_err-part-in-Some-Reverse-clause-err t c =
