@@ -13,23 +13,6 @@ pub good_both : (names : Names) (a b : List Leaf) → AllByRecursion (IsGood nam
 good_both names [] b h k = k
 good_both names (x ∷ a) b h k = (h.0, good_both names a b h.1 k)
 
--- leaves that play a list in two parts are in two parts
-pub record Parts (leaves : List Leaf) (a b : List Token) : Type 0 where
-  pub front : List Leaf
-  pub back : List Leaf
-  pub whole : leaves ≡ front ++ back
-  pub plays_front : tokens_on front ≡ a
-  pub plays_back : tokens_on back ≡ b
-
-parts_of : (leaves : List Leaf) (a b : List Token) → tokens_on leaves ≡ a ++ b → Parts leaves a b
-parts_of leaves [] b h = record { front = []; back = leaves; whole = refl; plays_front = refl; plays_back = h }
-parts_of [] (t ∷ a) b h = cc
-parts_of (leaf ∷ leaves) (t ∷ a) b h =
-    let e : token_of leaf ≡ t = cc in
-    let f : tokens_on leaves ≡ a ++ b = cc in
-    let p = parts_of leaves a b f in
-    record { front = leaf ∷ p.front; back = p.back; whole = ap (λ ls. leaf ∷ ls) p.whole; plays_front = cc; plays_back = p.plays_back }
-
 -- ---- readings
 
 -- what a token leads to is the leaf that grows
@@ -56,16 +39,19 @@ pub reads_cut : (s : State) (a b : List Leaf) (n : State) → Reads s (a ++ b) n
 reads_cut s [] b n h = record { mid = s; front = refl; back = h }
 reads_cut s (leaf ∷ a) b n h = grind (arith, reads_cut h.0 a b n h.2)
 
--- the same tokens lead to the same state
-pub reads_one : (s : State) (a b : List Leaf) (m n : State) → tokens_on a ≡ tokens_on b → Reads s a m → Reads s b n → m ≡ n
-reads_one s [] [] m n e h k = sym h ∙ k
-reads_one s [] (y ∷ b) m n e h k = cc
-reads_one s (x ∷ a) [] m n e h k = cc
-reads_one s (x ∷ a) (y ∷ b) m n e h k =
-    let t : token_of x ≡ token_of y = cc in
-    let r : tokens_on a ≡ tokens_on b = cc in
-    let q : h.0 ≡ k.0 = ap (λ (r : Leaf × State). r.1) (same_Some _ _ (sym h.1 ∙ (ap (next s) t ∙ k.1))) in
-    reads_one h.0 a b m n r h.2 (subst (λ (z : State). Reads z b n) (sym q) k.2)
+-- no reading goes past a state to which the same tokens lead by a token that cannot follow there
+reads_past : (s : State) (a b rest : List Leaf) (m n : State) (t : Token) → Reads s a m → next m t ≡ None → tokens_on b ≡ tokens_on a ++ t ∷ [] → Reads s (b ++ rest) n → ⊥
+reads_past s [] [] rest m n t h none e k = cc
+reads_past s [] (y ∷ b) rest m n t h none e k =
+    let u : token_of y ≡ t = cc in
+    let stuck : next s (token_of y) ≡ None = ap (λ (x : State). next x (token_of y)) h ∙ (ap (next m) u ∙ none) in
+    let goes_on = sym k.1 ∙ stuck in cc
+reads_past s (x ∷ a) [] rest m n t h none e k = cc
+reads_past s (x ∷ a) (y ∷ b) rest m n t h none e k =
+    let u : token_of x ≡ token_of y = cc in
+    let r : tokens_on b ≡ tokens_on a ++ t ∷ [] = cc in
+    let q : h.0 ≡ k.0 = ap (λ (r : Leaf × State). r.1) (same_Some _ _ (sym h.1 ∙ (ap (next s) u ∙ k.1))) in
+    reads_past h.0 a b rest m n t h.2 none r (subst (λ (z : State). Reads z (b ++ rest) n) (sym q) k.2)
 
 -- ---- what a reading so far knows
 
@@ -103,15 +89,7 @@ starts leaves s r =
 -- where no rule leads on, no text of the grammar goes on
 pub reached_stuck : (names : Names) (before : List Placed) (s : State) (t : Token) → Reached names before s → next s t ≡ None → (leaves : List Leaf) → Starts leaves → tokens_on leaves ≡ tokens_in before ++ t ∷ [] → ⊥
 reached_stuck names before s t r e leaves b plays =
-    let p = parts_of leaves (tokens_in before) (t ∷ []) plays in
-    let whole = b.whole ∙ (ap (λ ls. ls ++ b.rest) p.whole ∙ append_assoc p.front p.back b.rest) in
-    let k = reads_cut start p.front (p.back ++ b.rest) (done b.tree) (subst (λ (ls : List Leaf). Reads start ls (done b.tree)) whole (reads_ask b.tree b.written)) in
-    let same = reads_one start p.front r.leaves k.mid s (p.plays_front ∙ sym r.played) k.front r.reads in
-    go p.back k.mid same p.plays_back k.back
-  where
-    go : (back : List Leaf) (mid : State) → mid ≡ s → tokens_on back ≡ t ∷ [] → Reads mid (back ++ b.rest) (done b.tree) → ⊥
-    go [] mid same plays h = cc
-    go (leaf ∷ back) mid same plays h = grind (arith)
+    reads_past start r.leaves leaves b.rest s (done b.tree) t r.reads e (plays ∙ ap (λ ts. ts ++ t ∷ []) (sym r.played)) (subst (λ (ls : List Leaf). Reads start ls (done b.tree)) b.whole (reads_ask b.tree b.written))
 
 -- ---- the run
 
