@@ -1,10 +1,10 @@
 -- What the parts of the reader promise that read what stands around a term, and skyline clauses.
-use Rattle.pref_term.proofs.Common.{◌≡◌, arith, ℕ, List, [], ◌∷◌, ◌++◌, length, map, Bool, true, false, Option, Some, None, Ok, refl, sym, ap, subst, ◌∙◌, append-nil, ◌≢◌, All, IfSome, cond, unwrap_or}
+use Rattle.pref_term.proofs.Common.{◌≡◌, arith, ℕ, List, [], ◌∷◌, ◌++◌, length, map, Bool, true, false, Option, Some, None, Ok, refl, sym, ap, subst, ◌∙◌, append-nil, ◌≢◌, All, IfSome, cond}
 use Rattle.pref_term.proofs.Common.{All-append, comma, Token, word, digits, sign, finish, Placed, Keyword, best_word, top_level_word, at_least_word, by_word, keyword_of, skyline_word, of_word}
 use Rattle.pref_term.proofs.Common.{cased_of, Direction, minimal, maximal, different, direction_word, DimText, HeadText, best_head, top_level_head, at_least_head, PriorText}
 use Rattle.pref_term.proofs.Common.{AskText, rated, name, mark, column_name, count_digits, cased, last, Names, column_at, mode_of, order_by, group_by, orders_of, groups_of, product_of, bad_count}
 use Rattle.pref_term.proofs.Common.{State, start, operand, whole, in_whole, ranked, top_level_named, at_least_named, group_due, skyline_named, dim_due, dim_named, run, done}
-use Rattle.pref_term.proofs.Common.{listed_column, listed_dim, directed, begun, of_named, next, meant, Goes, Fails, Passes, IsKnown, IsTermOf, IsColumn, NotNext, IsOther}
+use Rattle.pref_term.proofs.Common.{listed_column, listed_dim, directed, begun, of_named, next, meant, Goes, Fails, Passes, IsKnown, IsTermOf, NotNext, IsOther}
 use Rattle.pref_term.proofs.Common.{WantsColumn, TakesColumn, ReadsPrior, Asks, AsksNothing, WantsCount, TakesCount, FailsCount, ReadsSomeColumns, ReadsColumns, FailsColumns}
 use Rattle.pref_term.proofs.Common.{ReadsGrouping, FailsGrouping, TakesDirection, FailsDirection, ReadsDim, FailsDim, with_order, ReadsDims, ReadsClause, FailsClause, PassesOf, AsksClauseNothing}
 use Rattle.pref_term.proofs.Common.{Preference, scored, pareto, prior, reverse, ReadsBelow, IsWritable, Question, FitsWidth, IsAsk, IsSkyline, IsCount, cut_of, Mode, Best, TopLevel}
@@ -13,7 +13,7 @@ use Rattle.std.specs.Str.Parse.{digits_value}
 use Rattle.std.proofs.lemmas.List.Sums.{fold-append}
 use Rattle.std.proofs.lemmas.Grind.{flat_map-append}
 use Rattle.pref_term.proofs.GrammarComplete.{dim_of, direction_next}
-use Rattle.pref_term.proofs.LedLemmas.{goes_then, goes_fails, passes_goes, column_good, unless_map, all_one, mapped_more, neither_fails, sign_behind}
+use Rattle.pref_term.proofs.LedLemmas.{column_is, goes_then, goes_fails, passes_goes, column_good, unless_map, all_one, mapped_more, neither_fails, sign_behind}
 
 -- the end, behind all
 ended : (names : Names) (ts us : List Placed) (s m : State) (a : AskText) → Goes names s ts m us → Passes finish us [] → next m finish ≡ Some (last, done a) → (p : ℕ) → run names ts p s ≡ Ok a
@@ -38,16 +38,13 @@ group_stuck head r some letters = grind (arith)
 
 -- ---- the columns of a group
 
-column_is : (names : Names) (letters : List ℕ) (col : ℕ) → IsColumn names letters col → column_at names letters ≡ col
-column_is names letters col h = ap (λ o. unwrap_or o 0) h.place
-
 -- one column more, and what is behind it
 module _ (names : Names) (ts us vs : List Placed) (columns : List ℕ) (col : ℕ) (r : ReadsSomeColumns names ts columns us) (t : TakesColumn names us col vs) where
   columns_go : (head : HeadText) (p : PriorText) → Goes names (group_due head p []) ts (listed_column head p r.some t.letters) vs
   columns_go head p = goes_then names _ _ _ ts us vs (r.goes head p) (column_goes names us vs col _ _ (wants_group head p r.some) t)
 
   columns_are : map (column_at names) (r.some ++ t.letters ∷ []) ≡ columns ++ col ∷ []
-  columns_are = mapped_more (column_at names) r.some t.letters columns col r.meaning (column_is names t.letters col t.found)
+  columns_are = mapped_more (column_at names) r.some t.letters columns col r.meaning (column_is names t.letters col t.found.place)
 
   columns_known : All (IsKnown names) (columns ++ col ∷ [])
   columns_known = All-append (IsKnown names) columns (col ∷ []) r.known (all_one (IsKnown names) col t.found.known)
@@ -154,10 +151,10 @@ module _ (names : Names) (ts us vs : List Placed) (product : Option Preference) 
   dims_go s o = goes_then names _ _ _ ts us vs (r.goes s o) (l.goes s o r.dims)
 
   orders_are : product_of (orders_of names (r.dims ++ l.dim ∷ [])) ≡ with_order product d col
-  orders_are = orders_more names r.dims l.dim product d col r.product_is l.said (column_is names l.dim.column col l.found)
+  orders_are = orders_more names r.dims l.dim product d col r.product_is l.said (column_is names l.dim.column col l.found.place)
 
   groups_are : groups_of names (r.dims ++ l.dim ∷ []) ≡ group ++ group_by d col
-  groups_are = groups_more names r.dims l.dim group d col r.group_is l.said (column_is names l.dim.column col l.found)
+  groups_are = groups_more names r.dims l.dim group d col r.group_is l.said (column_is names l.dim.column col l.found.place)
 
   pub dims_more : (ws : List Placed) → Passes (sign comma) vs ws → ReadsDims names ts (with_order product d col) (group ++ group_by d col) ws
   dims_more ws c =

@@ -1,24 +1,14 @@
 -- What building a question finds of its parts.
-use Rattle.pref_term.proofs.Common.{ℕ, Bool, true, List, ◌≡◌, ◌<◌, ◌≤◌, ◌+◌, arith, refl, subst, sym, length, take, All, get_or, Result, Ok, Err, MatchResult, IsErrAnd}
+use Rattle.pref_term.proofs.Common.{ℕ, Bool, true, List, ◌≡◌, ◌<◌, ◌≤◌, ◌+◌, arith, refl, subst, sym, length, take, All, get_or, Result, MatchResult, IsErrAnd}
 use Rattle.pref_term.proofs.Common.{Preference, Question, IsAsk, IsClause, cut_of, Mode, inl, inr}
 use Rattle.pref_term.proofs.Common.{◌∙◌, ap, drop, Option, Some, None, option_or}
 use Rattle.pref_term.specs.Built.{IsRefused, IsRefusedFor, count_fault, first_among, first_fault, term_fault, column_fault}
 use Rattle.pref_term.specs.declared.fault.AskFault.{AskFault}
 use Rattle.pref_term.specs.declared.fault.AskFault.TheVariants.{NotSkyline, OutOfMemory}
-use Rattle.std.proofs.lemmas.List.Elements.{All-push}
-use Rattle.std.proofs.lemmas.List.{at_drop_all, at_drop_more, get_or_default, take_all, take_more}
+use Rattle.std.proofs.lemmas.List.{at_drop_all, at_drop_more, take_all}
+use Rattle.std.proofs.lemmas.Result.{MatchResult-weaker}
 
--- ---- what a loop over a list has found of the elements so far
-
--- it is so of one more
-pub one_more : {X : Type 0} (P : X → Type 0) (xs : List X) (i : ℕ) (x : X) → i < length xs → x ≡ get_or xs i x → P x → All P (take i xs) → All P (take (i + 1) xs)
-one_more P xs i x lt at p h = rw (take_more xs i x lt) (All-push P (take i xs) _ h (rw (sym at) p))
-
--- the same, where the element is read with another default
-pub one_more_at : {X : Type 0} (P : X → Type 0) (xs : List X) (i : ℕ) (d : X) → i < length xs → P (get_or xs i d) → All P (take i xs) → All P (take (i + 1) xs)
-one_more_at P xs i d lt p h = one_more P xs i (get_or xs i d) lt (get_or_default xs i d (get_or xs i d) lt) p h
-
--- it is so of all
+-- what a loop over a list has found of the elements so far is so of all
 pub all_of_them : {X : Type 0} (P : X → Type 0) (xs : List X) (i : ℕ) → length xs ≤ i → All P (take i xs) → All P xs
 all_of_them P xs i le h = rw (sym (take_all i xs le)) h
 
@@ -67,10 +57,6 @@ no_clause q none distinct other = subst (λ found. IsRefusedFor q found NotSkyli
 pub refused_exit : {T : Type 0} {f : AskFault} (r : Result T AskFault) (P : T → Type 0) (Q : AskFault → Type 0) → IsErrAnd r (λ g. g ≡ f) → Q f → MatchResult r P Q
 refused_exit r P Q h k = grind (arith)
 
-pub weaker : {T : Type 0} (r : Result T AskFault) (A B : T → Type 0) (P Q : AskFault → Type 0) → ((x : T) → A x → B x) → ((f : AskFault) → P f → Q f) → MatchResult r A P → MatchResult r B Q
-weaker (Ok x) A B P Q ok err h = ok x h
-weaker (Err f) A B P Q ok err h = err f h
-
 -- ---- questions
 
 -- the parts as contracts see them
@@ -80,4 +66,4 @@ parts p group mode distinct = record { preference = p; group = group; mode = mod
 -- nothing was found, and the question is made, or there was no memory for it
 pub made : (r : Result Question AskFault) (q : Question) → first_fault q.preference q.group q.mode ≡ None → IsAsk q → MatchResult r (λ ask. ask ≡ q) (λ f. f ≡ OutOfMemory)
     → MatchResult r (λ ask. IsAsk ask × (ask ≡ q)) (λ f. IsRefused q f)
-made r q none h = weaker r _ _ _ _ (λ ask is. (subst IsAsk (sym is) h, is)) (λ f is. subst (λ found. IsRefusedFor q found f) (sym none) (inr (is, h)))
+made r q none h is_made = MatchResult-weaker r is_made (λ ask is. (subst IsAsk (sym is) h, is)) (λ f is. subst (λ found. IsRefusedFor q found f) (sym none) (inr (is, h)))

@@ -1,12 +1,12 @@
 -- What the parts of the reader that call each other promise.
-use Rattle.pref_term.proofs.Common.{◌≡◌, ◌<◌, ◌+◌, ℕ, List, ◌∷◌, Bor, Result, true, cond, Some, None, nat_lt, refl, sym, ap, subst, ◌∙◌, arith, ◌≢◌, IfOk, IfErr, IfOk-weaker, nat_tests, Sign}
+use Rattle.pref_term.proofs.Common.{IfErr-weaker, ◌≡◌, ◌<◌, ◌+◌, ℕ, List, ◌∷◌, Bor, Result, true, cond, Some, None, nat_lt, refl, sym, ap, subst, ◌∙◌, arith, ◌≢◌, IfOk, IfErr, IfOk-weaker, nat_tests, Sign}
 use Rattle.pref_term.proofs.Common.{left, right, star, ampersand, minus, Token, word, sign, Placed, reverse_word, keyword_of, based, reversed, negated, then_factor, PriorText}
 use Rattle.pref_term.proofs.Common.{then_product, name, mark, opens, Names, own_fault, too_deep, unary_meaning, product_meaning, BaseKind, kind_word, named, UnaryHole, in_minus}
 use Rattle.pref_term.proofs.Common.{first_factor, next_factor, next_product, in_group, in_reverse, unary_depth, State, operand, reverse_named, reading, after, completed, ranked, next}
 use Rattle.pref_term.proofs.Common.{operand_word, Goes, Fails, IsOther, Passes, ReadsBase, ReadsUnary, ReadsFactors, ReadsProducts, ReadsProduct, ReadsPrior, ReadsGroup, FailsBase, NotNext, ahead, taken, seen, Unexpected, TooDeep, ◌≤◌}
 use Rattle.pref_term.proofs.Common.{FailsUnary, FailsGroup, FailsProduct, FailsPrior, Preference, pareto, prior, reverse, preference_of, Cursor, Lexeme, Word, Term, TermFault}
 use Rattle.pref_term.proofs.GrammarComplete.{ranked_goes_on, ranked_right}
-use Rattle.pref_term.proofs.LedLemmas.{at_place, goes_then, goes_fails, passes_goes, taken_is, if_err_map}
+use Rattle.pref_term.proofs.LedLemmas.{at_place, goes_then, goes_fails, passes_goes, taken_is}
 
 -- ---- nestings
 
@@ -100,7 +100,7 @@ module _ (names : Names) (k : BaseKind) (t : Lexeme) (letters : Bor (List ℕ)) 
       (λ x b depth. record { tree = based b.tree; meaning = b.meaning; known = b.known; goes = λ h _. goes_then names (operand h) (reading h (named k)) (completed h (based b.tree)) (taken t) (ahead t.next) (ahead x.1) (word_goes h) (b.goes h) }) read
 
   pub taken_base_fails : IfErr r (FailsBase names k (ahead t.next)) → IfErr r (λ fault. (depth : ℕ) → FailsUnary names depth (taken t) fault)
-  taken_base_fails fails = if_err_map r (λ fault b depth h _. goes_fails names (operand h) (reading h (named k)) (taken t) (ahead t.next) fault (word_goes h) (b h)) fails
+  taken_base_fails fails = IfErr-weaker r _ _ (λ fault b depth h _. goes_fails names (operand h) (reading h (named k)) (taken t) (ahead t.next) fault (word_goes h) (b h)) fails
 
 -- a group behind the word `reverse`
 module _ (names : Names) (depth : ℕ) (letters : List ℕ) (ts us : List Placed) (c : Passes (word letters) ts us) (e : keyword_of letters ≡ Some reverse_word) where

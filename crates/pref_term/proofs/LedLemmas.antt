@@ -123,9 +123,6 @@ end_refused ts us least value n under names h column l e = n.refused names h (en
 pub err_exit : {T : Type 0} {f : TermFault} (r : Result T TermFault) (P : TermFault → Type 0) → IsErrAnd r (λ g. g ≡ f) → P f → IfErr r P
 err_exit r P h k = grind (arith)
 
-pub if_err_map : {T : Type 0} {P Q : TermFault → Type 0} (r : Result T TermFault) → ((f : TermFault) → P f → Q f) → IfErr r P → IfErr r Q
-if_err_map r g h = grind (arith)
-
 -- ---- the last sign of a base term
 
 pub around_closes : (h : UnaryHole) (column : List ℕ) (centre : NumberText) (u : Token) → u ≢ sign right → next (reading h (centred column centre)) u ≡ None

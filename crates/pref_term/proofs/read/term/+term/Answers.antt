@@ -1,6 +1,6 @@
-use Rattle.pref_term.proofs.Common.{List, Some, arith, sym, ap, subst, ◌∙◌, length, IfOk-weaker, Placed, ahead, FailsGroup, grouped}
+use Rattle.pref_term.proofs.Common.{IfErr-weaker, List, Some, arith, sym, ap, subst, ◌∙◌, length, IfOk-weaker, Placed, ahead, FailsGroup, grouped}
 use Rattle.pref_term.proofs.Common.{NotNext, sign, star, ampersand, ReadsUnary, ReadsFactors, ReadsProducts, Preference, preference_of, one_product, one_factor, first_product, first_factor}
-use Rattle.pref_term.proofs.LedLemmas.{err_exit, if_err_map, taken_is}
+use Rattle.pref_term.proofs.LedLemmas.{err_exit, taken_is}
 use Rattle.pref_term.proofs.CycleLemmas.{group_read, group_end_fails, group_not_opened, group_too_deep, group_within_fails, more_factors, more_factors_fail, more_products, more_products_fail, minus_read, minus_fails}
 use Rattle.pref_term.proofs.CycleLemmas.{word_reverse_read, word_reverse_fails}
 use Rattle.pref_term.proofs.read.term.+term.Goals as goal
@@ -80,7 +80,7 @@ pub unary-returns-then-is-2-clause-ok : goal.unary-returns-then-is-2-clause-ok
 unary-returns-then-is-2-clause-ok t c = IfOk-weaker c.group.result _ _ (λ x g. record { tree = grouped g.tree; meaning = g.meaning; known = g.known; goes = g.goes }) c.group.ensures.ok
 
 pub unary-returns-then-is-2-clause-err : goal.unary-returns-then-is-2-clause-err
-unary-returns-then-is-2-clause-err t c = if_err_map c.group.result (λ f g. g.alone (ahead c.take-taken.result.next) (c.take-taken.result.at, c.take-taken.ensures ∙ c.if-is-2.ensures.yes)) c.group.ensures.err
+unary-returns-then-is-2-clause-err t c = IfErr-weaker c.group.result _ _ (λ f g. g.alone (ahead c.take-taken.result.next) (c.take-taken.result.at, c.take-taken.ensures ∙ c.if-is-2.ensures.yes)) c.group.ensures.err
 
 pub unary-returns-in_err-part-in-Some-Reverse-clause-err : goal.unary-returns-in_err-part-in-Some-Reverse-clause-err
 unary-returns-in_err-part-in-Some-Reverse-clause-err t c =
