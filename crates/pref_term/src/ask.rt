@@ -2,7 +2,7 @@
 ghost use Rattle.std.specs.Prelude.{◌≡◌, ◌<◌, true, All, IfOk};
 ghost use Rattle.pref_term.specs.Better.{in_same_group};
 
-use crate::chain::{Leading, LeadingChains};
+use crate::chain::{Chain, Leading, LeadingChains};
 use crate::dominance::Dominance;
 use crate::key::Key;
 use crate::keys::{
@@ -36,8 +36,10 @@ pub struct Ask {
     keys: Vec<Key>,
     // Whether they are its whole order, without sets: a comparison goes over them then, and not over the term.
     flat: bool,
-    // The chains that lead the term, and the keys behind them.
-    lead: LeadingChains,
+    // The chains that lead the term.
+    chains: Vec<Chain>,
+    // Of rows that are the same in these chains the better one has no greater one of these keys.
+    behind: Vec<Key>,
     // The keys of the groups and of all base terms, in order and without repeats.
     in_order: Vec<Key>,
     group: Vec<usize>,
@@ -63,7 +65,7 @@ impl Model for Ask {
 
     ghost invariant = { λ a. IsAsk (record { preference = preference_of a.term; group = a.group.items; mode = a.mode; distinct = a.distinct })
         × (a.keys.items ≡ leading (preference_of a.term) false) × (a.flat ≡ is_product (preference_of a.term))
-        × Leads (record { preference = preference_of a.term; group = a.group.items; mode = a.mode; distinct = a.distinct }) a.lead.chains.items a.lead.behind.items
+        × Leads (record { preference = preference_of a.term; group = a.group.items; mode = a.mode; distinct = a.distinct }) a.chains.items a.behind.items
         × IsShortened (ask_keys (record { preference = preference_of a.term; group = a.group.items; mode = a.mode; distinct = a.distinct })) a.in_order.items };
 }
 
@@ -74,7 +76,8 @@ impl Drop for Ask {
             term: _,
             keys: _,
             flat: _,
-            lead: _,
+            chains: _,
+            behind: _,
             in_order: _,
             group: _,
             mode: _,
@@ -109,13 +112,14 @@ impl Ask {
     {
         let keys = leading_keys(alloc, &term, false)?;
         let flat = is_product(&term);
-        let lead = LeadingChains::of(alloc, &term, false)?;
+        let LeadingChains { chains, behind, .. } = LeadingChains::of(alloc, &term, false)?;
         let in_order = keys_in_order(alloc, &group, &term)?;
         Ok(Ask {
             term,
             keys,
             flat,
-            lead,
+            chains,
+            behind,
             in_order,
             group,
             mode,
@@ -187,8 +191,8 @@ impl Ask {
         ensures { Leads self.now result.chains.now result.behind.now }
     {
         Leading {
-            chains: self.lead.chains.as_slice(),
-            behind: self.lead.behind.as_slice(),
+            chains: self.chains.as_slice(),
+            behind: self.behind.as_slice(),
         }
     }
 

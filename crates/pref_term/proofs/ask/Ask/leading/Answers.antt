@@ -4,6 +4,6 @@ use Rattle.pref_term.proofs.ask.Ask.leading.Goals as goal
 
 pub returns : goal.returns
 returns c =
-    let kept = subst (λ (q : Question). Leads q c.self.inside.lead.chains.items c.self.inside.lead.behind.items) c.self.view_is c.self.invariant.3 in
+    let kept = subst (λ (q : Question). Leads q c.self.inside.chains.items c.self.inside.behind.items) c.self.view_is c.self.invariant.3 in
     subst (λ (keys : List Key). Leads c.args.self.now c.as_slice.result.now keys) (sym c.as_slice-2.ensures.value)
-    (subst (λ (chains : List (List Key)). Leads c.args.self.now chains c.self.inside.lead.behind.items) (sym c.as_slice.ensures.value) kept)
+    (subst (λ (chains : List (List Key)). Leads c.args.self.now chains c.self.inside.behind.items) (sym c.as_slice.ensures.value) kept)
