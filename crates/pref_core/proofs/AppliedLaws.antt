@@ -1,9 +1,8 @@
 -- An op that is legal at slots that stand for a state leaves slots that stand for the next one.
-use Rattle.pref_core.proofs.Common.{◌≡◌, ℕ, suc, Bool, true, false, List, [], ◌∷◌, length, Option, Some, None, slice_set, refl, sym, ap, ◌∙◌, arith, AllZip, and_parts}
-use Rattle.pref_core.proofs.Common.{Version, Caller, Call, Outcome, Op, State, Client, with_seat}
-use Rattle.pref_core.proofs.Common.{is_change, missing, ended, begun, begins_row, needed_after, success_outcome, outcome, succeeds, committed, begun_after, counted, after, is_formed, outcome_of}
-use Rattle.pref_core.proofs.Common.{Contents, StandsFor, StandsForClient, stamps, caller_calls, grown, filled, begin_after, callers_after, is_next, same_number, outcome_at}
-use Rattle.pref_core.proofs.Common.{refusal_at, slots_after, stepped}
+use Rattle.pref_core.proofs.Common.{◌≡◌, ℕ, suc, Bool, true, false, List, [], ◌∷◌, length, Option, Some, None, slice_set, refl, sym, ap, ◌∙◌, arith, AllZip, and_parts, Version, Caller, Call, Outcome}
+use Rattle.pref_core.proofs.Common.{Op, State, Client, with_seat, is_change, missing, ended, begun, begins_row, needed_after, success_outcome, outcome, succeeds, committed, begun_after, counted}
+use Rattle.pref_core.proofs.Common.{after, is_formed, outcome_of, Contents, StandsFor, StandsForClient, stamps, caller_calls, grown, filled, begin_after, callers_after, is_next, same_number}
+use Rattle.pref_core.proofs.Common.{outcome_at, refusal_at, slots_after, stepped}
 use Rattle.pref_core.proofs.CommitLaws.{grown_stands}
 use Rattle.pref_core.proofs.SlotReuse.{filled_stands}
 use Rattle.pref_core.proofs.OutcomeLaws.{SameSeat, nobody, somebody, same_seat, same_outcome_at}

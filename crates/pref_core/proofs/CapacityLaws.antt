@@ -1,8 +1,7 @@
 -- The needed versions are within the capacity after each legal history.
-use Rattle.pref_core.proofs.Common.{◌≡◌, ℕ, suc, ◌≤◌, Bool, true, false, ◌||◌, cond, List, [], ◌∷◌, ◌++◌, length, Option, Some, None, slice_get, slice_set, ⊎_elim, refl, sym, ◌∙◌, arith}
-use Rattle.pref_core.proofs.Common.{or_cases, or_left, or_right, count_by-le-length, Call, Line, Key, holds_key, keys, State, Client, Snapshot}
-use Rattle.pref_core.proofs.Common.{found_tables, needed, is_change, outcome, succeeds, committed, counted, after, is_needed}
-use Rattle.pref_core.proofs.Common.{stamps, NeededFits, NeededFitsSlots}
+use Rattle.pref_core.proofs.Common.{◌≡◌, ℕ, suc, ◌≤◌, Bool, true, false, ◌||◌, cond, List, [], ◌∷◌, ◌++◌, length, Option, Some, None, slice_get, slice_set, ⊎_elim, refl, sym, ◌∙◌, arith, or_cases}
+use Rattle.pref_core.proofs.Common.{or_left, or_right, count_by-le-length, Call, Line, Key, holds_key, keys, State, Client, Snapshot, found_tables, needed, is_change, outcome, succeeds, committed}
+use Rattle.pref_core.proofs.Common.{counted, after, is_needed, stamps, NeededFits, NeededFitsSlots}
 use Rattle.pref_core.proofs.NeededCounts.{length-needed, holds_key-different, AreDifferent-different, holds_key-keys-append}
 use Rattle.pref_core.proofs.NeededKeys.{fewer, ends_need_no_more}
 

@@ -1,13 +1,11 @@
 -- What a machine returns at each act is the system's reply: changes and begins.
-use Rattle.pref_core.proofs.Common.{◌≡◌, ℕ, ◌^◌, Bool, true, false, cond, nat_lt, List, Option, Some, None, is_some, Ok, Err, Result, inl, refl, sym, ap, ◌∙◌, subst, option_map, Question, Call}
-use Rattle.pref_core.proofs.Common.{Begin, Outcome, Op, CoreFault, NoSuchClient, Spent, Act}
-use Rattle.pref_core.proofs.Common.{ActBegin, Reply, Begun, Limits, AreAllowed, blocks, State, is_change, seat, with_seat, refusal, refusal_of, refusal_by_query, begun_after, outcome, Open, Member}
-use Rattle.pref_core.proofs.Common.{System, Step, snapshot, state_of, refused, counted_with, changed, change, step, Contents, StandsFor, adds, PlansIn, applied, Scan, begin, Running, StandsForSystem}
-use Rattle.pref_core.proofs.Common.{Changes, Does, is_refusal, Returns, reply_for, step_of, same_Some}
+use Rattle.pref_core.proofs.Common.{◌≡◌, ℕ, ◌^◌, Bool, true, false, cond, nat_lt, List, Option, Some, None, is_some, Ok, Err, Result, inl, refl, sym, ap, ◌∙◌, subst, option_map, Question, Call, Begin}
+use Rattle.pref_core.proofs.Common.{Outcome, Op, CoreFault, NoSuchClient, Spent, Act, ActBegin, Reply, Begun, Limits, AreAllowed, blocks, State, is_change, seat, with_seat, refusal, refusal_of}
+use Rattle.pref_core.proofs.Common.{refusal_by_query, begun_after, outcome, Open, Member, System, Step, snapshot, state_of, refused, counted_with, changed, change, step, Contents, StandsFor, adds}
+use Rattle.pref_core.proofs.Common.{PlansIn, applied, Scan, begin, Running, StandsForSystem, Changes, Does, is_refusal, Returns, reply_for, step_of, same_Some, arith}
 use Rattle.pref_core.specs.MachineParts.{change_of, numbered}
 use Rattle.pref_core.proofs.VisibleAfterOp.{length-applied}
 use Rattle.pref_core.proofs.SystemsLaws.{refusal_there, refusal_nobody, IsThere, IsThere-from, IsLetIn, IsLetIn-from, changed_stands, queried_stands, follows_begun}
-use Rattle.pref_core.proofs.Common.{arith}
 
 -- what `plan` says of a store, in every state that it stands for
 abbrev pub PlansAlways : Contents → ℕ → Call → Result Op CoreFault → Type 0

@@ -1,9 +1,7 @@
 -- The changes of a commit: which ids they name, and that the rows that they begin have ids of their own.
-use Rattle.pref_core.proofs.Common.{◌≡◌, ℕ, suc, ◌+◌, ◌<◌, ◌≤◌, Bool, true, false, ◌||◌, cond, eqb, List, [], ◌∷◌, ◌++◌, map, length, take, drop, add-one, slice_get, Some, None}
-use Rattle.pref_core.proofs.Common.{refl, sym, ap, ◌∙◌, subst, arith, ⊎_elim, ◌⊎◌, inl, inr, append-nil, take_more, slice_get_within, get_or_from_slice_get}
-use Rattle.pref_core.proofs.Common.{or_cases, or_right, eqb-true, eq-eqb, Change, Add, Set, Remove, Call, ended_by}
-use Rattle.pref_core.proofs.Common.{begun_by, added_by, twice_from, is_commit, Line, among, has, missing, ended, is_formed, AreFresh, Entry}
-use Rattle.pref_core.proofs.Common.{list_any-append}
+use Rattle.pref_core.proofs.Common.{◌≡◌, ℕ, suc, ◌+◌, ◌<◌, ◌≤◌, Bool, true, false, ◌||◌, cond, eqb, List, [], ◌∷◌, ◌++◌, map, length, take, drop, add-one, slice_get, Some, None, refl, sym, ap, ◌∙◌}
+use Rattle.pref_core.proofs.Common.{subst, arith, ⊎_elim, ◌⊎◌, inl, inr, append-nil, take_more, slice_get_within, get_or_from_slice_get, or_cases, or_right, eqb-true, eq-eqb, Change, Add, Set, Remove}
+use Rattle.pref_core.proofs.Common.{Call, ended_by, begun_by, added_by, twice_from, is_commit, Line, among, has, missing, ended, is_formed, AreFresh, Entry, list_any-append}
 
 pub commit_length : (commit : List Change) → is_commit commit ≡ true → length commit ≤ 8
 commit_length commit h = grind (arith)

@@ -1,12 +1,11 @@
 -- The slots of the rows that a call begins, chosen one after the other.
-use Rattle.pref_core.proofs.Common.{◌≡◌, ℕ, suc, ◌+◌, ◌<◌, ◌≤◌, true, false, ◌&&◌, List, [], ◌∷◌, ◌++◌, map, length, Option, Some, None, Result, Ok, is_some, refl, sym, ap}
-use Rattle.pref_core.proofs.Common.{◌∙◌, subst, arith, count_by, length-map, length-append, append-nil, append_assoc, Version, Call, Op, Entry, Change, Add, Set, Remove, begun_by}
-use Rattle.pref_core.proofs.Common.{begins_any, among, changes_of, ended, begun, begins_row, is_change, missing, success_outcome, succeeds, Contents, begins, visible, close, filled}
-use Rattle.pref_core.proofs.Common.{placed, used, grown, outcome_at, outcome_of, NoSuchRow, is_free_use, IsFreed, FindsFreed, is_open, uses_of}
+use Rattle.pref_core.proofs.Common.{◌≡◌, ℕ, suc, ◌+◌, ◌<◌, ◌≤◌, true, false, ◌&&◌, List, [], ◌∷◌, ◌++◌, map, length, Option, Some, None, Result, Ok, is_some, refl, sym, ap, ◌∙◌, subst, arith}
+use Rattle.pref_core.proofs.Common.{count_by, length-map, length-append, append-nil, append_assoc, Version, Call, Op, Entry, Change, Add, Set, Remove, begun_by, begins_any, among, changes_of, ended}
+use Rattle.pref_core.proofs.Common.{begun, begins_row, is_change, missing, success_outcome, succeeds, Contents, begins, visible, close, filled, placed, used, grown, outcome_at, outcome_of, NoSuchRow}
+use Rattle.pref_core.proofs.Common.{is_free_use, IsFreed, FindsFreed, is_open, uses_of, rules}
 use Rattle.pref_core.proofs.ChangesLaws.{begun_few}
 use Rattle.pref_core.proofs.PlanLaws.{succeeds-fits}
 use Rattle.pref_core.proofs.SlotsForAll.{count_grown, filled_snoc, free_still, some_left}
-use Rattle.pref_core.proofs.Common.{rules}
 
 abbrev pub closed_slots : Contents → List ℕ → List (Option Version)
 closed_slots contents ids = map (close ids (suc contents.stamp)) contents.slots

@@ -1,9 +1,8 @@
 -- The slots of a change that are known by a look at them alone.
-use Rattle.pref_core.proofs.Common.{◌≡◌, ℕ, suc, ◌+◌, ◌≤◌, Bool, true, false, not, ◌&&◌, cond, eqb, List, [], ◌∷◌, ◌++◌, length, take, drop, Option, Some, None, is_some, IfSome, slice_get, ◌⊎◌}
-use Rattle.pref_core.proofs.Common.{inl, inr, ⊎_elim, refl, sym, ap, ap₂, ◌∙◌, subst, arith, eqb-true, or_from, or_left, true≢false, append-nil, Call, Op, Change, Add}
-use Rattle.pref_core.proofs.Common.{Set, Remove, Version, Row, ended_by, begun_by, begins_any, row_at, IsKept, FitAtOnce, FitsNext, are_free, frees_at, uses_of, filled, is_free, is_next}
-use Rattle.pref_core.proofs.Common.{slots_after, used, free_at, Contents, begins, visible, begun, changes_of, ended, is_change, is_formed, missing}
-use Rattle.pref_core.proofs.Common.{Line, among, false_from_ne_true, drop_all}
+use Rattle.pref_core.proofs.Common.{◌≡◌, ℕ, suc, ◌+◌, ◌≤◌, Bool, true, false, not, ◌&&◌, cond, eqb, List, [], ◌∷◌, ◌++◌, length, take, drop, Option, Some, None, is_some, IfSome, slice_get, ◌⊎◌, inl}
+use Rattle.pref_core.proofs.Common.{inr, ⊎_elim, refl, sym, ap, ap₂, ◌∙◌, subst, arith, eqb-true, or_from, or_left, true≢false, append-nil, Call, Op, Change, Add, Set, Remove, Version, Row, ended_by}
+use Rattle.pref_core.proofs.Common.{begun_by, begins_any, row_at, IsKept, FitAtOnce, FitsNext, are_free, frees_at, uses_of, filled, is_free, is_next, slots_after, used, free_at, Contents, begins}
+use Rattle.pref_core.proofs.Common.{visible, begun, changes_of, ended, is_change, is_formed, missing, Line, among, false_from_ne_true, drop_all}
 use Rattle.std.specs.Option.{option_eq}
 use Rattle.pref_core.proofs.ChangesLaws.{AreApart, among_append, among_inside, drop_at, ended_so_far, formed_apart, take_at}
 use Rattle.pref_core.proofs.ChosenSlots.{ChosenUpTo, all_chosen, closed_slots, outcome_fits, stamps_next}

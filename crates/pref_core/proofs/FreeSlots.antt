@@ -1,7 +1,6 @@
 -- Which places are free, by the order of places.
-use Rattle.pref_core.proofs.Common.{◌≡◌, ℕ, suc, ◌+◌, ◌<◌, ◌≤◌, nat_lt, Bool, true, false, eqb, List, ◌∷◌, map, length, take, get_or, Some, None, slice_get, ◌∙◌}
-use Rattle.pref_core.proofs.Common.{subst, arith, ⊎_elim, slice_get_within, slice_get-map, slice_get-get_or, get_or_from_slice_get, eqb-true, or_cases, or_right}
-use Rattle.pref_core.proofs.Common.{Ended, number_at, use_at, free_at, IsArranged, among}
+use Rattle.pref_core.proofs.Common.{◌≡◌, ℕ, suc, ◌+◌, ◌<◌, ◌≤◌, nat_lt, Bool, true, false, eqb, List, ◌∷◌, map, length, take, get_or, Some, None, slice_get, ◌∙◌, subst, arith, ⊎_elim}
+use Rattle.pref_core.proofs.Common.{slice_get_within, slice_get-map, slice_get-get_or, get_or_from_slice_get, eqb-true, or_cases, or_right, Ended, number_at, use_at, free_at, IsArranged, among}
 use Rattle.pref_core.proofs.SlotSetsLaws.{number_past, number_below, number_is, number_here, free_number, use_free, free_from}
 
 -- The free places are the first ones of the order.

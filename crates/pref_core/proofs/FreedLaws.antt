@@ -1,9 +1,9 @@
 -- The slots that ended rows leave free.
-use Rattle.pref_core.proofs.Common.{append-nil, length-filter, count_by-le-length, ◌≡◌, ℕ, zero, suc, ◌+◌, ◌<◌, ◌≤◌, Bool, true, false, ◌&&◌, ◌||◌, cond, eqb, List, [], ◌∷◌, ◌++◌}
-use Rattle.pref_core.proofs.Common.{map, length, set, Option, Some, None, slice_get, refl, sym, ap, ◌∙◌, subst, arith, ⊎_elim, count_by, length-map, length-set, filter-append}
-use Rattle.pref_core.proofs.Common.{slice_get-map, slice_get_within, eqb-true, eq-eqb, or_cases, or_right, and_parts, true≢false, Version, SlotUse, Free, among, State, missing}
-use Rattle.pref_core.proofs.Common.{Contents, StandsFor, IsWithin, visible, begins, close, is_free, is_free_use, free_at, use_of, IsBounded, is_row, row_at, IsPlaceOf}
-use Rattle.pref_core.proofs.Common.{AllByRecursion, not, is_needed, AreOldPlaces, frees_at, is_open, IsFreed, false_from_ne_true}
+use Rattle.pref_core.proofs.Common.{append-nil, length-filter, count_by-le-length, ◌≡◌, ℕ, zero, suc, ◌+◌, ◌<◌, ◌≤◌, Bool, true, false, ◌&&◌, ◌||◌, cond, eqb, List, [], ◌∷◌, ◌++◌, map, length, set}
+use Rattle.pref_core.proofs.Common.{Option, Some, None, slice_get, refl, sym, ap, ◌∙◌, subst, arith, ⊎_elim, count_by, length-map, length-set, filter-append, slice_get-map, slice_get_within, eqb-true}
+use Rattle.pref_core.proofs.Common.{eq-eqb, or_cases, or_right, and_parts, true≢false, Version, SlotUse, Free, among, State, missing, Contents, StandsFor, IsWithin, visible, begins, close, is_free}
+use Rattle.pref_core.proofs.Common.{is_free_use, free_at, use_of, IsBounded, is_row, row_at, IsPlaceOf, AllByRecursion, not, is_needed, AreOldPlaces, frees_at, is_open, IsFreed, false_from_ne_true}
+use Rattle.pref_core.proofs.Common.{rules}
 use Rattle.std.specs.List.{filter}
 use Rattle.pref_core.proofs.ChangesLaws.{AreApart}
 use Rattle.pref_core.proofs.SlotKeys.{within-close}
@@ -11,7 +11,6 @@ use Rattle.pref_core.proofs.IdsAfterCommit.{known_ids}
 use Rattle.pref_core.proofs.IdChainsLaws.{row_shown}
 use Rattle.pref_core.proofs.StabilityLaws.{slice_get-set_other}
 use Rattle.pref_core.proofs.SlotUseLaws.{count_by-cons, holds_there, has_row_at, row_version, free_use, needed_uses, spare_use}
-use Rattle.pref_core.proofs.Common.{rules}
 
 -- A row leaves its slot free where no query needs its version as it ends.
 pub frees_row : (stamps ids : List ℕ) (next stamp id place : ℕ) (slots : List (Option Version)) (version : Version) → AllByRecursion (IsWithin next stamp) slots → slice_get slots place ≡ Some (Some version) → among ids id ≡ true

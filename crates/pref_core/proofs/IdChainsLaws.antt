@@ -1,7 +1,6 @@
 -- Links, as a row is looked for, added and removed.
-use Rattle.pref_core.proofs.Common.{◌≡◌, ℕ, suc, ◌+◌, ◌<◌, ◌≤◌, true, false, List, ◌∷◌, length, Option, Some, None, refl, sym, ap, ◌∙◌, subst, arith, ⊎_elim, inl}
-use Rattle.pref_core.proofs.Common.{inr, cases_eq, ltb-true, Version, row_at, ids_of, id_at, is_above, AreIds, LeadsTo, IsNode, AreLinked}
-use Rattle.pref_core.proofs.Common.{IsOnWay, rank, IsBefore, same_Some}
+use Rattle.pref_core.proofs.Common.{◌≡◌, ℕ, suc, ◌+◌, ◌<◌, ◌≤◌, true, false, List, ◌∷◌, length, Option, Some, None, refl, sym, ap, ◌∙◌, subst, arith, ⊎_elim, inl, inr, cases_eq, ltb-true, Version}
+use Rattle.pref_core.proofs.Common.{row_at, ids_of, id_at, is_above, AreIds, LeadsTo, IsNode, AreLinked, IsOnWay, rank, IsBefore, same_Some}
 
 pub before_from : (limit capacity : ℕ) (homes : ℕ → ℕ) (ids : ℕ → Option ℕ) (links : ℕ → ℕ) (id bound node : ℕ) → AreLinked limit capacity homes ids links → homes id < capacity
     → IsNode limit capacity homes ids (homes id) bound node → id < bound → is_above id (ids (links node)) ≡ false → IsBefore limit capacity homes ids id node

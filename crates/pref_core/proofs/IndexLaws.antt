@@ -1,9 +1,8 @@
 -- An index follows the store through each op that is done.
-use Rattle.pref_core.proofs.Common.{drop, slice_get, ◌≡◌, ℕ, suc, ◌+◌, ◌<◌, Bool, true, false, ◌&&◌, ◌||◌, cond, eqb, nat_lt, List, [], ◌∷◌, map, set, Option, Some, None, is_some, refl, sym}
-use Rattle.pref_core.proofs.Common.{ap, ◌∙◌, subst, arith, AllByRecursion, eqb-true, ne_eqb, Version, Change, Add, Set, Remove, Call}
-use Rattle.pref_core.proofs.Common.{Done, Op, Entry, Row, ended_by, begun_by, among, has, success_outcome, is_change, succeeds}
-use Rattle.pref_core.proofs.Common.{added, changes_of, ended, begun, Contents, IsWithin, visible, begins, new_version, close, is_free, filled, slots_after}
-use Rattle.pref_core.proofs.Common.{is_next, applied, slot_of, Points, PointsAll, given, placed_rows, adds, IsPlaceOf, IsIndexOf}
+use Rattle.pref_core.proofs.Common.{drop, slice_get, ◌≡◌, ℕ, suc, ◌+◌, ◌<◌, Bool, true, false, ◌&&◌, ◌||◌, cond, eqb, nat_lt, List, [], ◌∷◌, map, set, Option, Some, None, is_some, refl, sym, ap, ◌∙◌}
+use Rattle.pref_core.proofs.Common.{subst, arith, AllByRecursion, eqb-true, ne_eqb, Version, Change, Add, Set, Remove, Call, Done, Op, Entry, Row, ended_by, begun_by, among, has, success_outcome}
+use Rattle.pref_core.proofs.Common.{is_change, succeeds, added, changes_of, ended, begun, Contents, IsWithin, visible, begins, new_version, close, is_free, filled, slots_after, is_next, applied}
+use Rattle.pref_core.proofs.Common.{slot_of, Points, PointsAll, given, placed_rows, adds, IsPlaceOf, IsIndexOf}
 use Rattle.pref_core.proofs.AppliedLaws.{IsAllowed-from}
 use Rattle.pref_core.proofs.ChangesLaws.{AreApart, drop_at, formed_apart, found_all}
 use Rattle.pref_core.proofs.FilledLaws.{none_missing, slots_still}

@@ -1,10 +1,9 @@
 -- Each part of a machine does its act.
-use Rattle.pref_core.proofs.Common.{◌≡◌, ℕ, ◌-◌, ◌&&◌, true, false, List, length, Option, Some, is_some, Ok, Err, Result, IfErr, inr, nat_lt, ap, refl, sym, ◌∙◌, subst}
-use Rattle.pref_core.proofs.Common.{option_map, Question, Call, CallInsert, CallUpdate, CallDelete, CallCommit, Begin, Finish, Change, Op, CoreFault, OutOfMemory, Act, ActInsert, ActUpdate, ActDelete}
-use Rattle.pref_core.proofs.Common.{ActCommit, ActBegin, ActScan, ActFinish, ActGet, ActRoom, Event, Reply, Inserted, Updated, Deleted, Committed, Begun, Left, Room, Row}
-use Rattle.pref_core.proofs.Common.{AreAllowed, blocks, Line, line_of, State, is_change, succeeds, added, seat, with_seat, needed, System, Step, committed_of, Contents, StandsFor, IsIndexOf}
-use Rattle.pref_core.proofs.Common.{adds, applied, IsPlan, Scan, begin, Running, StandsForSystem, is_refusal, Returns, Does, as_reply, without_event, Steps, IsInOrder, Changes}
-use Rattle.pref_core.proofs.Common.{reply_for, NextIsNewAt, ScansAt, AnswersAt, is_begin}
+use Rattle.pref_core.proofs.Common.{◌≡◌, ℕ, ◌-◌, ◌&&◌, true, false, List, length, Option, Some, is_some, Ok, Err, Result, IfErr, inr, nat_lt, ap, refl, sym, ◌∙◌, subst, option_map, Question, Call}
+use Rattle.pref_core.proofs.Common.{CallInsert, CallUpdate, CallDelete, CallCommit, Begin, Finish, Change, Op, CoreFault, OutOfMemory, Act, ActInsert, ActUpdate, ActDelete, ActCommit, ActBegin}
+use Rattle.pref_core.proofs.Common.{ActScan, ActFinish, ActGet, ActRoom, Event, Reply, Inserted, Updated, Deleted, Committed, Begun, Left, Room, Row, AreAllowed, blocks, Line, line_of, State}
+use Rattle.pref_core.proofs.Common.{is_change, succeeds, added, seat, with_seat, needed, System, Step, committed_of, Contents, StandsFor, IsIndexOf, adds, applied, IsPlan, Scan, begin, Running}
+use Rattle.pref_core.proofs.Common.{StandsForSystem, is_refusal, Returns, Does, as_reply, without_event, Steps, IsInOrder, Changes, reply_for, NextIsNewAt, ScansAt, AnswersAt, is_begin, arith}
 use Rattle.pref_core.specs.declared.event.StepFault.{StepFault}
 use Rattle.pref_core.specs.MachineParts.{change_of}
 use Rattle.pref_core.proofs.LegalLaws.{plans_in}
@@ -12,7 +11,6 @@ use Rattle.pref_core.proofs.ChangeReplies.{PlansAlways, running_of, adding_not_r
 use Rattle.pref_core.proofs.IndexLaws.{indexed_still}
 use Rattle.pref_core.proofs.ScanReplies.{next_is_new_at, scan_returns}
 use Rattle.pref_core.proofs.EndReplies.{finish_not_done, found_or_missing, get_returns, room_returns}
-use Rattle.pref_core.proofs.Common.{arith}
 
 -- What is left stands for a system again.
 in_order_returned : (before after : Running) (system : System) (right : Step) (act : Act) (result : Result Reply CoreFault) (index : List (ℕ × ℕ)) → StandsForSystem before system → Returns before right act result after → IsIndexOf after.contents index → IsInOrder after index

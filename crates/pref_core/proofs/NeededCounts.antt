@@ -1,10 +1,9 @@
 -- As many slots are in use as there are versions that are needed.
 use Rattle.pref_core.proofs.Common.{map-append, ◌≡◌, ℕ, suc, Bool, true, false, ◌&&◌, ◌||◌, cond, List, [], ◌∷◌, ◌++◌, filter, length, Option, Some, None, is_some, refl, sym, ap, ap₂, ◌∙◌, subst}
-use Rattle.pref_core.proofs.Common.{cons_option, list_any, AllZip, list_any-IsPermutation, IsPermutation-map, length-filter, eq-eqb, Version, Caller, Line, Key, same_key}
-use Rattle.pref_core.proofs.Common.{holds_key, keys, different, State, Client, Snapshot, found_tables, needed, Contents, StandsFor, StandsForClient, Shows, ShowsBegin, seen, visible}
-use Rattle.pref_core.proofs.Common.{is_needed, begins, stamps, AreDifferent, used, list_any-append}
+use Rattle.pref_core.proofs.Common.{cons_option, list_any, AllZip, list_any-IsPermutation, IsPermutation-map, length-filter, eq-eqb, Version, Caller, Line, Key, same_key, holds_key, keys, different}
+use Rattle.pref_core.proofs.Common.{State, Client, Snapshot, found_tables, needed, Contents, StandsFor, StandsForClient, Shows, ShowsBegin, seen, visible, is_needed, begins, stamps, AreDifferent}
+use Rattle.pref_core.proofs.Common.{used, list_any-append, arith}
 use Rattle.pref_core.proofs.SlotKeys.{slot_keys, holds_key-parts}
-use Rattle.pref_core.proofs.Common.{arith}
 
 -- keys that the test calls the same are equal
 pub same_key-true : (a b : Key) → same_key a b ≡ true → a ≡ b

@@ -1,9 +1,7 @@
 -- Fewer keys are needed where each is needed before.
-use Rattle.pref_core.proofs.Common.{◌≡◌, ℕ, ◌≤◌, Bool, true, false, ◌||◌, List, [], ◌∷◌, ◌++◌, length, refl, sym, ap, ◌∙◌, arith, Line, Key, same_key, holds_key, keys}
-use Rattle.pref_core.proofs.Common.{different, without, found_tables, Change, Remove, begun_by, begins_any, AreDifferent, DeletesNeedNoMore}
-use Rattle.pref_core.proofs.Common.{EndsNeedNoMore}
-use Rattle.pref_core.proofs.NeededCounts.{others, holds_key-others-at, AreDifferent-others, length-others, same_key_refl, holds_key-different, AreDifferent-different}
-use Rattle.pref_core.proofs.NeededCounts.{holds_key-keys-append}
+use Rattle.pref_core.proofs.Common.{◌≡◌, ℕ, ◌≤◌, Bool, true, false, ◌||◌, List, [], ◌∷◌, ◌++◌, length, refl, sym, ap, ◌∙◌, arith, Line, Key, same_key, holds_key, keys, different, without}
+use Rattle.pref_core.proofs.Common.{found_tables, Change, Remove, begun_by, begins_any, AreDifferent, DeletesNeedNoMore, EndsNeedNoMore}
+use Rattle.pref_core.proofs.NeededCounts.{others, holds_key-others-at, AreDifferent-others, length-others, same_key_refl, holds_key-different, AreDifferent-different, holds_key-keys-append}
 
 pub fewer : (xs ys : List Key) → AreDifferent xs → AreDifferent ys → ((key : Key) → holds_key xs key ≡ true → holds_key ys key ≡ true) → length xs ≤ length ys
 fewer [] ys p q in_ = omega arith

@@ -1,8 +1,7 @@
 -- The links of a store as it is opened.
-use Rattle.pref_core.proofs.Common.{◌≡◌, ℕ, zero, suc, ◌+◌, ◌-◌, ◌%◌, ◌^◌, ◌<◌, ◌≤◌, ◌++◌, cond, nat_lt, List, [], ◌∷◌, map, length, replicate, get_or, slice_index, Option, Some}
-use Rattle.pref_core.proofs.Common.{None, refl, sym, ap, ap₂, ◌∙◌, subst, arith, range_with_len, lt-ltb, le-ltb, le-leb, length-append, length-replicate, get_or-replicate}
-use Rattle.pref_core.proofs.Common.{get_or-append-add, get_or-map-range_with_len, length-map-range_with_len, Version, Row, opening_slots, shown, ids_of, home_of, id_at, AreLinked, AreLinks}
-use Rattle.pref_core.proofs.Common.{opening_ids, opening_link}
+use Rattle.pref_core.proofs.Common.{◌≡◌, ℕ, zero, suc, ◌+◌, ◌-◌, ◌%◌, ◌^◌, ◌<◌, ◌≤◌, ◌++◌, cond, nat_lt, List, [], ◌∷◌, map, length, replicate, get_or, slice_index, Option, Some, None, refl, sym, ap}
+use Rattle.pref_core.proofs.Common.{ap₂, ◌∙◌, subst, arith, range_with_len, lt-ltb, le-ltb, le-leb, length-append, length-replicate, get_or-replicate, get_or-append-add, get_or-map-range_with_len}
+use Rattle.pref_core.proofs.Common.{length-map-range_with_len, Version, Row, opening_slots, shown, ids_of, home_of, id_at, AreLinked, AreLinks, opening_ids, opening_link}
 use Rattle.std.proofs.Math.Nat.{mod-eq_of_lt}
 use Rattle.std.proofs.Math.ListN.{get_or-append}
 

@@ -1,8 +1,7 @@
 -- The opening slots stand for the opening state.
-use Rattle.pref_core.proofs.Common.{◌≡◌, ℕ, zero, suc, ◌+◌, ◌-◌, ◌^◌, ◌<◌, ◌≤◌, false, List, [], ◌∷◌, ◌++◌, length, replicate, Option, None, refl, sym, ap, ap₂, ◌∙◌, subst, arith}
-use Rattle.pref_core.proofs.Common.{AllByRecursion, AllZip, IsPermutation, IsPermutation-refl, append-nil, length-append, length-replicate, filter_map-append, le-leb, Version, Caller, Row}
-use Rattle.pref_core.proofs.Common.{holds_key, IsOrdered, opening, opening_table, idle_clients, Contents, StandsFor, StandsForClient, seen, visible, slot_key, AreDifferent, IsWithin, opening_slots}
-use Rattle.pref_core.proofs.Common.{IsKept}
+use Rattle.pref_core.proofs.Common.{◌≡◌, ℕ, zero, suc, ◌+◌, ◌-◌, ◌^◌, ◌<◌, ◌≤◌, false, List, [], ◌∷◌, ◌++◌, length, replicate, Option, None, refl, sym, ap, ap₂, ◌∙◌, subst, arith, AllByRecursion}
+use Rattle.pref_core.proofs.Common.{AllZip, IsPermutation, IsPermutation-refl, append-nil, length-append, length-replicate, filter_map-append, le-leb, Version, Caller, Row, holds_key, IsOrdered}
+use Rattle.pref_core.proofs.Common.{opening, opening_table, idle_clients, Contents, StandsFor, StandsForClient, seen, visible, slot_key, AreDifferent, IsWithin, opening_slots, IsKept}
 use Rattle.pref_core.proofs.SlotKeys.{slot_keys}
 
 visible_opening : (now before : ℕ) (rows : List Row) → before + length rows ≤ now → visible now (opening_slots before rows) ≡ opening_table before rows

@@ -1,8 +1,7 @@
 -- The order of places as a store is opened.
-use Rattle.pref_core.proofs.Common.{◌≡◌, ℕ, ◌+◌, ◌-◌, ◌<◌, ◌≤◌, List, ◌∷◌, ◌++◌, map, length, get_or, replicate, refl, sym, ap, ap₂, ◌∙◌, arith}
-use Rattle.pref_core.proofs.Common.{count_by, range_with_len, length-map, length-append, length-replicate, same_lists, get_or-map, get_or-map-range_with_len, length-map-range_with_len, sum_by-append}
-use Rattle.pref_core.proofs.Common.{lt-ltb, le-ltb, SlotUse, Free, Live, use_at, is_free_use, IsInverse, IsArranged, rotated, sum_by-replicate, get_or-append_right}
-use Rattle.pref_core.proofs.Common.{get_or-replicate}
+use Rattle.pref_core.proofs.Common.{◌≡◌, ℕ, ◌+◌, ◌-◌, ◌<◌, ◌≤◌, List, ◌∷◌, ◌++◌, map, length, get_or, replicate, refl, sym, ap, ap₂, ◌∙◌, arith, count_by, range_with_len, length-map, length-append}
+use Rattle.pref_core.proofs.Common.{length-replicate, same_lists, get_or-map, get_or-map-range_with_len, length-map-range_with_len, sum_by-append, lt-ltb, le-ltb, SlotUse, Free, Live, use_at}
+use Rattle.pref_core.proofs.Common.{is_free_use, IsInverse, IsArranged, rotated, sum_by-replicate, get_or-append_right, get_or-replicate}
 use Rattle.std.proofs.Math.ListN.{get_or-append}
 
 abbrev all : ℕ → ℕ → List ℕ

@@ -1,10 +1,9 @@
 -- On slots that stand for a state, refusals and outcomes are the state's.
 use Rattle.pref_core.proofs.Common.{◌≡◌, ℕ, zero, suc, Bool, true, false, not, List, [], ◌∷◌, length, Option, Some, None, is_some, slice_get, refl, ap, ap₂, AllZip, find, Version, Caller, Call, State}
 use Rattle.pref_core.proofs.Common.{Client, Snapshot, seat, calls_of, refusal, refusal_of, missing, ended, outcome, committed, is_change, is_formed, Contents, StandsFor, StandsForClient, ShowsBegin}
-use Rattle.pref_core.proofs.Common.{visible, caller_calls, refusal_at, outcome_at, grown}
+use Rattle.pref_core.proofs.Common.{visible, caller_calls, refusal_at, outcome_at, grown, arith}
 use Rattle.pref_core.proofs.CommitLaws.{has_visible, grown_stands}
 use Rattle.pref_core.proofs.NeededCounts.{length-needed}
-use Rattle.pref_core.proofs.Common.{arith}
 
 -- the caller and the client of one number: both or none
 pub data SameSeat (slots : List (Option Version)) (now : ℕ) : Option Caller → Option Client → Type 0 where

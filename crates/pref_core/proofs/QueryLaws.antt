@@ -1,9 +1,8 @@
 -- A query that follows its table: no id comes twice, a scan keeps on, and the end is the table's answer.
-use Rattle.pref_core.proofs.Common.{◌≡◌, ℕ, zero, suc, ◌+◌, ◌*◌, ◌≤◌, Bool, false, cond, eqb, ◌==◌, List, [], ◌∷◌, ◌++◌, length, take, drop, Option, Some, filter, refl, sym, ap}
-use Rattle.pref_core.proofs.Common.{◌∙◌, subst, arith, inl, inr, AllByRecursion, count_by, IsPermutation, map-append, take_all, take-append-drop, filter_map-append, sum_by-cons, sum_by-append}
-use Rattle.pref_core.proofs.Common.{IsPermutation-map, sum_by-IsPermutation, Entry, Ranked, answer_of, Question, Version, Limits, AreAllowed, Line, IsOrdered, entries, Contents, Shows}
-use Rattle.pref_core.proofs.Common.{seen, visible, block_of, caller_begun, ran, Scan, begin, levels_for, next_block, NextIsNew, IsScanned, ends_query, Op, first_blocks, BlocksAreTheSlots, Open}
-use Rattle.pref_core.proofs.Common.{one_less, Follows, take-add}
+use Rattle.pref_core.proofs.Common.{◌≡◌, ℕ, zero, suc, ◌+◌, ◌*◌, ◌≤◌, Bool, false, cond, eqb, ◌==◌, List, [], ◌∷◌, ◌++◌, length, take, drop, Option, Some, filter, refl, sym, ap, ◌∙◌, subst, arith}
+use Rattle.pref_core.proofs.Common.{inl, inr, AllByRecursion, count_by, IsPermutation, map-append, take_all, take-append-drop, filter_map-append, sum_by-cons, sum_by-append, IsPermutation-map}
+use Rattle.pref_core.proofs.Common.{sum_by-IsPermutation, Entry, Ranked, answer_of, Question, Version, Limits, AreAllowed, Line, IsOrdered, entries, Contents, Shows, seen, visible, block_of}
+use Rattle.pref_core.proofs.Common.{caller_begun, ran, Scan, begin, levels_for, next_block, NextIsNew, IsScanned, ends_query, Op, first_blocks, BlocksAreTheSlots, Open, one_less, Follows, take-add}
 use Rattle.pref_sky.specs.Levels.{HaveDifferentIds}
 use Rattle.pref_sky.specs.Members.{Among, SameMembers}
 use Rattle.pref_sky.proofs.LevelLaws.{levels_of_none, held_differ, answer_of_same}

@@ -1,7 +1,6 @@
 -- A query as long as it lives, and its answer.
-use Rattle.pref_core.proofs.Common.{◌≡◌, ℕ, ◌≤◌, false, List, [], ◌∷◌, length, Some, Ok, Err, refl, sym, ap, ◌∙◌, subst, arith, Question, answer_of, Begin, Op, Limits}
-use Rattle.pref_core.proofs.Common.{AreAllowed, Line, entries, State, after, Contents, StandsFor, Shows, caller_begun, IsPlan, IsLegal, applied, ends_query, Scan, begin}
-use Rattle.pref_core.proofs.Common.{IsScanned}
+use Rattle.pref_core.proofs.Common.{◌≡◌, ℕ, ◌≤◌, false, List, [], ◌∷◌, length, Some, Ok, Err, refl, sym, ap, ◌∙◌, subst, arith, Question, answer_of, Begin, Op, Limits, AreAllowed, Line, entries}
+use Rattle.pref_core.proofs.Common.{State, after, Contents, StandsFor, Shows, caller_begun, IsPlan, IsLegal, applied, ends_query, Scan, begin, IsScanned}
 use Rattle.pref_core.specs.Queries.{IsOnItsWay, LivesTo, at_begin, after_op, after_scan, NextBlockIsNew, AnswersTheBegin}
 use Rattle.pref_core.proofs.LegalLaws.{is_next-from, applied_stands, plans_in}
 use Rattle.pref_core.proofs.StabilityLaws.{begun_at, begun_own, lasts_applied}

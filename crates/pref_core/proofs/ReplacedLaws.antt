@@ -1,8 +1,7 @@
 -- Rows that a commit sets, each replaced where it stands.
-use Rattle.pref_core.proofs.Common.{◌≡◌, Bor, ℕ, suc, ◌+◌, ◌<◌, Bool, true, false, cond, List, [], ◌∷◌, map, length, drop, set, Option, Some, None, is_some, slice_get, get_or, refl, sym, ap, ap₂}
-use Rattle.pref_core.proofs.Common.{◌∙◌, subst, arith, map-set, set-set, Change, Add, Set, Remove, Op, SlotUse, Version, ended_by}
-use Rattle.pref_core.proofs.Common.{begun_by, row_at, IsTracked, KeepSlots, replaced, with_slots, change_of, close, close_at, filled, is_free, slots_after, Row, Contents, new_version}
-use Rattle.pref_core.proofs.Common.{stamps, added, changes_of, ended, is_change, succeeds, among}
+use Rattle.pref_core.proofs.Common.{◌≡◌, Bor, ℕ, suc, ◌+◌, ◌<◌, Bool, true, false, cond, List, [], ◌∷◌, map, length, drop, set, Option, Some, None, is_some, slice_get, get_or, refl, sym, ap, ap₂, ◌∙◌}
+use Rattle.pref_core.proofs.Common.{subst, arith, map-set, set-set, Change, Add, Set, Remove, Op, SlotUse, Version, ended_by, begun_by, row_at, IsTracked, KeepSlots, replaced, with_slots, change_of}
+use Rattle.pref_core.proofs.Common.{close, close_at, filled, is_free, slots_after, Row, Contents, new_version, stamps, added, changes_of, ended, is_change, succeeds, among}
 use Rattle.pref_core.specs.declared.changes.LentChange.{LentChange}
 use Rattle.pref_core.specs.declared.changes.LentChange.TheVariants.{Set as LentSet}
 use Rattle.pref_core.proofs.ChangesLaws.{AreApart, drop_at}

@@ -1,10 +1,7 @@
 -- One event more, and its reply.
-use Rattle.pref_core.proofs.Common.{◌≡◌, suc, ◌<◌, nat_lt, MatchResult, List, [], ◌∷◌, ◌++◌, length, get_or, drop, take, true, false, Ok, Err, Result}
-use Rattle.pref_core.proofs.Common.{is_err, lt-ltb, refl, sym, ap, ◌∙◌, subst, arith, append_assoc, length_push, take_all, drop-cons}
-use Rattle.pref_core.proofs.Common.{Event, Reply, Refused, CoreFault}
-use Rattle.pref_core.proofs.Common.{OutOfMemory, Limits, System}
-use Rattle.pref_core.proofs.Common.{replies_from, step, Does, Replies, Running, StandsForSystem, Steps, Returns, is_refusal}
-use Rattle.pref_core.proofs.Common.{may_want_memory, without_event, AddedReply, AddsReply, reply_of}
+use Rattle.pref_core.proofs.Common.{◌≡◌, suc, ◌<◌, nat_lt, MatchResult, List, [], ◌∷◌, ◌++◌, length, get_or, drop, take, true, false, Ok, Err, Result, is_err, lt-ltb, refl, sym, ap, ◌∙◌, subst, arith}
+use Rattle.pref_core.proofs.Common.{append_assoc, length_push, take_all, drop-cons, Event, Reply, Refused, CoreFault, OutOfMemory, Limits, System, replies_from, step, Does, Replies, Running}
+use Rattle.pref_core.proofs.Common.{StandsForSystem, Steps, Returns, is_refusal, may_want_memory, without_event, AddedReply, AddsReply, reply_of}
 use Rattle.std.specs.declared.alloc.AllocError.{AllocError}
 use Rattle.pref_core.specs.declared.event.StepFault.{StepFault}
 

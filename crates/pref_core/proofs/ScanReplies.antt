@@ -1,7 +1,6 @@
 -- What a machine returns at each act is the system's reply: scans.
-use Rattle.pref_core.proofs.Common.{◌≡◌, ℕ, ◌<◌, true, false, nat_lt, List, Option, Some, None, Result, refl, arith, lt-ltb, le-ltb}
-use Rattle.pref_core.proofs.Common.{CoreFault, ActScan, Left, seat, Open, Member, System}
-use Rattle.pref_core.proofs.Common.{step, Scan, Running, Follows, StandsForSystem, Returns, as_reply, NextIsNewAt, ScansOne, ScansAt}
+use Rattle.pref_core.proofs.Common.{◌≡◌, ℕ, ◌<◌, true, false, nat_lt, List, Option, Some, None, Result, refl, arith, lt-ltb, le-ltb, CoreFault, ActScan, Left, seat, Open, Member, System, step, Scan}
+use Rattle.pref_core.proofs.Common.{Running, Follows, StandsForSystem, Returns, as_reply, NextIsNewAt, ScansOne, ScansAt}
 use Rattle.pref_core.proofs.SeatLaws.{with_seat_self}
 use Rattle.pref_core.proofs.QueryLaws.{next_is_new, follows_scanned}
 use Rattle.pref_core.proofs.SystemsLaws.{scanned_stands, query_shows}

@@ -1,8 +1,7 @@
 -- The query at a client's place scans.
-use Rattle.pref_core.proofs.Common.{◌≡◌, ℕ, ◌-◌, ◌≤◌, List, length, get_or, Option, Some, None, Err, Result, slice_set, ap, ◌∙◌, subst, Version, CoreFault, NoQuery, seat, Scan, NextIsNew}
-use Rattle.pref_core.proofs.Common.{Scans, NextIsNewAt, ScansAt}
+use Rattle.pref_core.proofs.Common.{◌≡◌, ℕ, ◌-◌, ◌≤◌, List, length, get_or, Option, Some, None, Err, Result, slice_set, ap, ◌∙◌, subst, Version, CoreFault, NoQuery, seat, Scan, NextIsNew, Scans}
+use Rattle.pref_core.proofs.Common.{NextIsNewAt, ScansAt, arith, sym, AnswersAt}
 use Rattle.pref_core.proofs.SeatLaws.{seat_read, written_same}
-use Rattle.pref_core.proofs.Common.{arith, sym, AnswersAt}
 use Rattle.std.specs.Global.{Vec}
 use Rattle.pref_sky.specs.declared.entry.Ranked.{Ranked}
 use Rattle.pref_core.specs.Scans.{Answers}

@@ -1,9 +1,7 @@
 -- The order of places and its inverse, after a move.
-use Rattle.pref_core.proofs.Common.{◌≡◌, ◌≢◌, ℕ, zero, suc, ◌+◌, ◌-◌, ◌<◌, ◌≤◌, Bool, cond, nat_lt, List, [], ◌∷◌, map, length, get_or, set, Some, slice_get, refl, sym, ap, ◌∙◌, subst}
-use Rattle.pref_core.proofs.Common.{arith, ⊎_elim, get_or-set_same, get_or-set_other, count_by, length-map, length-set, same_lists, get_or-map, sum_by-set, slice_get_within, get_or_from_slice_get}
-use Rattle.pref_core.proofs.Common.{cases_eq, le-ltb, ltb-true, SlotUse, Free, number_of, numbered, number_at, use_at, is_free_use, IsInverse, IsArranged, moved_order}
-use Rattle.pref_core.proofs.Common.{moved_positions}
-use Rattle.pref_core.proofs.Common.{rules}
+use Rattle.pref_core.proofs.Common.{◌≡◌, ◌≢◌, ℕ, zero, suc, ◌+◌, ◌-◌, ◌<◌, ◌≤◌, Bool, cond, nat_lt, List, [], ◌∷◌, map, length, get_or, set, Some, slice_get, refl, sym, ap, ◌∙◌, subst, arith, ⊎_elim}
+use Rattle.pref_core.proofs.Common.{get_or-set_same, get_or-set_other, count_by, length-map, length-set, same_lists, get_or-map, sum_by-set, slice_get_within, get_or_from_slice_get, cases_eq, le-ltb}
+use Rattle.pref_core.proofs.Common.{ltb-true, SlotUse, Free, number_of, numbered, number_at, use_at, is_free_use, IsInverse, IsArranged, moved_order, moved_positions, rules}
 
 -- Reads of a list after two writes.
 module _ (xs : List ℕ) (i j x y : ℕ) (li : i < length xs) (lj : j < length xs) where

@@ -1,7 +1,6 @@
 -- Slots for all rows that a commit begins: there are some exactly where the needed versions fit, and they can be chosen one after the other, in any way.
-use Rattle.pref_core.proofs.Common.{◌≡◌, ℕ, zero, suc, ◌+◌, ◌<◌, ◌≤◌, Bool, true, false, not, cond, eqb, List, [], ◌∷◌, ◌++◌, map, length, Option, Some, None, slice_get, slice_set}
-use Rattle.pref_core.proofs.Common.{refl, sym, ap, arith, count_by, count_by-le-length, or_parts, eqb-false, Version, Entry, among, is_needed}
-use Rattle.pref_core.proofs.Common.{new_version, is_free, filled, not-false}
+use Rattle.pref_core.proofs.Common.{◌≡◌, ℕ, zero, suc, ◌+◌, ◌<◌, ◌≤◌, Bool, true, false, not, cond, eqb, List, [], ◌∷◌, ◌++◌, map, length, Option, Some, None, slice_get, slice_set, refl, sym, ap}
+use Rattle.pref_core.proofs.Common.{arith, count_by, count_by-le-length, or_parts, eqb-false, Version, Entry, among, is_needed, new_version, is_free, filled, not-false}
 use Rattle.pref_core.proofs.SlotSetsLaws.{count_set}
 use Rattle.pref_core.proofs.SlotUseLaws.{count_by-cons, one_no}
 use Rattle.pref_core.proofs.StabilityLaws.{slice_get-set_same, slice_get-set_other}

@@ -1,9 +1,8 @@
 -- What an open query was shown at its begin stays, though slots are used again.
-use Rattle.pref_core.proofs.Common.{map-set_same, get_or_from_slice_get, ◌≡◌, ℕ, zero, suc, ◌*◌, ◌<◌, ◌≤◌, Bool, true, false, ◌&&◌, cond, List, [], ◌∷◌, map, take, drop, Option}
-use Rattle.pref_core.proofs.Common.{Some, None, slice_get, slice_set, refl, sym, ap, ap₂, ◌∙◌, arith, AllByRecursion, filter_map, cons_option, take-map, drop-map}
-use Rattle.pref_core.proofs.Common.{Version, Caller, Call, Op, Line, Entry, seat, with_seat, is_change, ended, begun}
-use Rattle.pref_core.proofs.Common.{succeeds, Contents, seen, visible, begins, stamps, caller_begun, block_of, new_version, close, is_free, filled, refusal_at}
-use Rattle.pref_core.proofs.Common.{begin_after, callers_after, is_next, slots_after, stepped, applied, ran, ends_query, IsStable}
+use Rattle.pref_core.proofs.Common.{map-set_same, get_or_from_slice_get, ◌≡◌, ℕ, zero, suc, ◌*◌, ◌<◌, ◌≤◌, Bool, true, false, ◌&&◌, cond, List, [], ◌∷◌, map, take, drop, Option, Some, None, slice_get}
+use Rattle.pref_core.proofs.Common.{slice_set, refl, sym, ap, ap₂, ◌∙◌, arith, AllByRecursion, filter_map, cons_option, take-map, drop-map, Version, Caller, Call, Op, Line, Entry, seat, with_seat}
+use Rattle.pref_core.proofs.Common.{is_change, ended, begun, succeeds, Contents, seen, visible, begins, stamps, caller_begun, block_of, new_version, close, is_free, filled, refusal_at, begin_after}
+use Rattle.pref_core.proofs.Common.{callers_after, is_next, slots_after, stepped, applied, ran, ends_query, IsStable}
 use Rattle.pref_core.proofs.VisibleLaws.{seen_close-before, seen_born-before}
 use Rattle.pref_core.proofs.StandsForLaws.{hidden_unneeded}
 use Rattle.pref_core.proofs.SlotReuse.{IsFree-from}

@@ -1,11 +1,10 @@
 -- What slots show at each stamp when versions end, begin, and take a slot that isn't needed.
-use Rattle.pref_core.proofs.Common.{◌≡◌, ℕ, suc, ◌≤◌, false, not, List, [], ◌∷◌, map, Option, Some, None, slice_get, slice_set, refl, arith, cons_option, AllByRecursion, AllZip}
-use Rattle.pref_core.proofs.Common.{IsPermutation-trans, IsPermutation-sym, Version, Caller, Line, among, without, Entry, Client, Snapshot, seen}
-use Rattle.pref_core.proofs.Common.{is_needed, begins, IsWithin, Shows, ShowsBegin, StandsForClient, new_version, close}
+use Rattle.pref_core.proofs.Common.{◌≡◌, ℕ, suc, ◌≤◌, false, not, List, [], ◌∷◌, map, Option, Some, None, slice_get, slice_set, refl, arith, cons_option, AllByRecursion, AllZip, IsPermutation-trans}
+use Rattle.pref_core.proofs.Common.{IsPermutation-sym, Version, Caller, Line, among, without, Entry, Client, Snapshot, seen, is_needed, begins, IsWithin, Shows, ShowsBegin, StandsForClient}
+use Rattle.pref_core.proofs.Common.{new_version, close, rules}
 use Rattle.pref_core.proofs.Permutations.{IsPermutation-filter}
 use Rattle.pref_core.proofs.VisibleLaws.{visible_set-same, visible_set-new, visible_close-before, visible_close-after}
 use Rattle.pref_core.proofs.TableLaws.{IsOrdered-filter}
-use Rattle.pref_core.proofs.Common.{rules}
 
 -- versions of these ids end
 pub Shows-close : (ids : List ℕ) (next now : ℕ) (slots : List (Option Version)) (table : List Line) → AllByRecursion (IsWithin next now) slots → Shows slots now table → Shows (map (close ids (suc now)) slots) (suc now) (without ids table)

@@ -1,16 +1,15 @@
 -- What runs stands for the system, call by call.
-use Rattle.pref_core.proofs.Common.{◌≡◌, ℕ, zero, suc, ◌^◌, true, false, nat_lt, List, ◌∷◌, map, length, replicate, Option, Some, None, is_some, refl, sym, ap, ◌∙◌, subst, ⊎_elim}
-use Rattle.pref_core.proofs.Common.{option_map, cases_eq, Question, Version, Caller, Call, Outcome, Op, Reply}
-use Rattle.pref_core.proofs.Common.{NoSuchClient, Row, Limits, AreAllowed, blocks, State, Client, Snapshot, seat, with_seat, begun_of, refusal, refusal_of, refusal_by_query, is_change}
-use Rattle.pref_core.proofs.Common.{succeeds, outcome, committed, counted, begun_after, after, opening, idle_clients, Open, Member, System, snapshot, client_of, state_of, counted_with, scanned_with}
-use Rattle.pref_core.proofs.Common.{changed, opened, Contents, StandsFor, Shows, ShowsBegin, IsLegal, applied, Scan, begin, Running, Follows, StandsForQuery, StandsForMember, StandsForSystem}
+use Rattle.pref_core.proofs.Common.{◌≡◌, ℕ, zero, suc, ◌^◌, true, false, nat_lt, List, ◌∷◌, map, length, replicate, Option, Some, None, is_some, refl, sym, ap, ◌∙◌, subst, ⊎_elim, option_map}
+use Rattle.pref_core.proofs.Common.{cases_eq, Question, Version, Caller, Call, Outcome, Op, Reply, NoSuchClient, Row, Limits, AreAllowed, blocks, State, Client, Snapshot, seat, with_seat, begun_of}
+use Rattle.pref_core.proofs.Common.{refusal, refusal_of, refusal_by_query, is_change, succeeds, outcome, committed, counted, begun_after, after, opening, idle_clients, Open, Member, System, snapshot}
+use Rattle.pref_core.proofs.Common.{client_of, state_of, counted_with, scanned_with, changed, opened, Contents, StandsFor, Shows, ShowsBegin, IsLegal, applied, Scan, begin, Running, Follows}
+use Rattle.pref_core.proofs.Common.{StandsForQuery, StandsForMember, StandsForSystem, arith}
 use Rattle.pref_core.proofs.LegalLaws.{applied_stands}
 use Rattle.pref_core.proofs.OutcomeLaws.{SameSeat, nobody, somebody, same_seat}
 use Rattle.pref_core.proofs.StabilityLaws.{shown, seat-with_seat_same, seat-with_seat_other}
 use Rattle.pref_core.proofs.VisibleAfterOp.{shown_applied, length-applied}
 use Rattle.pref_core.proofs.QueryLaws.{begun_on_its_way, way_stays}
 use Rattle.pref_core.proofs.SeatLaws.{with_seat_self, seat-map, with_seat-map}
-use Rattle.pref_core.proofs.Common.{arith}
 
 -- what the state keeps of a client that is there
 pub client_there : (system : System) (client : ℕ) (member : Member) → seat client system.members ≡ Some member → seat client (state_of system).clients ≡ Some (client_of member)

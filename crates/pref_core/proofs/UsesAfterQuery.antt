@@ -1,9 +1,8 @@
 -- What becomes of the uses where an open query begins or ends.
-use Rattle.pref_core.proofs.Common.{◌≡◌, ℕ, zero, suc, ◌+◌, ◌-◌, ◌<◌, ◌≤◌, inl, true, false, cond, List, [], ◌∷◌, ◌++◌, map, length, set, replicate, Option, Some, None}
-use Rattle.pref_core.proofs.Common.{is_some, slice_get, refl, sym, ap, ap₂, ◌∙◌, subst, arith, AllByRecursion, AllZip, option_to_list, length-set, slice_get_within, Version, Caller}
-use Rattle.pref_core.proofs.Common.{SlotUse, Free, Ended, Live, Call, Op, Row, refusal_of, after, Contents, is_needed}
-use Rattle.pref_core.proofs.Common.{StandsFor, IsWithin, opening_slots, begin_after, callers_after, refusal_at, is_next, slots_after, stepped, applied, is_end, kept_from, use_of, number_of}
-use Rattle.pref_core.proofs.Common.{is_kept_by, MayBecome, IsBounded, IsKept, uses_of}
+use Rattle.pref_core.proofs.Common.{◌≡◌, ℕ, zero, suc, ◌+◌, ◌-◌, ◌<◌, ◌≤◌, inl, true, false, cond, List, [], ◌∷◌, ◌++◌, map, length, set, replicate, Option, Some, None, is_some, slice_get, refl, sym}
+use Rattle.pref_core.proofs.Common.{ap, ap₂, ◌∙◌, subst, arith, AllByRecursion, AllZip, option_to_list, length-set, slice_get_within, Version, Caller, SlotUse, Free, Ended, Live, Call, Op, Row}
+use Rattle.pref_core.proofs.Common.{refusal_of, after, Contents, is_needed, StandsFor, IsWithin, opening_slots, begin_after, callers_after, refusal_at, is_next, slots_after, stepped, applied, is_end}
+use Rattle.pref_core.proofs.Common.{kept_from, use_of, number_of, is_kept_by, MayBecome, IsBounded, IsKept, uses_of}
 use Rattle.pref_core.proofs.AppliedLaws.{stepped_stands}
 use Rattle.pref_core.proofs.BoundsLaws.{IsBounded-stepped}
 

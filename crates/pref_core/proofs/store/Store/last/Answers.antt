@@ -1,7 +1,6 @@
-use Rattle.pref_core.proofs.Common.{◌≡◌, ℕ, Option, Some, None, refl, option_map, Caller}
+use Rattle.pref_core.proofs.Common.{◌≡◌, ℕ, Option, Some, None, refl, option_map, Caller, common_steps, arith}
 use Rattle.pref_core.proofs.OutcomeLaws.{same_calls}
 use Rattle.pref_core.proofs.store.Store.last.Goals as goal
-use Rattle.pref_core.proofs.Common.{common_steps, arith}
 
 calls_of_one : (o : Option Caller) → option_map (λ (k : Caller). k.calls) o ≡ elim o as (λ x. Option ℕ) [ None ↦ None | Some caller ↦ Some caller.calls ]
 calls_of_one None = refl

@@ -1,10 +1,9 @@
-use Rattle.pref_core.proofs.Common.{◌+◌, ◌++◌, [], ◌∷◌, drop, sym, ap, ◌∙◌, subst, arith, begun_by, added_by, is_open, uses_of, changes_of, change_of}
+use Rattle.pref_core.proofs.Common.{◌+◌, ◌++◌, [], ◌∷◌, drop, sym, ap, ◌∙◌, subst, arith, begun_by, added_by, is_open, uses_of, changes_of, change_of, common_steps}
 use Rattle.pref_core.proofs.BoundsLaws.{next_id-small}
 use Rattle.pref_core.proofs.ChangesLaws.{begun_at, added_one}
 use Rattle.pref_core.proofs.ChosenSlots.{ChosenUpTo, none_chosen, chosen_few, choose_one, one_left}
 use Rattle.pref_core.proofs.store.Store.places_for.Goals.{in-Some+in-Some-choose, in_default}
 use Rattle.pref_core.proofs.store.Store.places_for.Goals as goal
-use Rattle.pref_core.proofs.Common.{common_steps}
 
 pub loop-at-init : goal.loop-at-init
 loop-at-init c = grind (arith, common_steps, none_chosen)

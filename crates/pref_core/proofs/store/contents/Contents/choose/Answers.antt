@@ -1,7 +1,6 @@
-use Rattle.pref_core.proofs.Common.{◌≡◌, ap, ◌∙◌, uses_of}
+use Rattle.pref_core.proofs.Common.{◌≡◌, ap, ◌∙◌, uses_of, common_steps, arith}
 use Rattle.pref_core.proofs.store.contents.Contents.choose.Goals.{After-any_free_but}
 use Rattle.pref_core.proofs.store.contents.Contents.choose.Goals as goal
-use Rattle.pref_core.proofs.Common.{common_steps, arith}
 
 uses : (c : After-any_free_but) → c.self.inside.places ≡ uses_of c.args.self.now
 uses c = c.self.invariant.listed ∙ ap uses_of c.self.view_is

@@ -1,8 +1,7 @@
-use Rattle.pref_core.proofs.Common.{◌≡◌, ◌-◌, set, sym, ap, ◌∙◌, arith, set-set, numbered}
+use Rattle.pref_core.proofs.Common.{◌≡◌, ◌-◌, set, sym, ap, ◌∙◌, arith, set-set, numbered, common_steps}
 use Rattle.pref_core.proofs.SeatLaws.{set_same}
 use Rattle.pref_core.proofs.StabilityLaws.{slice_get-set_same}
 use Rattle.pref_core.proofs.store.slot_sets.SlotSets.lower_to.Goals as goal
-use Rattle.pref_core.proofs.Common.{common_steps}
 
 pub loop-step-init : goal.loop-step-init
 loop-step-init c = let same : c.args.from - 0 ≡ c.args.from = omega arith in sym (ap (λ n. set c.args.self.now c.args.place (numbered n)) same ∙ set_same c.args.self.now c.args.place (numbered c.args.from) c.requires.there)

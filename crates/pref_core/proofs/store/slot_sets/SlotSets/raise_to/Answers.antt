@@ -1,8 +1,7 @@
-use Rattle.pref_core.proofs.Common.{slice_get, sym, ap, ◌∙◌, arith, set-set, numbered}
+use Rattle.pref_core.proofs.Common.{slice_get, sym, ap, ◌∙◌, arith, set-set, numbered, common_steps}
 use Rattle.pref_core.proofs.SeatLaws.{set_same}
 use Rattle.pref_core.proofs.StabilityLaws.{slice_get-set_same}
 use Rattle.pref_core.proofs.store.slot_sets.SlotSets.raise_to.Goals as goal
-use Rattle.pref_core.proofs.Common.{common_steps}
 
 pub loop-number-init : goal.loop-number-init
 loop-number-init c = sym (set_same c.args.self.now c.args.place (numbered c.args.from) c.requires.there)

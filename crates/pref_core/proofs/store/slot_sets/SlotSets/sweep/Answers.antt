@@ -1,9 +1,7 @@
-use Rattle.pref_core.proofs.Common.{◌≡◌, ◌+◌, ◌<◌, map, get_or, length, set, ap, sym, ◌∙◌, subst, arith, length-map, get_or-map, slice_get_within, Live}
-use Rattle.pref_core.proofs.Common.{Ended, MayBecome, use_of}
+use Rattle.pref_core.proofs.Common.{◌≡◌, ◌+◌, ◌<◌, map, get_or, length, set, ap, sym, ◌∙◌, subst, arith, length-map, get_or-map, slice_get_within, Live, Ended, MayBecome, use_of, common_steps}
 use Rattle.pref_core.proofs.UsesAfterQuery.{use_few}
 use Rattle.pref_core.proofs.SweepLaws.{IsSweeping, AllZip-length, sweep_begins, sweep_goes, swept, swept_all}
 use Rattle.pref_core.proofs.store.slot_sets.SlotSets.sweep.Goals as goal
-use Rattle.pref_core.proofs.Common.{common_steps}
 
 pub loop-turn-init : goal.loop-turn-init
 loop-turn-init c = sweep_begins c.args.keeper c.args.self.now _ c.requires.uses
