@@ -27,5 +27,9 @@ impl Version {
 pub(crate) fn is_alive(birth: u64, death: Option<u64>, stamp: u64) -> bool
     ensures { result ≡ (nat_le birth stamp && not (has_ended stamp death)) }
 {
-    birth <= stamp && !death.is_some_and(|death| death <= stamp)
+    let ended = match death {
+        Some(death) => death <= stamp,
+        None => false,
+    };
+    birth <= stamp && !ended
 }
