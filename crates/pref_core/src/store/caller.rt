@@ -2,14 +2,13 @@
 
 ghost use Rattle.std.specs.List.{list_any};
 ghost use Rattle.std.specs.Option.{option_to_list, unwrap_or};
-ghost use Rattle.std.specs.Prelude.{suc, IfOk, IfSome, None, nat_le, not, option_map, replicate, ◌≡◌, ◌^◌, ◌<◌, ◌&&◌};
-ghost use Rattle.pref_core.specs.Operations.{begin_after, callers_after};
+ghost use Rattle.std.specs.Prelude.{IfSome, nat_le, not, option_map, ◌≡◌, ◌^◌, ◌<◌, ◌&&◌};
+ghost use Rattle.pref_core.specs.Operations.{callers_after};
 ghost use Rattle.pref_core.specs.Slots.{has_ended};
-ghost use Rattle.pref_core.specs.State.{seat, begun};
+ghost use Rattle.pref_core.specs.State.{seat};
 
 use crate::call::LentCall;
 use crate::store::version::is_alive;
-use std::alloc::{AllocError, Global};
 
 /// How many numbered calls a client has made, and the stamp at its open query's begin.
 #[derive(Clone, Copy)]
@@ -57,28 +56,8 @@ pub(crate) fn count(callers: &mut [Caller], client: u8, call: &LentCall<'_>, sta
 {
     let seat = client as usize;
     if 0 < seat && seat <= callers.len() {
-        callers[seat - 1] = caller_after(callers[seat - 1], call, stamp);
+        let caller = &mut callers[seat - 1];
+        caller.calls += 1;
+        caller.at_begin = call.begun_after(stamp, caller.at_begin);
     }
-}
-
-/// The calls and the begin of a client after one call more.
-fn caller_after(caller: Caller, call: &LentCall<'_>, stamp: u64) -> Caller
-    requires { caller.calls < 2 ^ 56 }
-    ensures { result ≡ record { calls = suc caller.calls; at_begin = begin_after stamp call.now caller.at_begin } }
-{
-    Caller {
-        calls: caller.calls + 1,
-        at_begin: call.begun_after(stamp, caller.at_begin),
-    }
-}
-
-/// Clients without a call.
-pub(crate) fn idle_callers(alloc: Global, clients: u8) -> Result<Vec<Caller>, AllocError>
-    ensures { IfOk result (λ v. v.items ≡ replicate clients (record { calls = 0; at_begin = None })) }
-{
-    let idle = Caller {
-        calls: 0,
-        at_begin: None,
-    };
-    vec![in alloc; idle; clients as usize]
 }

@@ -15,7 +15,7 @@ ghost use Rattle.pref_core.specs.Table.{among, line_of};
 use crate::call::SlotList;
 use crate::index::Index;
 use crate::setup::Setup;
-use crate::store::caller::{Caller, idle_callers};
+use crate::store::caller::Caller;
 use crate::store::id_chains::IdChains;
 use crate::store::needs::is_seen;
 use crate::store::slot_sets::SlotSets;
@@ -55,7 +55,11 @@ impl Contents {
     {
         let capacity = setup.capacity();
         let slots = StampedSlots::new(alloc, capacity, rows)?;
-        let callers = idle_callers(alloc, setup.clients())?;
+        let idle = Caller {
+            calls: 0,
+            at_begin: None,
+        };
+        let callers = vec![in alloc; idle; setup.clients() as usize]?;
         let places = SlotSets::new(alloc, capacity, rows.len() as u32)?;
         let links = IdChains::new(alloc, capacity, rows.len() as u32)?;
         Ok(Contents {

@@ -13,7 +13,7 @@ invariant_of-result c =
     let opened = ap (λ (s : StampedSlots). s.slots) c.in_ok-slots.ensures in
     let stamp = ap (λ (s : StampedSlots). s.stamp) c.in_ok-slots.ensures in
     let kept : IsKept (record { slots = slots.slots; stamp = slots.stamp; next_id = length rows + 1; callers = c.in_ok-callers.callers.items })
-    = opened_kept c.clients.result capacity rows _ (omega arith) c.capacity-capacity.ensures.range.1 c.clients.ensures.range.1 opened stamp refl c.in_ok-callers.ensures in
+    = opened_kept c.clients.result capacity rows _ (omega arith) c.capacity-capacity.ensures.range.1 c.clients.ensures.range.1 opened stamp refl (c.in_ok-callers.ensures.items_if_clones_equal (λ y e. e)) in
     record {
       seats = kept.bounded.callers;
       within = kept.stands.within;
@@ -25,4 +25,4 @@ invariant_of-result c =
 pub returns-clause-kept : goal.returns-clause-kept
 returns-clause-kept c =
     opened_kept c.clients.result c.capacity-capacity.result c.args.rows.now _ (omega arith) c.capacity-capacity.ensures.range.1 c.clients.ensures.range.1
-    (ap (λ (s : StampedSlots). s.slots) c.in_ok-slots.ensures) (ap (λ (s : StampedSlots). s.stamp) c.in_ok-slots.ensures) refl c.in_ok-callers.ensures
+    (ap (λ (s : StampedSlots). s.slots) c.in_ok-slots.ensures) (ap (λ (s : StampedSlots). s.stamp) c.in_ok-slots.ensures) refl (c.in_ok-callers.ensures.items_if_clones_equal (λ y e. e))
