@@ -41,7 +41,7 @@ impl<'a> LentCall<'a> {
     ghost use Rattle.pref_core.specs.LentCalls.{change_of};
     ghost use Rattle.pref_core.specs.Operations.{begin_after};
     ghost use Rattle.pref_core.specs.Stability.{is_end};
-    ghost use Rattle.pref_core.specs.State.{refusal_of, is_open, changes_of, begun, begins_row, added, is_change, is_formed};
+    ghost use Rattle.pref_core.specs.State.{refusal_of, is_open, changes_of, begun, added, is_change, is_formed};
 
     /// A new row.
     #[inline(always)]
@@ -197,13 +197,6 @@ impl<'a> LentCall<'a> {
             Lent::Commit(commit) => begun_by(commit.as_slice()),
             Lent::Delete(_) | Lent::Begin | Lent::Finish | Lent::Abandon => 0,
         }
-    }
-
-    /// Whether the call begins a row, so that there must be room.
-    pub(crate) fn begins_row(&self) -> bool
-        ensures { result ≡ begins_row self.now }
-    {
-        self.begun() > 0
     }
 
     /// How many ids the call uses up.

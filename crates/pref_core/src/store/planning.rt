@@ -262,7 +262,7 @@ impl Contents {
             Ok(freed) => freed,
             Err(id) => return Outcome::NoSuchRow(*id),
         };
-        if call.begins_row() {
+        if call.begun() > 0 {
             let needed = self.size_after(freed, call);
             if needed > self.slots.capacity() as usize {
                 return Outcome::Full(needed as u64);
