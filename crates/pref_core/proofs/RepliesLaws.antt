@@ -14,8 +14,8 @@ returned_replies before after system event returned says = grind (arith)
 pub does_replies : (before after : Running) (event : Event) (returned : Result Reply CoreFault) (result : Result Reply AllocError) → Does before event.client event.act returned after → result ≡ reply_of returned → Replies before event result after
 does_replies before after event returned result does is = subst (λ r. Replies before event r after) (sym is) (record { limits = does.limits; returns = λ system h. returned_replies before after system event returned (does.returns system h) })
 
-pub steps_replies : (before after : Running) (event : Event) (stepped : Result Reply StepFault) (returned : Result Reply CoreFault) (result : Result Reply AllocError) → Steps before event stepped after → returned ≡ without_event stepped → result ≡ reply_of returned → Replies before event result after
-steps_replies before after event stepped returned result steps alike is = grind (arith)
+pub steps_replies : (before after : Running) (event : Event) (stepped : Result Reply StepFault) (result : Result Reply AllocError) → Steps before event stepped after → result ≡ reply_of (without_event stepped) → Replies before event result after
+steps_replies before after event stepped result steps is = does_replies before after event (without_event stepped) result (record { limits = steps.limits; returns = steps.returns }) is
 
 -- the reply to a refusal that is not for want of memory
 pub replied_refused : (fault : CoreFault) → (fault ≡ OutOfMemory → ⊥) → Ok (Refused fault) ≡ reply_of (Err fault)

@@ -328,10 +328,7 @@ impl Machine {
     pub fn reply(&mut self, alloc: Global, event: Event) -> Result<Reply, AllocError>
         ensures { Replies self.old event result self.new }
     {
-        match &event.act {
-            Act::Begin(_) => reply_of(without_event(self.begin_event(event))),
-            act => reply_of(self.act(alloc, event.client, act)),
-        }
+        reply_of(self.step(alloc, event))
     }
 
     /// An act that begins no query, which it reads where it is: no change is copied here.
@@ -340,7 +337,7 @@ impl Machine {
         ensures { Does self.old client act.now result self.new }
     {
         match act {
-            Act::Insert(row) => self.insert(alloc, client, row).map(Reply::Inserted),
+            Act::Insert(row) => Ok(Reply::Inserted(self.insert(alloc, client, row)?)),
             Act::Update(id, row) => {
                 self.update(alloc, client, *id, row)?;
                 Ok(Reply::Updated(*id))
@@ -349,18 +346,19 @@ impl Machine {
                 self.delete(alloc, client, *id)?;
                 Ok(Reply::Deleted(*id))
             }
-            Act::Commit(commit) => self
-                .commit(alloc, client, commit.commit())
-                .map(Reply::Committed),
+            Act::Commit(commit) => {
+                let commit = commit.commit();
+                Ok(Reply::Committed(self.commit(alloc, client, commit)?))
+            }
             Act::Begin(_) => unreachable!(),
-            Act::Scan => self.scan(alloc, client).map(Reply::Left),
-            Act::Finish => self.finish(alloc, client).map(Reply::Answer),
+            Act::Scan => Ok(Reply::Left(self.scan(alloc, client)?)),
+            Act::Finish => Ok(Reply::Answer(self.finish(alloc, client)?)),
             Act::Abandon => {
                 self.abandon(client)?;
                 Ok(Reply::Abandoned)
             }
             Act::Get(id) => Ok(Reply::Found(*id, self.get(client, *id)?)),
-            Act::Room => self.room(client).map(Reply::Room),
+            Act::Room => Ok(Reply::Room(self.room(client)?)),
         }
     }
 
@@ -427,25 +425,17 @@ fn result_of(outcome: Outcome) -> Result<(), CoreFault>
     }
 }
 
-/// The reply to an act by what it returns: a refusal is one, and out of memory is none.
+/// The reply to an event by what its step returns: a refusal is one, and out of memory is none.
 #[tactic(auto, using(crate::proofs::RepliesLaws::replied_refused))]
-fn reply_of(returned: Result<Reply, CoreFault>) -> Result<Reply, AllocError>
-    ensures { result ≡ reply_of returned }
+fn reply_of(returned: Result<Reply, StepFault>) -> Result<Reply, AllocError>
+    ensures { result ≡ reply_of (without_event returned) }
 {
     match returned {
         Ok(reply) => Ok(reply),
-        Err(CoreFault::OutOfMemory) => Err(AllocError),
-        Err(fault) => Ok(Reply::Refused(fault)),
-    }
-}
-
-/// A refusal without its event.
-fn without_event(returned: Result<Reply, StepFault>) -> Result<Reply, CoreFault>
-    ensures { result ≡ without_event returned }
-{
-    match returned {
-        Ok(reply) => Ok(reply),
-        Err(refused) => Err(refused.fault),
+        Err(refused) => match refused.fault {
+            CoreFault::OutOfMemory => Err(AllocError),
+            fault => Ok(Reply::Refused(fault)),
+        },
     }
 }
 
