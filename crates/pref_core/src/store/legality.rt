@@ -23,13 +23,6 @@ impl Store {
             let outcome = success_outcome(self.contents.next_id, op.call);
             return self.contents.is_next(outcome, op);
         }
-        self.is_legal_anew(op)
-    }
-
-    /// Whether an op is legal next, by a plan of its call.
-    fn is_legal_anew(&self, op: &Planned<'_>) -> bool
-        ensures { result ≡ (is_next self.now (op_of op.now) && is_some (slots_after self.now (op_of op.now))) }
-    {
         let freed = self.freed_places(None, op.call);
         let outcome = self.contents.outcome(&freed, op.call);
         self.contents.is_next(outcome, op) && self.contents.fits(&freed, op)
