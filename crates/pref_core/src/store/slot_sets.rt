@@ -175,36 +175,16 @@ impl SlotSets {
         requires few { (number_of from < 10) × (number_of to < 10) }
         ensures { self.new ≡ slice_set self.old place to }
     {
-        let from = from.number();
-        let to = to.number();
-        if to < from {
-            self.lower_to(place, from, to);
+        let first = from.number();
+        let last = to.number();
+        if last < first {
+            for step in 0..first - last {
+                self.lower(place, first - 1 - step);
+            }
         } else {
-            self.raise_to(place, from, to);
-        }
-    }
-
-    /// A place goes down to a use.
-    #[inline(always)]
-    fn lower_to(&mut self, place: u32, from: usize, to: usize)
-        requires there { slice_get self.old place ≡ Some (numbered from) }
-        requires few { (to ≤ from) × (from < 10) }
-        ensures { self.new ≡ slice_set self.old place (numbered to) }
-    {
-        for step in 0..from - to {
-            self.lower(place, from - 1 - step);
-        }
-    }
-
-    /// A place goes up to a use.
-    #[inline(always)]
-    fn raise_to(&mut self, place: u32, from: usize, to: usize)
-        requires there { slice_get self.old place ≡ Some (numbered from) }
-        requires few { (from ≤ to) × (to < 10) }
-        ensures { self.new ≡ slice_set self.old place (numbered to) }
-    {
-        for number in from..to {
-            self.raise(place, number);
+            for number in first..last {
+                self.raise(place, number);
+            }
         }
     }
 
@@ -267,7 +247,10 @@ fn rotated(alloc: Global, capacity: u32, first: u32) -> Result<Vec<u32>, AllocEr
     ensures { IfOk result (λ v. v.items ≡ map (rotated capacity first) (range_with_len 0 capacity)) }
 {
     let back = capacity - first;
-    (0..capacity)
-        .map(|at| if at < back { first + at } else { at - back })
-        .collect(alloc)
+    let mut numbers = Vec::with_capacity(alloc, capacity as usize)?;
+    for at in 0..capacity {
+        let number = if at < back { first + at } else { at - back };
+        numbers.push(number)?;
+    }
+    Ok(numbers)
 }

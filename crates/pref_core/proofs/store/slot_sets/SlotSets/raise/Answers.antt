@@ -1,9 +1,18 @@
-use Rattle.pref_core.proofs.Common.{◌≡◌, refl, ◌-◌, ◌∙◌, suc, ap, map, length, get_or, slice_get, set, arith, with_items_is, numbered, use_at, moved_order, moved_positions}
+use Rattle.pref_core.proofs.Common.{◌≡◌, refl, ◌-◌, ◌<◌, ◌∙◌, suc, sym, subst, ap, map, length, get_or, slice_get, set, arith, with_items_is, numbered, use_at, IsInverse, moved_order, moved_positions}
 use Rattle.pref_core.proofs.SlotSetsLaws.{arranged_same, bound_some, raises}
 use Rattle.pref_core.proofs.store.slot_sets.SlotSets.raise.Goals as goal
 
 pub overflow_sub-last : goal.overflow_sub-last
 overflow_sub-last c = bound_some c.self.inside.order.items c.self.inside.positions.items c.self.inside.bounds c.args.place c.self.invariant c.args.from c.requires.few (ap (λ z. slice_get z c.args.place) c.self.view_is ∙ c.requires.there)
+
+pub move_to-requires : goal.move_to-requires
+move_to-requires c =
+    let step = raises c.self.inside.order.items c.self.inside.positions.items c.self.inside.bounds c.args.place c.self.invariant c.args.from c.requires.few (ap (λ z. slice_get z c.args.place) c.self.view_is ∙ c.requires.there) in
+    record {
+      inverse = subst (λ l. IsInverse l c.deref_mut-2.result.now) (sym c.deref_mut.ensures.value) (subst (λ l. IsInverse c.self.inside.order.items l) (sym c.deref_mut-2.ensures.value) c.self.invariant.inverse);
+      place = subst (λ l. c.args.place < length l) (sym c.deref_mut.ensures.value) step.here;
+      to = subst (λ l. get_or c.self.inside.bounds c.args.from 0 - 1 < length l) (sym c.deref_mut.ensures.value) step.there;
+    }
 
 pub invariant_of-self : goal.invariant_of-self
 invariant_of-self c =

@@ -1,6 +1,7 @@
 use Rattle.pref_core.proofs.Common.{◌≡◌, ◌+◌, ◌<◌, map, get_or, length, set, ap, sym, ◌∙◌, subst, arith, length-map, get_or-map, slice_get_within, Live, Ended, MayBecome, use_of, common_steps}
 use Rattle.pref_core.proofs.UsesAfterQuery.{use_few}
-use Rattle.pref_core.proofs.SweepLaws.{IsSweeping, AllZip-length, sweep_begins, sweep_goes, swept, swept_all}
+use Rattle.std.proofs.lemmas.List.Elements.{length_all_zip}
+use Rattle.pref_core.proofs.SweepLaws.{IsSweeping, sweep_begins, sweep_goes, swept, swept_all}
 use Rattle.pref_core.proofs.store.slot_sets.SlotSets.sweep.Goals as goal
 
 pub loop-turn-init : goal.loop-turn-init
@@ -12,7 +13,7 @@ returns-in_default c = grind (arith, common_steps, swept)
 pub bounds-slots-place : goal.bounds-slots-place
 bounds-slots-place c =
     let inside = slice_get_within c.loop-turn.self c.in-Some.place (Ended c.args.keeper) c.in-Some.ensures.found in
-    let long = AllZip-length (MayBecome c.args.keeper) _ _ c.loop-turn.invariant.may in
+    let long = length_all_zip (MayBecome c.args.keeper) _ _ c.loop-turn.invariant.may in
     let same = length-map c.args.slots.now (use_of c.args.callers.now) in
     omega arith
 
@@ -23,7 +24,7 @@ pub loop-turn-preserved : goal.loop-turn-preserved
 loop-turn-preserved c =
     let after = map (use_of c.args.callers.now) c.args.slots.now in
     let inside = slice_get_within c.loop-turn.self c.in-Some.place (Ended c.args.keeper) c.in-Some.ensures.found in
-    let long = AllZip-length (MayBecome c.args.keeper) _ _ c.loop-turn.invariant.may in
+    let long = length_all_zip (MayBecome c.args.keeper) _ _ c.loop-turn.invariant.may in
     let same = length-map c.args.slots.now (use_of c.args.callers.now) in
     let within : c.in-Some.place < length c.args.slots.now = omega arith in
     let slot_use : get_or after c.in-Some.place Live ≡ c.use_of-next_use.result

@@ -1,5 +1,0 @@
-use Rattle.pref_core.proofs.Common.{◌≡◌, ◌-◌, set, numbered}
-use Rattle.pref_core.proofs.store.slot_sets.SlotSets.lower_to.Given as goal
-
-abbrev pub invariant-loop-step : goal.invariant-loop-step
-invariant-loop-step l = l.self ≡ set l.initial.self l.place (numbered (l.from - l.step))
