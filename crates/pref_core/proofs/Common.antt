@@ -26,7 +26,7 @@ pub use Rattle.pref_core.specs.ContentsInvariant.{AreFresh, AreOldPlaces, FindsF
 pub use Rattle.pref_core.specs.ContentsInvariant.{with_slots}
 pub use Rattle.pref_core.specs.IdChains.{AreIds, AreLinked, AreLinks, IsBefore, IsNode, IsOnWay, LeadsTo, home_of, id_at, ids_of, is_above, opening_ids, opening_link, rank, shown}
 pub use Rattle.pref_core.specs.Indexes.{IsIndexOf, IsPlaceOf, Points, PointsAll, adds, given, is_row, placed_rows, row_at, slot_of}
-pub use Rattle.pref_core.specs.Laws.{BlocksAreTheSlots, DeletesNeedNoMore, EndsNeedNoMore, NeededFits, NeededFitsSlots, first_blocks}
+pub use Rattle.pref_core.specs.Laws.{BlocksAreTheSlots, EndsNeedNoMore, NeededFits, NeededFitsSlots, first_blocks}
 pub use Rattle.pref_core.specs.LentCalls.{change_of}
 pub use Rattle.pref_core.specs.Limits.{AreAllowed, Limits, blocks}
 pub use Rattle.pref_core.specs.MachineParts.{AddedReply, AddsReply, AnswersAt, Changes, IsInOrder, NextIsNewAt, ScansAt, ScansOne, is_begin, outcome_of, reply_for, reply_of, step_of}

@@ -1,13 +1,9 @@
 -- As many slots are in use as there are versions that are needed.
-use Rattle.pref_core.proofs.Common.{map-append, ◌≡◌, ℕ, suc, Bool, true, false, ◌&&◌, ◌||◌, cond, List, [], ◌∷◌, ◌++◌, filter, length, Option, Some, None, is_some, refl, sym, ap, ap₂, ◌∙◌, subst}
+use Rattle.pref_core.proofs.Common.{map-append, ◌≡◌, ◌≤◌, ℕ, suc, Bool, true, false, ◌&&◌, ◌||◌, cond, List, [], ◌∷◌, ◌++◌, filter, length, Option, Some, None, is_some, refl, sym, ap, ap₂, ◌∙◌}
 use Rattle.pref_core.proofs.Common.{cons_option, list_any, AllZip, list_any-IsPermutation, IsPermutation-map, length-filter, eq-eqb, Version, Caller, Line, Key, same_key, holds_key, keys, different}
 use Rattle.pref_core.proofs.Common.{State, Client, Snapshot, found_tables, needed, Contents, StandsFor, StandsForClient, Shows, ShowsBegin, seen, visible, is_needed, begins, stamps, AreDifferent}
 use Rattle.pref_core.proofs.Common.{used, list_any-append, arith}
 use Rattle.pref_core.proofs.SlotKeys.{slot_keys, holds_key-parts}
-
--- keys that the test calls the same are equal
-pub same_key-true : (a b : Key) → same_key a b ≡ true → a ≡ b
-same_key-true a b h = grind (arith)
 
 pub same_key_refl : (a : Key) → same_key a a ≡ true
 same_key_refl a = rw (eq-eqb a.id a.id refl, eq-eqb a.made a.made refl) refl
@@ -21,11 +17,6 @@ others_none : (x : Key) (ks : List Key) → holds_key ks x ≡ false → others 
 unfolding others
 others_none x [] h = refl
 others_none x (k ∷ ks) h = let p = holds_key-parts k ks x h in rw (p.0, others_none x ks p.1) refl
-
-holds_key-others : (x : Key) (ks : List Key) → holds_key (others x ks) x ≡ false
-unfolding others
-holds_key-others x [] = refl
-holds_key-others x (k ∷ ks) = grind (arith, holds_key-others x ks)
 
 pub holds_key-others-at : (x key : Key) (ks : List Key) → same_key key x ≡ false → holds_key (others x ks) key ≡ holds_key ks key
 unfolding others
@@ -42,20 +33,21 @@ unfolding others
 length-others x [] h is = absurd (cc)
 length-others x (k ∷ ks) h is = grind (arith, length-others x ks h.1, others, others_none)
 
--- lists without doubles that hold the same keys are as long
-same_length : (xs ys : List Key) → AreDifferent xs → AreDifferent ys → ((key : Key) → holds_key xs key ≡ holds_key ys key) → length xs ≡ length ys
-same_length [] [] p q same = refl
-same_length [] (y ∷ ys) p q same = let both : false ≡ true = same y ∙ ap (λ b. b || holds_key ys y) (same_key_refl y) in absurd (cc)
-same_length (x ∷ xs) ys p q same =
-    let there : holds_key ys x ≡ true = sym (same x) ∙ ap (λ b. b || holds_key xs x) (same_key_refl x) in
-    let rest = same_length xs (others x ys) p.1 (AreDifferent-others x ys q) (λ key. at key (same_key key x) refl) in
-    ap suc rest ∙ sym (length-others x ys q there)
+-- a list without doubles is no longer than one that holds its keys, ..
+pub fewer : (xs ys : List Key) → AreDifferent xs → AreDifferent ys → ((key : Key) → holds_key xs key ≡ true → holds_key ys key ≡ true) → length xs ≤ length ys
+fewer [] ys p q in_ = omega arith
+fewer (x ∷ xs) ys p q in_ =
+    let there : holds_key ys x ≡ true = in_ x (ap (λ b. b || holds_key xs x) (same_key_refl x)) in
+    let size = length-others x ys q there in
+    let rest = fewer xs (others x ys) p.1 (AreDifferent-others x ys q) (λ key h. at key (same_key key x) refl h) in
+    omega arith
   where
-    at : (key : Key) (b : Bool) → same_key key x ≡ b → holds_key xs key ≡ holds_key (others x ys) key
-    at key true e =
-        let is : key ≡ x = same_key-true key x e in
-        subst (λ k. holds_key xs k ≡ holds_key (others x ys) k) (sym is) (p.0 ∙ sym (holds_key-others x ys))
-    at key false e = sym (ap (λ b. b || holds_key xs key) e) ∙ same key ∙ sym (holds_key-others-at x key ys e)
+    at : (key : Key) (b : Bool) → same_key key x ≡ b → holds_key xs key ≡ true → holds_key (others x ys) key ≡ true
+    at key b e h = grind (arith, holds_key-others-at)
+
+-- .. and as long where it holds those keys alone
+same_length : (xs ys : List Key) → AreDifferent xs → AreDifferent ys → ((key : Key) → holds_key xs key ≡ holds_key ys key) → length xs ≡ length ys
+same_length xs ys p q same = let up = fewer xs ys p q (λ key h. sym (same key) ∙ h) in let down = fewer ys xs q p (λ key h. same key ∙ h) in omega arith
 
 pub holds_key-different : (ks : List Key) (key : Key) → holds_key (different ks) key ≡ holds_key ks key
 holds_key-different [] key = refl

@@ -1,18 +1,13 @@
 -- Laws of the sequential table and of the blocks. (this project)
 use Rattle.std.specs.Prelude.{◌≡◌, ℕ, zero, suc, ◌≤◌, List, [], ◌++◌, length, false, Option}
 use Rattle.pref_core.specs.declared.call.Call.{Call}
-use Rattle.pref_core.specs.declared.call.Call.TheVariants.{Delete}
 use Rattle.pref_core.specs.Limits.{Limits, AreAllowed, blocks}
 use Rattle.pref_core.specs.State.{State, needed, begins_row, committed}
 use Rattle.pref_core.specs.declared.store.version.Version.{Version}
 use Rattle.pref_core.specs.Slots.{Contents, StandsFor, block_of}
 use Rattle.pref_core.specs.History.{Numbered, IsLegalHistory, state_after}
 
--- A delete never makes `needed` larger.
-abbrev pub DeletesNeedNoMore : Type 0
-DeletesNeedNoMore = (state : State) (id : ℕ) → length (needed (committed (Delete id) state)) ≤ length (needed state)
-
--- Nor does any call that begins no row.
+-- A call that begins no row, as a delete, never makes `needed` larger.
 abbrev pub EndsNeedNoMore : Type 0
 EndsNeedNoMore = (state : State) (call : Call) → begins_row call ≡ false → length (needed (committed call state)) ≤ length (needed state)
 

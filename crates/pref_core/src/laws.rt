@@ -2,7 +2,7 @@
 //! of [`Store`](crate::engine::Store) and [`Query`](crate::engine::Query) build on.
 
 ghost use Rattle.pref_core.specs.History.{OpsAreHistory};
-ghost use Rattle.pref_core.specs.Laws.{DeletesNeedNoMore, EndsNeedNoMore, NeededFits, NeededFitsSlots, BlocksAreTheSlots};
+ghost use Rattle.pref_core.specs.Laws.{EndsNeedNoMore, NeededFits, NeededFitsSlots, BlocksAreTheSlots};
 ghost use Rattle.pref_core.specs.Queries.{NextBlockIsNew, AnswersTheBegin};
 ghost use Rattle.pref_core.specs.Stability.{IsStable};
 
@@ -18,12 +18,8 @@ pub fn ops_are_history()
     ensures { OpsAreHistory }
 {}
 
-/// A delete never makes the needed versions more, so it is never refused for lack of room.
-pub fn deletes_need_no_more()
-    ensures { DeletesNeedNoMore }
-{}
-
-/// Nor does any call that begins no row, so the code asks for room only where one begins.
+/// A call that begins no row, as a delete, never makes the needed versions more: so it is never refused for lack of
+/// room, and the code asks for room only where a row begins.
 pub fn ends_need_no_more()
     ensures { EndsNeedNoMore }
 {}
