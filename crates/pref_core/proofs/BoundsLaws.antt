@@ -4,6 +4,7 @@ use Rattle.pref_core.proofs.Common.{slice_set, refl, ap, arith, AllByRecursion, 
 use Rattle.pref_core.proofs.Common.{added, refusal_of, is_formed, Contents, filled, slots_after, begin_after, callers_after, is_next, stepped, IsBounded}
 use Rattle.pref_core.proofs.AppliedLaws.{IsAllowed, IsAllowed-from}
 use Rattle.pref_core.proofs.ChangeCounts.{added_by-length}
+pub use Rattle.pref_core.proofs.SlotKeys.{AllByRecursion-set}
 
 total-small : (callers : List Caller) → length callers ≤ 8 → AllByRecursion (λ caller. caller.calls ≤ 2 ^ 56) callers → sum_by (λ caller. caller.calls) callers ≤ 2 ^ 59
 total-small callers few small =
@@ -18,10 +19,6 @@ next_id-small contents h = let total = total-small contents.callers h.callers h.
 
 pub sum_by-set_suc : {X : Type 0} (f : X → ℕ) (xs : List X) (k : ℕ) (x y : X) → slice_get xs k ≡ Some x → f y ≡ suc (f x) → sum_by f (slice_set xs k y) ≡ suc (sum_by f xs)
 sum_by-set_suc f xs k x y at h = omega (arith, sum_by-set f xs k y x (slice_get_within xs k x at), ap f (get_or_from_slice_get xs k x x at), h)
-
-pub AllByRecursion-set : {X : Type 0} (P : X → Type 0) (xs : List X) (k : ℕ) (y : X) → P y → AllByRecursion P xs → AllByRecursion P (slice_set xs k y)
-AllByRecursion-set P (z ∷ xs) (suc k) y p h = (h.0, AllByRecursion-set P xs k y p h.1)
-AllByRecursion-set P xs k y p h = grind (arith)
 
 -- the slots stay as many
 pub length-filled : (ns : List ℕ) (made : ℕ) (places : List ℕ) (begun : List Entry) (slots after : List (Option Version)) → filled ns made places begun slots ≡ Some after → length after ≡ length slots

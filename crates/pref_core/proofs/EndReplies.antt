@@ -6,7 +6,7 @@ use Rattle.pref_core.proofs.Common.{refusal_of, refusal_by_query, begun_after, n
 use Rattle.pref_core.proofs.Common.{applied, Scan, Running, StandsForSystem, Returns, is_refusal, AnswersAt, step_of}
 use Rattle.std.specs.Global.{Vec}
 use Rattle.pref_core.proofs.QueryLaws.{follows_answered}
-use Rattle.pref_core.proofs.SystemsLaws.{refusal_nobody, IsThere-from, IsLetIn, IsLetIn-from, queried_stands, query_shows}
+use Rattle.pref_core.proofs.SystemsLaws.{refusal_nobody, IsThere, IsThere-from, IsLetIn, IsLetIn-from, queried_stands, query_shows}
 use Rattle.pref_core.proofs.ChangeReplies.{PlansAlways, plan_accepts, running_of, refused_does, refused_returns, somebody_steps, let_in_steps}
 use Rattle.pref_core.proofs.ScanReplies.{IsAsking-from, IsIdle-from, nobody_there, some_left, no_left}
 
@@ -120,11 +120,7 @@ finish_not_done running system client op fault h plans says = go (seat client ru
         says
 
 -- Reads.
-record IsSomebody (system : System) (client : ℕ) : Type 0 where
-  who : Member
-  at : seat client system.members ≡ Some who
-
-somebody_there : (running : Running) (system : System) (client : ℕ) → StandsForSystem running system → is_some (seat client running.scans) ≡ true → IsSomebody system client
+somebody_there : (running : Running) (system : System) (client : ℕ) → StandsForSystem running system → is_some (seat client running.scans) ≡ true → IsThere system client
 somebody_there running system client h t = grind (arith)
 
 abbrev pub found_or_missing : ℕ → Option Row → Result Reply CoreFault

@@ -1,8 +1,8 @@
 -- The rows that a call begins, in their slots, one after the other.
 use Rattle.pref_core.proofs.Common.{◌≡◌, ℕ, suc, ◌+◌, ◌^◌, ◌<◌, Bool, true, false, not, ◌&&◌, cond, eqb, nat_eq, List, [], ◌∷◌, ◌++◌, map, length, drop, set, Option, Some, None, is_some}
-use Rattle.pref_core.proofs.Common.{slice_get, get_or, unwrap_or, refl, sym, ap, ap₂, ◌∙◌, subst, arith, ⊎_elim, AllByRecursion, length-map, map-set, set-set, map-set_same, option_map}
+use Rattle.pref_core.proofs.Common.{slice_get, get_or, unwrap_or, refl, sym, ap, ◌∙◌, subst, arith, ⊎_elim, AllByRecursion, length-map, map-set, map-set_same, option_map}
 use Rattle.pref_core.proofs.Common.{slice_get_within, slice_get-get_or, slice_get-map, le-leb, eqb-true, ne_eqb, cases_eq, or_parts, and_parts, true≢false, Version, SlotUse, Free, Live, Entry}
-use Rattle.pref_core.proofs.Common.{among, has, Op, Call, Update, Outcome, State, ended, begun, begins_row, added, missing, success_outcome, is_change, succeeds, Contents, StandsFor, IsWithin}
+use Rattle.pref_core.proofs.Common.{among, has, Op, Call, Outcome, State, ended, begun, begins_row, added, missing, success_outcome, is_change, succeeds, Contents, StandsFor, IsWithin}
 use Rattle.pref_core.proofs.Common.{is_visible, begins, stamps, new_version, visible, close, close_at, grown, is_free, filled, outcome_at, is_next, slots_after, used, is_free_use, free_at, use_of}
 use Rattle.pref_core.proofs.Common.{is_row, row_at, IsPlaceOf, shown, ids_of, id_at, AreIds, AreLinks, IsTracked, AreFresh, with_slots, are_free, same_Some}
 use Rattle.pref_core.proofs.AppliedLaws.{IsAllowed-from, succeeds-missing}
@@ -11,12 +11,12 @@ use Rattle.pref_core.proofs.ChangesLaws.{among_append}
 use Rattle.pref_core.proofs.ChangeCounts.{drop_item, drop_inside}
 use Rattle.pref_core.proofs.RowEndLaws.{none_closed, one_closed, row_alive, within_closed, ids_closed, links_ended, closed_uses, filled_uses}
 use Rattle.pref_core.proofs.IndexedRows.{other_place}
-use Rattle.pref_core.proofs.SlotKeys.{eqb_comm, within-set}
-use Rattle.pref_core.proofs.IdsAfterCommit.{links_born, fresh_begun, tracked_next}
+use Rattle.pref_core.proofs.SlotKeys.{eqb_comm, AllByRecursion-set}
+use Rattle.pref_core.proofs.IdsAfterCommit.{links_born, fresh_begun}
 use Rattle.pref_core.proofs.IdChainsLaws.{shows_row}
 use Rattle.pref_core.proofs.PlanLaws.{close_none}
 use Rattle.pref_core.proofs.SlotsForAll.{filled_snoc, free_still, taken}
-use Rattle.pref_core.proofs.SlotUseLaws.{holds_there, free_use, has_row_at, row_version}
+use Rattle.pref_core.proofs.SlotUseLaws.{holds_there, free_use, has_row_at}
 
 -- Slots fit rows where there are as many, each is free, and none comes twice.
 fills_where : (made : ℕ) (ns earlier : List ℕ) (before : List Entry) (slots now : List (Option Version)) (places : List ℕ) (begun : List Entry) → filled (made ∷ ns) made earlier before slots ≡ Some now → length places ≡ length begun
@@ -215,9 +215,6 @@ module _ (contents : Contents) (uses : List SlotUse) (links : List ℕ) (id plac
   visible_here = and_parts (eqb version.id id) (is_visible contents.stamp version) row_here
 
   -- .. or is replaced where it stands, ..
-  pub replace_slots : (new : Option Version) → set (map (close (id ∷ []) contents.stamp) contents.slots) place new ≡ set contents.slots place new
-  replace_slots new = ap (λ l. set l place new) (sym end_slots) ∙ set-set contents.slots place last new
-
   here : (new : Option Version) → get_or contents.slots place new ≡ Some version
   here new = ap (λ o. unwrap_or o new) (sym (slice_get-get_or contents.slots place new end_inside) ∙ at)
 
@@ -234,7 +231,7 @@ module _ (contents : Contents) (uses : List SlotUse) (links : List ℕ) (id plac
       let ids_same = map-set_same (shown contents.stamp) contents.slots place new new id_here in
       record {
         seats = h.seats;
-        within = subst (λ r. AllByRecursion (IsWithin contents.next_id contents.stamp) (set contents.slots place r)) (sym is) (within-set contents.next_id contents.stamp contents.slots place (new_version contents.stamp entry) (low, omega arith, tt) h.within);
+        within = subst (λ r. AllByRecursion (IsWithin contents.next_id contents.stamp) (set contents.slots place r)) (sym is) (AllByRecursion-set (IsWithin contents.next_id contents.stamp) contents.slots place (new_version contents.stamp entry) (low, omega arith, tt) h.within);
         listed = h.listed ∙ sym (map-set_same (use_of contents.callers) contents.slots place new new slot_use);
         linked = subst (λ ids. AreLinks ids links) (sym ids_same) h.linked;
         ids = subst (λ ids. AreIds (2 ^ 64) (id_at ids)) (sym ids_same) h.ids;
@@ -246,7 +243,7 @@ pub begin_tracked : (contents : Contents) (uses : List SlotUse) (links : List �
     → IsTracked (with_slots (set contents.slots place row) contents) uses_new links_new
 begin_tracked contents uses links entry place row uses_new links_new h free absent low small is returned linked = record {
   seats = h.seats;
-  within = subst (λ r. AllByRecursion (IsWithin contents.next_id contents.stamp) (set contents.slots place r)) (sym is) (within-set contents.next_id contents.stamp contents.slots place (new_version contents.stamp entry) (low, omega arith, tt) h.within);
+  within = subst (λ r. AllByRecursion (IsWithin contents.next_id contents.stamp) (set contents.slots place r)) (sym is) (AllByRecursion-set (IsWithin contents.next_id contents.stamp) contents.slots place (new_version contents.stamp entry) (low, omega arith, tt) h.within);
   listed = filled_uses contents.callers contents.slots uses uses_new place row entry contents.stamp h.listed is returned;
   linked = links_born contents.stamp place entry row contents.slots links_new is linked;
   ids = subst (λ r. AreIds (2 ^ 64) (id_at (ids_of contents.stamp (set contents.slots place r)))) (sym is) (ids_born contents.stamp place entry contents.slots small (free_inside contents uses links place h free) absent h.ids);
@@ -296,22 +293,3 @@ commit_fresh now start closed state op first is next ends stands legal c s =
 pub commit_filled : (now start closed : Contents) (op : Op) (first : ℕ) → start ≡ begun_commit now (added op.call) → first ≡ now.next_id → closed ≡ with_slots (map (close (ended op.call) start.stamp) start.slots) start
     → is_change op.call ≡ true → succeeds op.outcome ≡ true → filled (stamps closed) closed.stamp op.slots (begun first op.call) closed.slots ≡ slots_after now op
 commit_filled now start closed op first is next ends c s = grind (arith)
-
--- An update whose row stays in its slot writes this slot alone.
-pub commit_replaced : (now : Contents) (uses : List SlotUse) (links : List ℕ) (op : Op) (entry : Entry) (place : ℕ) → IsTracked now uses links → op.call ≡ Update entry.id entry.row → op.slots ≡ place ∷ []
-    → row_at (suc now.stamp) entry.id now.slots place ≡ true → is_change op.call ≡ true → succeeds op.outcome ≡ true → is_some (slots_after now op) ≡ true
-    → slots_after now op ≡ Some (set now.slots place (new_version (suc now.stamp) entry))
-commit_replaced now uses links op entry place h call slots row c s fits =
-    let start = begun_commit now (added op.call) in
-    let tracked = tracked_next now uses links (added op.call) h in
-    let found = row_version (suc now.stamp) entry.id now.slots place row in
-    let new = new_version (suc now.stamp) entry in
-    let closed : Contents = with_slots (map (close (entry.id ∷ []) (suc now.stamp)) now.slots) start in
-    let ends : closed ≡ with_slots (map (close (ended op.call) (suc now.stamp)) now.slots) start = ap (λ a. with_slots (map (close (ended a) (suc now.stamp)) now.slots) start) (sym call) in
-    let returned : slots_after now op ≡ filled (stamps closed) (suc now.stamp) (place ∷ []) (entry ∷ []) closed.slots =
-    sym (commit_filled now start closed op now.next_id refl refl ends c s) ∙ ap₂ (λ places a. filled (stamps closed) (suc now.stamp) places (begun now.next_id a) closed.slots) slots call in
-    returned ∙ (go (is_free (stamps closed) closed.slots place) (set closed.slots place new) (ap is_some (sym returned) ∙ fits)
-    ∙ ap Some (replace_slots start uses links entry.id place found.0 tracked row found.1 new))
-  where
-    go : (free : Bool) (after : List (Option Version)) → is_some (cond free (Some after) None) ≡ true → cond free (Some after) None ≡ Some after
-    go free after e = grind (arith)

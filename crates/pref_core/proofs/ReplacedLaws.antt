@@ -7,6 +7,7 @@ use Rattle.pref_core.specs.declared.changes.LentChange.TheVariants.{Set as LentS
 use Rattle.pref_core.proofs.ChangesLaws.{AreApart, drop_at}
 use Rattle.pref_core.proofs.ChangeCounts.{drop_inside, drop_item}
 use Rattle.pref_core.proofs.FilledLaws.{begun_commit, close_more, commit_filled, end_slots, replace_tracked}
+use Rattle.pref_core.proofs.Common.{Entry, Update}
 use Rattle.pref_core.proofs.IdsAfterCommit.{tracked_next}
 use Rattle.pref_core.proofs.PlanLaws.{close_none}
 use Rattle.pref_core.proofs.StabilityLaws.{slice_get-set_same, slice_get-set_other}
@@ -71,6 +72,15 @@ commit_kept now uses links op h apart keep c s fits =
     let closed : Contents = with_slots (map (close (ended op.call) (suc now.stamp)) now.slots) start in
     let returned = sym (commit_filled now start closed op now.next_id refl refl refl c s) in
     returned ∙ rows_replaced start uses links now.next_id (changes_of op.call) op.slots (tracked_next now uses links (added op.call) h) apart keep (ap is_some (sym returned) ∙ fits)
+
+-- So an update whose row stays in its slot writes this slot alone.
+pub commit_replaced : (now : Contents) (uses : List SlotUse) (links : List ℕ) (op : Op) (entry : Entry) (place : ℕ) → IsTracked now uses links → op.call ≡ Update entry.id entry.row → op.slots ≡ place ∷ []
+    → row_at (suc now.stamp) entry.id now.slots place ≡ true → is_change op.call ≡ true → succeeds op.outcome ≡ true → is_some (slots_after now op) ≡ true
+    → slots_after now op ≡ Some (set now.slots place (new_version (suc now.stamp) entry))
+commit_replaced now uses links op entry place h call slots row c s fits =
+    commit_kept now uses links op h (subst (λ a. AreApart (ended a)) (sym call) (refl, tt))
+    (subst (λ a. KeepSlots (suc now.stamp) now.slots (changes_of a) op.slots) (sym call) (subst (KeepSlots (suc now.stamp) now.slots (Set entry.id entry.row ∷ [])) (sym slots) (row, tt))) c s fits
+    ∙ ap₂ (λ a l. Some (replaced (suc now.stamp) (changes_of a) l now.slots)) call slots
 
 -- What is left of the rows, when some were replaced.
 pub record ReplacedUpTo (start now : Contents) (changes : List Change) (places : List ℕ) (all : List (Option Version)) : Type 0 where

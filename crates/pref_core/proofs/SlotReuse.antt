@@ -1,8 +1,8 @@
 -- New versions go into slots that aren't needed.
 use Rattle.pref_core.proofs.Common.{◌≡◌, ℕ, suc, ◌+◌, Bool, true, false, cond, List, ◌∷◌, ◌++◌, map, length, Option, Some, None, slice_get, slice_set, refl, ap, ◌∙◌, subst, arith}
-use Rattle.pref_core.proofs.Common.{AllByRecursion, Version, Entry, State, Contents, StandsFor, seen, is_needed, stamps, begins, new_version, is_free, filled}
+use Rattle.pref_core.proofs.Common.{AllByRecursion, IsWithin, Version, Entry, State, Contents, StandsFor, seen, is_needed, stamps, begins, new_version, is_free, filled}
 use Rattle.pref_core.proofs.StandsForLaws.{Shows-set, hidden_unneeded, clients-set}
-use Rattle.pref_core.proofs.SlotKeys.{AreDifferent-set, within-set}
+use Rattle.pref_core.proofs.SlotKeys.{AreDifferent-set, AllByRecursion-set}
 
 -- what a free slot is
 pub record IsFree (ns : List ℕ) (slots : List (Option Version)) (place : ℕ) : Type 0 where
@@ -24,7 +24,7 @@ set_stands contents state place new free h =
       table = Shows-set contents.stamp contents.slots place free.old new state.table free.at hidden.0 h.table;
       clients = clients-set contents.stamp contents.slots place free.old new free.at contents.callers state.clients hidden.1 h.clients;
       separate = AreDifferent-set contents.slots place new h.separate;
-      within = within-set contents.next_id contents.stamp contents.slots place new h.within.0 h.within.1;
+      within = AllByRecursion-set (IsWithin contents.next_id contents.stamp) contents.slots place new h.within.0 h.within.1;
     }
 
 slice_get_behind : {X : Type 0} (front xs : List X) (i n : ℕ) → n ≡ length front + i → slice_get (front ++ xs) n ≡ slice_get xs i
