@@ -10,7 +10,8 @@ use Rattle.pref_core.proofs.SlotKeys.{within-close}
 use Rattle.pref_core.proofs.IdsAfterCommit.{known_ids}
 use Rattle.pref_core.proofs.IdChainsLaws.{row_shown}
 use Rattle.pref_core.proofs.StabilityLaws.{slice_get-set_other}
-use Rattle.pref_core.proofs.SlotUseLaws.{count_by-cons, holds_there, has_row_at, row_version, free_use, needed_uses, spare_use}
+use Rattle.pref_sky.proofs.ListLaws.{count_cons}
+use Rattle.pref_core.proofs.SlotUseLaws.{holds_there, has_row_at, row_version, free_use, needed_uses, spare_use}
 
 -- A row leaves its slot free where no query needs its version as it ends.
 pub frees_row : (stamps ids : List ℕ) (next stamp id place : ℕ) (slots : List (Option Version)) (version : Version) → AllByRecursion (IsWithin next stamp) slots → slice_get slots place ≡ Some (Some version) → among ids id ≡ true
@@ -71,8 +72,8 @@ same_count [] [] long same = refl
 same_count [] (z ∷ zs) long same = absurd (omega arith)
 same_count (z ∷ zs) [] long same = absurd (omega arith)
 same_count (x ∷ xs) (y ∷ ys) long same =
-    let a = count_by-cons is_free_use x xs in
-    let b = count_by-cons is_free_use y ys in
+    let a = count_cons is_free_use x xs in
+    let b = count_cons is_free_use y ys in
     let first : is_free_use y ≡ is_free_use x = same zero in
     let one : ◌≡◌ {A = ℕ} (cond (is_free_use y) 1 0) (cond (is_free_use x) 1 0) = ap (λ t. cond t 1 0) first in
     let rest : count_by is_free_use ys ≡ count_by is_free_use xs = same_count xs ys (omega arith) (λ p. same (suc p)) in
@@ -87,8 +88,8 @@ free_other uses mark p n = ap (λ (o : Option SlotUse). elim o as (λ x. Bool) [
 
 count_one : (uses : List SlotUse) (mark : ℕ) → mark < length uses → free_at uses mark ≡ false → count_by is_free_use (set uses mark Free) ≡ suc (count_by is_free_use uses)
 count_one [] mark l f = absurd (omega arith)
-count_one (z ∷ zs) zero l f = grind (arith, count_by-cons is_free_use Free zs)
-count_one (z ∷ zs) (suc mark) l f = grind (arith, count_one zs mark (omega arith) f, count_by-cons is_free_use z zs, count_by-cons is_free_use z (set zs mark Free))
+count_one (z ∷ zs) zero l f = grind (arith, count_cons is_free_use Free zs)
+count_one (z ∷ zs) (suc mark) l f = grind (arith, count_one zs mark (omega arith) f, count_cons is_free_use z zs, count_cons is_free_use z (set zs mark Free))
 
 marked_count : (before after : List SlotUse) (marks : List ℕ) → length before ≡ length after → AreApart marks
     → ((p : ℕ) → among marks p ≡ true → (p < length before) × (free_at before p ≡ false)) → ((p : ℕ) → free_at after p ≡ (free_at before p || among marks p))

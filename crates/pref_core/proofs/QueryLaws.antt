@@ -1,13 +1,12 @@
 -- A query that follows its table: no id comes twice, a scan keeps on, and the end is the table's answer.
 use Rattle.pref_core.proofs.Common.{◌≡◌, ℕ, zero, suc, ◌+◌, ◌*◌, ◌≤◌, Bool, false, cond, eqb, ◌==◌, List, [], ◌∷◌, ◌++◌, length, take, drop, Option, Some, filter, refl, sym, ap, ◌∙◌, subst, arith}
-use Rattle.pref_core.proofs.Common.{inl, inr, AllByRecursion, count_by, IsPermutation, map-append, take_all, take-append-drop, filter_map-append, sum_by-cons, sum_by-append, IsPermutation-map}
+use Rattle.pref_core.proofs.Common.{AllByRecursion, count_by, IsPermutation, map-append, take_all, take-append-drop, filter_map-append, sum_by-cons, IsPermutation-map}
 use Rattle.pref_core.proofs.Common.{sum_by-IsPermutation, Entry, Ranked, answer_of, Question, Version, Limits, AreAllowed, Line, IsOrdered, entries, Contents, Shows, seen, visible, block_of}
 use Rattle.pref_core.proofs.Common.{caller_begun, ran, Scan, begin, levels_for, next_block, NextIsNew, IsScanned, ends_query, Op, first_blocks, BlocksAreTheSlots, Open, one_less, Follows, take-add}
 use Rattle.pref_sky.specs.Levels.{HaveDifferentIds}
-use Rattle.pref_sky.specs.Members.{Among, SameMembers}
-use Rattle.pref_sky.proofs.LevelLaws.{levels_of_none, held_differ, answer_of_same}
+use Rattle.pref_sky.proofs.ListLaws.{same_if_permuted}
+use Rattle.pref_sky.proofs.LevelLaws.{levels_of_none, held_differ, answer_of_same, first_differ}
 use Rattle.pref_core.specs.Queries.{IsOnItsWay}
-use Rattle.pref_core.proofs.Permutations.{along_permutation}
 use Rattle.pref_core.proofs.LineOfLaws.{one_line}
 use Rattle.pref_core.proofs.StabilityLaws.{shown, shown_ran}
 use Rattle.pref_core.proofs.VisibleAfterOp.{visible_take, length-ran}
@@ -29,14 +28,11 @@ differs_along xs ys same different = record { once = λ id. let a = sum_by-IsPer
 pub shown_differs : (slots : List (Option Version)) (stamp : ℕ) (table : List Line) → Shows slots stamp table → HaveDifferentIds (entries (visible stamp slots))
 shown_differs slots stamp table shows = differs_along _ _ (IsPermutation-map (λ (l : Line). record { id = l.id; row = l.row }) _ _ shows.lines) (table_differs table shows.ordered)
 
-front_differs : (xs ys : List Entry) → HaveDifferentIds (xs ++ ys) → HaveDifferentIds xs
-front_differs xs ys different = record { once = λ id. let a = sum_by-append (λ (e : Entry). cond {A = ℕ} (e.id == id) 1 0) xs ys in let b = different.once id in omega arith }
-
 entries_append : (stamp : ℕ) (xs ys : List (Option Version)) → entries (visible stamp (xs ++ ys)) ≡ entries (visible stamp xs) ++ entries (visible stamp ys)
 entries_append stamp xs ys = ap entries (filter_map-append (seen stamp) xs ys) ∙ map-append (λ (l : Line). record { id = l.id; row = l.row }) (visible stamp xs) (visible stamp ys)
 
 taken_differs : (slots : List (Option Version)) (stamp n : ℕ) (table : List Line) → Shows slots stamp table → HaveDifferentIds (entries (visible stamp (take n slots)))
-taken_differs slots stamp n table shows = grind (arith, front_differs, take-append-drop n slots, entries_append stamp (take n slots) (drop n slots), shown_differs slots stamp table shows)
+taken_differs slots stamp n table shows = grind (arith, first_differ, take-append-drop n slots, entries_append stamp (take n slots) (drop n slots), shown_differs slots stamp table shows)
 
 one_more : (d n : ℕ) → d * n + n ≡ (d + 1) * n
 one_more d n = omega arith
@@ -83,20 +79,6 @@ follows_scanned slots scan new query shows h is =
       way = scanned_on_its_way slots scan new query.table (subst (λ n. Shows slots n query.table) (sym h.stamp) shows) h.way is;
     }
 
--- the same members along a permutation
-same_cons : (x : Entry) (xs ys : List Entry) → SameMembers xs ys → SameMembers (x ∷ xs) (x ∷ ys)
-same_cons x xs ys h = record { there = λ y m. elim m [ inl e ↦ inl e | inr l ↦ inr (h.there y l) ]; back = λ y m. elim m [ inl e ↦ inl e | inr l ↦ inr (h.back y l) ] }
-
-over_members : (x y : Entry) (xs : List Entry) (z : Entry) → Among z (x ∷ y ∷ xs) → Among z (y ∷ x ∷ xs)
-over_members x y xs z m = elim m [ inl e ↦ inr (inl e) | inr l ↦ elim l [ inl e ↦ inl e | inr r ↦ inr (inr r) ] ]
-
-pub same_members : (xs ys : List Entry) → IsPermutation xs ys → SameMembers xs ys
-same_members = along_permutation (λ xs ys. SameMembers xs ys)
-    (λ xs. record { there = λ y m. m; back = λ y m. m })
-    same_cons
-    (λ x y xs. record { there = over_members x y xs; back = over_members y x xs })
-    (λ xs ys zs a b. record { there = λ y m. b.there y (a.there y m); back = λ y m. a.back y (b.back y m) })
-
 pub begun_on_its_way : (limits : Limits) (slots : List (Option Version)) (ask : Question) (stamp : ℕ) → AreAllowed limits → length slots ≡ limits.capacity → IsOnItsWay slots (begin ask stamp limits)
 begun_on_its_way limits slots ask stamp allowed long = grind (arith, levels_of_none)
 
@@ -122,7 +104,7 @@ answers_the_begin slots scan table ranked shows h none says =
     let held : scan.partial ≡ levels_for scan.ask (entries (visible scan.stamp slots)) = h.partial ∙ (λ i. levels_for scan.ask (entries (visible scan.stamp (whole i)))) in
     let arranged = IsPermutation-map (λ (l : Line). record { id = l.id; row = l.row }) _ _ shows.lines in
     says (entries (visible scan.stamp slots)) held
-    ∙ answer_of_same scan.ask _ _ (shown_differs slots scan.stamp table shows) (table_differs table shows.ordered) (same_members _ _ arranged)
+    ∙ answer_of_same scan.ask _ _ (shown_differs slots scan.stamp table shows) (table_differs table shows.ordered) (same_if_permuted _ _ arranged)
 
 pub follows_answered : (slots : List (Option Version)) (scan : Scan) (query : Open) (ranked : List Ranked) → Shows slots query.commits query.table → Follows slots scan query → scan.left ≡ 0
     → ((list : List Entry) → scan.partial ≡ levels_for scan.ask list → ranked ≡ answer_of scan.ask list) → ranked ≡ answer_of query.ask (entries query.table)

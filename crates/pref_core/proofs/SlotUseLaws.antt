@@ -1,11 +1,9 @@
 -- The uses of slots, and how many are free.
 use Rattle.pref_core.proofs.Common.{◌≡◌, ℕ, zero, suc, ◌+◌, ◌<◌, Bool, true, false, not, ◌&&◌, cond, eqb, List, [], ◌∷◌, map, length, Option, Some, None, slice_get, refl, ap}
-use Rattle.pref_core.proofs.Common.{arith, count_by, cons_option, AllByRecursion, sum_by-cons, Version, Caller, among, has, is_visible}
+use Rattle.pref_core.proofs.Common.{arith, count_by, cons_option, AllByRecursion, Version, Caller, has, is_visible}
 use Rattle.pref_core.proofs.Common.{visible, line, is_needed, begins, IsWithin, is_free, is_free_use, free_at, kept_from, use_of, is_spare, row_at}
 use Rattle.pref_core.proofs.NeededCounts.{is_needed-empty}
-
-pub count_by-cons : {X : Type 0} (p : X → Bool) (x : X) (xs : List X) → count_by p (x ∷ xs) ≡ cond (p x) 1 0 + count_by p xs
-count_by-cons p x xs = sum_by-cons (λ y. cond (p y) 1 0) x xs
+use Rattle.pref_sky.proofs.ListLaws.{count_cons}
 
 pub holds_there : {X : Type 0} (P : X → Type 0) (xs : List X) (k : ℕ) (x : X) → slice_get xs k ≡ Some x → AllByRecursion P xs → P x
 holds_there P (y ∷ xs) (suc k) x at h = holds_there P xs k x at h.1
@@ -26,21 +24,12 @@ needed_use next now callers slot h = grind (arith, spare_use, is_needed-empty)
 -- The slots that are needed, and those that are free, are all.
 pub needed_uses : (next now : ℕ) (callers : List Caller) (slots : List (Option Version)) → AllByRecursion (IsWithin next now) slots → count_by (is_needed (now ∷ begins callers)) slots + count_by is_free_use (map (use_of callers) slots) ≡ length slots
 needed_uses next now callers [] h = refl
-needed_uses next now callers (slot ∷ slots) h = grind (arith, needed_uses next now callers slots h.1, count_by-cons (is_needed (now ∷ begins callers)) slot slots, count_by-cons is_free_use (use_of callers slot) (map (use_of callers) slots), needed_use next now callers slot h.0)
+needed_uses next now callers (slot ∷ slots) h = grind (arith, needed_uses next now callers slots h.1, count_cons (is_needed (now ∷ begins callers)) slot slots, count_cons is_free_use (use_of callers slot) (map (use_of callers) slots), needed_use next now callers slot h.0)
 
 -- A place is free by its slot where it is by its slot_use.
 pub free_use : (next now : ℕ) (callers : List Caller) (slots : List (Option Version)) (place : ℕ) → AllByRecursion (IsWithin next now) slots → is_free (now ∷ begins callers) slots place ≡ free_at (map (use_of callers) slots) place
 free_use next now callers (slot ∷ slots) (suc place) h = free_use next now callers slots place h.1
 free_use next now callers slots place h = grind (arith, needed_use)
-
--- Whether the slot holds a row of one of these ids that hasn't ended.
-abbrev pub live_by : List ℕ → ℕ → Option ℕ → Bool
-live_by ids id None = among ids id
-live_by ids id (Some death) = false
-
-abbrev pub live : List ℕ → Option Version → Bool
-live ids None = false
-live ids (Some version) = live_by ids version.id version.death
 
 pub one_no : (b : Bool) → b ≡ false → ◌≡◌ {A = ℕ} (cond b 1 0) 0
 one_no b e = ap (λ t. cond t 1 0) e

@@ -2,7 +2,8 @@
 use Rattle.pref_core.proofs.Common.{◌≡◌, ℕ, zero, suc, ◌+◌, ◌<◌, ◌≤◌, Bool, true, false, not, cond, eqb, List, [], ◌∷◌, ◌++◌, map, length, Option, Some, None, slice_get, slice_set, refl, sym, ap}
 use Rattle.pref_core.proofs.Common.{arith, count_by, count_by-le-length, or_parts, eqb-false, Version, Entry, among, is_needed, new_version, is_free, filled, not-false}
 use Rattle.pref_core.proofs.SlotSetsLaws.{count_set}
-use Rattle.pref_core.proofs.SlotUseLaws.{count_by-cons, one_no}
+use Rattle.pref_sky.proofs.ListLaws.{count_cons}
+use Rattle.pref_core.proofs.SlotUseLaws.{one_no}
 use Rattle.pref_core.proofs.StabilityLaws.{slice_get-set_same, slice_get-set_other}
 use Rattle.pref_core.proofs.BoundsLaws.{length-filled}
 
@@ -57,7 +58,7 @@ taken made ns (first ∷ places) begun slots now place e a = grind (arith, taken
 -- where no place is free all are needed
 pub all_needed : (ns : List ℕ) (slots : List (Option Version)) → ((place : ℕ) → is_free ns slots place ≡ false) → count_by (is_needed ns) slots ≡ length slots
 all_needed ns [] h = refl
-all_needed ns (slot ∷ slots) h = grind (arith, all_needed ns slots (λ place. h (suc place)), count_by-cons (is_needed ns) slot slots, one_of (is_needed ns slot) (not-false (is_needed ns slot) (h zero)))
+all_needed ns (slot ∷ slots) h = grind (arith, all_needed ns slots (λ place. h (suc place)), count_cons (is_needed ns) slot slots, one_of (is_needed ns slot) (not-false (is_needed ns slot) (h zero)))
 
 -- As long as rows are left that fit, some free place is not among those chosen so far: whoever looks at each place that was free finds one.
 pub some_left : (made : ℕ) (ns places : List ℕ) (begun : List Entry) (slots now : List (Option Version)) → filled (made ∷ ns) made places begun slots ≡ Some now
@@ -74,4 +75,4 @@ some_left made ns places begun slots now e fits chosen =
 -- the needed versions once these rows have begun, had they always room
 pub count_grown : (made : ℕ) (ns : List ℕ) (begun : List Entry) (slots : List (Option Version)) → count_by (is_needed (made ∷ ns)) (map (new_version made) begun ++ slots) ≡ count_by (is_needed (made ∷ ns)) slots + length begun
 count_grown made ns [] slots = omega arith
-count_grown made ns (fresh ∷ rest) slots = grind (arith, count_grown made ns rest slots, count_by-cons (is_needed (made ∷ ns)) (new_version made fresh) (map (new_version made) rest ++ slots))
+count_grown made ns (fresh ∷ rest) slots = grind (arith, count_grown made ns rest slots, count_cons (is_needed (made ∷ ns)) (new_version made fresh) (map (new_version made) rest ++ slots))

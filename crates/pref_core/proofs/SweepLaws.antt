@@ -2,10 +2,7 @@
 use Rattle.pref_core.proofs.Common.{◌≡◌, ℕ, zero, suc, ◌+◌, ◌<◌, ◌≤◌, false, cond, List, [], ◌∷◌, length, get_or, set, Some, slice_get, refl, ap, ap₂, arith, ⊎_elim, inl, count_by, AllZip}
 use Rattle.pref_core.proofs.Common.{count_by-le-length, slice_get_within, eq-eqb, SlotUse, Free, Live, Ended, is_kept_by, MayBecome}
 use Rattle.pref_core.proofs.SlotSetsLaws.{count_set}
-
-pub AllZip-length : {A B : Type 0} (R : A → B → Type 0) (xs : List A) (ys : List B) → AllZip R xs ys → length xs ≡ length ys
-AllZip-length R (x ∷ xs) (y ∷ ys) h = ap suc (AllZip-length R xs ys h.1)
-AllZip-length R xs ys h = grind (arith)
+use Rattle.std.proofs.lemmas.List.Elements.{length_all_zip}
 
 -- A place gets the slot_use that is after it.
 use_given : (keeper place : ℕ) (uses after : List SlotUse) → AllZip (MayBecome keeper) uses after → place < length uses
@@ -21,7 +18,7 @@ pub record IsSweeping (keeper turn : ℕ) (uses after : List SlotUse) : Type 0 w
   pub left : count_by (is_kept_by keeper) uses + turn ≤ length after
 
 pub sweep_begins : (keeper : ℕ) (uses after : List SlotUse) → AllZip (MayBecome keeper) uses after → IsSweeping keeper 0 uses after
-sweep_begins keeper uses after h = grind (arith, count_by-le-length, AllZip-length)
+sweep_begins keeper uses after h = grind (arith, count_by-le-length, length_all_zip)
 
 kept_one : (keeper : ℕ) → ◌≡◌ {A = ℕ} (cond (is_kept_by keeper (Ended keeper)) 1 0) 1
 kept_one keeper = ap (λ b. cond b 1 0) (eq-eqb keeper keeper refl)
