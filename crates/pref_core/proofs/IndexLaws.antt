@@ -1,6 +1,6 @@
 -- An index follows the store through each op that is done.
 use Rattle.pref_core.proofs.Common.{drop, slice_get, ◌≡◌, ℕ, suc, ◌+◌, ◌<◌, Bool, true, false, ◌&&◌, ◌||◌, cond, eqb, nat_lt, List, [], ◌∷◌, map, set, Option, Some, None, is_some, refl, sym, ap, ◌∙◌}
-use Rattle.pref_core.proofs.Common.{subst, arith, AllByRecursion, eqb-true, ne_eqb, Version, Change, Add, Set, Remove, Call, Done, Op, Entry, Row, ended_by, begun_by, among, has, success_outcome}
+use Rattle.pref_core.proofs.Common.{subst, arith, AllByRecursion, eqb-true, ne_eqb, Version, Change, Add, Set, Remove, Call, Op, Entry, Row, ended_by, begun_by, among, has}
 use Rattle.pref_core.proofs.Common.{is_change, succeeds, added, changes_of, ended, begun, Contents, IsWithin, visible, begins, new_version, close, is_free, filled, slots_after, is_next, applied}
 use Rattle.pref_core.proofs.Common.{slot_of, Points, PointsAll, given, placed_rows, adds, IsPlaceOf, IsIndexOf}
 use Rattle.pref_core.proofs.AppliedLaws.{IsAllowed-from}
@@ -91,16 +91,6 @@ abbrev IsIndexAt : ℕ → List (Option Version) → Pairs → Type 0
 IsIndexAt stamp slots index = (id : ℕ) → IsPlaceOf stamp id slots (slot_of index id)
 
 module _ (contents : Contents) (op : Op) (next : is_next contents op ≡ true) where
-  outcome_done : is_change op.call ≡ true → succeeds op.outcome ≡ true → op.outcome ≡ success_outcome contents.next_id op.call
-  outcome_done change done = grind (arith)
-
-  outcome_still : is_change op.call ≡ false → op.outcome ≡ Done
-  outcome_still still = grind (arith)
-
-  -- The outcome adds a row just where the call does.
-  pub adds_iff_added : succeeds op.outcome ≡ true → adds op.outcome ≡ nat_lt 0 (added op.call)
-  adds_iff_added done = grind (arith)
-
   -- the index of what the op leaves, by the stamp and the slots that it leaves
   index_after : (after : List (Option Version)) (b : Bool) (later : Pairs) → slots_after contents op ≡ Some after → (is_change op.call && succeeds op.outcome) ≡ b → IsIndexAt (cond b (suc contents.stamp) contents.stamp) after later → IsIndexOf (applied contents op) later
   index_after after true later e c h = rw (next, e) (rw c h)

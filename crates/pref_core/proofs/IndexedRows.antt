@@ -18,11 +18,6 @@ pub row_at-ended : (next now id : ℕ) (ids : List ℕ) (slots : List (Option Ve
 row_at-ended next now id ids (slot ∷ slots) (suc k) h out = row_at-ended next now id ids slots k h.1 out
 row_at-ended next now id ids slots k h out = grind (arith)
 
--- A free slot shows no row.
-free_row : (now id : ℕ) (ns : List ℕ) (slots : List (Option Version)) (place : ℕ) → is_free (now ∷ ns) slots place ≡ true → row_at now id slots place ≡ false
-free_row now id ns (slot ∷ slots) (suc place) h = free_row now id ns slots place h
-free_row now id ns slots place h = grind (arith)
-
 -- A row that begins at a free place stands there, and no other row does.
 pub row_at-new_version : (made : ℕ) (fresh : Entry) (ns : List ℕ) (slots : List (Option Version)) (place : ℕ) → is_free (made ∷ ns) slots place ≡ true → row_at made fresh.id (set slots place (new_version made fresh)) place ≡ true
 row_at-new_version made fresh ns (slot ∷ slots) (suc place) h = row_at-new_version made fresh ns slots place h

@@ -35,9 +35,6 @@ module _ (order positions : List ℕ) (place to : ℕ) (inv : IsInverse order po
   other_at : get_or positions other 0 ≡ to
   other_at = inv.there to lt
 
-  same_to : place ≡ other → from ≡ to
-  same_to e = ap (λ k. get_or positions k 0) e ∙ other_at
-
   same_place : from ≡ to → place ≡ other
   same_place e = sym from_at ∙ ap (λ k. get_or order k 0) e
 
