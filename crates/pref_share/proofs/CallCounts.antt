@@ -1,6 +1,6 @@
 -- How many calls each client has made along a legal history.
-use Rattle.pref_share.proofs.Common.{◌≡◌, ℕ, zero, suc, ◌+◌, ◌*◌, ◌^◌, ◌<◌, ◌≤◌, false, ◌==◌, List, [], ◌∷◌, length, Option, Some, None, refl, sym, ap, ◌∙◌, subst, arith, ⊎_elim, cases_eq}
-use Rattle.pref_share.proofs.Common.{same_Some, AllByRecursion, sum_by, ne_eqb, length-set, All-from_recursion, Call, Op, State, Client, Snapshot, seat, with_seat}
+use Rattle.pref_share.proofs.Common.{◌≡◌, ℕ, zero, suc, ◌+◌, ◌*◌, ◌^◌, ◌<◌, ◌≤◌, false, ◌==◌, List, [], ◌∷◌, ◌++◌, length, Option, Some, None, refl, sym, ap, ◌∙◌, subst, arith, ⊎_elim, cases_eq}
+use Rattle.pref_share.proofs.Common.{same_Some, AllByRecursion, sum_by, ne_eqb, length-append, length-set, filter, filter-append, IsPrefix, All-from_recursion, Call, Op, State, Client, Snapshot, seat, with_seat}
 use Rattle.pref_share.proofs.Common.{counted, begun_after, after, calls_of, begun_of, idle_clients, IsLegalCall, IsLegalHistory, state_after, numbered_of}
 use Rattle.pref_share.proofs.Common.{seat-with_seat_same, seat-with_seat_other, count_by, eq-eqb, true, history_of}
 use Rattle.std.proofs.lemmas.List.Sums.{sum_by-le}
@@ -47,46 +47,24 @@ calls_other n s client op apart = ap calls_in (seat_other n s client op.client o
 begun_other : (n : ℕ) (s : State) (client : ℕ) (op : Op) → (client ≡ op.client → ⊥) → begun_of (after n s op.client op.call) client ≡ begun_of s client
 begun_other n s client op apart = ap begun_in (seat_other n s client op.client op.call apart)
 
--- a count that is there, and no less than this
-pub record IsGrown (calls : Option ℕ) (least : ℕ) : Type 0 where
-  pub count : ℕ
-  pub is : calls ≡ Some count
-  pub more : least ≤ count
-
 own_number : (s : State) (op : Op) (client m : ℕ) → IsCaller s op → client ≡ op.client → calls_of s client ≡ Some m → op.number ≡ suc m
 own_number s op client m c e is = c.number ∙ ap suc (same_Some _ _ (sym (ap calls_in (ap (λ k. seat k s.clients) e ∙ c.at)) ∙ is))
 
 count_now : (n : ℕ) (s : State) (op : Op) (client m : ℕ) → IsCaller s op → client ≡ op.client → calls_of s client ≡ Some m → calls_of (after n s op.client op.call) client ≡ Some (suc m)
 count_now n s op client m c e is = ap (calls_of (after n s op.client op.call)) e ∙ calls_own n s op c ∙ ap Some (own_number s op client m c e is)
 
-pub calls_grow : (n : ℕ) (s : State) (ops : List Op) (client m : ℕ) → IsLegalHistory n s (history_of ops) → calls_of s client ≡ Some m → IsGrown (calls_of (state_after n s (history_of ops)) client) m
-calls_grow n s [] client m legal is = record { count = m; is = is; more = omega arith }
-calls_grow n s (op ∷ ops) client m legal is =
-    ⊎_elim (λ (e : client ≡ op.client).
-    let rest = calls_grow n (after n s op.client op.call) ops client (suc m) legal.1 (count_now n s op client m (caller n s op legal.0) e is) in
-    let more = rest.more in
-    record { count = rest.count; is = rest.is; more = omega arith })
-    (λ (apart : client ≡ op.client → ⊥). calls_grow n (after n s op.client op.call) ops client m legal.1 (calls_other n s client op apart ∙ is)) (cases_eq client op.client)
-
--- where a client's count stays, no call is its own, and its query stays
-pub none_own : (n : ℕ) (s : State) (ops : List Op) (client m : ℕ) → IsLegalHistory n s (history_of ops) → calls_of s client ≡ Some m → calls_of (state_after n s (history_of ops)) client ≡ Some m
-    → AllByRecursion (λ op. (op.client == client) ≡ false) ops × (begun_of (state_after n s (history_of ops)) client ≡ begun_of s client)
-none_own n s [] client m legal is still = (tt, refl)
-none_own n s (op ∷ ops) client m legal is still =
-    ⊎_elim (λ (e : client ≡ op.client).
-    let rest = calls_grow n (after n s op.client op.call) ops client (suc m) legal.1 (count_now n s op client m (caller n s op legal.0) e is) in
-    let more = rest.more in
-    let same : m ≡ rest.count = same_Some _ _ (sym still ∙ rest.is) in
-    absurd (omega arith))
-    (λ (apart : client ≡ op.client → ⊥).
-    let rest = none_own n (after n s op.client op.call) ops client m legal.1 (calls_other n s client op apart ∙ is) still in
-    ((ne_eqb _ _ (λ (e : op.client ≡ client). apart (sym e)), rest.0), rest.1 ∙ begun_other n s client op apart)) (cases_eq client op.client)
-
-count_own : (client : ℕ) (op : Op) (ops : List Op) → (op.client == client) ≡ true → count_by client (op ∷ ops) ≡ suc (count_by client ops)
+pub count_own : (client : ℕ) (op : Op) (ops : List Op) → (op.client == client) ≡ true → count_by client (op ∷ ops) ≡ suc (count_by client ops)
 count_own client op ops own = rw own refl
 
-count_other : (client : ℕ) (op : Op) (ops : List Op) → (op.client == client) ≡ false → count_by client (op ∷ ops) ≡ count_by client ops
+pub count_other : (client : ℕ) (op : Op) (ops : List Op) → (op.client == client) ≡ false → count_by client (op ∷ ops) ≡ count_by client ops
 count_other client op ops other = rw other refl
+
+pub count_last : (client : ℕ) (ops : List Op) (op : Op) → count_by client (ops ++ op ∷ []) ≡ count_by client ops + count_by client (op ∷ [])
+count_last client ops op = ap length (filter-append (λ (x : Op). x.client == client) ops (op ∷ [])) ∙ length-append (filter (λ (x : Op). x.client == client) ops) (filter (λ (x : Op). x.client == client) (op ∷ []))
+
+pub count_prefix : (client : ℕ) (xs ys : List Op) → IsPrefix xs ys → count_by client xs ≤ count_by client ys
+count_prefix client xs ys p =
+    omega (arith, ap (count_by client) p.1, ap length (filter-append (λ (op : Op). op.client == client) xs p.0), length-append (filter (λ (op : Op). op.client == client) xs) (filter (λ (op : Op). op.client == client) p.0))
 
 -- along a legal history a client's count goes up by its calls
 pub calls_counted : (n : ℕ) (s : State) (ops : List Op) (client m : ℕ) → IsLegalHistory n s (history_of ops) → calls_of s client ≡ Some m → calls_of (state_after n s (history_of ops)) client ≡ Some (m + count_by client ops)
@@ -98,6 +76,18 @@ calls_counted n s (op ∷ ops) client m legal is =
     (λ (apart : client ≡ op.client → ⊥).
     let none = count_other client op ops (ne_eqb op.client client (λ e. apart (sym e))) in
     calls_counted n (after n s op.client op.call) ops client m legal.1 (calls_other n s client op apart ∙ is) ∙ ap Some (omega (arith, none))) (cases_eq client op.client)
+
+-- where a client's count stays, no call is its own, and its query stays
+pub none_own : (n : ℕ) (s : State) (ops : List Op) (client m : ℕ) → IsLegalHistory n s (history_of ops) → calls_of s client ≡ Some m → calls_of (state_after n s (history_of ops)) client ≡ Some m
+    → AllByRecursion (λ op. (op.client == client) ≡ false) ops × (begun_of (state_after n s (history_of ops)) client ≡ begun_of s client)
+none_own n s [] client m legal is still = (tt, refl)
+none_own n s (op ∷ ops) client m legal is still =
+    ⊎_elim (λ (e : client ≡ op.client).
+    let all : m ≡ m + count_by client (op ∷ ops) = same_Some _ _ (sym still ∙ calls_counted n s (op ∷ ops) client m legal is) in
+    absurd (omega (arith, all, count_own client op ops (eq-eqb op.client client (sym e)))))
+    (λ (apart : client ≡ op.client → ⊥).
+    let rest = none_own n (after n s op.client op.call) ops client m legal.1 (calls_other n s client op apart ∙ is) still in
+    ((ne_eqb _ _ (λ (e : op.client ≡ client). apart (sym e)), rest.0), rest.1 ∙ begun_other n s client op apart)) (cases_eq client op.client)
 
 -- all calls of all clients
 abbrev total : State → ℕ
@@ -123,19 +113,10 @@ counts_one n s op c = subst (CountsOne s.clients) (sym (after_clients n s op.cli
     go None e = absurd (cc)
     go (Some found) e = let same : found ≡ c.who = cc in with_seat_counts s.clients op.client (one_more s op.call found) c.who c.at c.few (ap (λ (f : Client). suc f.calls) same)
 
--- the clients stay, ..
+-- the clients stay
 pub length-after : (n : ℕ) (s : State) (ops : List Op) → IsLegalHistory n s (history_of ops) → length (state_after n s (history_of ops)).clients ≡ length s.clients
 length-after n s [] legal = refl
 length-after n s (op ∷ ops) legal = length-after n (after n s op.client op.call) ops legal.1 ∙ (counts_one n s op (caller n s op legal.0)).long
-
--- .. and none makes more calls than it may
-few_after : (n : ℕ) (s : State) (ops : List Op) → IsLegalHistory n s (history_of ops) → AllByRecursion (λ who. who.calls ≤ 2 ^ 56) s.clients → AllByRecursion (λ who. who.calls ≤ 2 ^ 56) (state_after n s (history_of ops)).clients
-few_after n s [] legal few = few
-few_after n s (op ∷ ops) legal few = few_after n (after n s op.client op.call) ops legal.1 ((counts_one n s op (caller n s op legal.0)).few few)
-
-few_calls_in : (clients : List Client) (client last : ℕ) → AllByRecursion (λ who. who.calls ≤ 2 ^ 56) clients → calls_in (seat client clients) ≡ Some last → last ≤ 2 ^ 56
-few_calls_in (who ∷ clients) (suc (suc k)) last few is = few_calls_in clients (suc k) last few.1 is
-few_calls_in clients client last few is = grind (arith)
 
 -- no legal history is longer than all clients have numbers
 few_from : (n : ℕ) (s : State) (ops : List Op) → IsLegalHistory n s (history_of ops) → AllByRecursion (λ who. who.calls ≤ 2 ^ 56) s.clients → total s + length ops ≤ length s.clients * 2 ^ 56
@@ -154,9 +135,6 @@ idle_few (suc n) = (omega arith, idle_few n)
 pub length-idle : (n : ℕ) → length (idle_clients n) ≡ n
 length-idle zero = refl
 length-idle (suc n) = ap suc (length-idle n)
-
-pub calls_few : (n clients : ℕ) (s : State) (ops : List Op) (client last : ℕ) → s.clients ≡ idle_clients clients → IsLegalHistory n s (history_of ops) → calls_of (state_after n s (history_of ops)) client ≡ Some last → last ≤ 2 ^ 56
-calls_few n clients s ops client last idle legal is = grind (arith, few_calls_in, few_after, idle_few)
 
 pub few_ops : (n clients : ℕ) (s : State) (ops : List Op) → s.clients ≡ idle_clients clients → clients ≤ 8 → IsLegalHistory n s (history_of ops) → length ops ≤ 2 ^ 59
 few_ops n clients s ops is eight legal = grind (arith, few_from, idle_few, length-idle)

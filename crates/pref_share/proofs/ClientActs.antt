@@ -1,11 +1,12 @@
 -- The parts of all clients in a history, and the last act of each.
 use Rattle.pref_share.proofs.Common.{◌≡◌, ◌==◌, ℕ, suc, ◌<◌, ◌≤◌, cond, List, [], ◌∷◌, ◌++◌, length, Some, refl, sym, ap, ◌∙◌, subst, arith, ◌⊎◌, inl, inr, eq-eqb, ne_eqb}
-use Rattle.pref_share.proofs.Common.{append-nil, length-append, IsPrefix, Op, Act, Reply, Opening, IsLegalFrom, calls_at, Standing, newcomer, StepsTo, Looks, Adds, Runs, none, then, RunsTo}
+use Rattle.pref_share.proofs.Common.{append-nil, length-append, same_Some, count_by, IsPrefix, Op, Act, Reply, Opening, IsLegalFrom, calls_at, Standing, newcomer, StepsTo, Looks, Adds, Runs, none, then, RunsTo}
 use Rattle.std.proofs.lemmas.List.{same_from_push}
 use Rattle.pref_share.specs.Reports.{StandsWithin}
 use Rattle.pref_share.proofs.PrefixLaws.{prefix_shorter}
 use Rattle.pref_share.proofs.HistoryLaws.{legal-prefix}
-use Rattle.pref_share.proofs.LastCalls.{last_own, last_number, last_other, last_one_of, IsOneOf, grown_further, Counts, counts}
+use Rattle.pref_share.proofs.CallCounts.{count_last, count_own, count_prefix}
+use Rattle.pref_share.proofs.LastCalls.{counted_at, last_other, last_one_of, IsOneOf, Counts, counts}
 
 -- what a client did, the replies to it, and how it stands after
 pub record Part : Type 0 where
@@ -118,14 +119,11 @@ without_looks o history number Holds rest more _ _ _ _ (then acts returned stand
     }))
 
 -- the client whose call the last one is has seen the whole history
-not_behind : (o : Opening) (before : List Op) (op : Op) (s : Standing) → IsLegalFrom o (before ++ op ∷ []) → StandsWithin o (before ++ op ∷ []) s → Counts o op.client s → IsPrefix s.seen before → ⊥
+not_behind : (o : Opening) (before : List Op) (op : Op) (s : Standing) → IsLegalFrom o (before ++ op ∷ []) → StandsWithin o (before ++ op ∷ []) s → Counts op.client s → IsPrefix s.seen before → ⊥
 not_behind o before op s legal h c inside =
-    let least = grown_further o s.seen before op.client s.counter inside (legal-prefix o before (before ++ op ∷ []) (op ∷ [], refl) legal) c.grown in
-    let counted : Some op.number ≡ Some s.counter = sym (last_own o before op legal) ∙ ap (calls_at o (before ++ op ∷ [])) (sym c.same) ∙ h.alone in
-    let number : op.number ≡ s.counter = cc in
-    let next : op.number ≡ suc least.count = last_number o before op least.count legal least.is in
-    let most : s.counter ≤ least.count = least.more in
-    omega arith
+    let whole = counted_at o (before ++ op ∷ []) op.client legal (last_one_of o before op legal) in
+    let counted : count_by op.client (before ++ op ∷ []) ≡ s.counter = same_Some _ _ (sym whole ∙ ap (calls_at o (before ++ op ∷ [])) (sym c.same) ∙ h.alone) in
+    omega (arith, counted, count_last op.client before op, count_own op.client op [] (eq-eqb op.client op.client refl), count_prefix op.client s.seen before inside, c.grown)
 
 shorter_before : (o : Opening) (before : List Op) (op : Op) (s : Standing) → StandsWithin o (before ++ op ∷ []) s → length s.seen < length (before ++ op ∷ []) → IsPrefix s.seen before
 shorter_before o before op s h l = prefix_shorter s.seen before (before ++ op ∷ []) h.inside (op ∷ [], refl) (omega (arith, l, length-append before (op ∷ [])))
@@ -142,7 +140,7 @@ pub last_at : (o : Opening) (before : List Op) (op : Op) (number : ℕ) (p : Par
 last_at o before op number p last = same_from_push last.step.at before last.adds.op op (sym last.adds.seen ∙ last.whole)
 
 -- the parts of all others are in the history before it
-others_before : (o : Opening) (before : List Op) (op : Op) (number : ℕ) (p : Part) → (number ≡ op.client → ⊥) → Counts o number p.last → StandsWithin o (before ++ op ∷ []) p.last → LooksNoMore o (before ++ op ∷ []) number p → StandsWithin o before p.last
+others_before : (o : Opening) (before : List Op) (op : Op) (number : ℕ) (p : Part) → (number ≡ op.client → ⊥) → Counts number p.last → StandsWithin o (before ++ op ∷ []) p.last → LooksNoMore o (before ++ op ∷ []) number p → StandsWithin o before p.last
 others_before o before op number p apart c h looks = record { inside = go looks; alone = sym (last_other o before op p.last.number (λ e. apart (sym c.same ∙ e))) ∙ h.alone }
   where
     go : LooksNoMore o (before ++ op ∷ []) number p → IsPrefix p.last.seen before
@@ -165,4 +163,4 @@ parts_before o before op parts legal h looks last = with_part-each (λ n x. IsOn
     (λ number apart one_of.
     let part = h number one_of in
     let p = parts number in
-    record { runs = part.runs; is_in = others_before o before op number p apart (counts o number one_of p.acts p.returned part.runs.stands p.last part.runs.runs) part.is_in (looks number one_of) })
+    record { runs = part.runs; is_in = others_before o before op number p apart (counts o number p.acts p.returned part.runs.stands p.last part.runs.runs) part.is_in (looks number one_of) })

@@ -5,6 +5,7 @@ use Rattle.std.proofs.Common.{if◌then◌else◌}
 use Rattle.std.proofs.lemmas.List.{get_or-set_same, get_or-set_other, get_or_append_left}
 use prog.Atomic.{either}
 use Rattle.logbook.specs.Pages.{Goes, step}
+use Rattle.pref_share.proofs.CallCounts.{count_own, count_other, count_last, count_prefix}
 use Rattle.pref_share.proofs.PrefixLaws.{prefix_trans}
 use Rattle.pref_share.specs.declared.entry.Entry.{Entry}
 use Rattle.pref_share.specs.Book.{pages, noted, ops_on, count_by, key_by, key_from, key_after, Home, AreBacked, IsBlank, IsKept, Begins, IsWhole, Adds}
@@ -19,12 +20,6 @@ moved xs ys n = Unit {0}
 set_home : (cs : List Cell) (k j m : ℕ) → Home cs j → Home (set cs k (m, true)) j
 set_home (c ∷ cs) (suc k) (suc j) m h = let r = set_home cs k j m (omega (arith, h.0), h.1) in (omega (arith, r.0), r.1)
 set_home cs k j m h = grind (arith)
-
-set_there : (cs : List Cell) (k m : ℕ) → k < length cs → Home (set cs k (m, true)) k
-set_there cs k m lt = (omega (arith, lt, length-set cs k (m, true)), ap (λ (c : Cell). c.1) (get_or-set_same cs k (m, true) (0, false) lt))
-
-snoc_home : (cs : List Cell) (c : Cell) (j : ℕ) → Home cs j → Home (cs ++ c ∷ []) j
-snoc_home cs c j h = (omega (arith, h.0, length-append cs (c ∷ [])), ap (λ (d : Cell). d.1) (get_or_append_left cs (c ∷ []) (0, false) j h.0) ∙ h.1)
 
 -- the word after a step on it
 abbrev pub used : ℕ → ℕ
@@ -60,10 +55,6 @@ ops_prefix page xs ys p = (ops_on page p.0, sym (ops_on-append page xs p.0) ∙ 
 
 pub length_prefix : {A : Type 0} (xs ys : List A) → IsPrefix xs ys → length xs ≤ length ys
 length_prefix xs ys p = omega (arith, length-append xs p.0, ap length p.1)
-
-pub count_prefix : (client : ℕ) (xs ys : List Op) → IsPrefix xs ys → count_by client xs ≤ count_by client ys
-count_prefix client xs ys p =
-    omega (arith, ap (count_by client) p.1, ap length (filter-append (λ (op : Op). op.client == client) xs p.0), length-append (filter (λ (op : Op). op.client == client) xs) (filter (λ (op : Op). op.client == client) p.0))
 
 -- an entry of another page changes nothing on this one
 noted_other : (page : ℕ) (e : Entry) → (e.page == page) ≡ false → noted page e ≡ []
@@ -134,31 +125,15 @@ still_unused cs page other lt none =
     absurd (not_unused (cell cs page).0 (sym (ap (λ (c : Cell). c.0) (get_or-set_same cs page (used (cell cs page).0, true) (0, false) lt)) ∙ (ap (λ k. (cell (begun cs page) k).0) (sym same) ∙ none))))
     (λ (apart : other ≡ page → ⊥). (apart, ap (λ (c : Cell). c.0) (sym (get_or-set_other cs page other (used (cell cs page).0, true) (0, false) apart)) ∙ none)) (cases_eq other page)
 
-snoc_cell : (cs : List Cell) (c : Cell) (k : ℕ) → k < length cs → cell (cs ++ c ∷ []) k ≡ cell cs k
-snoc_cell cs c k lt = get_or_append_left cs (c ∷ []) (0, false) k lt
-
 -- the first entry of a page
 abbrev pub opening_entry : ℕ → ℕ → Entry
 opening_entry page key = record { page = page; key = key; op = None }
 
-noted_nothing : (none : List Op) (b : Bool) → (if b then none else none) ≡ none
-noted_nothing none true = refl
-noted_nothing none false = refl
-
 noted_none : (page first key : ℕ) → noted page (opening_entry first key) ≡ []
-noted_none page first key = noted_nothing [] (first == page)
+noted_none page first key = grind (arith)
 
 opened_same : (page : ℕ) (log : List Entry) (first key : ℕ) → ops_on page (log ++ opening_entry first key ∷ []) ≡ ops_on page log
 opened_same page log first key = ops_on-last page log (opening_entry first key) ∙ ap (λ l. ops_on page log ++ l) (noted_none page first key) ∙ append-nil (ops_on page log)
-
-is_zero : (n : ℕ) → (n == 0) ≡ true → n ≡ 0
-is_zero n is = grind (arith)
-
-not_zero : (n : ℕ) → (n == 0) ≡ false → n ≡ 0 → ⊥
-not_zero n is none = grind (arith)
-
-none_there : (key : Option ℕ) (k : ℕ) → key ≡ None → key ≡ Some k → ⊥
-none_there key k none some = cc (none, some)
 
 -- whatever the book is, there is a new pen, and no one else's is changed
 pub begins_moves : (v : List Entry) (ask : Entry) (page : ℕ) → page < pages → Moves IsKept shown moved page (v, (no_nib, None)) (λ n. either (n == 0) 1 n) (Begins (step page 0 1 ask) (v, (no_nib, None)))
@@ -170,28 +145,31 @@ begins_moves v ask page few cs log kept pre away = (home.0, home.1, go ((cell cs
     ds : List Cell
     ds = begun cs page ++ (0, false) ∷ []
 
+    snoc : (k : ℕ) → k < length (begun cs page) → cell ds k ≡ cell (begun cs page) k
+    snoc k lt = get_or_append_left (begun cs page) ((0, false) ∷ []) (0, false) k lt
+
     stay : (k : ℕ) → Home cs k → Home ds k
-    stay k h = snoc_home (begun cs page) (0, false) k (set_home cs page k (used (cell cs page).0) h)
+    stay k h = let still = set_home cs page k (used (cell cs page).0) h in (omega (arith, still.0, length-append (begun cs page) ((0, false) ∷ [])), ap (λ (c : Cell). c.1) (snoc k still.0) ∙ still.1)
 
     back : (other : ℕ) → other < pages → (cell ds other).0 ≡ 0 → (other ≢ page) × ((cell cs other).0 ≡ 0)
     back other within none =
         let there = (set_home cs page other (used (cell cs page).0) (kept.words other within)).0 in
-        still_unused cs page other home.0 (sym (ap (λ (c : Cell). c.0) (snoc_cell (begun cs page) (0, false) other there)) ∙ none)
+        still_unused cs page other home.0 (sym (ap (λ (c : Cell). c.0) (snoc other there)) ∙ none)
 
     go : (b : Bool) → ((cell cs page).0 == 0) ≡ b → Goes IsKept shown moved page (v, (no_nib, None)) (λ n. either (n == 0) 1 n) (Begins (step page 0 1 ask) (v, (no_nib, None))) cs log
     go true is =
-        let blank = kept.unused page few (is_zero (cell cs page).0 is) in
+        let blank = kept.unused page few (eqb-true (cell cs page).0 0 is) in
         let e : Entry = opening_entry page (length cs) in (
           adds,
           e ∷ [],
           None,
           tt,
-          kept_more cs ds log e kept stay back (λ key at. absurd (none_there (key_after page log) key blank.0 at))
+          kept_more cs ds log e kept stay back (λ key at. absurd (cc (blank.0, at)))
               (λ client some. rw (opened_same 0 log page (length cs), opened_same client log page (length cs)) (kept.backed client some)),
           inl (refl, refl),
           (refl, λ none. (key_after-last page log e ∙ key_own page (key_after page log) e refl, opened_same page log page (length cs) ∙ blank.1)),
         )
-    go false is = (adds, [], None, tt, kept_again cs ds log kept stay (λ other within none. (back other within none).1), inl (refl, refl), (refl, λ none. absurd (not_zero (cell cs page).0 is none)))
+    go false is = (adds, [], None, tt, kept_again cs ds log kept stay (λ other within none. (back other within none).1), inl (refl, refl), (refl, λ none. absurd (cc (is, eq-eqb (cell cs page).0 0 none))))
 
 -- whatever the book is, what the pen comes after is all that stands on the page
 pub whole_moves : (v : List Entry) (p : Nib) (ask : Entry) (page : ℕ) → page < pages → p.right ≡ may_write → Moves IsKept shown moved page (v, (p, None)) (λ n. either (n == 0) 1 n) (IsWhole (step page 0 1 ask) (v, (p, None)))
@@ -226,7 +204,7 @@ backed_more cs log before seen page key ask kept is pre seen_pre at away backs c
 
     go : (b : Bool) → (page == 0) ≡ b → count_by client (ops_on 0 (log ++ ask ∷ [])) ≤ length (ops_on client (log ++ ask ∷ []))
     go true history =
-        let none : page ≡ 0 = is_zero page history in
+        let none : page ≡ 0 = eqb-true page 0 history in
         let whole : ops_on 0 log ≡ ops_on 0 before = (quiet cs log kept 0 key before pre.0 pre.1 (ap (λ p. key_after p before) (sym none) ∙ at) away).0 in
         let counted = backs none client some in
         let all : count_by client (ops_on 0 (log ++ ask ∷ [])) ≡ count_by client (ops_on 0 before ++ noted 0 ask) = ap (count_by client) (ops_on-last 0 log ask ∙ ap (λ l. l ++ noted 0 ask) whole) in
@@ -244,7 +222,8 @@ adds_moves v before p ask page few is may begins at backs cs log kept pre away =
     let home = kept.words page few in
     let ds : List Cell = set (begun cs page) p.key (p.value, true) in
     let stay : (j : ℕ) → Home cs j → Home ds j = λ j h. set_home (begun cs page) p.key j p.value (set_home cs page j (used (cell cs page).0) h) in
-    let here : Home ds p.key = set_there (begun cs page) p.key p.value (omega (arith, (away may).0, length-set cs page (used (cell cs page).0, true))) in
+    let within : p.key < length (begun cs page) = omega (arith, (away may).0, length-set cs page (used (cell cs page).0, true)) in
+    let here : Home ds p.key = (omega (arith, within, length-set (begun cs page) p.key (p.value, true)), ap (λ (c : Cell). c.1) (get_or-set_same (begun cs page) p.key (p.value, true) (0, false) within)) in
     let before_pre = prefix_trans before v log begins pre in
     let all = quiet cs log kept page p.key before before_pre.0 before_pre.1 at (away may).1 in
     let apart : (other : ℕ) → other < pages → other ≡ p.key → ⊥ = λ other within same. cc ((kept.words other within).1, ap (λ k. (cell cs k).1) same, (away may).1) in
@@ -281,26 +260,13 @@ starts = record {
   backed = λ client some. omega arith;
 }
 
--- what an entry of the page notes there
-own_entry : (page : ℕ) (ask : Entry) (op : Op) → ask.page ≡ page → ask.op ≡ Some op → noted page ask ≡ op ∷ []
-own_entry page ask op is noted_op = rw (eq-eqb ask.page page is, noted_op) refl
-
-count_last : (client : ℕ) (ops : List Op) (op : Op) → count_by client (ops ++ op ∷ []) ≡ count_by client ops + count_by client (op ∷ [])
-count_last client ops op = ap length (filter-append (λ (x : Op). x.client == client) ops (op ∷ [])) ∙ length-append (filter (λ (x : Op). x.client == client) ops) (filter (λ (x : Op). x.client == client) (op ∷ []))
-
-count_other : (client : ℕ) (op : Op) → (op.client == client) ≡ false → count_by client (op ∷ []) ≡ 0
-count_other client op other = rw other refl
-
-count_own : (client : ℕ) (op : Op) → (op.client == client) ≡ true → count_by client (op ∷ []) ≡ 1
-count_own client op own = rw own refl
-
 -- An operation may join the history where its client's page has one more than the history. What was learned is at least what stood on both pages.
 pub backs : (page own : ℕ) (before other learned v : List Entry) (ask : Entry) (op : Op) → AreBacked learned → IsPrefix before learned → IsPrefix other learned → IsPrefix learned v → ask.page ≡ page → ask.op ≡ Some op
     → (page ≡ 0 → (own ≡ op.client) × (0 < op.client) × (count_by op.client (ops_on page before) < length (ops_on own other))) → Backs page before v ask
 backs page own before other learned v ask op backed before_pre other_pre pre is noted_op turn none client some = go (op.client == client) refl
   where
     all : count_by client (ops_on 0 before ++ noted 0 ask) ≡ count_by client (ops_on 0 before) + count_by client (op ∷ [])
-    all = ap (λ l. count_by client (ops_on 0 before ++ l)) (own_entry 0 ask op (is ∙ none) noted_op) ∙ count_last client (ops_on 0 before) op
+    all = rw (eq-eqb ask.page 0 (is ∙ none), noted_op) (count_last client (ops_on 0 before) op)
 
     more : length (ops_on client learned) ≤ length (ops_on client v)
     more = length_prefix (ops_on client learned) (ops_on client v) (ops_prefix client learned v pre)
@@ -311,10 +277,6 @@ backs page own before other learned v ask op backed before_pre other_pre pre is 
         let same : op.client ≡ client = eqb-true op.client client mine in
         let few : count_by client (ops_on 0 before) < length (ops_on client other) =
         subst (λ k. count_by k (ops_on 0 before) < length (ops_on k other)) same (subst (λ k. count_by op.client (ops_on 0 before) < length (ops_on k other)) t.0 (subst (λ k. count_by op.client (ops_on k before) < length (ops_on own other)) none t.2)) in
-        omega (arith, all, count_own client op mine, few, length_prefix (ops_on client other) (ops_on client learned) (ops_prefix client other learned other_pre), more)
+        omega (arith, all, count_own client op [] mine, few, length_prefix (ops_on client other) (ops_on client learned) (ops_prefix client other learned other_pre), more)
     go false others =
-        omega (arith, all, count_other client op others, backed client some, count_prefix client (ops_on 0 before) (ops_on 0 learned) (ops_prefix 0 before learned before_pre), more)
-
--- what was written
-pub wrote : (page : ℕ) (before w : List Entry) (ask : Entry) (op : Op) → ask.page ≡ page → ask.op ≡ Some op → ops_on page w ≡ ops_on page before ++ noted page ask → ops_on page w ≡ ops_on page before ++ op ∷ []
-wrote page before w ask op is noted_op added = added ∙ ap (λ l. ops_on page before ++ l) (own_entry page ask op is noted_op)
+        omega (arith, all, count_other client op [] others, backed client some, count_prefix client (ops_on 0 before) (ops_on 0 learned) (ops_prefix 0 before learned before_pre), more)

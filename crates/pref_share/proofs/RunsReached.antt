@@ -109,7 +109,7 @@ reached_last o before op parts legal h looks shorter =
     let one_of = last_one_of o before op legal in
     let last = made_last o before op (parts op.client) legal (h op.client one_of) (looks op.client one_of) in
     let p = last.before in
-    let same = counts o op.client one_of p.acts p.returned last.runs.stands p.last last.runs.runs in
+    let same = counts o op.client p.acts p.returned last.runs.stands p.last last.runs.runs in
     let r = shorter before (omega (arith, length-append before (op ∷ []))) (legal-prefix o before (before ++ op ∷ []) (op ∷ [], refl) legal) (with_part op.client p parts) (parts_before o before op parts legal h looks last) in
     let at_is = (last_at o before op op.client (parts op.client) last).0 in
     let now = reached_more o op.client p last.act last.reply last.now parts one_of same.same last.step (subst (λ l. Reached o l (with_part op.client p parts)) (sym at_is) r) in
@@ -153,7 +153,7 @@ reached_looks o history parts k within h none_above rest =
 
     more : (p : Part) (act : Act) (reply : Reply) (u : Standing) → IsPartAt o history (suc k) p → LooksAt o history p act reply u → Reached o history (with_part (suc k) p parts) → Reached o history (with_part (suc k) (longer p act reply u) parts)
     more p act reply u at looks r =
-        let same = counts o (suc k) one_of p.acts p.returned at.runs.stands p.last at.runs.runs in
+        let same = counts o (suc k) p.acts p.returned at.runs.stands p.last at.runs.runs in
         let now = reached_more o (suc k) p act reply u parts one_of same.same looks.0 (subst (λ l. Reached o l (with_part (suc k) p parts)) (sym looks.1) r) in
         subst (λ l. Reached o l (with_part (suc k) (longer p act reply u) parts)) looks.2 now
 

@@ -18,8 +18,8 @@ use Rattle.pref_core.proofs.VisibleAfterOp.{begun_kept}
 use Rattle.pref_core.proofs.QueryLaws.{stays_on_its_way, begun_on_its_way, next_is_new_on_its_way, scanned_on_its_way, answers_the_begin}
 use Rattle.pref_share.proofs.PrefixLaws.{prefix_self, prefix_trans}
 use Rattle.pref_share.proofs.HistoryLaws.{legal-more, legal-prefix, legal_stands, legal_capacity, ran-append, state_at-append, rest_history, legal_is_history}
-use Rattle.pref_share.proofs.CallCounts.{IsGrown, calls_in, begun_in, calls_own, begun_own, none_own, calls_counted, calls_few, idle_seat}
-use Rattle.pref_share.proofs.LastCalls.{last_caller, grown_further}
+use Rattle.pref_share.proofs.CallCounts.{calls_in, begun_in, calls_own, begun_own, count_prefix, none_own, idle_seat}
+use Rattle.pref_share.proofs.LastCalls.{counted_at, last_caller}
 use Rattle.pref_share.proofs.Common.{⊎_elim, same_Some, first_state, OutOfMemory, IsTurn, JoinsBehind, RefusesToJoin, count_by}
 use Rattle.pref_share.specs.declared.client.calls.Joined.{Joined}
 use Rattle.pref_share.proofs.Common.{rules, Bool, cond, nat_lt, added, begins_row, ended, missing, success_outcome, Added, Done, Full, NoRow}
@@ -63,26 +63,14 @@ stands_seen o number counter seen longer query h p legal = search (rules, prefix
 stands_whole : (o : Opening) (number counter : ℕ) (seen : List Op) (query : Option Asking) → IsLegalFrom o seen → (0 < number) × (number ≤ o.limits.clients) → calls_at o seen number ≡ Some counter → AsksOrNone o seen number query → Stands o number counter seen query
 stands_whole o number counter seen query legal one_of count follows = record { legal = legal; one_of = one_of; at = seen; before = prefix_self seen; count = count; follows = follows }
 
-grown : (o : Opening) (number counter : ℕ) (seen longer : List Op) (query : Option Asking) → Stands o number counter seen query → IsPrefix seen longer → IsLegalFrom o longer → IsGrown (calls_at o longer number) counter
-grown o number counter seen longer query h p legal = grown_further o h.at longer number counter (prefix_trans h.at seen longer h.before p) legal (record { count = counter; is = h.count; more = omega arith })
-
--- a legal history counts the calls that it holds of a client
-counted_at : (o : Opening) (ops : List Op) (number : ℕ) → IsLegalFrom o ops → (0 < number) × (number ≤ o.limits.clients) → calls_at o ops number ≡ Some (count_by number ops)
-counted_at o ops number legal one_of = calls_counted o.limits.capacity (first_state o) ops number 0 (legal_is_history o ops legal) (ap calls_in (idle_seat o.limits.clients number one_of.0 one_of.1)) ∙ ap Some (omega arith)
-
 -- where the whole history holds no more calls of a client than it made, it holds just these
 pub even : (o : Opening) (number counter made : ℕ) (seen whole : List Op) (query : Option Asking) → Stands o number counter seen query → made ≡ counter → IsTurn o number made seen whole → calls_at o whole number ≡ Some counter
 even o number counter made seen whole query h same turn =
-    let g = grown o number counter seen whole query h turn.further turn.legal in
-    let is = counted_at o whole number turn.legal h.one_of in
-    let all : g.count ≡ count_by number whole = same_Some _ _ (sym g.is ∙ is) in
-    let more : counter ≤ g.count = g.more in
+    let at = prefix_trans h.at seen whole h.before turn.further in
+    let mine : counter ≡ count_by number h.at = same_Some _ _ (sym h.count ∙ counted_at o h.at number (legal-prefix o h.at whole at turn.legal) h.one_of) in
+    let more = count_prefix number h.at whole at in
     let few : count_by number whole ≤ made = turn.few in
-    is ∙ ap Some (omega arith)
-
--- a client makes no more calls than it may
-pub counter_small : (o : Opening) (number counter : ℕ) (seen : List Op) (query : Option Asking) → Stands o number counter seen query → counter ≤ 2 ^ 56
-counter_small o number counter seen query h = grind (arith, calls_few, legal_is_history, legal-prefix)
+    counted_at o whole number turn.legal h.one_of ∙ ap Some (omega arith)
 
 -- a call that joined
 record IsAdded (o : Opening) (old : Standing) (call : Call) (before seen : List Op) : Type 0 where
