@@ -1,4 +1,5 @@
 pub mod Common
+pub mod ExitLaws
 pub mod PrefixLaws
 pub mod PageSteps
 pub mod HistoryLaws

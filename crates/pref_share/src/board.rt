@@ -51,6 +51,7 @@ impl<J: BoardBrand> Board<J> {
 /// board.close(rt);
 /// done
 /// ```
+#[tactic(auto, using(crate::proofs::ExitLaws::exits))]
 pub fn open_board<J: BoardBrand, R: Wait>(
     rt: &R,
     alloc: Global,

@@ -142,6 +142,7 @@ fn append<R: Wait>(rt: &R, writer: &mut StoreWriter, mut stamp: Stamp)
 
 impl<J: BoardBrand> Publisher<J> {
     /// Publishes the store as it is opened, to this many readers.
+    #[tactic(auto, using(crate::proofs::ExitLaws::exits))]
     pub(crate) fn open<R: Wait>(
         rt: &R,
         alloc: Global,

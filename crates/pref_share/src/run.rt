@@ -87,6 +87,7 @@ struct Worked<J: BoardBrand, T> {
 /// // client 1: 2 replies
 /// // client 2: 1 replies
 /// ```
+#[tactic(auto, using(crate::proofs::ExitLaws::exits))]
 pub fn run_each<J: BoardBrand + Send + Sync, R: Threads + Wait + Sync, G: Gate + Sync>(
     rt: &R,
     alloc: Global,
@@ -114,6 +115,7 @@ pub fn run_each<J: BoardBrand + Send + Sync, R: Threads + Wait + Sync, G: Gate +
 /// let replies = run_all(rt, alloc, board, clients, acts, &gate)?;
 /// let of_client_1 = replies[0].len();     // 2
 /// ```
+#[tactic(auto, using(crate::proofs::ExitLaws::exits))]
 pub fn run_all<J: BoardBrand + Send + Sync, R: Threads + Wait + Sync, G: Gate + Sync>(
     rt: &R,
     alloc: Global,

@@ -1,9 +1,7 @@
 use Rattle.pref_share.proofs.Common.{sendable, ◌≡◌, List, ap, arith, inl, length, refl, sym, subst, IsJointRun, Standing, Core, OutOfMemory}
 use Rattle.pref_share.proofs.InterleavingsLaws.{joint_runs_are_sequential, length-newcomers}
-use Rattle.pref_share.proofs.RefusalReplies.{passed_on}
 use Rattle.pref_share.proofs.ReportsLaws.{joint_of_lists}
 use Rattle.pref_share.proofs.SendLaws.{listed_send}
-use Rattle.std.proofs.lemmas.Result.{IfOk-from_err}
 use Rattle.pref_share.proofs.run.run_all.Goals as goal
 
 pub run_tasks-requires-send-T : goal.run_tasks-requires-send-T
@@ -21,31 +19,3 @@ returns-clause-sequential g c =
     let many : length c.args.acts.items ≡ o.limits.clients = omega (arith, c.args.acts.ok.0, c.args.clients.ok.0, c.requires.lists, ap length c.requires.clients, length-newcomers o.limits.clients) in
     joint_runs_are_sequential o c.args.acts.items c.in_ok-replies.replies.items many
     (subst (λ (clients : List Standing). IsJointRun o clients c.args.acts.items c.in_ok-replies.replies.items) c.requires.clients (returns-clause-joint g c))
-
-pub returns-in_err-tasks-clause-joint : goal.returns-in_err-tasks-clause-joint
-returns-in_err-tasks-clause-joint g c = IfOk-from_err c.from_residual.result _ c.from_residual.ensures.0
-
-pub returns-in_err-tasks-clause-sequential : goal.returns-in_err-tasks-clause-sequential
-returns-in_err-tasks-clause-sequential g c = IfOk-from_err c.from_residual.result _ c.from_residual.ensures.0
-
-pub returns-in_err-tasks-clause-refused : goal.returns-in_err-tasks-clause-refused
-returns-in_err-tasks-clause-refused g c = passed_on c.from_residual.result (Core OutOfMemory) _ c.from_residual.ensures.1 (inl refl)
-
-pub returns-in_err-done-clause-joint : goal.returns-in_err-done-clause-joint
-returns-in_err-done-clause-joint g c = IfOk-from_err c.from_residual-in_err-done.result _ c.from_residual-in_err-done.ensures.0
-
-pub returns-in_err-done-clause-sequential : goal.returns-in_err-done-clause-sequential
-returns-in_err-done-clause-sequential g c = IfOk-from_err c.from_residual-in_err-done.result _ c.from_residual-in_err-done.ensures.0
-
-pub returns-in_err-done-clause-refused : goal.returns-in_err-done-clause-refused
-returns-in_err-done-clause-refused g c =
-    passed_on c.from_residual-in_err-done.result c.in_err-done.field-0.0 _ c.from_residual-in_err-done.ensures.1 (c.in_err-done.ensures.refused c.args.acts.items (sym c.in_ok-tasks.ensures.acts))
-
-pub returns-in_err-replies-clause-joint : goal.returns-in_err-replies-clause-joint
-returns-in_err-replies-clause-joint g c = IfOk-from_err c.from_residual-in_err-replies.result _ c.from_residual-in_err-replies.ensures.0
-
-pub returns-in_err-replies-clause-sequential : goal.returns-in_err-replies-clause-sequential
-returns-in_err-replies-clause-sequential g c = IfOk-from_err c.from_residual-in_err-replies.result _ c.from_residual-in_err-replies.ensures.0
-
-pub returns-in_err-replies-clause-refused : goal.returns-in_err-replies-clause-refused
-returns-in_err-replies-clause-refused g c = passed_on c.from_residual-in_err-replies.result (Core OutOfMemory) _ c.from_residual-in_err-replies.ensures.1 (inl refl)

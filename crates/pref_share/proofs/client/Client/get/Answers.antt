@@ -30,20 +30,3 @@ returns-clause-refused g c =
       | in-Some-row w ↦ rw w.result-is search rules
       | in-None w ↦ rw w.result-is (rw (← c.self.view_is) (refl, sees o _ _ read.0 read.1 refl refl refl, sym (is_row g c) ∙ w.in-None.is))
     ]
-
-pub read-found-requires-clause-knows : goal.read-found-requires-clause-knows
-read-found-requires-clause-knows g c = c.self.invariant.0
-
-pub read-found-requires-clause-legal : goal.read-found-requires-clause-legal
-read-found-requires-clause-legal g c = c.self.invariant.2.legal
-
-pub invariant_of-self : goal.invariant_of-self
-invariant_of-self g c = (still_knows c.read-found.ensures.view c.self.invariant.0, c.self.invariant.1, c.self.invariant.2, c.self.invariant.3)
-
-pub returns-in_default-clause-refused : goal.returns-in_default-clause-refused
-returns-in_default-clause-refused g c = c.self.view_is
-
-pub invariant_of-self-2 : goal.invariant_of-self-2
-invariant_of-self-2 g c =
-    let read = c.in-Some.ensures.found in
-    (still_knows c.read-found.ensures.view c.self.invariant.0, c.self.invariant.1, stands_seen g.J.BoardBrand.opening _ _ _ _ _ c.self.invariant.2 read.0 read.1, c.self.invariant.3)

@@ -11,20 +11,3 @@ returns-clause-room g c =
     let read = c.in-Some.ensures.found in
     let slots = ap (λ (s : Contents). length s.slots) read.2.2 ∙ legal_capacity o now read.1.fits in
     rw (← c.self.view_is) (sees o _ _ read.0 read.1 refl refl refl, read.2.1 (state_at o now) (left_stands o now _ read.1 read.2.2) ∙ ap (λ n. n - length (needed (state_at o now))) slots)
-
-pub read-found-requires-clause-knows : goal.read-found-requires-clause-knows
-read-found-requires-clause-knows g c = c.self.invariant.0
-
-pub read-found-requires-clause-legal : goal.read-found-requires-clause-legal
-read-found-requires-clause-legal g c = c.self.invariant.2.legal
-
-pub invariant_of-self : goal.invariant_of-self
-invariant_of-self g c = (still_knows c.read-found.ensures.view c.self.invariant.0, c.self.invariant.1, c.self.invariant.2, c.self.invariant.3)
-
-pub returns-in_default-clause-refused : goal.returns-in_default-clause-refused
-returns-in_default-clause-refused g c = (refl, c.self.view_is)
-
-pub invariant_of-self-2 : goal.invariant_of-self-2
-invariant_of-self-2 g c =
-    let read = c.in-Some.ensures.found in
-    (still_knows c.read-found.ensures.view c.self.invariant.0, c.self.invariant.1, stands_seen g.J.BoardBrand.opening _ _ _ _ _ c.self.invariant.2 read.0 read.1, c.self.invariant.3)

@@ -3,7 +3,6 @@ use Rattle.pref_share.proofs.Common.{Published}
 use Rattle.left_right.specs.Sides.{view}
 use Rattle.pref_core.specs.Indexes.{IsIndexOf}
 use Rattle.pref_share.specs.Book.{Reached}
-use Rattle.std.proofs.lemmas.Result.{IfOk-from_err}
 use Rattle.pref_share.proofs.publisher.Publisher.open.Goals as goal
 
 pub invariant_of-result : goal.invariant_of-result
@@ -30,12 +29,3 @@ invariant_of-result g c =
           (subst (λ (b : Book). Knows c.in-Ok.writer.desk.shown.value.store b (view c.open_with.result.desk.place)) (ap (λ (p : Published). p.seen.book) same ∙ book) c.open_with.ensures.knows)),
       rw c.new_unchecked.ensures c.open_with.ensures.pending,
     )
-
-pub returns-in_err-index : goal.returns-in_err-index
-returns-in_err-index g c = IfOk-from_err c.from_residual.result _ c.from_residual.ensures.0
-
-pub returns-in_err-copy : goal.returns-in_err-copy
-returns-in_err-copy g c = IfOk-from_err c.from_residual-in_err-copy.result _ c.from_residual-in_err-copy.ensures.0
-
-pub returns-in_err-writer : goal.returns-in_err-writer
-returns-in_err-writer g c = IfOk-from_err c.from_residual-in_err-writer.result _ c.from_residual-in_err-writer.ensures.0
