@@ -35,7 +35,7 @@ pub use Rattle.pref_core.specs.declared.fault.CoreFault.{CoreFault}
 pub use Rattle.pref_core.specs.declared.fault.CoreFault.TheVariants.{AllScanned, NoQuery, NoSuchClient, NoSuchRow, NoSuchRow as MissingRow, NotDone, OutOfMemory, QueryOpen, Spent}
 pub use Rattle.pref_share.specs.Clients.{Begins, Changes, Commits, Finishes, HasLeft, IsAnswer, Joins, RefusesCall, RefusesChange, RefusesFinish, Sees, asks_for_memory, own_refusal}
 pub use Rattle.pref_share.specs.Book.{IsPageOf, count_by}
-pub use Rattle.pref_share.specs.SeenHistory.{Asks, AsksOrNone, GivesNone, IsAppended, IsJoined, IsTurn, JoinsBehind, RefusesToJoin, Stands, outcome_or_refusal, snapshot_at}
+pub use Rattle.pref_share.specs.SeenHistory.{Asks, AsksOrNone, GivesNone, IsAppended, IsTurn, JoinsBehind, RefusesToJoin, Stands, outcome_or_refusal, snapshot_at}
 pub use Rattle.pref_share.specs.Openings.{IsLegalFrom, LegalIsHistory, MayFollow, Opening, calls_at, contents_at, first_contents, first_state, history_of, state_at}
 pub use Rattle.pref_share.specs.Reports.{AreReports, AreTaken, Did, DidActs, Ends, IsFirstStopped, IsWithin, RefusesRun, StandsWithin, WasLetIn}
 pub use Rattle.pref_share.specs.Runs.{Adds, IsJointRun, IsPart, IsStep, Looks, Performs, Runs, RunsTo, StepsTo, StopsAt, call_of, member_of, nobody, none, open_of, step_by, then}

@@ -4,7 +4,7 @@ use Rattle.pref_share.proofs.Common.{◌∙◌, subst, arith, MatchResult, IfOk,
 use Rattle.pref_share.proofs.Common.{Snapshot, is_change, calls_of, begun_of, begun_after, after, refusal, refusal_of, Contents, StandsFor, Shows, ShowsBegin}
 use Rattle.pref_share.proofs.Common.{eqb-true, same_number, state_after, begin, NextIsNew, IsScanned, Answers, begun_after-change, Opening, IsLegalFrom}
 use Rattle.pref_share.proofs.Common.{history_of, contents_at, state_at, calls_at, Asking, Standing, Sees, Joins, Changes, RefusesChange, IsAnswer, own_refusal}
-use Rattle.pref_share.proofs.Common.{AsksOrNone, Asks, Stands, IsAppended, IsJoined, GivesNone, snapshot_at, outcome_or_refusal}
+use Rattle.pref_share.proofs.Common.{AsksOrNone, Asks, Stands, GivesNone, snapshot_at, outcome_or_refusal}
 use Rattle.pref_term.specs.Question.{Question}
 use Rattle.pref_sky.specs.declared.entry.Ranked.{Ranked}
 use Rattle.pref_core.specs.declared.store.caller.Caller.{Caller}
@@ -72,16 +72,6 @@ even o number counter made seen whole query h same turn =
     let few : count_by number whole ≤ made = turn.few in
     counted_at o whole number turn.legal h.one_of ∙ ap Some (omega arith)
 
--- a call that joined
-record IsAdded (o : Opening) (old : Standing) (call : Call) (before seen : List Op) : Type 0 where
-  legal : IsLegalFrom o seen
-  state : state_at o seen ≡ after o.limits.capacity (state_at o before) old.number call
-  count : calls_at o seen old.number ≡ Some (suc old.counter)
-  at_begin : begun_of (state_at o seen) old.number ≡ begun_after (state_at o before) call (begun_of (state_at o before) old.number)
-
-is_added : (o : Opening) (old : Standing) (call : Call) (returned : Outcome) (seen : List Op) (stamp : ℕ) → (j : IsJoined o old call returned seen stamp) → IsAdded o old call j.before seen
-is_added o old call returned seen stamp j = grind (arith, legal-more, last_caller, state_at-append, calls_own, begun_own)
-
 change_ends_none : (call : Call) → is_change call ≡ true → is_end call ≡ false
 change_ends_none call h = grind (arith)
 
@@ -92,34 +82,51 @@ end_takes_no_memory call ends h = grind (arith)
 pub end_done : (n : ℕ) (state : State) (call : Call) → is_end call ≡ true → outcome n state call ≡ Done
 end_done n state call ends = grind (arith)
 
--- the client after a change, ..
-pub stands_changed : (o : Opening) (old : Standing) (call : Call) (returned : Outcome) (seen : List Op) (stamp counter : ℕ) → Stands o old.number old.counter old.seen old.query → IsJoined o old call returned seen stamp → is_change call ≡ true → counter ≡ suc old.counter → Stands o old.number counter seen old.query
-stands_changed o old call returned seen stamp counter h j change up = grind (arith, is_added o old call returned seen stamp j, change_ends_none call change, and-false, begun_after-change, stands_whole, followed, moved_up)
-
--- .. after a begin, ..
-pub stands_begun : (o : Opening) (old : Standing) (returned : Outcome) (seen : List Op) (stamp counter : ℕ) (ask : Question) → Stands o old.number old.counter old.seen old.query → IsJoined o old Begin returned seen stamp → counter ≡ suc old.counter
-    → Stands o old.number counter seen (Some (record { scan = begin ask stamp o.limits; at_begin = seen }))
-stands_begun o old returned seen stamp counter ask h j up =
-    let a = is_added o old Begin returned seen stamp j in
-    let same : snapshot_at o j.before ≡ snapshot_at o seen = ap (λ (s : State). record { table = s.table; commits = s.commits }) (sym a.state) in
-    stands_whole o old.number counter seen (Some (record { scan = begin ask stamp o.limits; at_begin = seen })) a.legal h.one_of (a.count ∙ ap Some (sym up))
-    (record {
-      at_begin = prefix_self seen;
-      found = a.at_begin ∙ ap Some same;
-      stamp = j.commits;
-      way = begun_on_its_way o.limits (contents_at o seen).slots ask stamp a.legal.allowed (legal_capacity o seen a.legal.fits);
-    })
-
 none_after : (state : State) (call : Call) (found : Option Snapshot) → is_end call ≡ true → begun_after state call found ≡ None
 none_after state call found h = grind (arith)
 
--- .. and after its query ended
-pub stands_ended : (o : Opening) (old : Standing) (call : Call) (returned : Outcome) (seen : List Op) (stamp counter : ℕ) → Stands o old.number old.counter old.seen old.query → IsJoined o old call returned seen stamp → is_end call ≡ true → counter ≡ suc old.counter → Stands o old.number counter seen None
-stands_ended o old call returned seen stamp counter h j ends up = grind (arith, is_added o old call returned seen stamp j, stands_whole, none_after)
+-- the history and the state behind a call
+record IsAdded (o : Opening) (old : Standing) (call : Call) (before seen : List Op) : Type 0 where
+  legal : IsLegalFrom o seen
+  state : state_at o seen ≡ after o.limits.capacity (state_at o before) old.number call
+  count : calls_at o seen old.number ≡ Some (suc old.counter)
+  at_begin : begun_of (state_at o seen) old.number ≡ begun_after (state_at o before) call (begun_of (state_at o before) old.number)
 
--- what the call tells
-pub joins : (o : Opening) (old new : Standing) (call : Call) (returned : Outcome) (seen : List Op) (stamp : ℕ) → own_refusal old call ≡ None → IsJoined o old call returned seen stamp → new.seen ≡ seen → new.counter ≡ suc old.counter → new.number ≡ old.number → Joins o old call returned new
-joins o old new call returned seen stamp accepted j same up number = grind (arith, legal_capacity, legal-more)
+-- A call of a client, which joined behind what the client had made.
+module _ (o : Opening) (old : Standing) (made : ℕ) (call : Call) (j : Joined (List Op)) (stands : Stands o old.number old.counter old.seen old.query) (same : made ≡ old.counter) (h : JoinsBehind o old.number made old.seen call j) where
+  alone : calls_at o h.before old.number ≡ Some old.counter
+  alone = even o old.number old.counter made old.seen h.before old.query stands same h.turn
+
+  next : h.appended.op.number ≡ suc old.counter
+  next = sym (eqb-true _ _ (subst (λ n. same_number n h.appended.op.number ≡ true) (ap (calls_of (state_at o h.before)) h.appended.by ∙ alone) h.appended.may.next.number))
+
+  is_added : IsAdded o old call h.before j.seen
+  is_added = grind (arith, next, legal-more, last_caller, state_at-append, calls_own, begun_own)
+
+  -- what it tells
+  pub joins : (new : Standing) → own_refusal old call ≡ None → new.seen ≡ j.seen → new.counter ≡ suc old.counter → new.number ≡ old.number → Joins o old call j.outcome new
+  joins new accepted seen counter number = grind (arith, alone, next, legal_capacity, legal-more)
+
+  -- the client after a change, ..
+  pub stands_changed : (counter : ℕ) → is_change call ≡ true → counter ≡ suc old.counter → Stands o old.number counter j.seen old.query
+  stands_changed counter change up = grind (arith, is_added, alone, change_ends_none call change, and-false, begun_after-change, stands_whole, followed, moved_up)
+
+  -- .. after a begin, ..
+  pub stands_begun : (counter : ℕ) (ask : Question) → call ≡ Begin → counter ≡ suc old.counter → Stands o old.number counter j.seen (Some (record { scan = begin ask j.stamp o.limits; at_begin = j.seen }))
+  stands_begun counter ask begins up =
+      let a = subst (λ c. IsAdded o old c h.before j.seen) begins is_added in
+      let found : snapshot_at o h.before ≡ snapshot_at o j.seen = ap (λ (s : State). record { table = s.table; commits = s.commits }) (sym a.state) in
+      stands_whole o old.number counter j.seen (Some (record { scan = begin ask j.stamp o.limits; at_begin = j.seen })) a.legal stands.one_of (a.count ∙ ap Some (sym up))
+      (record {
+        at_begin = prefix_self j.seen;
+        found = a.at_begin ∙ ap Some found;
+        stamp = h.commits;
+        way = begun_on_its_way o.limits (contents_at o j.seen).slots ask j.stamp a.legal.allowed (legal_capacity o j.seen a.legal.fits);
+      })
+
+  -- .. and after its query ended
+  pub stands_ended : (counter : ℕ) → is_end call ≡ true → counter ≡ suc old.counter → Stands o old.number counter j.seen None
+  stands_ended counter ends up = grind (arith, is_added, stands_whole, none_after)
 
 -- the table at an open query's begin is what the slots show there
 shows_begun : (contents : Contents) (state : State) (client : ℕ) (snapshot : Snapshot) → StandsFor contents state → begun_of state client ≡ Some snapshot → Shows contents.slots snapshot.commits snapshot.table
@@ -175,23 +182,6 @@ open_alike o number at query h = grind (arith)
 -- the table refuses a call as the client's own counter and query do
 pub same_refusal : (o : Opening) (old : Standing) (at : List Op) (call : Call) → calls_at o at old.number ≡ Some old.counter → AsksOrNone o at old.number old.query → refusal (state_at o at) old.number call ≡ own_refusal old call
 same_refusal o old at call is h = λ i. refusal_of (is i) (open_alike o old.number at old.query h i) call
-
--- a planned call that was added to the history
-pub joined : (o : Opening) (old : Standing) (call : Call) (returned : Outcome) (history seen : List Op) (stamp : ℕ) → IsPrefix old.seen history → IsLegalFrom o history → calls_at o history old.number ≡ Some old.counter
-    → IsAppended o history old.number call returned seen → stamp ≡ (state_at o seen).commits → IsJoined o old call returned seen stamp
-joined o old call returned history seen stamp p legal is added commits = record {
-  before = history;
-  further = p;
-  legal = legal;
-  appended = added;
-  number = sym (eqb-true _ _ (subst (λ n. same_number n added.op.number ≡ true) (ap (calls_of (state_at o history)) added.by ∙ is) added.may.next.number));
-  alone = is;
-  commits = commits;
-}
-
-pub joined_behind : (o : Opening) (old : Standing) (made : ℕ) (call : Call) (j : Joined (List Op)) → Stands o old.number old.counter old.seen old.query → made ≡ old.counter → JoinsBehind o old.number made old.seen call j → IsJoined o old call j.outcome j.seen j.stamp
-joined_behind o old made call j stands same h =
-    joined o old call j.outcome h.before j.seen j.stamp h.turn.further h.turn.legal (even o old.number old.counter made old.seen h.before old.query stands same h.turn) h.appended h.commits
 
 -- a call that the client's own counter and query let in is refused for want of memory alone
 pub only_memory : (o : Opening) (old : Standing) (made : ℕ) (call : Call) (fault : CoreFault) → Stands o old.number old.counter old.seen old.query → made ≡ old.counter → own_refusal old call ≡ None → RefusesToJoin o old.number made old.seen call fault

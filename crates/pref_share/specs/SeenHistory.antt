@@ -52,16 +52,6 @@ pub record IsAppended (o : Opening) (before : List Op) (client : ℕ) (call : Ca
   pub may : MayFollow o before op
   pub ends : whole ≡ before ++ op ∷ []
 
--- A call of the client joined the history, which is this then, with this many commits.
-pub record IsJoined (o : Opening) (old : Standing) (call : Call) (returned : Outcome) (seen : List Op) (stamp : ℕ) : Type 0 where
-  pub before : List Op
-  pub further : IsPrefix old.seen before
-  pub legal : IsLegalFrom o before
-  pub appended : IsAppended o before old.number call returned seen
-  pub number : appended.op.number ≡ suc old.counter
-  pub alone : calls_at o before old.number ≡ Some old.counter
-  pub commits : stamp ≡ (state_at o seen).commits
-
 -- The history under the lock, when a client calls: it goes on with what the client has seen, and holds no more calls of it than it has
 -- made.
 pub record IsTurn (o : Opening) (number made : ℕ) (seen before : List Op) : Type 0 where

@@ -1,71 +1,52 @@
-use Rattle.pref_share.proofs.Common.{◌≡◌, suc, ◌+◌, length, None, refl, sym, subst, ap, ◌∙◌, arith, Standing, own_refusal, Core, IsJoined, IsPageOf, RefusesChange}
+use Rattle.pref_share.proofs.Common.{◌≡◌, suc, ◌+◌, length, None, refl, sym, subst, ap, ◌∙◌, arith, Standing, own_refusal, Core, IsPageOf, Joins, RefusesChange}
 use Rattle.pref_share.proofs.RefusalReplies.{passed_on, refuses_change}
-use Rattle.pref_share.proofs.StandingLaws.{joined_behind, only_memory, stands_changed, joins, change_returned, success_returned}
+use Rattle.pref_share.proofs.StandingLaws.{joins, only_memory, stands_changed, change_returned, success_returned}
+use Rattle.pref_share.proofs.client.Client.change.Given.{Over}
+use Rattle.pref_share.proofs.client.Client.change.Goals.{In_default, In_ok-seen}
 use Rattle.pref_share.proofs.client.Client.change.Goals as goal
+
+-- the call is let in by the client's own counter and query
+accepted : (g : Over) (c : In_default g) → own_refusal (record { number = c.self.inside.number; counter = c.self.inside.counter; seen = c.self.inside.seen; query = c.self.inside.asking }) c.args.call ≡ None
+accepted g c = subst (λ (x : Standing). own_refusal x c.args.call ≡ None) (sym c.self.view_is) (ap (own_refusal c.args.self.now) (sym c.lend.ensures) ∙ sym c.refusal.ensures ∙ c.in_default.is)
+
+-- the call, which joined
+called : (g : Over) (c : In_ok-seen g) → own_refusal (record { number = c.self.inside.number; counter = c.self.inside.counter; seen = c.self.inside.seen; query = c.self.inside.asking }) c.args.call ≡ None
+    → Joins g.J.BoardBrand.opening (record { number = c.self.inside.number; counter = c.self.inside.counter; seen = c.self.inside.seen; query = c.self.inside.asking }) c.args.call c.in_ok-seen.field-0.outcome
+    (record { number = c.self.inside.number; counter = c.self.inside.counter + 1; seen = c.in_ok-seen.field-0.seen; query = c.self.inside.asking })
+called g c let_in = joins g.J.BoardBrand.opening _ _ c.args.call c.in_ok-seen.field-0 c.self.invariant.2 c.self.invariant.3.counted c.in_ok-seen.ensures.joined _ let_in refl (omega arith) refl
 
 pub invariant_of-self-2 : goal.invariant_of-self-2
 invariant_of-self-2 g c =
-    let o = g.J.BoardBrand.opening in
-    let s = c.self.inside in
-    let mine : Standing = record { number = s.number; counter = s.counter; seen = s.seen; query = s.asking } in
-    let j = c.in_ok-seen.field-0 in
-    let counted : length s.page.ops ≡ s.counter = c.self.invariant.3.counted in
-    let joined : IsJoined o mine c.args.call j.outcome j.seen j.stamp = joined_behind o mine (length s.page.ops) c.args.call j c.self.invariant.2 counted c.in_ok-seen.ensures.joined in
-    let up : s.counter + 1 ≡ suc s.counter = omega arith in
-    let made : suc (length s.page.ops) ≡ s.counter + 1 = omega arith in (
+    let counted = c.self.invariant.3.counted in
+    let made : suc (length c.self.inside.page.ops) ≡ c.self.inside.counter + 1 = omega arith in (
       c.self.invariant.0,
       c.self.invariant.1,
-      stands_changed o mine c.args.call j.outcome j.seen j.stamp (s.counter + 1) c.self.invariant.2 joined c.requires.change up,
-      subst (λ n. IsPageOf g.J.BoardBrand.book s.number n c.join.new.page) made c.in_ok-seen.ensures.page,
+      stands_changed g.J.BoardBrand.opening _ _ c.args.call c.in_ok-seen.field-0 c.self.invariant.2 counted c.in_ok-seen.ensures.joined _ c.requires.change (omega arith),
+      subst (λ n. IsPageOf g.J.BoardBrand.book c.self.inside.number n c.join.new.page) made c.in_ok-seen.ensures.page,
     )
 
 pub returns-clause-changed : goal.returns-clause-changed
 returns-clause-changed g c =
-    let o = g.J.BoardBrand.opening in
-    let s = c.self.inside in
-    let mine : Standing = record { number = s.number; counter = s.counter; seen = s.seen; query = s.asking } in
-    let j = c.in_ok-seen.field-0 in
-    let joined : IsJoined o mine c.args.call j.outcome j.seen j.stamp = joined_behind o mine (length s.page.ops) c.args.call j c.self.invariant.2 c.self.invariant.3.counted c.in_ok-seen.ensures.joined in
-    let accepted : own_refusal mine c.args.call ≡ None = subst (λ (x : Standing). own_refusal x c.args.call ≡ None) (sym c.self.view_is) (ap (own_refusal c.args.self.now) (sym c.lend.ensures) ∙ sym c.refusal.ensures ∙ c.in_default.is) in
-    let up : s.counter + 1 ≡ suc s.counter = omega arith in
-    let call = joins o mine _ c.args.call j.outcome j.seen j.stamp accepted joined refl up refl in
-    rw (← c.self.view_is) ((change_returned o mine _ c.args.call j.outcome c.outcome_or_refusal.result c.outcome_or_refusal.ensures call refl).0)
+    let at = goal.at.returns-clause-changed g c in
+    rw (← c.self.view_is) ((change_returned g.J.BoardBrand.opening _ _ c.args.call _ c.outcome_or_refusal.result c.outcome_or_refusal.ensures (called g at.In_ok-seen (accepted g at.In_default)) refl).0)
 
 pub returns-clause-success_outcome : goal.returns-clause-success_outcome
 returns-clause-success_outcome g c =
-    let o = g.J.BoardBrand.opening in
-    let s = c.self.inside in
-    let mine : Standing = record { number = s.number; counter = s.counter; seen = s.seen; query = s.asking } in
-    let j = c.in_ok-seen.field-0 in
-    let new : Standing = record { number = s.number; counter = s.counter + 1; seen = j.seen; query = s.asking } in
-    let joined : IsJoined o mine c.args.call j.outcome j.seen j.stamp = joined_behind o mine (length s.page.ops) c.args.call j c.self.invariant.2 c.self.invariant.3.counted c.in_ok-seen.ensures.joined in
-    let accepted : own_refusal mine c.args.call ≡ None = subst (λ (x : Standing). own_refusal x c.args.call ≡ None) (sym c.self.view_is) (ap (own_refusal c.args.self.now) (sym c.lend.ensures) ∙ sym c.refusal.ensures ∙ c.in_default.is) in
-    let up : s.counter + 1 ≡ suc s.counter = omega arith in
-    let call = joins o mine new c.args.call j.outcome j.seen j.stamp accepted joined refl up refl in
-    success_returned o mine new c.args.call j.outcome c.outcome_or_refusal.result c.outcome_or_refusal.ensures call c.requires.change
+    let at = goal.at.returns-clause-success_outcome g c in
+    success_returned g.J.BoardBrand.opening _ _ c.args.call _ c.outcome_or_refusal.result c.outcome_or_refusal.ensures (called g at.In_ok-seen (accepted g at.In_default)) c.requires.change
 
 pub returns-clause-refused : goal.returns-clause-refused
 returns-clause-refused g c =
-    let o = g.J.BoardBrand.opening in
-    let s = c.self.inside in
-    let mine : Standing = record { number = s.number; counter = s.counter; seen = s.seen; query = s.asking } in
-    let j = c.in_ok-seen.field-0 in
-    let joined : IsJoined o mine c.args.call j.outcome j.seen j.stamp = joined_behind o mine (length s.page.ops) c.args.call j c.self.invariant.2 c.self.invariant.3.counted c.in_ok-seen.ensures.joined in
-    let accepted : own_refusal mine c.args.call ≡ None = subst (λ (x : Standing). own_refusal x c.args.call ≡ None) (sym c.self.view_is) (ap (own_refusal c.args.self.now) (sym c.lend.ensures) ∙ sym c.refusal.ensures ∙ c.in_default.is) in
-    let up : s.counter + 1 ≡ suc s.counter = omega arith in
-    let call = joins o mine _ c.args.call j.outcome j.seen j.stamp accepted joined refl up refl in
-    rw (← c.self.view_is) ((change_returned o mine _ c.args.call j.outcome c.outcome_or_refusal.result c.outcome_or_refusal.ensures call refl).1)
+    let at = goal.at.returns-clause-refused g c in
+    rw (← c.self.view_is) ((change_returned g.J.BoardBrand.opening _ _ c.args.call _ c.outcome_or_refusal.result c.outcome_or_refusal.ensures (called g at.In_ok-seen (accepted g at.In_default)) refl).1)
 
 pub returns-in_err-seen-clause-refused : goal.returns-in_err-seen-clause-refused
 returns-in_err-seen-clause-refused g c =
     let o = g.J.BoardBrand.opening in
-    let s = c.self.inside in
-    let mine : Standing = record { number = s.number; counter = s.counter; seen = s.seen; query = s.asking } in
     let fault = c.in_err-seen.field-0.0 in
-    let accepted : own_refusal mine c.args.call ≡ None = subst (λ (x : Standing). own_refusal x c.args.call ≡ None) (sym c.self.view_is) (ap (own_refusal c.args.self.now) (sym c.lend.ensures) ∙ sym c.refusal.ensures ∙ c.in_default.is) in
-    let memory = only_memory o mine (length s.page.ops) c.args.call fault c.self.invariant.2 c.self.invariant.3.counted accepted c.in_err-seen.ensures.refused in
-    let refused : RefusesChange o mine c.args.call (Core fault) mine = subst (λ f. RefusesChange o mine c.args.call (Core f) mine) (sym memory.0) (memory.1, accepted, refl) in
-    rw (← c.self.view_is) (passed_on c.from_residual.result (Core fault) (λ f. RefusesChange o mine c.args.call f mine) c.from_residual.ensures.1 refused)
+    let let_in = accepted g (goal.at.returns-in_err-seen-clause-refused g c).In_default in
+    let memory = only_memory o _ _ c.args.call fault c.self.invariant.2 c.self.invariant.3.counted let_in c.in_err-seen.ensures.refused in
+    rw (← c.self.view_is) (passed_on c.from_residual.result (Core fault) _ c.from_residual.ensures.1 (rw memory.0 (memory.1, let_in, refl)))
 
 pub returns-in-Some-clause-refused : goal.returns-in-Some-clause-refused
 returns-in-Some-clause-refused g c =
