@@ -40,7 +40,7 @@ pub use Rattle.pref_share.specs.Openings.{IsLegalFrom, LegalIsHistory, MayFollow
 pub use Rattle.pref_share.specs.Reports.{AreReports, AreTaken, Did, DidActs, Ends, IsFirstStopped, IsWithin, RefusesRun, StandsWithin, WasLetIn}
 pub use Rattle.pref_share.specs.Runs.{Adds, IsJointRun, IsPart, IsStep, Looks, Performs, Runs, RunsTo, StepsTo, StopsAt, call_of, member_of, nobody, none, open_of, step_by, then}
 pub use Rattle.pref_share.specs.ClientReads.{HasMore, RefusesGet, RefusesScan, Scanned, room_at, row_after}
-pub use Rattle.pref_share.specs.TaskResults.{AreWorked, DidTask, IsFirstOf, report_of}
+pub use Rattle.pref_share.specs.TaskResults.{AreWorked, DidTask, IsFirstOf, Work, report_of}
 pub use Rattle.pref_share.specs.Standing.{Asking, Standing, newcomer, newcomers}
 pub use Rattle.pref_share.specs.Views.{AreLetIn, Fits, HoldsHistory, Kept, Knows, Opens, Reads, Stays, stamped}
 pub use Rattle.pref_share.specs.declared.fault.ShareFault.{ShareFault}

@@ -16,4 +16,3 @@ pub mod ClientActs
 pub mod RunsReached
 pub mod InterleavingsLaws
 pub mod ReportsLaws
-pub mod PairLaws

@@ -1,66 +1,42 @@
 -- The reports of clients, and what follows from them of the whole run.
-use Rattle.pref_share.proofs.Common.{length-map, ◌≡◌, ℕ, ◌<◌, ◌+◌, ◌^◌, Bool, false, List, [], ◌++◌, length, map, get_or, Option, Some, None, slice_get, refl, sym, ap, ◌∙◌, subst, arith}
-use Rattle.pref_share.proofs.Common.{same_Some, All, append-nil, length-append, All-get_or, slice_get_within, get_or_from_slice_get, Vec, Op, Act, Reply, ShareFault}
+use Rattle.pref_share.proofs.Common.{length-map, ◌≡◌, ℕ, suc, ◌<◌, ◌^◌, Bool, false, List, [], ◌∷◌, ◌++◌, length, map, get_or, Option, Some, None, Result, Ok, IfOk, slice_get, refl, sym, ap, ◌∙◌, subst, arith}
+use Rattle.pref_share.proofs.Common.{same_Some, All, append-nil, length-append, map-append, All-get_or, slice_get_within, get_or_from_slice_get, Vec, Op, Act, Reply, ShareFault}
 use Rattle.pref_share.proofs.Common.{Opening, IsLegalFrom, calls_at, Standing, RunsTo, StopsAt, IsJointRun, IsPart, Ends, Did, DidActs}
-use Rattle.pref_share.proofs.Common.{IsWithin, StandsWithin, AreReports, AreTaken, IsFirstStopped, AreWorked, DidTask, IsFirstOf, report_of, Worked, Listed}
+use Rattle.pref_share.proofs.Common.{StandsWithin, AreReports, AreTaken, IsFirstStopped, AreWorked, DidTask, IsFirstOf, Work, report_of, Worked, Listed}
+use Rattle.std.proofs.lemmas.List.Elements.{All-map}
+use Rattle.std.proofs.lemmas.Simd.{map-map}
+use Rattle.pref_share.specs.declared.run.Job.{Job}
 use Rattle.pref_share.specs.declared.run.Report.{Report}
-use Rattle.pref_share.proofs.PairLaws.{Pairs, choose, pairs_all, pairs_at, pairs_cut, pairs_length}
 use Rattle.pref_share.proofs.PrefixLaws.{prefix_trans}
-use Rattle.pref_share.proofs.RunsLaws.{there, mapped, length_replies, behind, given_at}
+use Rattle.pref_share.proofs.RunsLaws.{there, mapped, length_replies, behind, all_mapped}
 
--- What came of all tasks, from what each worker did and from the history after the joins.
-pub are_worked : {A J T : Type 0} (o : Opening) (says : ℕ → ℕ → Bool → Type 0) (left : T → List Act) (took : T → T → List Reply → Type 0) (history : List Op) (client : A → Standing) (task : A → T) (jobs : List A) (all : List (Worked J T))
-    (clients : List Standing) (tasks : List T) → map client jobs ≡ clients → map task jobs ≡ tasks → IsLegalFrom o history → length all ≡ length jobs
-    → ((i : ℕ) (job : A) (d : Worked J T) → i < length jobs → DidTask o says (took (task (get_or jobs i job))) (client (get_or jobs i job)) (left (task (get_or jobs i job))) (get_or all i d))
-    → ((i : ℕ) (d : Worked J T) → i < length all → StandsWithin o history (get_or all i d).client) → AreWorked o says left took clients tasks all
-are_worked {A} {J} {T} o says left took history client task jobs all clients tasks paired listed legal worked did within = record {
-  history = history;
-  legal = legal;
-  each_worked = worked ∙ sym (length-map jobs client) ∙ ap length paired;
-  each = each;
-}
-  where
-    each : (i : ℕ) (s : Standing) (t : T) → slice_get clients i ≡ Some s → slice_get tasks i ≡ Some t → (w : Worked J T) × (slice_get all i ≡ Some w) × DidTask o says (took t) s (left t) w × StandsWithin o history w.client
-    each i s t at listed_at =
-        let given = given_at client task jobs clients tasks paired listed i s t at listed_at in
-        let j : A = given.0 in
-        let short : i < length jobs = slice_get_within jobs i j given.1 in
-        let found = there all i (omega (arith, short, worked)) in
-        let w : Worked J T = found.0 in
-        let is : get_or all i w ≡ w = get_or_from_slice_get all i w w found.1 in
-        let done : DidTask o says (took (task j)) (client j) (left (task j)) (get_or all i w) = subst (λ (x : A). DidTask o says (took (task x)) (client x) (left (task x)) (get_or all i w)) (get_or_from_slice_get jobs i j j given.1) (did i j w short) in
-        let mine : DidTask o says (took t) s (left t) (get_or all i w) = subst (λ (x : T). DidTask o says (took x) s (left x) (get_or all i w)) given.3 (subst (λ (x : Standing). DidTask o says (took (task j)) x (left (task j)) (get_or all i w)) given.2 done) in (
-          w,
-          found.1,
-          subst (λ (x : Worked J T). DidTask o says (took t) s (left t) x) is mine,
-          subst (λ (x : Worked J T). StandsWithin o history x.client) is (within i w (omega (arith, short, worked))),
-        )
+-- What came of each job, from what its worker says.
+pub works_of : {J T E : Type 0} (o : Opening) (says : ℕ → ℕ → Bool → Type 0) (left : T → List Act) (took : T → T → List Reply → Type 0) (history : List Op) (jobs : List (Job J T)) (all : List (Worked J T)) → length all ≡ length jobs
+    → All (λ job. length (left job.task) < 2 ^ 63) jobs
+    → ((i : ℕ) (job : Job J T) (d : Result (Worked J T) E) → i < length jobs → IfOk (get_or (map Ok all) i d) (DidTask o says (took (get_or jobs i job).task) (get_or jobs i job).client (left (get_or jobs i job).task)))
+    → All (λ worked. StandsWithin o history worked.client) all
+    → (works : List (Work J o says left took history)) × (map (λ work. work.client) works ≡ map (λ job. job.client) jobs) × (map (λ work. work.task) works ≡ map (λ job. job.task) jobs) × (map (λ work. work.worked) works ≡ all)
+works_of o says left took history [] [] long few did within = ([], refl, refl, refl)
+works_of {J} o says left took history (job ∷ jobs) (worked ∷ all) long few did within =
+    let (replies, taken, acts) = did 0 job (Ok worked) (omega arith) in
+    let (works, clients, tasks, are) = works_of o says left took history jobs all (omega arith) (λ i d lt. few (suc i) d (omega arith)) (λ i d e lt. did (suc i) d e (omega arith)) (λ i d lt. within (suc i) d (omega arith)) in
+    let work : Work J o says left took history = record { client = job.client; task = job.task; few = few 0 job (omega arith); worked = worked; replies = replies; taken = taken; did = acts; within = within 0 worked (omega arith) } in
+    (work ∷ works, ap (λ l. job.client ∷ l) clients, ap (λ l. job.task ∷ l) tasks, ap (λ l. worked ∷ l) are)
+works_of o says left took history jobs all long few did within = absurd (omega arith)
 
--- what the lists of two kinds at one place are
-same_at : {A B C : Type 0} (f : A → C) (g : B → C) (xs : List A) (ys : List B) → map f xs ≡ map g ys → (i : ℕ) (x : A) (y : B) → slice_get xs i ≡ Some x → slice_get ys i ≡ Some y → f x ≡ g y
-same_at {A} {B} {C} f g xs ys same i x y x_at y_at = same_Some (f x) (g y) (sym (mapped f xs i x x_at) ∙ ap (λ (l : List C). slice_get l i) same ∙ mapped g ys i y y_at)
+-- what stands at a place of the images is the image of what stands there
+image_at : {A B : Type 0} (f : A → B) (xs : List A) (ys : List B) → map f xs ≡ ys → (i : ℕ) (y : B) → slice_get ys i ≡ Some y → (x : A) × (slice_get xs i ≡ Some x) × (f x ≡ y)
+image_at {A} {B} f xs ys same i y at =
+    let (x, x_at) = there xs i (omega (arith, slice_get_within ys i y at, ap length same, length-map xs f)) in
+    (x, x_at, same_Some (f x) y (sym (mapped f xs i x x_at) ∙ ap (λ (l : List B). slice_get l i) same ∙ at))
 
--- The reports of lists of acts.
-pub are_reports : {J : Type 0} (o : Opening) (says : ℕ → ℕ → Bool → Type 0) (left : Listed → List Act) (clients : List Standing) (acts : List (Vec Act)) (tasks : List Listed) (all : List (Worked J Listed)) (reports : List (Report J))
-    → map left tasks ≡ map (λ list. list.items) acts → reports ≡ map report_of all → AreWorked o says left (λ _ listed replies. listed.replies.items ≡ replies) clients tasks all → AreReports o says clients acts reports
-are_reports {J} o says left clients acts tasks all reports listed returned h = record {
-  history = h.history;
-  legal = h.legal;
-  reported = ap length returned ∙ length-map all report_of ∙ h.each_worked;
-  each = each;
-}
-  where
-    each : (i : ℕ) (s : Standing) (list : Vec Act) → slice_get clients i ≡ Some s → slice_get acts i ≡ Some list → (report : Report J) × (slice_get reports i ≡ Some report) × Did o says s list.items report × IsWithin o h.history report
-    each i s list at listed_at =
-        let short : i < length tasks = omega (arith, slice_get_within acts i list listed_at, ap length listed, length-map tasks left, length-map acts (λ (l : Vec Act). l.items)) in
-        let (t, t_at) = there tasks i short in
-        let same : left t ≡ list.items = same_at left (λ (l : Vec Act). l.items) tasks acts listed i t list t_at listed_at in
-        let (w, w_at, (replies, taken, did), within) = h.each i s t at t_at in (
-          report_of w,
-          ap (λ (l : List (Report J)). slice_get l i) returned ∙ mapped report_of all i w w_at,
-          subst (λ (l : List Act). DidActs o says s l w.client w.task.replies.items w.stopped) same (subst (λ (l : List Reply). DidActs o says s (left t) w.client l w.stopped) (sym taken) did),
-          within,
-        )
+-- where images are cut at one of them, so is what they are of
+images_cut : {A B : Type 0} (f : A → B) (xs : List A) (before : List B) (y : B) (after : List B) → map f xs ≡ before ++ y ∷ after → (first : List A) × (x : A) × (rest : List A) × (xs ≡ first ++ x ∷ rest) × (map f first ≡ before) × (f x ≡ y)
+images_cut f [] before y after e = absurd (omega (arith, ap length e, length-append before (y ∷ after)))
+images_cut f (x ∷ xs) [] y after e = ([], x, xs, refl, refl, cc (e))
+images_cut f (x ∷ xs) (b ∷ before) y after e =
+    let (first, z, rest, is, earlier, here) = images_cut f xs before y after (cc (e)) in
+    (x ∷ first, z, rest, ap (λ l. x ∷ l) is, cc (e, earlier), here)
 
 -- The parts of all clients, where none stopped.
 joint : {J : Type 0} (o : Opening) (says : ℕ → ℕ → Bool → Type 0) (clients : List Standing) (lists : List (Vec Act)) (reports : List (Report J)) (out : List (Vec Reply))
@@ -125,107 +101,86 @@ first_stops {J} o says clients lists reports fault all many first =
     let stopped : r.stopped ≡ Some fault = ap (λ (x : Report J). x.stopped) same ∙ first.stopped in
     (r.client, did.rest, length did.done, (subst (λ (x : Option ShareFault). Ends (λ client. says client (length did.done)) r.client did.rest x) stopped did.ends).0)
 
--- Tasks have reports, whose replies are those that they took.
-module _ {J T X : Type 0} (o : Opening) (says : ℕ → ℕ → Bool → Type 0) (left : T → List Act) (took : T → T → List Reply → Type 0) (clients : List Standing) (acts : List (Vec Act)) (tasks : List T) (all : List (Worked J T)) (given : Vec X)
-    (listed : map (λ list. list.items) acts ≡ map left tasks) (many : length acts ≡ length clients) (h : AreWorked o says left took clients tasks all) where
-  -- the report of a task at its place
-  record Reports (i : ℕ) (w : Worked J T) (report : Report J) : Type 0 where
-    client : report.client ≡ w.client
-    stopped : report.stopped ≡ w.stopped
-    taken : (t : T) → slice_get tasks i ≡ Some t → took t w.task report.replies.items
-    did : (s : Standing) (list : Vec Act) → slice_get clients i ≡ Some s → slice_get acts i ≡ Some list → Did o says s list.items report
-    within : StandsWithin o h.history w.client
-
-  as_many : length tasks ≡ length acts
-  as_many = omega (arith, ap length listed, length-map acts (λ (l : Vec Act). l.items), length-map tasks left)
-
-  -- as many replies as there are acts fit in a list
-  abbrev held : (replies : List Reply) → length replies < 2 ^ 63 → Vec Reply
-  held replies few = record { ptr = given.ptr; len = length replies; cap = length replies; alloc = given.alloc; items = replies; ok = (refl, omega arith); small = few }
-
-  few_replies : (s t : Standing) (list : Vec Act) (stopped : Option ShareFault) (replies : List Reply) → DidActs o says s list.items t replies stopped → length replies < 2 ^ 63
-  few_replies s t list stopped replies did =
-      let returned = length_replies o s did.last did.done replies did.runs in
-      let whole : length list.items ≡ length did.done + length did.rest = ap length did.in_order ∙ length-append did.done did.rest in
-      omega (arith, returned, whole, list.ok.0, list.ok.1, list.small)
-
-  report_at : (i : ℕ) (w : Worked J T) → slice_get all i ≡ Some w → (report : Report J) × Reports i w report
-  report_at i w at =
-      let short : i < length clients = omega (arith, slice_get_within all i w at, h.each_worked) in
-      let (s, s_at) = there clients i short in
-      let (list, l_at) = there acts i (omega (arith, short, many)) in
-      let (t, t_at) = there tasks i (omega (arith, short, many, as_many)) in
-      let same_acts : list.items ≡ left t = same_at (λ (l : Vec Act). l.items) left acts tasks listed i list t l_at t_at in
-      let (v, v_at, (replies, taken, did), within) = h.each i s t s_at t_at in
-      let same : v ≡ w = same_Some v w (sym v_at ∙ at) in
-      let mine : DidActs o says s (left t) w.client replies w.stopped = subst (λ (x : Worked J T). DidActs o says s (left t) x.client replies x.stopped) same did in
-      let done : DidActs o says s list.items w.client replies w.stopped = subst (λ (l : List Act). DidActs o says s l w.client replies w.stopped) (sym same_acts) mine in
-      let report : Report J = record { client = w.client; replies = held replies (few_replies s w.client list w.stopped replies done); stopped = w.stopped } in (
-        report,
-        record {
-          client = refl;
-          stopped = refl;
-          taken = λ first first_at.
-              let t_same : t ≡ first = same_Some t first (sym t_at ∙ first_at) in
-              subst (λ (x : T). took x w.task replies) t_same (subst (λ (x : Worked J T). took t x.task replies) same taken);
-          did = λ other_s other other_s_at other_at.
-              let s_same : s ≡ other_s = same_Some s other_s (sym s_at ∙ other_s_at) in
-              let l_same : list ≡ other = same_Some list other (sym l_at ∙ other_at) in
-              subst (λ (x : Vec Act). Did o says other_s x.items report) l_same (subst (λ (x : Standing). Did o says x list.items report) s_same done);
-          within = subst (λ (x : Worked J T). StandsWithin o h.history x.client) same within;
-        },
-      )
-
-  returned : (reports : List (Report J)) × Pairs Reports all reports
-  returned = choose Reports all report_at
-
-  as_reports : AreReports o says clients acts returned.0
-  as_reports = record {
+-- The reports of tasks whose acts these are: one of each, which tells what it did.
+module _ {J T : Type 0} (o : Opening) (says : ℕ → ℕ → Bool → Type 0) (left : T → List Act) (took : T → T → List Reply → Type 0) (clients : List Standing) (acts : List (Vec Act)) (tasks : List T) (all : List (Worked J T))
+    (listed : map (λ list. list.items) acts ≡ map left tasks) (h : AreWorked o says left took clients tasks all) where
+  are_reports : (report : Work J o says left took h.history → Report J)
+      → ((work : Work J o says left took h.history) → Did o says work.client (left work.task) (report work) × StandsWithin o h.history (report work).client) → AreReports o says clients acts (map report h.works)
+  are_reports report tells = record {
     history = h.history;
     legal = h.legal;
-    reported = pairs_length Reports all returned.0 returned.1 ∙ h.each_worked;
+    reported = length-map h.works report ∙ sym (length-map h.works (λ work. work.client)) ∙ ap length h.clients_are;
     each = λ i s list at l_at.
-        let (w, w_at) = there all i (omega (arith, slice_get_within clients i s at, h.each_worked)) in
-        let (report, r_at, r) = pairs_at Reports all returned.0 returned.1 i w w_at in (
-          report,
-          r_at,
-          r.did s list at l_at,
-          subst (λ (x : Standing). StandsWithin o h.history x) (sym r.client) r.within,
-        );
+        let (work, w_at, client) = image_at (λ (x : Work J o says left took h.history). x.client) h.works clients h.clients_are i s at in
+        let task = mapped (λ (x : Work J o says left took h.history). x.task) h.works i work w_at in
+        let is : left work.task ≡ list.items = same_Some _ _ (sym (mapped left tasks i work.task (ap (λ (l : List T). slice_get l i) (sym h.tasks_are) ∙ task)) ∙ ap (λ (l : List (List Act)). slice_get l i) (sym listed) ∙ mapped (λ (l : Vec Act). l.items) acts i list l_at) in
+        let (did, within) = tells work in
+        (report work, mapped report h.works i work w_at, subst (λ (l : List Act). Did o says s l (report work)) is (subst (λ (x : Standing). Did o says x (left work.task) (report work)) client did), within);
   }
+
+-- The reports of lists of acts.
+pub reports_of_lists : {J : Type 0} (o : Opening) (says : ℕ → ℕ → Bool → Type 0) (left : Listed → List Act) (clients : List Standing) (acts : List (Vec Act)) (tasks : List Listed) (all : List (Worked J Listed)) (reports : List (Report J))
+    → map left tasks ≡ map (λ list. list.items) acts → reports ≡ map report_of all → AreWorked o says left (λ _ listed replies. listed.replies.items ≡ replies) clients tasks all → AreReports o says clients acts reports
+reports_of_lists {J} o says left clients acts tasks all reports listed returned h =
+    subst (AreReports o says clients acts) (sym (returned ∙ ap (map report_of) (sym h.are) ∙ map-map report_of (λ work. work.worked) h.works))
+    (are_reports o says left _ clients acts tasks all (sym listed) h (λ work. report_of work.worked)
+    (λ work. (subst (λ (l : List Reply). DidActs o says work.client (left work.task) work.worked.client l work.worked.stopped) (sym work.taken) work.did, work.within)))
+
+-- Tasks have reports, whose replies are those that they took.
+module _ {J T X : Type 0} (o : Opening) (says : ℕ → ℕ → Bool → Type 0) (left : T → List Act) (took : T → T → List Reply → Type 0) (clients : List Standing) (acts : List (Vec Act)) (tasks : List T) (all : List (Worked J T)) (given : Vec X)
+    (listed : map (λ list. list.items) acts ≡ map left tasks) (h : AreWorked o says left took clients tasks all) where
+  abbrev Mine : Type 0
+  Mine = Work J o says left took h.history
+
+  few_replies : (work : Mine) → length work.replies < 2 ^ 63
+  few_replies work =
+      let returned = length_replies o work.client work.did.last work.did.done work.replies work.did.runs in
+      omega (arith, returned, ap length work.did.in_order, length-append work.did.done work.did.rest, work.few)
+
+  -- as many replies as there are acts fit in a list
+  abbrev report : Mine → Report J
+  report work = record {
+    client = work.worked.client;
+    replies = record { ptr = given.ptr; len = length work.replies; cap = length work.replies; alloc = given.alloc; items = work.replies; ok = (refl, omega arith); small = few_replies work };
+    stopped = work.worked.stopped;
+  }
+
+  as_reports : AreReports o says clients acts (map report h.works)
+  as_reports = are_reports o says left took clients acts tasks all listed h report (λ work. (work.did, work.within))
+
+  went_on : (works : List Mine) (some : List (Worked J T)) → map (λ work. work.worked) works ≡ some → All (λ w. w.stopped ≡ None) some → All (λ r. r.stopped ≡ None) (map report works)
+  went_on works some are none = All-map (λ r. r.stopped ≡ None) report works (all_mapped (λ work. work.worked) (λ w. w.stopped ≡ None) works some are none)
 
   -- why the first client stopped that did
   pub tasks_refused : (fault : ShareFault) → IsFirstOf all fault → (reports : List (Report J)) × AreReports o says clients acts reports × IsFirstStopped reports fault
   tasks_refused fault first =
-      let pairs = subst (λ (l : List (Worked J T)). Pairs Reports l returned.0) first.in_order returned.1 in
-      let (before, report, after, is, earlier, here) = pairs_cut Reports first.before first.worked first.after returned.0 pairs in (
-        returned.0,
+      let (before, work, after, is, earlier, here) = images_cut (λ (x : Mine). x.worked) h.works first.before first.worked first.after (h.are ∙ first.in_order) in (
+        map report h.works,
         as_reports,
         record {
-          before = before;
-          report = report;
-          after = after;
-          in_order = is;
-          went_on = pairs_all Reports (λ w. w.stopped ≡ None) (λ r. r.stopped ≡ None) (λ i w r paired none. paired.stopped ∙ none) first.before before earlier first.went_on;
-          stopped = here.stopped ∙ first.stopped;
+          before = map report before;
+          report = report work;
+          after = map report after;
+          in_order = ap (map report) is ∙ map-append report before (work ∷ after);
+          went_on = went_on before first.before earlier first.went_on;
+          stopped = ap (λ (w : Worked J T). w.stopped) here ∙ first.stopped;
         },
       )
 
   -- the joint run of tasks of which none stopped
   pub tasks_joint : (done : List T) → done ≡ map (λ w. w.task) all → All (λ w. w.stopped ≡ None) all → (replies : List (Vec Reply)) × AreTaken took tasks done replies × IsJointRun o clients acts replies
   tasks_joint done are none =
-      let replies = map (λ (r : Report J). r.replies) returned.0 in
-      let all_done : length all ≡ length tasks = omega (arith, h.each_worked, many, as_many) in (
+      let replies = map (λ (r : Report J). r.replies) (map report h.works) in
+      let tasks_done : map (λ (x : Mine). x.worked.task) h.works ≡ done = sym (map-map (λ (w : Worked J T). w.task) (λ (x : Mine). x.worked) h.works) ∙ ap (map (λ (w : Worked J T). w.task)) h.are ∙ sym are in
+      let long : length h.works ≡ length tasks = sym (length-map h.works (λ (x : Mine). x.task)) ∙ ap length h.tasks_are in (
         replies,
         record {
-          lists = length-map returned.0 (λ (r : Report J). r.replies) ∙ pairs_length Reports all returned.0 returned.1 ∙ all_done;
-          tasks_done = ap length are ∙ length-map all (λ w. w.task) ∙ all_done;
+          lists = length-map (map report h.works) (λ (r : Report J). r.replies) ∙ length-map h.works report ∙ long;
+          tasks_done = ap length (sym tasks_done) ∙ length-map h.works (λ (x : Mine). x.worked.task) ∙ long;
           each = λ i first task first_at at.
-              let (w, w_at) = there all i (omega (arith, slice_get_within tasks i first first_at, all_done)) in
-              let (report, r_at, r) = pairs_at Reports all returned.0 returned.1 i w w_at in
-              let here : slice_get done i ≡ Some w.task = ap (λ (l : List T). slice_get l i) are ∙ mapped (λ (w : Worked J T). w.task) all i w w_at in
-              let same : w.task ≡ task = same_Some w.task task (sym here ∙ at) in
-              (report.replies, mapped (λ (r : Report J). r.replies) returned.0 i report r_at, subst (λ (t : T). took first t report.replies.items) same (r.taken first first_at));
+              let (work, w_at, is) = image_at (λ (x : Mine). x.task) h.works tasks h.tasks_are i first first_at in
+              let ended : work.worked.task ≡ task = same_Some _ _ (sym (mapped (λ (x : Mine). x.worked.task) h.works i work w_at) ∙ ap (λ (l : List T). slice_get l i) tasks_done ∙ at) in
+              ((report work).replies, mapped (λ (r : Report J). r.replies) (map report h.works) i (report work) (mapped report h.works i work w_at), subst (λ (x : T). took first x work.replies) ended (subst (λ (x : T). took x work.worked.task work.replies) is work.taken));
         },
-        joint o says clients acts returned.0 replies as_reports (pairs_all Reports (λ w. w.stopped ≡ None) (λ r. r.stopped ≡ None) (λ i w r paired none. paired.stopped ∙ none) all returned.0 returned.1 none) refl,
+        joint o says clients acts (map report h.works) replies as_reports (went_on h.works all h.are none) refl,
       )

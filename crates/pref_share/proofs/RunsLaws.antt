@@ -2,7 +2,12 @@
 use Rattle.pref_share.proofs.Common.{option_map, length-map, ◌≡◌, ℕ, zero, suc, ◌<◌, Bool, true, false, List, [], ◌∷◌, ◌++◌, ◌+◌, length, map, get_or, Some, Result, Ok, slice_get, refl, sym, ap, ◌∙◌, subst, arith}
 use Rattle.pref_share.proofs.Common.{same_Some, append_assoc, get_or-map, length-append, slice_get_within, All, IfOk, Act, Reply, ShareFault}
 use Rattle.pref_share.proofs.Common.{Held, Sees, IsLegalFrom, Opening, Standing, StepsTo, Runs, none, then, RunsTo, StopsAt, nobody, DidActs, Ends, WasLetIn}
+use Rattle.std.specs.List.{zip}
 use Rattle.std.proofs.lemmas.Option.{slice_get-map}
+use Rattle.std.proofs.lemmas.Simd.{map-map}
+use Rattle.std.proofs.lemmas.Slice.Zip.{firsts-zip, seconds-zip}
+use Rattle.pref_share.specs.declared.run.Job.{Job}
+use Rattle.pref_share.specs.TaskResults.{jobs_of}
 use Rattle.pref_share.proofs.ActSteps.{sees_same}
 
 -- each act has its reply
@@ -106,17 +111,13 @@ pub behind : {B : Type 0} (before after : List B) (x : B) → slice_get (before 
 behind [] after x = refl
 behind (y ∷ ys) after x = behind ys after x
 
--- what the worker at a place was given
-pub given_at : {A B C : Type 0} (client : A → B) (acts : A → C) (jobs : List A) (clients : List B) (lists : List C) → map client jobs ≡ clients → map acts jobs ≡ lists
-    → (i : ℕ) (s : B) (list : C) → slice_get clients i ≡ Some s → slice_get lists i ≡ Some list → (job : A) × (slice_get jobs i ≡ Some job) × (client job ≡ s) × (acts job ≡ list)
-given_at {A} {B} {C} client acts jobs clients lists paired listed i s list at listed_at =
-    let (j, j_at) = there jobs i (omega (arith, slice_get_within clients i s at, ap length paired, length-map jobs client)) in
-    (j, j_at, same_Some (client j) s (sym (mapped client jobs i j j_at) ∙ ap (λ (l : List B). slice_get l i) paired ∙ at), same_Some (acts j) list (sym (mapped acts jobs i j j_at) ∙ ap (λ (l : List C). slice_get l i) listed ∙ listed_at))
-
 -- what holds of all images holds so of what has them
 pub all_mapped : {A B : Type 0} (f : A → B) (P : B → Type 0) (xs : List A) (ys : List B) → map f xs ≡ ys → All P ys → All (λ x. P (f x)) xs
 all_mapped f P xs ys same all = λ i d lt. subst P (ap (λ l. get_or l i (f d)) (sym same) ∙ get_or-map f xs i d (f d) lt) (all i (f d) (omega (arith, lt, ap length same, length-map xs f)))
 
--- what the results at a place say, all of which are there
-pub ok_at : {A E : Type 0} (P : A → Type 0) (all : List (Result A E)) (xs : List A) → map Ok xs ≡ all → (i : ℕ) (d : A) → i < length xs → IfOk (get_or all i (Ok d)) P → P (get_or xs i d)
-ok_at P all xs same i d lt h = let is = ap (λ l. get_or l i (Ok d)) (sym same) ∙ get_or-map Ok xs i d (Ok d) lt in rw is at h
+-- the clients and the tasks of jobs
+pub of_jobs : {J T : Type 0} (clients : List Standing) (tasks : List T) (jobs : List (Job J T)) → jobs ≡ jobs_of clients tasks → length tasks ≡ length clients → (map (λ job. job.client) jobs ≡ clients) × (map (λ job. job.task) jobs ≡ tasks)
+of_jobs {J} {T} clients tasks jobs are long = (
+  ap (map (λ (job : Job J T). job.client)) are ∙ map-map (λ (job : Job J T). job.client) _ (zip clients tasks) ∙ firsts-zip clients tasks long,
+  ap (map (λ (job : Job J T). job.task)) are ∙ map-map (λ (job : Job J T). job.task) _ (zip clients tasks) ∙ seconds-zip clients tasks long,
+)

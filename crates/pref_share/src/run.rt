@@ -9,7 +9,7 @@ ghost use Rattle.pref_share.specs.Standing.{newcomers};
 ghost use Rattle.pref_share.specs.Runs.{IsJointRun};
 ghost use Rattle.pref_share.specs.Interleavings.{IsSequential};
 ghost use Rattle.pref_share.specs.Reports.{AreReports, RanTasks, RefusesRun, StandsWithin};
-ghost use Rattle.pref_share.specs.TaskResults.{AreWorked, DidTask, IsFirstOf, report_of};
+ghost use Rattle.pref_share.specs.TaskResults.{AreWorked, DidTask, IsFirstOf, jobs_of, report_of};
 
 use crate::board::Board;
 use crate::book::BoardBrand;
@@ -197,19 +197,13 @@ fn pair_up<J: BoardBrand, T: Task + Drop>(
     clients: Vec<Client<J>>,
     tasks: Vec<T>,
 ) -> Result<Vec<Job<J, T>>, AllocError>
-    requires { vec_len tasks ≡ vec_len clients }
-    ensures clients { IfOk result (λ jobs. map (λ job. job.client) jobs.items ≡ clients.items) }
-    ensures tasks { IfOk result (λ jobs. map (λ job. job.task) jobs.items ≡ tasks.items) }
+    ensures { IfOk result (λ jobs. jobs.items ≡ jobs_of clients.items tasks.items) }
 {
-    let mut jobs = Vec::new(alloc);
-    let mut left = tasks.into_iter();
-    for client in clients {
-        let Some(task) = left.next() else {
-            unreachable!()
-        };
-        jobs.push(Job { client, task })?;
-    }
-    Ok(jobs)
+    clients
+        .into_iter()
+        .zip(tasks)
+        .map(|(client, task)| Job { client, task })
+        .collect(alloc)
 }
 
 /// The acts of one client's task, in order, until one stops it.

@@ -1,6 +1,6 @@
 use Rattle.pref_share.proofs.Common.{sendable, into_iter_items}
 use Rattle.pref_share.proofs.SendLaws.{listed_send}
-use Rattle.pref_share.proofs.ReportsLaws.{are_reports}
+use Rattle.pref_share.proofs.ReportsLaws.{reports_of_lists}
 use Rattle.pref_share.proofs.run.run_each.Goals as goal
 
 pub work_tasks-requires-send-T : goal.work_tasks-requires-send-T
@@ -8,4 +8,4 @@ work_tasks-requires-send-T g c κs within = search (sendable, listed_send)
 
 pub returns : goal.returns
 returns g c =
-    are_reports g.J.BoardBrand.opening (g.G.Gate.says c.args.gate.now) (λ listed. into_iter_items listed.acts) c.args.clients.items c.args.acts.items c.in_ok-tasks.tasks.items c.in_ok-worked.worked.items c.in_ok-reports.reports.items c.in_ok-tasks.ensures.acts c.in_ok-reports.ensures c.in_ok-worked.ensures
+    reports_of_lists g.J.BoardBrand.opening (g.G.Gate.says c.args.gate.now) (λ listed. into_iter_items listed.acts) c.args.clients.items c.args.acts.items c.in_ok-tasks.tasks.items c.in_ok-worked.worked.items c.in_ok-reports.reports.items c.in_ok-tasks.ensures.acts c.in_ok-reports.ensures c.in_ok-worked.ensures
