@@ -1,6 +1,6 @@
 -- A joint run is one run of the sequential table.
 use Rattle.pref_share.proofs.Common.{◌≡◌, ℕ, zero, suc, ◌<◌, ◌≤◌, List, [], ◌∷◌, ◌++◌, length, get_or, Some, None, slice_get, refl, sym, ap, ◌∙◌, subst, arith, ◌⊎◌, inl, inr, ⊎_elim, All, Vec}
-use Rattle.pref_share.proofs.Common.{cases_eq, length-append, slice_get_within, slice_get_cases, Op, Act, Reply, Opening, newcomer, newcomers, IsPart, IsJointRun}
+use Rattle.pref_share.proofs.Common.{cases_eq, length-append, same_Some, slice_get_within, slice_get_cases, Op, Act, Reply, Opening, newcomer, newcomers, IsJointRun}
 use Rattle.pref_share.specs.Interleavings.{Answered, JointRunsAreSequential}
 use Rattle.pref_share.proofs.PrefixLaws.{prefix_get}
 use Rattle.pref_share.proofs.LastCalls.{IsOneOf}
@@ -28,32 +28,24 @@ record Found (o : Opening) (history : List Op) (acts : List (Vec Act)) (returned
   acts_are : (list : Vec Act) → slice_get acts place ≡ Some list → part.acts ≡ list.items
   replies_are : (list : Vec Reply) → slice_get returned place ≡ Some list → part.returned ≡ list.items
 
-found_part : (o : Opening) (history : List Op) (acts : List (Vec Act)) (returned : List (Vec Reply)) (place : ℕ) (list : Vec Act) (replies : Vec Reply) → slice_get acts place ≡ Some list → slice_get returned place ≡ Some replies
-    → IsPart o history (newcomer (suc place)) list.items replies.items → Found o history acts returned place
-found_part o history acts returned place list replies acts_at replies_at h = record {
-  part = record { acts = list.items; returned = replies.items; last = h.last };
-  is_part = λ one_of. record { runs = h.runs; is_in = record { inside = h.inside; alone = h.alone } };
-  acts_are = λ other e. let same : Some list ≡ Some other = sym acts_at ∙ e in let is : list ≡ other = cc in ap (λ (l : Vec Act). l.items) is;
-  replies_are = λ other e. let same : Some replies ≡ Some other = sym replies_at ∙ e in let is : replies ≡ other = cc in ap (λ (l : Vec Reply). l.items) is;
-}
-
--- nobody's lists stand past the end
-found_none : (o : Opening) (history : List Op) (acts : List (Vec Act)) (returned : List (Vec Reply)) (place : ℕ) → length acts ≡ o.limits.clients → length returned ≡ o.limits.clients → length acts ≤ place → Found o history acts returned place
-found_none o history acts returned place many as_many past = record {
-  part = nothing_done (suc place);
-  is_part = λ one_of. absurd (omega (arith, one_of.1, many, past));
-  acts_are = λ list e. absurd (omega (arith, slice_get_within acts place list e, past));
-  replies_are = λ list e. absurd (omega (arith, slice_get_within returned place list e, many, as_many, past));
-}
-
 found : (o : Opening) (acts : List (Vec Act)) (returned : List (Vec Reply)) (joint : IsJointRun o (newcomers o.limits.clients) acts returned) → length acts ≡ o.limits.clients → (place : ℕ) → Found o joint.history acts returned place
 found o acts returned joint many place = go (slice_get_cases acts place).1
   where
     go : ((list : Vec Act) × (place < length acts) × (slice_get acts place ≡ Some list) × (get_or acts place list ≡ list)) ⊎ ((length acts ≤ place) × (slice_get acts place ≡ None)) → Found o joint.history acts returned place
-    go (inl here) =
-        let there = joint.each place (newcomer (suc place)) here.0 (newcomer_at o.limits.clients place (omega (arith, here.1, many))) here.2 in
-        found_part o joint.history acts returned place here.0 there.0 here.2 there.1 there.2
-    go (inr past) = found_none o joint.history acts returned place many (joint.lists ∙ length-newcomers o.limits.clients) past.0
+    go (inl (list, within, acts_at, read)) =
+        let (replies, replies_at, part) = joint.each place (newcomer (suc place)) list (newcomer_at o.limits.clients place (omega (arith, within, many))) acts_at in record {
+          part = record { acts = list.items; returned = replies.items; last = part.last };
+          is_part = λ one_of. record { runs = part.runs; is_in = record { inside = part.inside; alone = part.alone } };
+          acts_are = λ other e. ap (λ (l : Vec Act). l.items) (same_Some list other (sym acts_at ∙ e));
+          replies_are = λ other e. ap (λ (l : Vec Reply). l.items) (same_Some replies other (sym replies_at ∙ e));
+        }
+    -- nobody's lists stand past the end
+    go (inr (past, none)) = record {
+      part = nothing_done (suc place);
+      is_part = λ one_of. absurd (omega (arith, one_of.1, many, past));
+      acts_are = λ list e. absurd (omega (arith, slice_get_within acts place list e, past));
+      replies_are = λ list e. absurd (omega (arith, slice_get_within returned place list e, many, joint.lists ∙ length-newcomers o.limits.clients, past));
+    }
 
 -- the parts of all clients
 abbrev parts_of : (o : Opening) (acts : List (Vec Act)) (returned : List (Vec Reply)) → IsJointRun o (newcomers o.limits.clients) acts returned → length acts ≡ o.limits.clients → ℕ → Part
