@@ -41,7 +41,7 @@ refuse_in_turn() { # crate, test
 }
 
 crates=("$@")
-[ $# -gt 0 ] || crates=(core_tests share_tests script_tests)
+[ $# -gt 0 ] || crates=(table_tests term_tests sky_tests core_tests share_tests script_tests)
 . tests/built_tests.sh
 for crate in "${crates[@]}"; do
     build_tests "$crate" refusals

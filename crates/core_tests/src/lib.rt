@@ -1,4 +1,4 @@
-//! The tests of pref_table, pref_term, pref_sky and pref_core, through their public items.
+//! The tests of pref_core, through its public items.
 //!
 //! They are in a crate of their own because a crate that holds tests is proved twice.
 #![tactic(auto)]
@@ -6,10 +6,4 @@
 #[cfg(test)]
 mod engine;
 #[cfg(test)]
-mod questions;
-#[cfg(test)]
 mod same;
-#[cfg(test)]
-mod skylines;
-#[cfg(test)]
-mod tables;

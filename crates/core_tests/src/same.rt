@@ -1,9 +1,7 @@
 //! The comparison for all tests. Written at each place, `assert_eq!` puts its message and the end of the process there, and
 //! each copy is proved.
-use std::alloc::Global;
-use std::fmt::{Debug, Display};
+use std::fmt::Debug;
 use std::process::Abort;
-use std::test::Fail;
 
 /// Asserts that what was found in a case is what is wanted there.
 pub(crate) fn assert_same<C: Debug + Copy, T: Debug + PartialEq + Copy>(
@@ -13,17 +11,4 @@ pub(crate) fn assert_same<C: Debug + Copy, T: Debug + PartialEq + Copy>(
     wanted: T,
 ) {
     assert_eq!(rt; found, wanted, "at {case:?}");
-}
-
-/// Asserts that each fault says the text beside it.
-pub(crate) fn assert_messages<F: Display>(
-    rt: &impl Abort,
-    alloc: Global,
-    messages: &[(F, &str)],
-) -> Result<(), Fail> {
-    for (fault, text) in messages {
-        let message = fault.to_string(alloc)?;
-        assert_same(rt, *text, message.as_str(), text);
-    }
-    Ok(())
 }

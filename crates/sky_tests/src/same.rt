@@ -1,0 +1,14 @@
+//! The comparison for all tests. Written at each place, `assert_eq!` puts its message and the end of the process there, and
+//! each copy is proved.
+use std::fmt::Debug;
+use std::process::Abort;
+
+/// Asserts that what was found in a case is what is wanted there.
+pub(crate) fn assert_same<C: Debug + Copy, T: Debug + PartialEq + Copy>(
+    rt: &impl Abort,
+    case: C,
+    found: T,
+    wanted: T,
+) {
+    assert_eq!(rt; found, wanted, "at {case:?}");
+}
