@@ -7,7 +7,6 @@ use pref_table::engine::{blanks_length, is_name_byte, signed_number};
 use pref_table::{Row, Schema, TableFault, read_row, read_table};
 use std::alloc::{AllocError, Global};
 use std::process::Abort;
-use std::test::Fail;
 
 fn fault_of(alloc: Global, text: &[u8]) -> Option<TableFault> {
     read_table(alloc, text).err()
@@ -25,21 +24,20 @@ fn check_columns(rt: &impl Abort, schema: &Schema) {
 }
 
 /// The only row holds a 7 and a 0.
-fn check_rows(rt: &impl Abort, rows: &[Row]) -> Result<(), Fail> {
+fn check_rows(rt: &impl Abort, rows: &[Row]) {
     let [row] = rows else {
-        return Err("one row".into());
+        panic!(rt; "not one row");
     };
     let found = (pair(row), row.cell(15));
     assert_same(rt, "its columns, no column", found, ((7, 0), 0));
-    Ok(())
 }
 
 #[test]
-fn marks_quotes_and_line_ends(rt: HostRuntime) -> Result<(), Fail> {
+fn marks_quotes_and_line_ends(rt: HostRuntime) {
     let text = b"\xEF\xBB\xBF\xEF\xBB\xBF\"a\",\"b\"\r\n +007 ,-0\r\n";
-    let (schema, rows) = read_table(rt.alloc(), text)?;
+    let (schema, rows) = read_table(rt.alloc(), text).expect(&rt, "a table");
     check_columns(&rt, &schema);
-    check_rows(&rt, rows.as_slice())
+    check_rows(&rt, rows.as_slice());
 }
 
 /// How many rows a table text has, and the first two cells of the first.
@@ -48,18 +46,8 @@ fn count_and_first(alloc: Global, text: &[u8]) -> Result<(usize, Option<(i64, i6
     Ok((rows.len(), rows.first().map(pair)))
 }
 
-/// The first two cells of each row.
-fn pairs_of(alloc: Global, text: &[u8]) -> Result<Vec<(i64, i64)>, TableFault> {
-    let (_, rows) = read_table(alloc, text)?;
-    let mut pairs = Vec::new(alloc);
-    for row in rows.as_slice() {
-        pairs.push(pair(row))?;
-    }
-    Ok(pairs)
-}
-
 /// Rows of plain digits are read another way than the rows behind the first other line.
-const TABLES: [(&str, &[(i64, i64)]); 20] = [
+static TABLES: [(&str, &[(i64, i64)]); 20] = [
     ("a,b\n1,2\n-3,+4\n", &[(1, 2), (-3, 4)]),
     ("a,b\n1,2\n\"3\",4\n5,6", &[(1, 2), (3, 4), (5, 6)]),
     ("a,b\n1,2\n3,4\r\n5,6\r\n", &[(1, 2), (3, 4), (5, 6)]),
@@ -88,24 +76,23 @@ const TABLES: [(&str, &[(i64, i64)]); 20] = [
     ("a", &[]),
 ];
 
-fn check_tables(
-    rt: &impl Abort,
-    alloc: Global,
-    cases: &[(&str, &[(i64, i64)])],
-) -> Result<(), Fail> {
-    for (text, wanted) in cases {
-        let found = pairs_of(alloc, text.as_bytes())?;
-        assert_same(rt, *text, found.as_slice(), *wanted);
+/// A table text has rows whose first two cells are these.
+fn check_table(rt: &impl Abort, alloc: Global, text: &str, wanted: &[(i64, i64)]) {
+    let (_, rows) = read_table(alloc, text.as_bytes()).expect(rt, text);
+    assert_same(rt, (text, "rows"), rows.len(), wanted.len());
+    for (row, cells) in rows.as_slice().iter().zip(wanted) {
+        assert_same(rt, text, pair(row), *cells);
     }
-    Ok(())
 }
 
 #[test]
-fn records_as_csv_reads_them(rt: HostRuntime) -> Result<(), Fail> {
-    check_tables(&rt, rt.alloc(), &TABLES)
+fn records_as_csv_reads_them(rt: HostRuntime) {
+    for (text, wanted) in &TABLES {
+        check_table(&rt, rt.alloc(), text, wanted);
+    }
 }
 
-const FAULTS_BEHIND_PLAIN_ROWS: [(&str, TableFault); 9] = [
+static FAULTS_BEHIND_PLAIN_ROWS: [(&str, TableFault); 9] = [
     ("a,b\n1,2\n3,x\n", TableFault::NotWhole { row: 2, col: 2 }),
     ("a,b\n1,2\n3,4\n5\n6,7\n", TableFault::Width { row: 3 }),
     ("a,b\n1,2\n3,4,5\n", TableFault::Width { row: 2 }),
@@ -128,7 +115,7 @@ fn check_refused(rt: &impl Abort, alloc: Global, cases: &[(&str, TableFault)]) {
     }
 }
 
-const REFUSED: [(&str, TableFault); 18] = [
+static REFUSED: [(&str, TableFault); 18] = [
     ("", TableFault::NoColumns),
     ("\n\n", TableFault::NoColumns),
     ("a,a", TableFault::SameName { col: 2 }),
@@ -159,7 +146,7 @@ const REFUSED: [(&str, TableFault); 18] = [
 ];
 
 /// Texts of which a record has one field more than a table has columns, unless commas are inside quotes.
-const WIDE: [(&str, TableFault); 9] = [
+static WIDE: [(&str, TableFault); 9] = [
     ("\"a\",,,,,,,,,,,,,,,,", TableFault::TooManyColumns),
     ("\n\r\n\"a\",,,,,,,,,,,,,,,,\n1", TableFault::TooManyColumns),
     (
@@ -208,28 +195,23 @@ fn text_of(alloc: Global, lines: &[(&str, usize)]) -> Result<Vec<u8>, AllocError
 }
 
 /// A text of these lines has the most rows that a table can have, and with one more line too many.
-fn check_last_row(
-    rt: &impl Abort,
-    alloc: Global,
-    lines: &[(&str, usize)],
-    line: &[u8],
-) -> Result<(), Fail> {
-    let mut text = text_of(alloc, lines)?;
-    let (count, _) = count_and_first(alloc, text.as_slice())?;
-    assert_same(rt, "the last row", count, 65_536);
-    text.extend_from_slice(line)?;
+fn check_last_row(rt: &impl Abort, alloc: Global, lines: &[(&str, usize)], line: &[u8]) {
+    let mut text = text_of(alloc, lines).expect(rt, "memory");
+    let found = count_and_first(alloc, text.as_slice());
+    let count = found.map(|(count, _)| count);
+    assert_same(rt, "the last row", count, Ok(65_536));
+    text.extend_from_slice(line).expect(rt, "memory");
     let found = fault_of(alloc, text.as_slice());
     assert_same(rt, "one more", found, Some(TableFault::TooManyRows));
-    Ok(())
 }
 
 /// Also where the last rows are behind plain ones.
 #[test]
-fn the_row_after_the_last_is_too_many(rt: HostRuntime) -> Result<(), Fail> {
+fn the_row_after_the_last_is_too_many(rt: HostRuntime) {
     let signed = [("a\n", 1), ("-12\n", 65_536)];
-    check_last_row(&rt, rt.alloc(), &signed, b"1,2\n")?;
+    check_last_row(&rt, rt.alloc(), &signed, b"1,2\n");
     let plain_first = [("a\n", 1), ("7\n", 65_534), ("\"8\"\n9\n", 1)];
-    check_last_row(&rt, rt.alloc(), &plain_first, b"10\n")
+    check_last_row(&rt, rt.alloc(), &plain_first, b"10\n");
 }
 
 /// The longest name and a short one.
@@ -239,19 +221,18 @@ fn check_names(rt: &impl Abort, schema: &Schema, longest: &[u8]) {
 }
 
 #[test]
-fn names_of_a_schema(rt: HostRuntime) -> Result<(), Fail> {
+fn names_of_a_schema(rt: HostRuntime) {
     let too_long = [b"abcdefghijklmnopqrstuvwxyz_.01234".as_slice()];
     let returned = Schema::new(rt.alloc(), too_long.as_slice()).err();
     let wanted = Some(TableFault::BadName { col: 1 });
     assert_same(&rt, "too long", returned, wanted);
     let longest = b"abcdefghijklmnopqrstuvwxyz_.0123";
     let names = [longest.as_slice(), b"y_1".as_slice()];
-    let schema = Schema::new(rt.alloc(), names.as_slice())?;
+    let schema = Schema::new(rt.alloc(), names.as_slice()).expect(&rt, "two columns");
     check_names(&rt, &schema, longest);
-    Ok(())
 }
 
-const LINES: [(&str, Result<[i64; 2], TableFault>); 7] = [
+static LINES: [(&str, Result<[i64; 2], TableFault>); 7] = [
     (" 3\t,-9223372036854775808", Ok([3, i64::MIN])),
     (
         "000000000000000007,999999999999999999",
@@ -282,24 +263,23 @@ fn check_lines(rt: &impl Abort, schema: &Schema, lines: &[(&str, Result<[i64; 2]
 }
 
 /// Rows have the cells that they are made of, one for each column.
-fn check_rows_of_cells(rt: &impl Abort, schema: &Schema) -> Result<(), Fail> {
-    let row = Row::of(schema, [3, i64::MIN].as_slice())?;
+fn check_rows_of_cells(rt: &impl Abort, schema: &Schema) {
+    let row = Row::of(schema, [3, i64::MIN].as_slice()).expect(rt, "a row");
     assert_same(rt, "its cells", pair(&row), (3, i64::MIN));
     let short = Row::of(schema, [1].as_slice());
     assert_same(rt, "one cell", short, Err(TableFault::Width { row: 0 }));
-    Ok(())
 }
 
 #[test]
-fn rows_of_a_line(rt: HostRuntime) -> Result<(), Fail> {
+fn rows_of_a_line(rt: HostRuntime) {
     let names = [b"x".as_slice(), b"y_1".as_slice()];
-    let schema = Schema::new(rt.alloc(), names.as_slice())?;
-    check_rows_of_cells(&rt, &schema)?;
+    let schema = Schema::new(rt.alloc(), names.as_slice()).expect(&rt, "two columns");
+    check_rows_of_cells(&rt, &schema);
     check_lines(&rt, &schema, &LINES);
-    Ok(())
+    check_lines(&rt, &schema, &numbers::LINES);
 }
 
-const NAME_BYTES: [(u8, bool); 6] = [
+static NAME_BYTES: [(u8, bool); 6] = [
     (b'a', true),
     (b'Z', true),
     (b'0', true),
@@ -308,7 +288,7 @@ const NAME_BYTES: [(u8, bool); 6] = [
     (b'-', false),
 ];
 
-const SIGNED_DIGITS: [(bool, &str, Option<i64>); 4] = [
+static SIGNED_DIGITS: [(bool, &str, Option<i64>); 4] = [
     (true, "007", Some(-7)),
     (true, "9223372036854775808", Some(i64::MIN)),
     (false, "9223372036854775808", None),
@@ -327,7 +307,7 @@ fn parts_that_questions_share(rt: HostRuntime) {
     }
 }
 
-const MESSAGES: [(TableFault, &str); 9] = [
+static MESSAGES: [(TableFault, &str); 9] = [
     (TableFault::NoColumns, "no columns"),
     (TableFault::TooManyColumns, "too many columns"),
     (TableFault::BadName { col: 3 }, "bad name col 3"),
@@ -346,6 +326,6 @@ const MESSAGES: [(TableFault, &str); 9] = [
 ];
 
 #[test]
-fn messages(rt: HostRuntime) -> Result<(), Fail> {
-    assert_messages(&rt, rt.alloc(), &MESSAGES)
+fn messages(rt: HostRuntime) {
+    assert_messages(&rt, rt.alloc(), &MESSAGES);
 }

@@ -1,10 +1,9 @@
 //! Number fields, in lines of text and in table texts.
-use super::{check_lines, count_and_first};
+use super::count_and_first;
 use crate::same::assert_same;
 use pref_table::{Schema, TableFault, read_row};
 use std::alloc::Global;
 use std::process::Abort;
-use std::test::Fail;
 
 /// The only cell of a line over one column.
 fn cell_of_line(alloc: Global, field: &str) -> Result<i64, TableFault> {
@@ -20,7 +19,7 @@ fn cell_of_text(alloc: Global, field: &str) -> Result<i64, TableFault> {
     Ok(first.map_or(0, |(cell, _)| cell))
 }
 
-const NUMBERS: [(&str, i64); 16] = [
+static NUMBERS: [(&str, i64); 16] = [
     ("7", 7),
     ("-7", -7),
     ("+5", 5),
@@ -58,11 +57,11 @@ fn whole_numbers(rt: HostRuntime) {
     }
 }
 
-const NO_NUMBERS: [&str; 12] = [
+static NO_NUMBERS: [&str; 12] = [
     "-", "+", " ", "--1", "+-1", "- 1", "1-", "1 2", "1.", "0x1", "-:", "1/",
 ];
 
-const PAST_A_CELL: [&str; 2] = ["9223372036854775808", "-9223372036854775809"];
+static PAST_A_CELL: [&str; 2] = ["9223372036854775808", "-9223372036854775809"];
 
 /// Fields that are refused, each with this fault in a line and that in a text.
 fn check_no_cells(
@@ -87,7 +86,8 @@ fn fields_that_are_no_cells(rt: HostRuntime) {
     check_no_cells(&rt, rt.alloc(), &PAST_A_CELL, in_line, in_text);
 }
 
-const LINES: [(&str, Result<[i64; 2], TableFault>); 12] = [
+/// Lines over two columns, as those of `rows_of_a_line`.
+pub(super) static LINES: [(&str, Result<[i64; 2], TableFault>); 12] = [
     ("-3,-45", Ok([-3, -45])),
     ("-3, -45", Ok([-3, -45])),
     (" -3,-45\t", Ok([-3, -45])),
@@ -101,11 +101,3 @@ const LINES: [(&str, Result<[i64; 2], TableFault>); 12] = [
     ("-3,-45x", Err(TableFault::NotWhole { row: 0, col: 2 })),
     ("\"3\",4", Err(TableFault::NotWhole { row: 0, col: 1 })),
 ];
-
-#[test]
-fn fields_of_a_line(rt: HostRuntime) -> Result<(), Fail> {
-    let names = [b"x".as_slice(), b"y".as_slice()];
-    let schema = Schema::new(rt.alloc(), names.as_slice())?;
-    check_lines(&rt, &schema, &LINES);
-    Ok(())
-}
