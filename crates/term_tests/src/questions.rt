@@ -16,9 +16,8 @@ use pref_term::engine::in_same_group;
 use pref_term::{
     Ask, Dominance, Mode, Numbers, Relation, Term, TermFault, better, compare, read_ask, same,
 };
-use std::alloc::{AllocError, Global};
+use std::alloc::Global;
 use std::process::Abort;
-use std::test::Fail;
 
 const X: [&[u8]; 1] = [b"x"];
 
@@ -57,69 +56,40 @@ fn check_refused(rt: &impl Abort, alloc: Global, names: &[&[u8]], cases: &[(&str
 
 /// How two rows over the columns x, y and z compare by a question, and whether they are twins.
 fn standing(
+    rt: &impl Abort,
     alloc: Global,
-    text: &[u8],
+    text: &str,
     a: &[i64; 3],
     b: &[i64; 3],
-) -> Result<(Relation, bool), Fail> {
-    let first = row_over(alloc, &XYZ, a)?;
-    let second = row_over(alloc, &XYZ, b)?;
-    let ask = ask_over(alloc, &XYZ, text)?;
-    Ok((ask.compare(&first, &second), ask.twin(&first, &second)))
+) -> (Relation, bool) {
+    let first = row_over(alloc, &XYZ, a).expect(rt, text);
+    let second = row_over(alloc, &XYZ, b).expect(rt, text);
+    let ask = ask_over(alloc, &XYZ, text.as_bytes()).expect(rt, text);
+    (ask.compare(&first, &second), ask.twin(&first, &second))
 }
 
 /// Questions, of each two rows, and how the first compares with the second.
-fn check_standings(
-    rt: &impl Abort,
-    alloc: Global,
-    cases: &[(&str, [i64; 3], [i64; 3], Relation)],
-) -> Result<(), Fail> {
+fn check_standings(rt: &impl Abort, alloc: Global, cases: &[(&str, [i64; 3], [i64; 3], Relation)]) {
     for (text, first, second, wanted) in cases {
-        let (found, _) = standing(alloc, text.as_bytes(), first, second)?;
+        let (found, _) = standing(rt, alloc, text, first, second);
         assert_same(rt, (*text, first, second), found, *wanted);
     }
-    Ok(())
-}
-
-/// Whether two questions over these columns are equal.
-fn are_equal(
-    alloc: Global,
-    names: &[&[u8]],
-    first: &[u8],
-    second: &[u8],
-) -> Result<bool, TermFault> {
-    let ask = ask_over(alloc, names, first)?;
-    Ok(ask == ask_over(alloc, names, second)?)
 }
 
 /// A set of these numbers.
-fn set_of(alloc: Global, numbers: &[i64]) -> Result<Numbers, AllocError> {
-    Ok(Numbers::of(numbers.to_vec(alloc)?))
+fn set_of(rt: &impl Abort, alloc: Global, numbers: &[i64]) -> Numbers {
+    Numbers::of(numbers.to_vec(alloc).expect(rt, "memory"))
 }
 
-/// `best `, this many minus signs, `low(x)`.
-fn negated(alloc: Global, times: usize) -> Result<Vec<u8>, Fail> {
-    let mut text = b"best ".to_vec(alloc)?;
-    for _ in 0..times {
-        text.push(b'-')?;
-    }
-    text.extend_from_slice(b"low(x)")?;
-    Ok(text)
-}
+/// A question behind 64 signs, and one behind one more.
+const UNDER_64_SIGNS: &str =
+    "best ----------------------------------------------------------------low(x)";
 
-/// What is wrong with a question behind this many minus signs.
-fn fault_of_negated(alloc: Global, times: usize) -> Result<Option<TermFault>, Fail> {
-    Ok(fault_over(alloc, &X, negated(alloc, times)?.as_slice()))
-}
+const UNDER_65_SIGNS: &str =
+    "best -----------------------------------------------------------------low(x)";
 
-/// How a row compares by such a question with one that holds a larger number.
-fn standing_of_negated(alloc: Global, times: usize) -> Result<Relation, Fail> {
-    let text = negated(alloc, times)?;
-    let (relation, _) = standing(alloc, text.as_slice(), &[1, 0, 0], &[2, 0, 0])?;
-    Ok(relation)
-}
-
-const REFUSED: [(&str, TermFault); 17] = [
+static REFUSED: [(&str, TermFault); 18] = [
+    (UNDER_65_SIGNS, TermFault::TooDeep { at: 69 }),
     ("best low(z)", TermFault::UnknownColumn { at: 9 }),
     ("best low(z", TermFault::UnknownColumn { at: 9 }),
     ("best low(x", TermFault::Unexpected { at: 10 }),
@@ -150,6 +120,13 @@ fn refused_at_their_token(rt: HostRuntime) {
     check_refused(&rt, rt.alloc(), &X, &REFUSED);
     check_refused(&rt, rt.alloc(), &X, &layers::REFUSED);
     check_refused(&rt, rt.alloc(), &X, &ranges::REFUSED);
+    check_refused(&rt, rt.alloc(), &X, &distinct::REFUSED);
+    check_refused(
+        &rt,
+        rt.alloc(),
+        &distinct::WORDS,
+        &distinct::REFUSED_OVER_WORDS,
+    );
 }
 
 #[test]
@@ -172,46 +149,33 @@ fn accepted(rt: HostRuntime) {
     }
 }
 
-const NESTINGS: [(&str, usize, Option<TermFault>); 2] = [
-    ("64 signs", 64, None),
-    ("65 signs", 65, Some(TermFault::TooDeep { at: 69 })),
-];
-
-#[test]
-fn the_65th_nesting_is_too_deep(rt: HostRuntime) -> Result<(), Fail> {
-    for (case, times, wanted) in &NESTINGS {
-        let returned = fault_of_negated(rt.alloc(), *times)?;
-        assert_same(&rt, *case, returned, *wanted);
-    }
-    let relation = standing_of_negated(rt.alloc(), 64)?;
-    assert_same(&rt, "rows", relation, Relation::Better);
-    Ok(())
-}
-
 /// What is wrong with a text of this many plus signs.
-fn fault_of_plus_signs(alloc: Global, count: usize) -> Result<Option<TermFault>, Fail> {
-    let text = vec![in alloc; b'+'; count]?;
-    Ok(fault_over(alloc, &X, text.as_slice()))
+fn check_plus_signs(rt: &impl Abort, alloc: Global, count: usize, wanted: TermFault) {
+    let text = vec![in alloc; b'+'; count].expect(rt, "memory");
+    let found = fault_over(alloc, &X, text.as_slice());
+    assert_same(rt, count, found, Some(wanted));
 }
 
 #[test]
-fn a_longer_text_is_too_long_whatever_it_holds(rt: HostRuntime) -> Result<(), Fail> {
-    let returned = fault_of_plus_signs(rt.alloc(), 4_096)?;
-    let wanted = Some(TermFault::Unexpected { at: 0 });
-    assert_same(&rt, "4096 bytes", returned, wanted);
-    let returned = fault_of_plus_signs(rt.alloc(), 4_097)?;
-    assert_same(&rt, "4097 bytes", returned, Some(TermFault::TooLong));
-    Ok(())
+fn a_longer_text_is_too_long_whatever_it_holds(rt: HostRuntime) {
+    check_plus_signs(&rt, rt.alloc(), 4_096, TermFault::Unexpected { at: 0 });
+    check_plus_signs(&rt, rt.alloc(), 4_097, TermFault::TooLong);
 }
 
 /// A question has this mode, this cut and this group.
-fn check_parts(rt: &impl Abort, ask: &Ask, case: &(&str, Mode, u32, &[usize])) {
+fn check_parts(
+    rt: &impl Abort,
+    alloc: Global,
+    names: &[&[u8]],
+    case: &(&str, Mode, u32, &[usize]),
+) {
     let (text, mode, cut, group) = *case;
+    let ask = ask_over(alloc, names, text.as_bytes()).expect(rt, text);
     let found = (ask.mode(), ask.cut(), ask.group());
     assert_same(rt, text, found, (mode, cut, group));
 }
 
-const COLUMNS_CALLED_AS_WORDS: [(&str, Mode, u32, &[usize]); 2] = [
+static COLUMNS_CALLED_AS_WORDS: [(&str, Mode, u32, &[usize]); 2] = [
     (
         "at_least 7 low(low) * high(end) by by, min",
         Mode::AtLeast(7),
@@ -222,16 +186,15 @@ const COLUMNS_CALLED_AS_WORDS: [(&str, Mode, u32, &[usize]); 2] = [
 ];
 
 #[test]
-fn a_word_is_a_column_where_a_column_stands(rt: HostRuntime) -> Result<(), Fail> {
+fn a_word_is_a_column_where_a_column_stands(rt: HostRuntime) {
     let names: [&[u8]; 4] = [b"low", b"by", b"min", b"end"];
     for case in &COLUMNS_CALLED_AS_WORDS {
-        let ask = ask_over(rt.alloc(), &names, case.0.as_bytes())?;
-        check_parts(&rt, &ask, case);
+        check_parts(&rt, rt.alloc(), &names, case);
     }
-    Ok(())
 }
 
-const STANDINGS: [(&str, [i64; 3], [i64; 3], Relation); 12] = [
+static STANDINGS: [(&str, [i64; 3], [i64; 3], Relation); 13] = [
+    (UNDER_64_SIGNS, [1, 0, 0], [2, 0, 0], Relation::Better),
     ("best low(x) * low(y)", [1, 2, 0], [1, 2, 9], Relation::Same),
     (
         "best around(x, 9223372036854775807)",
@@ -292,11 +255,14 @@ const STANDINGS: [(&str, [i64; 3], [i64; 3], Relation); 12] = [
 ];
 
 #[test]
-fn rows_stand_by_the_question(rt: HostRuntime) -> Result<(), Fail> {
-    check_standings(&rt, rt.alloc(), &STANDINGS)
+fn rows_stand_by_the_question(rt: HostRuntime) {
+    check_standings(&rt, rt.alloc(), &STANDINGS);
+    check_standings(&rt, rt.alloc(), &ranges::STANDINGS);
+    check_standings(&rt, rt.alloc(), &layers::STANDINGS);
+    check_standings(&rt, rt.alloc(), &products::STANDINGS);
 }
 
-const WALKS: [(&str, [i64; 2], [i64; 2], (bool, bool, bool, bool)); 5] = [
+static WALKS: [(&str, [i64; 2], [i64; 2], (bool, bool, bool, bool)); 5] = [
     (
         "best low(x) & high(y)",
         [1, 2],
@@ -340,26 +306,24 @@ fn read_off(ask: &Ask, a: &Row, b: &Row) -> (bool, bool, bool, bool) {
     )
 }
 
-/// Reads two rows off by the text of a question over the columns x and y.
-fn read_off_text(
+/// What is read off two rows by a question over the columns x and y.
+fn check_read_off(
+    rt: &impl Abort,
     alloc: Global,
-    text: &[u8],
-    first: &[i64],
-    second: &[i64],
-) -> Result<(bool, bool, bool, bool), Fail> {
-    let a = row_over(alloc, &XY, first)?;
-    let b = row_over(alloc, &XY, second)?;
-    let ask = ask_over(alloc, &XY, text)?;
-    Ok(read_off(&ask, &a, &b))
+    case: &(&str, [i64; 2], [i64; 2], (bool, bool, bool, bool)),
+) {
+    let (text, first, second, wanted) = *case;
+    let a = row_over(alloc, &XY, &first).expect(rt, text);
+    let b = row_over(alloc, &XY, &second).expect(rt, text);
+    let ask = ask_over(alloc, &XY, text.as_bytes()).expect(rt, text);
+    assert_same(rt, (text, first, second), read_off(&ask, &a, &b), wanted);
 }
 
 #[test]
-fn better_same_and_over_read_off_one_walk(rt: HostRuntime) -> Result<(), Fail> {
-    for (text, first, second, wanted) in &WALKS {
-        let found = read_off_text(rt.alloc(), text.as_bytes(), first, second)?;
-        assert_same(&rt, (*text, first, second), found, *wanted);
+fn better_same_and_over_read_off_one_walk(rt: HostRuntime) {
+    for case in &WALKS {
+        check_read_off(&rt, rt.alloc(), case);
     }
-    Ok(())
 }
 
 /// How rows compare by a preference for a set of values in the column x: the first with the second, the second with
@@ -393,23 +357,22 @@ fn check_groups(rt: &impl Abort, first: &Row, second: &Row) {
 }
 
 #[test]
-fn a_term_made_by_hand_is_walked(rt: HostRuntime) -> Result<(), Fail> {
-    let first = row_over(rt.alloc(), &XY, &[5, 7])?;
-    let second = row_over(rt.alloc(), &XY, &[1, 7])?;
+fn a_term_made_by_hand_is_walked(rt: HostRuntime) {
+    let first = row_over(rt.alloc(), &XY, &[5, 7]).expect(&rt, "a row");
+    let second = row_over(rt.alloc(), &XY, &[1, 7]).expect(&rt, "a row");
     check_groups(&rt, &first, &second);
-    let set = set_of(rt.alloc(), &[2, 5])?;
+    let set = set_of(&rt, rt.alloc(), &[2, 5]);
     assert_same(&rt, "set", set.as_slice(), [2, 5].as_slice());
     check_walks(&rt, walks_of(set, &first, &second));
-    Ok(())
 }
 
 /// The longest product that a question holds.
-fn longest_product(alloc: Global) -> Result<Vec<u8>, Fail> {
-    let mut text = b"best low(x)".to_vec(alloc)?;
+fn longest_product(rt: &impl Abort, alloc: Global) -> Vec<u8> {
+    let mut text = b"best low(x)".to_vec(alloc).expect(rt, "memory");
     for _ in 0..580 {
-        text.extend_from_slice(b"*low(x)")?;
+        text.extend_from_slice(b"*low(x)").expect(rt, "memory");
     }
-    Ok(text)
+    text
 }
 
 /// Compares a row with itself 1,000 times.
@@ -421,15 +384,14 @@ fn check_same_as_itself(rt: &impl Abort, ask: &Ask, row: &Row) {
 
 /// On rows that are the same in all its factors: one comparison a factor.
 #[test]
-fn the_longest_product_is_walked_once_a_pair(rt: HostRuntime) -> Result<(), Fail> {
-    let row = row_over(rt.alloc(), &X, &[5])?;
-    let text = longest_product(rt.alloc())?;
-    let ask = ask_over(rt.alloc(), &X, text.as_slice())?;
+fn the_longest_product_is_walked_once_a_pair(rt: HostRuntime) {
+    let row = row_over(rt.alloc(), &X, &[5]).expect(&rt, "a row");
+    let text = longest_product(&rt, rt.alloc());
+    let ask = ask_over(rt.alloc(), &X, text.as_slice()).expect(&rt, "a question");
     check_same_as_itself(&rt, &ask, &row);
-    Ok(())
 }
 
-const MESSAGES: [(TermFault, &str); 9] = [
+static MESSAGES: [(TermFault, &str); 9] = [
     (TermFault::Unexpected { at: 3 }, "unexpected at 3"),
     (TermFault::UnknownColumn { at: 9 }, "unknown column at 9"),
     (TermFault::NumberRange { at: 15 }, "number range at 15"),
@@ -442,6 +404,7 @@ const MESSAGES: [(TermFault, &str); 9] = [
 ];
 
 #[test]
-fn messages(rt: HostRuntime) -> Result<(), Fail> {
-    assert_messages(&rt, rt.alloc(), &MESSAGES)
+fn messages(rt: HostRuntime) {
+    assert_messages(&rt, rt.alloc(), &MESSAGES);
+    assert_messages(&rt, rt.alloc(), &built::MESSAGES);
 }

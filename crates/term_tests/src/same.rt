@@ -3,7 +3,6 @@
 use std::alloc::Global;
 use std::fmt::{Debug, Display};
 use std::process::Abort;
-use std::test::Fail;
 
 /// Asserts that what was found in a case is what is wanted there.
 pub(crate) fn assert_same<C: Debug + Copy, T: Debug + PartialEq + Copy>(
@@ -16,14 +15,9 @@ pub(crate) fn assert_same<C: Debug + Copy, T: Debug + PartialEq + Copy>(
 }
 
 /// Asserts that each fault says the text beside it.
-pub(crate) fn assert_messages<F: Display>(
-    rt: &impl Abort,
-    alloc: Global,
-    messages: &[(F, &str)],
-) -> Result<(), Fail> {
+pub(crate) fn assert_messages<F: Display>(rt: &impl Abort, alloc: Global, messages: &[(F, &str)]) {
     for (fault, text) in messages {
-        let message = fault.to_string(alloc)?;
+        let message = fault.to_string(alloc).expect(rt, text);
         assert_same(rt, *text, message.as_str(), text);
     }
-    Ok(())
 }

@@ -3,17 +3,16 @@ ghost use Rattle.std.specs.Prelude.{All};
 ghost use Rattle.pref_term.specs.Chains.{AreInRow};
 
 use super::signatures::small_rows;
-use super::{X, XY, ask_over, row_over};
+use super::{XY, ask_over, row_over};
 use crate::same::assert_same;
 use pref_table::Row;
 use pref_term::engine::{Chain, in_same_group};
-use pref_term::{Ask, Dominance, Relation};
+use pref_term::{Ask, Dominance, Relation, compare};
 use std::alloc::Global;
 use std::process::Abort;
-use std::test::Fail;
 
 /// Questions, how many chains lead them, and whether their product is all that the question says.
-const QUESTIONS: [(&str, usize, bool); 21] = [
+static QUESTIONS: [(&str, usize, bool); 28] = [
     ("best low(x)", 1, true),
     ("best -pos(x, 0) & low(y) & high(x)", 1, true),
     ("best low(x) & -(high(y) & low(x))", 1, true),
@@ -21,7 +20,23 @@ const QUESTIONS: [(&str, usize, bool); 21] = [
     ("best low(x) * high(y)", 2, true),
     ("best -(low(x) * layered(y, {0}, {1}))", 2, true),
     ("best (low(x) & low(y)) * (around(y, 0) & high(x))", 2, true),
+    ("best low(x) * low(x) * high(y)", 2, true),
+    ("best low(x) * pos(y, 0)", 2, true),
+    ("best around(x, 1) * -around(y, 0)", 2, true),
+    ("best between(x, 0, 0) * -between(y, 0, 1)", 2, true),
+    ("best -(low(x) * -(high(y) * around(x, 0)))", 3, true),
     ("best low(x) & (low(x) * high(y))", 2, true),
+    // A chain stands before three others, and no more.
+    (
+        "best high(x) & (low(x) * around(x, 1) * around(x, 2))",
+        3,
+        true,
+    ),
+    (
+        "best high(x) & (low(x) * around(x, 1) * around(x, 2) * around(x, 3))",
+        1,
+        false,
+    ),
     ("best -(low(x) & (high(y) & (low(y) * -low(x))))", 2, true),
     ("best low(x) * (low(y) & (low(x) * low(y)))", 3, true),
     ("skyline of distinct x min, y max", 2, true),
@@ -48,7 +63,7 @@ const QUESTIONS: [(&str, usize, bool); 21] = [
 const ABCD: [&[u8]; 4] = [b"a", b"b", b"c", b"d"];
 
 /// Questions over four columns, with the same.
-const QUESTIONS_OF_FOUR: [(&str, usize, bool); 10] = [
+static QUESTIONS_OF_FOUR: [(&str, usize, bool); 10] = [
     ("best (low(a) * low(b)) & low(c)", 2, false),
     ("best -((low(a) * low(b)) & low(c))", 2, false),
     ("best low(d) & ((low(a) * low(b)) & high(c))", 2, false),
@@ -102,7 +117,8 @@ fn check_product(
 }
 
 /// By all keys a row is better than one that it dominates, and the same as one of its group that is the same to the question. In one
-/// group the chains that lead, one after the other, put no row before another that all keys put behind it.
+/// group the chains that lead, one after the other, put no row before another that all keys put behind it, and a walk of the term
+/// finds what the question says.
 fn check_order(rt: &impl Abort, question: &str, ask: &Ask, a: &Row, b: &Row) {
     let relation = ask.compare(a, b);
     let in_order = ask.compare_in_order(a, b);
@@ -112,8 +128,9 @@ fn check_order(rt: &impl Abort, question: &str, ask: &Ask, a: &Row, b: &Row) {
         !relation.is_better() || in_order.is_better(),
         relation.is_same() == in_order.is_same(),
         !near || in_turn.is_same() || in_turn == in_order,
+        !near || compare(ask.term(), a, b) == relation,
     );
-    assert_same(rt, (question, a, b), found, (true, true, true));
+    assert_same(rt, (question, a, b), found, (true, true, true, true));
 }
 
 /// All pairs of these rows.
@@ -132,52 +149,30 @@ fn check_questions(
     names: &[&[u8]],
     rows: &[Row],
     cases: &[(&str, usize, bool)],
-) -> Result<(), Fail> {
+) {
     for (question, count, is_whole) in cases {
-        let ask = ask_over(alloc, names, question.as_bytes())?;
+        let ask = ask_over(alloc, names, question.as_bytes()).expect(rt, question);
         assert_same(rt, *question, ask.leading().chains.len(), *count);
         check_pairs(rt, (*question, *is_whole), &ask, rows);
     }
-    Ok(())
-}
-
-/// All pairs of rows over x and y with cells from -1 to 1.
-#[test]
-fn a_product_of_chains_leads_a_question(rt: HostRuntime) -> Result<(), Fail> {
-    let rows = small_rows(rt.alloc())?;
-    check_questions(&rt, rt.alloc(), &XY, &rows, &QUESTIONS)
 }
 
 /// All rows over four columns with cells 0 and 1.
-fn rows_of_four(alloc: Global) -> Result<Vec<Row>, Fail> {
+fn rows_of_four(rt: &impl Abort, alloc: Global) -> Vec<Row> {
     let mut rows = Vec::new(alloc);
     for place in 0..16 {
         let cells = [place % 2, place / 2 % 2, place / 4 % 2, place / 8];
-        rows.push(row_over(alloc, &ABCD, &cells)?)?;
+        let row = row_over(alloc, &ABCD, &cells).expect(rt, "a row");
+        rows.push(row).expect(rt, "memory");
     }
-    Ok(rows)
+    rows
 }
 
+/// All pairs of rows over x and y with cells from -1 to 1, and of rows over four columns with cells 0 and 1.
 #[test]
-fn a_product_of_chains_leads_a_question_of_four_columns(rt: HostRuntime) -> Result<(), Fail> {
-    let rows = rows_of_four(rt.alloc())?;
-    check_questions(&rt, rt.alloc(), &ABCD, &rows, &QUESTIONS_OF_FOUR)
-}
-
-/// How many chains lead a product of so many different factors behind a chain.
-fn count_behind(alloc: Global, factors: u32) -> Result<usize, Fail> {
-    let mut text = format!(in alloc; "best high(x) & (low(x)")?;
-    for number in 1..factors {
-        text.push_str(&format!(in alloc; " * around(x, {number})")?)?;
-    }
-    text.push_str(")")?;
-    let ask = ask_over(alloc, &X, text.as_bytes())?;
-    Ok(ask.leading().chains.len())
-}
-
-#[test]
-fn a_chain_stands_before_three_others(rt: HostRuntime) -> Result<(), Fail> {
-    assert_same(&rt, "3", count_behind(rt.alloc(), 3)?, 3);
-    assert_same(&rt, "4", count_behind(rt.alloc(), 4)?, 1);
-    Ok(())
+fn a_product_of_chains_leads_a_question(rt: HostRuntime) {
+    let rows = small_rows(&rt, rt.alloc());
+    check_questions(&rt, rt.alloc(), &XY, &rows, &QUESTIONS);
+    let rows = rows_of_four(&rt, rt.alloc());
+    check_questions(&rt, rt.alloc(), &ABCD, &rows, &QUESTIONS_OF_FOUR);
 }

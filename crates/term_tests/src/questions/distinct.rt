@@ -2,18 +2,17 @@
 ghost use Rattle.std.specs.Prelude.{length};
 ghost use Rattle.pref_term.specs.Question.{FitsWidth};
 
-use super::{X, are_equal, check_refused, standing};
+use super::standing;
 use crate::same::assert_same;
 use pref_table::Schema;
 use pref_term::{Ask, TermFault, read_ask, show};
 use std::alloc::Global;
 use std::process::Abort;
-use std::test::Fail;
 
 /// Columns that are called as words of a clause.
-const WORDS: [&[u8]; 6] = [b"distinct", b"x", b"min", b"max", b"diff", b"of"];
+pub(super) const WORDS: [&[u8]; 6] = [b"distinct", b"x", b"min", b"max", b"diff", b"of"];
 
-const REFUSED: [(&str, TermFault); 13] = [
+pub(super) static REFUSED: [(&str, TermFault); 13] = [
     (
         "skyline of distinct , min",
         TermFault::Unexpected { at: 20 },
@@ -53,7 +52,8 @@ const REFUSED: [(&str, TermFault); 13] = [
     ("skyline distinct of x min", TermFault::Unexpected { at: 8 }),
 ];
 
-const REFUSED_OVER_WORDS: [(&str, TermFault); 7] = [
+/// Where a column is called `distinct`, the second token behind the word tells it from the column.
+pub(super) static REFUSED_OVER_WORDS: [(&str, TermFault); 7] = [
     (
         "skyline of distinct , min",
         TermFault::Unexpected { at: 20 },
@@ -75,14 +75,7 @@ const REFUSED_OVER_WORDS: [(&str, TermFault); 7] = [
     ("skyline of distinct diff, x diff", TermFault::NoMinOrMax),
 ];
 
-/// Also where a column is called `distinct`.
-#[test]
-fn the_second_token_behind_it_tells_the_word_from_a_column(rt: HostRuntime) {
-    check_refused(&rt, rt.alloc(), &X, &REFUSED);
-    check_refused(&rt, rt.alloc(), &WORDS, &REFUSED_OVER_WORDS);
-}
-
-const CLAUSES: [(&str, bool, &str); 10] = [
+static CLAUSES: [(&str, bool, &str); 10] = [
     ("skyline of distinct min", false, "best low(distinct)"),
     ("Skyline Of distinct Min", false, "best low(distinct)"),
     (
@@ -134,47 +127,27 @@ fn check_shown(
     schema: &Schema,
     ask: &Ask,
     case: &(&str, bool, &str),
-) -> Result<(), Fail>
+)
     requires { FitsWidth (length schema.now) ask.now }
 {
     let (text, distinct, wanted) = *case;
     assert_same(rt, text, ask.distinct(), distinct);
-    let shown = show(alloc, schema, ask)?;
+    let shown = show(alloc, schema, ask).expect(rt, text);
     assert_same(rt, text, shown.as_slice(), wanted.as_bytes());
-    let again = read_ask(alloc, schema, shown.as_slice())?;
+    let again = read_ask(alloc, schema, shown.as_slice()).expect(rt, wanted);
     assert_same(rt, wanted, again == *ask, true);
-    Ok(())
 }
 
-fn check_clauses(
-    rt: &impl Abort,
-    alloc: Global,
-    schema: &Schema,
-    cases: &[(&str, bool, &str)],
-) -> Result<(), Fail> {
-    for case in cases {
-        let ask = read_ask(alloc, schema, case.0.as_bytes())?;
-        check_shown(rt, alloc, schema, &ask, case)?;
+#[test]
+fn the_word_and_a_column_of_that_name(rt: HostRuntime) {
+    let schema = Schema::new(rt.alloc(), &WORDS).expect(&rt, "columns");
+    for case in &CLAUSES {
+        let ask = read_ask(rt.alloc(), &schema, case.0.as_bytes()).expect(&rt, case.0);
+        check_shown(&rt, rt.alloc(), &schema, &ask, case);
     }
-    Ok(())
 }
 
-#[test]
-fn the_word_and_a_column_of_that_name(rt: HostRuntime) -> Result<(), Fail> {
-    let schema = Schema::new(rt.alloc(), &WORDS)?;
-    check_clauses(&rt, rt.alloc(), &schema, &CLAUSES)
-}
-
-#[test]
-fn a_distinct_clause_is_another_question(rt: HostRuntime) -> Result<(), Fail> {
-    let plain = b"skyline of x min";
-    let distinct = b"skyline of distinct x min";
-    let equal = are_equal(rt.alloc(), &WORDS, plain, distinct)?;
-    assert_same(&rt, "one of the two", equal, false);
-    Ok(())
-}
-
-const TWINS: [(&str, [i64; 3], [i64; 3], bool); 6] = [
+static TWINS: [(&str, [i64; 3], [i64; 3], bool); 6] = [
     (
         "skyline of distinct x min, y diff",
         [1, 2, 3],
@@ -204,10 +177,9 @@ const TWINS: [(&str, [i64; 3], [i64; 3], bool); 6] = [
 ];
 
 #[test]
-fn twins_are_equal_in_each_column_of_the_clause(rt: HostRuntime) -> Result<(), Fail> {
+fn twins_are_equal_in_each_column_of_the_clause(rt: HostRuntime) {
     for (text, first, second, wanted) in &TWINS {
-        let (_, found) = standing(rt.alloc(), text.as_bytes(), first, second)?;
+        let (_, found) = standing(&rt, rt.alloc(), text, first, second);
         assert_same(&rt, (*text, first, second), found, *wanted);
     }
-    Ok(())
 }

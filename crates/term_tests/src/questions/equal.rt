@@ -1,13 +1,12 @@
 //! Terms, sets and questions that are equal exactly where the same is seen of them.
 
-use super::{XYG, are_equal, set_of};
+use super::{XYG, ask_over, set_of};
 use crate::same::assert_same;
 use pref_term::Term;
-use std::alloc::{AllocError, Global};
+use std::alloc::Global;
 use std::process::Abort;
-use std::test::Fail;
 
-const PAIRS_OF_QUESTIONS: [(&str, &str, bool); 22] = [
+static PAIRS_OF_QUESTIONS: [(&str, &str, bool); 23] = [
     (
         "best low(x) * low(y) by g",
         "skyline of x min, g diff, y min",
@@ -53,6 +52,7 @@ const PAIRS_OF_QUESTIONS: [(&str, &str, bool); 22] = [
     ),
     ("best layered(x, {1, 2})", "best pos(x, 1, 2)", false),
     ("best low(x) by g", "best low(x)", false),
+    ("skyline of x min", "skyline of distinct x min", false),
     ("top_level 1 low(x)", "at_least 1 low(x)", false),
 ];
 
@@ -62,25 +62,26 @@ fn check_equal_terms(rt: &impl Abort) {
     assert_same(rt, "one column, two columns", found, (true, false));
 }
 
-/// Whether sets of these numbers are equal.
-fn are_equal_sets(alloc: Global, first: &[i64], second: &[i64]) -> Result<bool, AllocError> {
-    let set = set_of(alloc, first)?;
-    Ok(set == set_of(alloc, second)?)
+fn check_equal_sets(rt: &impl Abort, alloc: Global) {
+    let set = set_of(rt, alloc, &[2, 5]);
+    let one = set == set_of(rt, alloc, &[2, 5]);
+    let two = set == set_of(rt, alloc, &[2]);
+    assert_same(rt, "one set, two sets", (one, two), (true, false));
 }
 
-fn check_equal_sets(rt: &impl Abort, alloc: Global) -> Result<(), Fail> {
-    let one = are_equal_sets(alloc, &[2, 5], &[2, 5])?;
-    let two = are_equal_sets(alloc, &[2, 5], &[2])?;
-    assert_same(rt, "one set, two sets", (one, two), (true, false));
-    Ok(())
+/// Whether two questions over the columns x, y and g are equal.
+fn check_equal(rt: &impl Abort, alloc: Global, case: &(&str, &str, bool)) {
+    let (first, second, wanted) = *case;
+    let ask = ask_over(alloc, &XYG, first.as_bytes()).expect(rt, first);
+    let other = ask_over(alloc, &XYG, second.as_bytes()).expect(rt, second);
+    assert_same(rt, (first, second), ask == other, wanted);
 }
 
 #[test]
-fn equal_where_the_same_is_seen(rt: HostRuntime) -> Result<(), Fail> {
-    for (first, second, wanted) in &PAIRS_OF_QUESTIONS {
-        let found = are_equal(rt.alloc(), &XYG, first.as_bytes(), second.as_bytes())?;
-        assert_same(&rt, (*first, *second), found, *wanted);
+fn equal_where_the_same_is_seen(rt: HostRuntime) {
+    for case in &PAIRS_OF_QUESTIONS {
+        check_equal(&rt, rt.alloc(), case);
     }
     check_equal_terms(&rt);
-    check_equal_sets(&rt, rt.alloc())
+    check_equal_sets(&rt, rt.alloc());
 }

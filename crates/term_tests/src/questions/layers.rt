@@ -1,14 +1,13 @@
 //! Questions with sets in layers: where they are wrong, and that the first set that holds a value counts.
-use super::{X, check_standings, row_over, set_of};
+use super::{X, row_over, set_of};
 use crate::same::assert_same;
 use pref_table::Row;
 use pref_term::{NumberSets, Relation, Term, TermFault, compare};
-use std::alloc::{AllocError, Global};
+use std::alloc::Global;
 use std::process::Abort;
-use std::test::Fail;
 
 /// A set is read to its brace.
-pub(super) const REFUSED: [(&str, TermFault); 19] = [
+pub(super) static REFUSED: [(&str, TermFault); 19] = [
     ("best layered(x)", TermFault::Unexpected { at: 14 }),
     ("best layered(x, )", TermFault::Unexpected { at: 16 }),
     ("best layered(x, {})", TermFault::Unexpected { at: 17 }),
@@ -44,7 +43,8 @@ const TWICE: &str = "best layered(x, {5}, {5})";
 
 const ENDS: &str = "best layered(x, {9223372036854775807}, {-9223372036854775808})";
 
-const STANDINGS: [(&str, [i64; 3], [i64; 3], Relation); 15] = [
+/// The first set that holds a value counts.
+pub(super) static STANDINGS: [(&str, [i64; 3], [i64; 3], Relation); 15] = [
     (TWO, [3, 0, 0], [2, 0, 0], Relation::Same),
     (TWO, [5, 0, 0], [2, 0, 0], Relation::Worse),
     (TWO, [5, 0, 0], [7, 0, 0], Relation::Better),
@@ -82,33 +82,22 @@ const STANDINGS: [(&str, [i64; 3], [i64; 3], Relation); 15] = [
     ),
 ];
 
-#[test]
-fn rows_stand_by_the_first_set_that_holds_them(rt: HostRuntime) -> Result<(), Fail> {
-    check_standings(&rt, rt.alloc(), &STANDINGS)
-}
-
 /// A set of 2 and 3, and a set of this number.
-fn two_sets(alloc: Global, last: i64) -> Result<NumberSets, AllocError> {
+fn two_sets(rt: &impl Abort, alloc: Global, last: i64) -> NumberSets {
     let mut sets = Vec::new(alloc);
-    sets.push(set_of(alloc, &[2, 3])?)?;
-    sets.push(set_of(alloc, &[last])?)?;
-    Ok(NumberSets::of(sets))
+    sets.push(set_of(rt, alloc, &[2, 3])).expect(rt, "memory");
+    sets.push(set_of(rt, alloc, &[last])).expect(rt, "memory");
+    NumberSets::of(sets)
 }
 
 /// These are a set of 2 and 3, and a set of 5.
-fn check_numbers(rt: &impl Abort, sets: &NumberSets) -> Result<(), Fail> {
+fn check_numbers(rt: &impl Abort, sets: &NumberSets) {
     let [first, second] = sets.as_slice() else {
-        return Err("two sets".into());
+        panic!(rt; "not two sets");
     };
     let found = (first.as_slice(), second.as_slice());
     let wanted = ([2, 3].as_slice(), [5].as_slice());
     assert_same(rt, "sets", found, wanted);
-    Ok(())
-}
-
-/// Whether these are the two sets of which the second holds this number.
-fn are_two_sets(alloc: Global, sets: &NumberSets, last: i64) -> Result<bool, AllocError> {
-    Ok(*sets == two_sets(alloc, last)?)
 }
 
 /// A row that these sets hold in the column x is better than one that a later of them holds.
@@ -118,20 +107,18 @@ fn check_better(rt: &impl Abort, sets: NumberSets, first: &Row, second: &Row) {
     assert_same(rt, "rows", relation, Relation::Better);
 }
 
-fn check_sets(rt: &impl Abort, alloc: Global) -> Result<(), Fail> {
-    let sets = two_sets(alloc, 5)?;
-    check_numbers(rt, &sets)?;
-    let same = are_two_sets(alloc, &sets, 5)?;
-    let others = are_two_sets(alloc, &sets, 6)?;
+fn check_equal_sets(rt: &impl Abort, alloc: Global, sets: &NumberSets) {
+    let same = *sets == two_sets(rt, alloc, 5);
+    let others = *sets == two_sets(rt, alloc, 6);
     assert_same(rt, "the same, others", (same, others), (true, false));
-    Ok(())
 }
 
 #[test]
-fn sets_made_by_hand(rt: HostRuntime) -> Result<(), Fail> {
-    check_sets(&rt, rt.alloc())?;
-    let first = row_over(rt.alloc(), &X, &[3])?;
-    let second = row_over(rt.alloc(), &X, &[5])?;
-    check_better(&rt, two_sets(rt.alloc(), 5)?, &first, &second);
-    Ok(())
+fn sets_made_by_hand(rt: HostRuntime) {
+    let sets = two_sets(&rt, rt.alloc(), 5);
+    check_numbers(&rt, &sets);
+    check_equal_sets(&rt, rt.alloc(), &sets);
+    let first = row_over(rt.alloc(), &X, &[3]).expect(&rt, "a row");
+    let second = row_over(rt.alloc(), &X, &[5]).expect(&rt, "a row");
+    check_better(&rt, sets, &first, &second);
 }

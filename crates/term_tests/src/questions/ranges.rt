@@ -1,10 +1,8 @@
 //! Questions with a range: where it is empty, and how far rows lie outside it.
-use super::check_standings;
 use pref_term::{Relation, TermFault};
-use std::test::Fail;
 
-/// An empty range is refused at its right end.
-pub(super) const REFUSED: [(&str, TermFault); 14] = [
+/// An empty range is refused at its right end, when its digits are read; a number out of range is refused before.
+pub(super) static REFUSED: [(&str, TermFault); 14] = [
     ("best between(x, 5, 4)", TermFault::EmptyRange { at: 19 }),
     ("best between(x, 5, -5)", TermFault::EmptyRange { at: 19 }),
     ("best between(x, -5, - 6)", TermFault::EmptyRange { at: 20 }),
@@ -33,8 +31,8 @@ pub(super) const REFUSED: [(&str, TermFault); 14] = [
     ("best Between(x, 1, 2)", TermFault::Unexpected { at: 5 }),
 ];
 
-/// Reported at the right end, when its digits are read; a number out of range is reported before.
-const STANDINGS: [(&str, [i64; 3], [i64; 3], Relation); 11] = [
+/// Rows stand by how far they lie outside.
+pub(super) static STANDINGS: [(&str, [i64; 3], [i64; 3], Relation); 11] = [
     (
         "best between(x, 5, 9)",
         [4, 0, 0],
@@ -102,8 +100,3 @@ const STANDINGS: [(&str, [i64; 3], [i64; 3], Relation); 11] = [
         Relation::Neither,
     ),
 ];
-
-#[test]
-fn rows_stand_by_how_far_they_lie_outside(rt: HostRuntime) -> Result<(), Fail> {
-    check_standings(&rt, rt.alloc(), &STANDINGS)
-}

@@ -5,7 +5,7 @@ ghost use Rattle.pref_term.specs.Question.{FitsWidth};
 
 use super::{XYG, row_over};
 use crate::same::assert_same;
-use pref_table::Schema;
+use pref_table::{Row, Schema, TableFault};
 use pref_term::{Ask, AskFault, Dominance, Mode, Relation, Term, TermFault, read_ask, show};
 use std::alloc::Global;
 use std::process::Abort;
@@ -27,36 +27,54 @@ fn read_in_the_end(rt: &impl Abort, alloc: Global, question: &[u8]) -> Result<As
     }
 }
 
+/// Rows that are the same but for y.
+fn two_rows(alloc: Global) -> Result<(Row, Row), TableFault> {
+    let first = row_over(alloc, &XYG, &[1, 0, 2])?;
+    Ok((first, row_over(alloc, &XYG, &[1, -2, 2])?))
+}
+
 const QUESTION: &[u8] =
     b"at_least 20 -(low(x) * around(y, -3)) & pos(g, 1, 2) * layered(g, {1, 2}, {3}) by g, x";
 
+/// The mode and the group of each question, and whether it keeps one of equal rows.
+static QUESTIONS: [(&[u8], Mode, &[usize], bool); 3] = [
+    (QUESTION, Mode::AtLeast(20), &[2, 0], false),
+    (
+        b"best low(x) * -around(y, -3) * high(g) * between(g, 1, 2)",
+        Mode::Best,
+        &[],
+        false,
+    ),
+    (
+        b"skyline of distinct x min, g diff, y max",
+        Mode::Best,
+        &[2],
+        true,
+    ),
+];
+
+/// By each of these questions the first of two rows is better.
+fn check_reading(
+    rt: &impl Abort,
+    alloc: Global,
+    (first, second): (&Row, &Row),
+    case: &(&[u8], Mode, &[usize], bool),
+) -> Result<(), Fail> {
+    let (question, mode, group, distinct) = *case;
+    let ask = read_in_the_end(rt, alloc, question)?;
+    let parts = (ask.mode(), ask.group(), ask.distinct());
+    assert_same(rt, "its parts", parts, (mode, group, distinct));
+    let relation = ask.compare(first, second);
+    assert_same(rt, "rows", relation, Relation::Better);
+    Ok(())
+}
+
 #[test]
 fn a_refused_reading_of_a_question_is_reported_and_made_again(rt: HostRuntime) -> Result<(), Fail> {
-    let ask = read_in_the_end(&rt, rt.alloc(), QUESTION)?;
-    let wanted = (Mode::AtLeast(20), [2, 0].as_slice());
-    assert_same(&rt, "mode, group", (ask.mode(), ask.group()), wanted);
-    Ok(())
-}
-
-#[test]
-fn a_refused_reading_of_a_product_is_reported_and_made_again(rt: HostRuntime) -> Result<(), Fail> {
-    let question = b"best low(x) * -around(y, -3) * high(g) * between(g, 1, 2)";
-    let first = row_over(rt.alloc(), &XYG, &[1, 0, 2])?;
-    let second = row_over(rt.alloc(), &XYG, &[1, -2, 2])?;
-    let ask = read_in_the_end(&rt, rt.alloc(), question)?;
-    let relation = ask.compare(&first, &second);
-    assert_same(&rt, "rows", relation, Relation::Better);
-    Ok(())
-}
-
-#[test]
-fn a_refused_reading_of_a_distinct_clause_is_reported_and_made_again(
-    rt: HostRuntime,
-) -> Result<(), Fail> {
-    let question = b"skyline of distinct x min, g diff, y max";
-    let ask = read_in_the_end(&rt, rt.alloc(), question)?;
-    let found = (ask.distinct(), ask.group());
-    assert_same(&rt, "distinct, group", found, (true, [2].as_slice()));
+    let (first, second) = two_rows(rt.alloc())?;
+    for case in &QUESTIONS {
+        check_reading(&rt, rt.alloc(), (&first, &second), case)?;
+    }
     Ok(())
 }
 

@@ -4,22 +4,16 @@ use pref_table::Schema;
 use pref_term::{read_ask, show};
 use std::alloc::Global;
 use std::process::Abort;
-use std::test::Fail;
-
-/// What is shown of a text over the columns of a schema.
-fn shown_over(alloc: Global, schema: &Schema, text: &[u8]) -> Result<Vec<u8>, Fail> {
-    let ask = read_ask(alloc, schema, text)?;
-    Ok(show(alloc, schema, &ask)?)
-}
 
 /// What is shown of a text over the columns x, y, z, g and h.
-fn shown(alloc: Global, text: &[u8]) -> Result<Vec<u8>, Fail> {
+fn shown(rt: &impl Abort, alloc: Global, text: &[u8]) -> Vec<u8> {
     let names: [&[u8]; 5] = [b"x", b"y", b"z", b"g", b"h"];
-    let schema = Schema::new(alloc, &names)?;
-    shown_over(alloc, &schema, text)
+    let schema = Schema::new(alloc, &names).expect(rt, "columns");
+    let ask = read_ask(alloc, &schema, text).expect(rt, "a question");
+    show(alloc, &schema, &ask).expect(rt, "memory")
 }
 
-const SPELLINGS: [(&str, &str); 13] = [
+static SPELLINGS: [(&str, &str); 13] = [
     (
         "best low(x)*low(y)&high(z)",
         "best low(x) * low(y) & high(z)",
@@ -65,16 +59,19 @@ const SPELLINGS: [(&str, &str); 13] = [
     ),
 ];
 
-#[test]
-fn shown_in_one_spelling(rt: HostRuntime) -> Result<(), Fail> {
-    for (text, wanted) in &SPELLINGS {
-        let found = shown(rt.alloc(), text.as_bytes())?;
-        assert_same(&rt, *text, found.as_slice(), wanted.as_bytes());
-    }
-    Ok(())
+fn check_spelling(rt: &impl Abort, alloc: Global, text: &str, wanted: &str) {
+    let found = shown(rt, alloc, text.as_bytes());
+    assert_same(rt, text, found.as_slice(), wanted.as_bytes());
 }
 
-const TEXTS: [&str; 7] = [
+#[test]
+fn shown_in_one_spelling(rt: HostRuntime) {
+    for (text, wanted) in &SPELLINGS {
+        check_spelling(&rt, rt.alloc(), text, wanted);
+    }
+}
+
+static TEXTS: [&str; 7] = [
     "best reverse((low(x)&-(low(y)*low(z)))*pos(g,3,-4,3)) by h,x",
     "at_least 1000 reverse(reverse(around(h,9223372036854775807)))",
     "skyline of h DIFF, z max, y min, x max, g diff",
@@ -85,17 +82,15 @@ const TEXTS: [&str; 7] = [
 ];
 
 /// What is shown of a text is shown of itself.
-fn check_shown_again(rt: &impl Abort, alloc: Global, text: &str) -> Result<(), Fail> {
-    let first = shown(alloc, text.as_bytes())?;
-    let second = shown(alloc, first.as_slice())?;
+fn check_shown_again(rt: &impl Abort, alloc: Global, text: &str) {
+    let first = shown(rt, alloc, text.as_bytes());
+    let second = shown(rt, alloc, first.as_slice());
     assert_same(rt, text, first.as_slice(), second.as_slice());
-    Ok(())
 }
 
 #[test]
-fn what_was_shown_is_shown_again(rt: HostRuntime) -> Result<(), Fail> {
+fn what_was_shown_is_shown_again(rt: HostRuntime) {
     for text in &TEXTS {
-        check_shown_again(&rt, rt.alloc(), text)?;
+        check_shown_again(&rt, rt.alloc(), text);
     }
-    Ok(())
 }

@@ -6,19 +6,19 @@ use pref_term::engine::{Scales, is_within};
 use pref_term::{Ask, Dominance, Relation};
 use std::alloc::Global;
 use std::process::Abort;
-use std::test::Fail;
 
 /// All rows with cells from -1 to 1.
-pub(super) fn small_rows(alloc: Global) -> Result<Vec<Row>, Fail> {
+pub(super) fn small_rows(rt: &impl Abort, alloc: Global) -> Vec<Row> {
     let mut rows = Vec::new(alloc);
     for place in 0..9 {
         let cells = [place % 3 - 1, place / 3 - 1];
-        rows.push(row_over(alloc, &XY, &cells)?)?;
+        let row = row_over(alloc, &XY, &cells).expect(rt, "a row");
+        rows.push(row).expect(rt, "memory");
     }
-    Ok(rows)
+    rows
 }
 
-const LEADING_PARTS: [(&str, &str); 10] = [
+static LEADING_PARTS: [(&str, &str); 10] = [
     ("best low(x) * high(y)", "best low(x) * high(y)"),
     (
         "best around(x, 1) * -around(y, 0)",
@@ -40,11 +40,6 @@ const LEADING_PARTS: [(&str, &str); 10] = [
     ("skyline of distinct x min, y diff", "skyline of x min"),
 ];
 
-/// The scales that a question makes from these rows.
-fn scales_of(alloc: Global, rows: &[Row], text: &[u8]) -> Result<Scales, Fail> {
-    Ok(ask_over(alloc, &XY, text)?.scales(alloc, rows)?)
-}
-
 /// Of all pairs of these rows the signature of the first is within that of the second just where the first is not worse.
 fn check_pairs(rt: &impl Abort, text: &str, ask: &Ask, scales: &Scales, rows: &[Row]) {
     for first in rows {
@@ -57,43 +52,25 @@ fn check_pairs(rt: &impl Abort, text: &str, ask: &Ask, scales: &Scales, rows: &[
     }
 }
 
-/// The scales that a question makes from a sample tell the rows apart as its leading part does.
-fn check_signatures(
-    rt: &impl Abort,
-    alloc: Global,
-    (text, leading): (&str, &str),
-    sample: &[Row],
-    rows: &[Row],
-) -> Result<(), Fail> {
-    let (question, leading) = (text.as_bytes(), leading.as_bytes());
-    let scales = scales_of(alloc, sample, question)?;
-    let part = ask_over(alloc, &XY, leading)?;
+/// The scales that a question makes from these rows tell them apart as its leading part does.
+fn check_signatures(rt: &impl Abort, alloc: Global, rows: &[Row], (text, leading): (&str, &str)) {
+    let ask = ask_over(alloc, &XY, text.as_bytes()).expect(rt, text);
+    let scales = ask.scales(alloc, rows).expect(rt, text);
+    let part = ask_over(alloc, &XY, leading.as_bytes()).expect(rt, leading);
     check_pairs(rt, text, &part, &scales, rows);
-    Ok(())
-}
-
-/// Questions and their leading parts, each with the scales that it makes from these rows.
-fn check_leading_parts(
-    rt: &impl Abort,
-    alloc: Global,
-    rows: &[Row],
-    cases: &[(&str, &str)],
-) -> Result<(), Fail> {
-    for case in cases {
-        check_signatures(rt, alloc, *case, rows, rows)?;
-    }
-    Ok(())
 }
 
 /// Where there is a cut at each value, a signature is within another just where its row is worse in no leading part.
 #[test]
-fn few_values_are_distinguished(rt: HostRuntime) -> Result<(), Fail> {
-    let rows = small_rows(rt.alloc())?;
-    check_leading_parts(&rt, rt.alloc(), &rows, &LEADING_PARTS)
+fn few_values_are_distinguished(rt: HostRuntime) {
+    let rows = small_rows(&rt, rt.alloc());
+    for case in &LEADING_PARTS {
+        check_signatures(&rt, rt.alloc(), &rows, *case);
+    }
 }
 
 /// Questions, and what decides between rows that are the same in the chains that lead them; nothing where these decide alone.
-const PARTS_BEHIND: [(&str, Option<&str>); 7] = [
+static PARTS_BEHIND: [(&str, Option<&str>); 7] = [
     ("best low(x) * high(y)", None),
     ("best low(x) & high(y)", None),
     ("best (low(x) * high(x)) & high(y)", Some("best high(y)")),
@@ -118,23 +95,21 @@ fn check_behind(
     alloc: Global,
     rows: &[Row],
     (text, behind): (&str, Option<&str>),
-) -> Result<(), Fail> {
-    let ask = ask_over(alloc, &XY, text.as_bytes())?;
+) {
+    let ask = ask_over(alloc, &XY, text.as_bytes()).expect(rt, text);
     let leading = ask.leading();
     assert_same(rt, text, leading.decides_alone(), behind.is_none());
     if let Some(behind) = behind {
-        let part = ask_over(alloc, &XY, behind.as_bytes())?;
-        let scales = leading.scales(alloc, rows)?;
+        let part = ask_over(alloc, &XY, behind.as_bytes()).expect(rt, behind);
+        let scales = leading.scales(alloc, rows).expect(rt, text);
         check_pairs(rt, text, &part, &scales, rows);
     }
-    Ok(())
 }
 
 #[test]
-fn what_is_behind_the_chains_is_signed(rt: HostRuntime) -> Result<(), Fail> {
-    let rows = small_rows(rt.alloc())?;
+fn what_is_behind_the_chains_is_signed(rt: HostRuntime) {
+    let rows = small_rows(&rt, rt.alloc());
     for case in &PARTS_BEHIND {
-        check_behind(&rt, rt.alloc(), &rows, *case)?;
+        check_behind(&rt, rt.alloc(), &rows, *case);
     }
-    Ok(())
 }
