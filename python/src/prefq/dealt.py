@@ -4,7 +4,7 @@ Whoever changes the rows or begins a question holds one lock meanwhile (that of 
 """
 import os
 from array import array
-from collections import defaultdict, deque
+from collections import deque
 from concurrent.futures import ThreadPoolExecutor
 from contextlib import ExitStack
 from itertools import chain
@@ -27,6 +27,9 @@ FULL = ("client", 8)
 # How much of a table rows may fill, which leaves room for their next versions.
 FILLED = 7 / 8
 UPDATE = bytes(Change(VERBS["update"]))
+# A place is the number of a table, and in its last bits the id of a row there: one number takes less memory than two, and the collector passes over it.
+ID_BITS = 48
+IDS = (1 << ID_BITS) - 1
 
 
 class Found(NamedTuple):
@@ -54,32 +57,24 @@ class Shard:
         self.keys.update(zip(inside, keys))
         return inside
 
-    def update(self, ids: Sequence[int], rows: Sequence[Numbers]) -> List[int]:
-        """Gives the rows with these ids these numbers. Returns the ids of those that had to be deleted in place of an update, since the table has no room for their
-        new versions."""
+    def update(self, ids: Sequence[int], addresses: Sequence[int]) -> List[int]:
+        """Gives the rows with these ids the numbers at these addresses. Returns the ids of those that had to be deleted in place of an update, since the table has no
+        room for their new versions."""
         moved: List[int] = []
-        numbers = array("q", list(chain.from_iterable(rows)))
-        changes = updates(ids, numbers)
+        changes = array("Q", UPDATE * len(ids))     # of each its verb, the id, and where the numbers are
+        changes[1::3], changes[2::3] = array("Q", ids), array("Q", addresses)
+        first, update_together = changes.buffer_info()[0], self.table._engine.update_together
         for begin in range(0, len(ids), IN_COMMIT):
-            some = ids[begin:begin + IN_COMMIT]
             try:
-                self.table._engine.update_together(changes[begin], len(some))
+                update_together(first + begin * len(UPDATE), min(IN_COMMIT, len(ids) - begin))
             except Refused as why:
                 if (why.kind, why.number) != FULL:
                     raise
+                some = ids[begin:begin + IN_COMMIT]
                 moved += some
                 for inside in some:
                     self.table.delete(inside)
         return moved
-
-
-def updates(ids: Sequence[int], numbers: "array[int]") -> Any:
-    """The updates of rows with these ids as the library takes them, as long as their numbers stay where they are."""
-    address, size = numbers.buffer_info()
-    changes = array("Q", UPDATE * len(ids))     # of each its verb, the id, and where the numbers are
-    changes[1::3] = array("Q", ids)
-    changes[2::3] = array("Q", range(address, address + BYTES * size, BYTES * size // len(ids)))
-    return (Change * len(ids)).from_buffer(changes)
 
 
 class Dealt(Columns):
@@ -89,7 +84,7 @@ class Dealt(Columns):
         super().__init__(columns)
         self._options = dict(options)
         self._shards: List[Shard] = []
-        self._places: Dict[Key, Tuple[Shard, int]] = {}
+        self._places: Dict[Key, int] = {}
         # Questions that are under way, each with the number of changes before its begin; and rows that have gone, with the number of changes before that.
         self._asking: Dict[object, int] = {}
         self._gone: Deque[Tuple[int, Shard, int]] = deque()
@@ -121,7 +116,7 @@ class Dealt(Columns):
         """The numbers of a row, None where there is none."""
         if key not in self._places:
             return None
-        shard, inside = self._places[key]
+        shard, inside = self._row(self._places[key])
         return shard.table.get(inside)
 
     def count_with(self, rows: Collection[Key], gone: Collection[Key]) -> int:
@@ -133,12 +128,14 @@ class Dealt(Columns):
         self._changes += 1
         self._forget()
         for key in filter(self._places.__contains__, gone):
-            shard, inside = self._places[key]
+            shard, inside = self._row(self._places[key])
             shard.table.delete(inside)
             self._has_gone(key)
-        there, new = self._by_shards(rows)
-        for shard, (ids, some) in there.items():
-            for key in map(shard.keys.__getitem__, shard.update(ids, some)):
+        # All rows in turn, as they lie in memory: those of one table after the other lie far apart, and took several times as long.
+        numbers = array("q", list(chain.from_iterable(rows.values())))
+        there, new = self._by_shards(rows, numbers.buffer_info()[0])
+        for shard, (ids, addresses) in zip(self._shards, there):
+            for key in map(shard.keys.__getitem__, shard.update(ids, addresses)):
                 self._has_gone(key)
                 new[key] = rows[key]
         self._insert(new)
@@ -172,35 +169,43 @@ class Dealt(Columns):
         capacity = min(MOST_ROWS, max(1024, 2 * len(keys), 2 * len(self)))
         shard = Shard(list(self.below.values()), keys, rows, {"capacity": capacity, **self._options})
         self._shards.append(shard)
-        self._places.update((key, (shard, inside)) for inside, key in shard.keys.items())
+        self._note_places(len(self._shards) - 1, shard.keys.values(), shard.keys)
 
-    def _by_shards(self, rows: Mapping[Key, Numbers]) -> Tuple[Dict[Shard, Tuple[List[int], List[Numbers]]], Dict[Key, Numbers]]:
-        """The rows that are there, as their ids and numbers in each table; and those that are new."""
-        there: Dict[Shard, Tuple[List[int], List[Numbers]]] = defaultdict(lambda: ([], []))
+    def _note_places(self, number: int, keys: Iterable[Key], ids: Iterable[int]) -> None:
+        """The rows with these keys have these ids in the table of this number."""
+        self._places.update(zip(keys, map((number << ID_BITS).__or__, ids)))
+
+    def _row(self, place: int) -> Tuple[Shard, int]:
+        """The table of a place, and the id of the row there."""
+        return self._shards[place >> ID_BITS], place & IDS
+
+    def _by_shards(self, rows: Mapping[Key, Numbers], address: int) -> Tuple[List[Tuple[List[int], List[int]]], Dict[Key, Numbers]]:
+        """Of the rows that are there the ids in each table, and where their numbers are, which stand from this address on; and the rows that are new."""
+        there: List[Tuple[List[int], List[int]]] = [([], []) for _ in self._shards]
         new: Dict[Key, Numbers] = {}
-        for (key, numbers), place in zip(rows.items(), map(self._places.get, rows)):
+        size = BYTES * len(self.below)
+        for key, place, at in zip(rows, map(self._places.get, rows), range(address, address + size * len(rows), size)):
             if place is None:
-                new[key] = numbers
+                new[key] = rows[key]
                 continue
-            ids, some = there[place[0]]
-            ids.append(place[1])
-            some.append(numbers)
+            ids, addresses = there[place >> ID_BITS]
+            ids.append(place & IDS)
+            addresses.append(at)
         return there, new
 
     def _insert(self, rows: Mapping[Key, Numbers]) -> None:
         """Adds rows where there is room, and opens further tables for the rest."""
         keys = list(rows)
-        for shard in self._shards:
+        for number, shard in enumerate(self._shards):
             some = keys[:max(0, shard.room())] if keys else []
             if some:
-                inside = shard.insert(some, [rows[key] for key in some])
-                self._places.update(zip(some, ((shard, number) for number in inside)))
+                self._note_places(number, some, shard.insert(some, [rows[key] for key in some]))
                 keys = keys[len(some):]
         if keys:
             self._open(keys, Zipped(list(zip(*(rows[key] for key in keys)))))
 
     def _has_gone(self, key: Key) -> None:
-        shard, inside = self._places.pop(key)
+        shard, inside = self._row(self._places.pop(key))
         self._gone.append((self._changes, shard, inside))
 
     def _forget(self) -> None:

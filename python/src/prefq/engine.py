@@ -172,16 +172,7 @@ class Engine:
 
     def update(self, id: int, values: bytes) -> None:
         """Gives a row these values."""
-        # As `_change` does it, without what that takes by itself.
-        if self._forks != _forks:
-            self.ours()
-        with self.lock:
-            self.changes += 1
-            if self.queries:
-                self.settle()
-            result = self._calls.prefq_update(self._pointer, id, values, self._width)
-            if result:
-                self._fail(result, self._calls.prefq_update, (self._pointer, id, values, self._width))
+        self._update(self._calls.prefq_update, (self._pointer, id, values, self._width))
 
     def delete(self, id: int) -> None:
         """Deletes a row."""
@@ -197,9 +188,9 @@ class Engine:
         self._change(more, self._calls.prefq_commit, self._pointer, made, len(changes), self._width, first)
         return first.value
 
-    def update_together(self, changes: Change, count: int) -> None:
-        """Makes so many updates at one moment, of which this is the first one, with the others behind it."""
-        self._change(0, self._calls.prefq_commit, self._pointer, changes, count, self._width, c_uint64())
+    def update_together(self, changes: int, count: int) -> None:
+        """Makes so many updates at one moment, which stand at this address one after the other."""
+        self._update(self._calls.prefq_commit, (self._pointer, changes, count, self._width, c_uint64()))
 
     def get(self, id: int) -> List[int]:
         """The values of a row."""
@@ -233,6 +224,18 @@ class Engine:
         with self.lock:
             if self.changes == changes:
                 self.rows = rows
+
+    def _update(self, call: Any, words: Tuple[Any, ...]) -> None:
+        """A call behind which there are as many rows: as `_change` does it, without what their number takes."""
+        if self._forks != _forks:
+            self.ours()
+        with self.lock:
+            self.changes += 1
+            if self.queries:
+                self.settle()
+            result = call(*words)
+            if result:
+                self._fail(result, call, words)
 
     def _change(self, more: int, call: Any, *words: Any) -> None:
         """A call behind which there are so many rows more."""

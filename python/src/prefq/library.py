@@ -35,7 +35,7 @@ class Change(Structure):
 
 # The numbers of an answer, of which a slice is a copy of their bytes.
 Numbers = POINTER(c_char)
-# The arguments of each call. Rows are given by any pointer, and places for results as they are.
+# The arguments of each call. Rows and changes are given by any pointer, and places for results as they are.
 TABLE, ID, NUMBERS, COUNT, LEFT = POINTER(c_void_p), POINTER(c_uint64), POINTER(Numbers), POINTER(c_size_t), POINTER(c_uint32)
 CALLS: Dict[str, List[Any]] = {
     "open": [c_char_p, c_size_t, c_void_p, c_size_t, c_size_t, POINTER(Setup), TABLE],
@@ -44,7 +44,7 @@ CALLS: Dict[str, List[Any]] = {
     "insert_many": [c_void_p, c_void_p, c_size_t, c_size_t, ID],
     "update": [c_void_p, c_uint64, c_void_p, c_size_t],
     "delete": [c_void_p, c_uint64],
-    "commit": [c_void_p, POINTER(Change), c_size_t, c_size_t, ID],
+    "commit": [c_void_p, c_void_p, c_size_t, c_size_t, ID],
     "get": [c_void_p, c_uint64, c_void_p, c_size_t],
     "room": [c_void_p, LEFT],
     "ask": [c_void_p, c_uint32, c_char_p, c_size_t, NUMBERS, COUNT],
