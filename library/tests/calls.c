@@ -7,6 +7,7 @@
 
    It is linked with --wrap for malloc, calloc and realloc. */
 #define _GNU_SOURCE
+#include "../c/memory.h"
 #include "../include/prefq.h"
 #include <pthread.h>
 #include <signal.h>
@@ -69,16 +70,14 @@ static int is_request_refused(void)
     return atomic_fetch_add(&requests, 1) + 1 == atomic_load(&refused_request);
 }
 
-void *__real_malloc(size_t size);
 void *__real_calloc(size_t count, size_t size);
-void *__real_realloc(void *block, size_t size);
 void *__wrap_malloc(size_t size);
 void *__wrap_calloc(size_t count, size_t size);
 void *__wrap_realloc(void *block, size_t size);
 
 void *__wrap_malloc(size_t size)
 {
-    return is_request_refused() ? NULL : __real_malloc(size);
+    return is_request_refused() ? NULL : paged_malloc(size);
 }
 
 void *__wrap_calloc(size_t count, size_t size)
@@ -90,10 +89,32 @@ void *__wrap_realloc(void *block, size_t size)
 {
     if (is_request_refused())
         return NULL;
-    void *found = __real_realloc(block, size);
+    void *found = paged_realloc(block, size);
     if (asking != NULL)
         within_calls(asking);
     return found;
+}
+
+/* A block that becomes large begins at a large page, and keeps what stands in it when it becomes larger or smaller. */
+static void test_large_blocks(void)
+{
+    enum { LARGE = 1 << 21 };
+    static const size_t sizes[] = {100, LARGE / 2, LARGE, 3 * LARGE + 5, LARGE + 7, 50, 4 * LARGE};
+    unsigned char *block = NULL;
+    size_t had = 0;
+    for (size_t number = 0; number < sizeof sizes / sizeof *sizes; number++) {
+        size_t size = sizes[number];
+        block = paged_realloc(block, size);
+        EXPECT(block != NULL && (size < LARGE || size <= had || (uintptr_t)block % LARGE == 0));
+        for (size_t at = 0; at < had && at < size; at++)
+            EXPECT(block[at] == number - 1);
+        memset(block, (int)number, size);
+        had = size;
+    }
+#ifndef WATCHED /* A sanitizer ends the program that asks for so much. */
+    EXPECT(paged_malloc(SIZE_MAX / 4) == NULL && paged_realloc(block, SIZE_MAX / 4) == NULL && block[had - 1] == sizeof sizes / sizeof *sizes - 1);
+#endif
+    free(block);
 }
 
 /* Makes each call once. What is refused for want of memory leaves the table as it was, or ended; what is done is done. */
@@ -112,7 +133,7 @@ static void make_each_call(void)
     if (table != NULL)
         EXPECT(prefq_width(table) == 1 && prefq_update(table, 1, price, 1) != PREFQ_REFUSED);
     prefq_close(table);
-    done = prefq_open("price,dist", 10, hotels, 3, 2, NULL, &table);
+    done = prefq_open("price,dist", 10, hotels, 3, 2, &(prefq_setup){.capacity = 65536}, &table);
     if (done != PREFQ_OK) {
         EXPECT(done == PREFQ_OUT_OF_MEMORY && table == NULL);
         return;
@@ -565,6 +586,7 @@ int main(int count, char **words)
     test_calls();
     test_openings();
     test_refusals();
+    test_large_blocks();
     refuse_each_request();
     test_threads();
     test_end_beside_calls();
