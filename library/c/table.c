@@ -320,6 +320,15 @@ size_t prefq_width(const prefq *table)
     return table->width;
 }
 
+/* Gives back the rows, where that was not done before. */
+static void end_rows(prefq *table)
+{
+    pthread_mutex_lock(&table->lock);
+    if (table->proved.at != NULL)
+        prefq_table_close(&table->proved);
+    pthread_mutex_unlock(&table->lock);
+}
+
 void prefq_end(prefq *table)
 {
     if (table == NULL)
@@ -327,10 +336,8 @@ void prefq_end(prefq *table)
     atomic_store(&table->is_ending, 1);
     if (!is_ours(table) || !begin_call(table))
         return;
-    pthread_mutex_lock(&table->lock);
-    if (table->proved.at != NULL)
-        prefq_table_close(&table->proved);
-    leave(table, PREFQ_OK);
+    end_rows(table);
+    end_call();
 }
 
 void prefq_close(prefq *table)
@@ -338,7 +345,7 @@ void prefq_close(prefq *table)
     if (table == NULL)
         return;
     if (is_ours(table)) {
-        prefq_end(table);
+        end_rows(table); /* whichever calls of this thread are under way: none is on this table */
         pthread_mutex_destroy(&table->lock);
     } else if (pthread_mutex_trylock(&table->lock) != 0) {
         return; /* The fork came in the middle of a call: which of its memory is given back already is not known. */

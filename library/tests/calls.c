@@ -419,6 +419,39 @@ static void test_calls_around_requests(void)
     EXPECT(handled >= 2);
 }
 
+/* Calls one another: each in the middle of the one before, on a table of its own, and in the middle of the eighth a close. */
+static prefq *nested[9];
+
+static void nest_calls(prefq *table)
+{
+    const int64_t *answer;
+    size_t count, place = 0;
+    uint32_t left;
+    while (nested[place] != table)
+        place++;
+    asking = place < 7 ? nested[place + 1] : NULL;
+    if (place < 7)
+        EXPECT(prefq_rows(nested[place + 1], 1, &answer, &count) == PREFQ_OK && count == 3);
+    if (place == 7) {
+        EXPECT(prefq_room(nested[8], &left) == PREFQ_BUSY);
+        prefq_close(nested[8]); /* A sanitizer tells whether it has given back the rows. */
+    }
+    asking = NULL;
+}
+
+static void test_close_within_calls(void)
+{
+    const int64_t *answer;
+    size_t count;
+    for (size_t place = 0; place < 9; place++)
+        nested[place] = open_hotels();
+    within_calls = nest_calls;
+    asking = nested[0];
+    EXPECT(prefq_rows(nested[0], 1, &answer, &count) == PREFQ_OK && count == 3 && asking == NULL);
+    for (size_t place = 0; place < 8; place++)
+        prefq_close(nested[place]);
+}
+
 static prefq *interrupted;
 static atomic_int done, refused_as_busy;
 
@@ -592,6 +625,7 @@ int main(int count, char **words)
     test_end_beside_calls();
     test_forks();
     test_calls_around_requests();
+    test_close_within_calls();
     test_signals();
     test_stacks();
     printf("all calls are as prefq.h says\n");
