@@ -51,21 +51,22 @@ static inline char *put_row(char *to, const int64_t *values, size_t width)
 
 static inline int take_text(const char **at, const char *text)
 {
-    size_t length = strlen(text);
-    if (strncmp(*at, text, length) != 0)
-        return 0;
-    *at += length;
+    const char *byte = *at;
+    for (; *text != '\0'; text++)
+        if (*byte++ != *text)
+            return 0;
+    *at = byte;
     return 1;
 }
 
 static inline int take_natural(const char **at, uint64_t *number)
 {
-    const char *digit = *at;
+    const char *byte = *at;
     uint64_t value = 0;
-    while (*digit >= '0' && *digit <= '9')
-        value = 10 * value + (uint64_t)(*digit++ - '0');
-    int is_there = digit != *at;
-    *at = digit;
+    for (unsigned digit; (digit = (unsigned)(*byte - '0')) < 10; byte++)
+        value = 10 * value + digit;
+    int is_there = byte != *at;
+    *at = byte;
     *number = value;
     return is_there;
 }
