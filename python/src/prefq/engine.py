@@ -172,7 +172,7 @@ class Engine:
 
     def update(self, id: int, values: bytes) -> None:
         """Gives a row these values."""
-        self._update(self._calls.prefq_update, (self._pointer, id, values, self._width))
+        self._change(0, self._calls.prefq_update, self._pointer, id, values, self._width)
 
     def delete(self, id: int) -> None:
         """Deletes a row."""
@@ -190,7 +190,7 @@ class Engine:
 
     def update_together(self, changes: int, count: int) -> None:
         """Makes so many updates at one moment, which stand at this address one after the other."""
-        self._update(self._calls.prefq_commit, (self._pointer, changes, count, self._width, c_uint64()))
+        self._change(0, self._calls.prefq_commit, self._pointer, changes, count, self._width, c_uint64())
 
     def get(self, id: int) -> List[int]:
         """The values of a row."""
@@ -225,18 +225,6 @@ class Engine:
             if self.changes == changes:
                 self.rows = rows
 
-    def _update(self, call: Any, words: Tuple[Any, ...]) -> None:
-        """A call behind which there are as many rows: as `_change` does it, without what their number takes."""
-        if self._forks != _forks:
-            self.ours()
-        with self.lock:
-            self.changes += 1
-            if self.queries:
-                self.settle()
-            result = call(*words)
-            if result:
-                self._fail(result, call, words)
-
     def _change(self, more: int, call: Any, *words: Any) -> None:
         """A call behind which there are so many rows more."""
         if self._forks != _forks:
@@ -246,8 +234,10 @@ class Engine:
             if self.queries:
                 self.settle()
             try:
-                self._call(call, *words)
-                if self.rows is not None:
+                result = call(*words)
+                if result:
+                    self._fail(result, call, words)
+                if more and self.rows is not None:
                     self.rows += more
             except Error:
                 raise
