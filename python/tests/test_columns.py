@@ -117,6 +117,20 @@ class Exactly(TestCase):
         with from_text("price\n" + "5\n" * 20 + "cheap\n") as frame, self.refuses(prefq.Refused, "'cheap' is no number"):
             frame.best("best low(price)")
 
+    def test_a_column_without_a_value_is_refused_as_that(self):
+        for frame in (from_text("a,b\n,1\n,2\n"), prefq.Frame.from_records([{"a": None, "b": 1}])):
+            with frame:
+                for question, place in (("best low(a)", 5), ("best low(b) & around(a, 3)", 14), ("best low(b + a)", 13), ("best true(not a)", 14), ("best true(a < 'x')", 14)):
+                    with self.subTest(question), self.refuses(prefq.Refused, "column 'a' has no value, from which its kind would be seen", "give it a kind", kind="term", place=place):
+                        frame.best(question)
+        with prefq.Frame.empty(["a"], {"a": "text"}) as frame:
+            for question in ("best low(a)", "best true(a < 'x')"):
+                with self.subTest(question), self.refuses(prefq.Refused, "column 'a' has the kind text, which has no order"):
+                    frame.best(question)
+            frame.insert(["x"])
+            with self.refuses(prefq.Refused, "column 'a' has texts, which have no order"):
+                frame.best("best low(a)")
+
 
 class Refusals(TestCase):
     def test_files(self):

@@ -224,7 +224,7 @@ class Together(TestCase):
                 self.assertEqual(self.values([None], values, [], question=question), self.values(values, question=question))
 
     def test_where_no_part_has_a_value_it_is_as_in_a_frame(self):
-        with self.refuses(prefq.Refused, "column 'x' has texts", kind="term"):
+        with self.refuses(prefq.Refused, "column 'x' has no value", kind="term"):
             self.values([None], [None], question="best low(x)")
         self.assertEqual(self.values([], [], question="best low(x)")[0], [])
 

@@ -18,6 +18,7 @@ from .kinds.exact import Exact, Number, Ranked
 from .kinds.numbers import are_in_range
 from .moment import Moment
 from .questions import refuse
+from .translate import check_kind_is_known, check_order
 from .widening import Nothing
 
 COMPARE: Dict[str, Callable[[Any, Any], bool]] = {"=": operator.eq, "<>": operator.ne, "<": operator.lt, "<=": operator.le, ">": operator.gt, ">=": operator.ge}
@@ -252,8 +253,8 @@ class Computer:
         return Truths(each(COMPARE[node.sign], *values))
 
     def _check_order(self, sign: str, column: Others, place: int) -> None:
-        if sign not in ("=", "<>") and not column.column.kind.ordered:
-            refuse(self._text, place, f"column {column.column.name!r} has texts, which have no order: write =, <> or in (..)")
+        if sign not in ("=", "<>"):
+            check_order(self._text, column.column, place, "write =, <> or in (..)")
 
     def _are_alike(self, left: Others, right: Others) -> bool:
         """Whether the numbers of two columns stand for the same values."""
@@ -269,6 +270,7 @@ class Computer:
     def _shown(self, node: Node, found: Values) -> str:
         """What an expression is, in a message."""
         if isinstance(found, Others):
+            check_kind_is_known(self._text, found.column, node.place)
             return f"column {found.column.name!r} has the kind {found.column.kind}"
         if isinstance(found, Literal):
             return f"{found.text!r} is a {'truth value' if found.kind == 'truth' else found.kind}"

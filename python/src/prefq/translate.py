@@ -193,10 +193,7 @@ class Translator:
         return [f"-pos({self._name(column)}, {LEAST})"] if column.has_gaps else []
 
     def _orders(self, base: Base) -> None:
-        column = base.column
-        if not column.kind.ordered:
-            refuse(self._text, base.place, f"column {column.name!r} has texts{why_texts(column)}, which have no order: "
-                   "prefer some of them by pos(..) or layered(..), or give it the kind 'choice(first, second, ..)'")
+        check_order(self._text, base.column, base.place, "prefer some of them by pos(..) or layered(..), or give it the kind 'choice(first, second, ..)'")
 
     def _range(self, base: Base) -> Tuple[Fraction, Fraction]:
         column = base.column
@@ -204,6 +201,7 @@ class Translator:
             if isinstance(column.kind, Floats):
                 refuse(self._text, base.place, f"column {column.name!r} has floats, between which a distance is not exact: "
                        f"{base.word}(..) needs a scale, as kinds={{{column.name!r}: 'decimal(2)'}} gives it")
+            check_kind_is_known(self._text, column, base.place)
             refuse(self._text, base.place, f"column {column.name!r} has the kind {column.kind}{why_texts(column)}, which has no distances for {base.word}(..)")
         ends = [self._position(column, value) for value in base.sets[0]]
         if ends[0] > ends[-1]:
@@ -241,6 +239,22 @@ class Translator:
             else:
                 self._absent.append((column, value.text))
         return list(numbers)
+
+
+def check_kind_is_known(text: str, column: Column, place: int) -> None:
+    """Refuses a column that is one of texts since no row has had a value in it, from which another kind would have been seen."""
+    if isinstance(column.kind, Texts) and column.grows and not column.kind.texts:
+        refuse(text, place, f"column {column.name!r} has no value, from which its kind would be seen: give it a kind, as 'whole'")
+
+
+def check_order(text: str, column: Column, place: int, instead: str) -> None:
+    """Refuses a column without an order, where one is asked for; `instead` says what may be asked."""
+    if column.kind.ordered:
+        return
+    check_kind_is_known(text, column, place)
+    texts = getattr(column.kind, "texts", ())
+    has = f"texts{why_texts(column)}, which have" if texts else f"the kind {column.kind}, which has"
+    refuse(text, place, f"column {column.name!r} has {has} no order: {instead}")
 
 
 def why_texts(column: Column) -> str:
