@@ -2,16 +2,26 @@
 import gc
 import threading
 import time
-from typing import Optional
+from typing import Any, Callable, Optional, TypeVar
 from weakref import ref
 
 from .engine import Asker, Engine
-from .errors import Refused
+from .errors import Error, Refused
 
+Result = TypeVar("Result")
 SECONDS_TO_WAIT = 60.0
 SECONDS_TO_COLLECTION = 1.0
 MOST_TIME_FOR_COLLECTIONS = 1 / 20
 STEP = 0.005
+
+
+class _AtHand(threading.local):
+    """Who has a client for the next query of this thread."""
+
+    asker: Optional[Asker] = None
+
+
+_at_hand = _AtHand()
 
 
 class Clients:
@@ -24,6 +34,8 @@ class Clients:
 
     def give(self, asker: Asker, client: Optional[int]) -> None:
         """Gives this client, or any that has no open query, to this asker."""
+        if _at_hand.asker is not None and client is None and self._is_handed(asker):
+            return
         begun, pause = time.monotonic(), STEP
         while not self._is_given(asker, client):
             self._engine.check()
@@ -40,6 +52,30 @@ class Clients:
                 self.collect()
             # A sleep: an interruption within a Condition would leave its lock locked.
             time.sleep(pause)
+
+    def check_at_hand(self) -> None:
+        """Has a client at hand for the next query of this thread, or raises `NoClient`: without a wait."""
+        asker = Asker()
+        if _at_hand.asker is None or not self._engine.is_open(_at_hand.asker):
+            if not self._is_given(asker, None):
+                raise NoClient(self)
+            _at_hand.asker = asker
+
+    def wait_for_one(self) -> None:
+        """Waits until there is a client at hand for the next query of this thread."""
+        asker = Asker()
+        self.give(asker, None)
+        _at_hand.asker = asker
+
+    def _is_handed(self, asker: Asker) -> bool:
+        """Hands the client that this thread has at hand to this asker, where it is one of this table."""
+        before = _at_hand.asker
+        if before is None or not self._engine.is_open(before):
+            return False
+        asker.client, asker.thread = before.client, before.thread
+        self._engine.queries[asker.client] = ref(asker)
+        _at_hand.asker = None
+        return True
 
     def collect(self) -> None:
         """Finds the queries that are garbage; once in a while only, since that takes long where a program has many objects."""
@@ -62,3 +98,26 @@ class Clients:
                 if queries.setdefault(number, held) is held:
                     return True
         return False
+
+
+class NoClient(Error):
+    """A call that holds a lock needs a client, of which none is free. It has changed nothing."""
+
+    def __init__(self, clients: Clients) -> None:
+        super().__init__("no client is free")
+        self.clients = clients
+
+
+def locked(lock: Any, call: Callable[[], Result]) -> Result:
+    """A call that holds a lock. A client for its query is waited for without the lock, for which those may wait who have the clients."""
+    before = _at_hand.asker
+    try:
+        while True:
+            try:
+                with lock:
+                    return call()
+            except NoClient as none:
+                clients = none.clients
+            clients.wait_for_one()
+    finally:
+        _at_hand.asker = before

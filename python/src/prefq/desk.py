@@ -6,9 +6,11 @@ and the answer of a picture are those of one version.
 import threading
 from typing import Any, Callable, Dict, Iterable, List, Mapping, NamedTuple, Optional, Sequence, Tuple, TypeVar
 
+from .clients import locked
 from .columns import Column, listed
 from .errors import Ended, Error, Refused, no_such_row
 from .frame import Frame
+from .frame_query import FrameQuery
 from .hints import unknown_column
 from .moment import Moment, moment_of
 from .questions import Question
@@ -77,13 +79,15 @@ class Desk:
     def __init__(self, frame: Frame) -> None:
         self.version = 1
         self._frame: Any = frame        # or one that follows a table
-        self._changed = threading.Condition()
+        # The lock of the frame's own changes, so that none waits for a client while it holds that of the desk.
+        self._changed = threading.Condition(frame._changing)
         self._closed = False
         # The versions in which the cells of a row changed last, by its id; none of a row that is as it came.
         self._since: Dict[int, Tuple[int, ...]] = {}
         self._subscribed: List[Callable[[], None]] = []
         # Whether the rows here are those of the frame: not where a change was interrupted.
         self._is_whole = True
+        self._rows: Dict[int, Held] = {}
         self._read()
 
     def __enter__(self) -> "Desk":
@@ -119,7 +123,7 @@ class Desk:
     def insert(self, values: Mapping[str, Any]) -> int:
         """Adds a row of these values, by the names of their columns, and returns its id. A value that is not given is missing. Kinds grow as by `Frame.insert`."""
         def change() -> int:
-            id = self._frame.insert(values)
+            id: int = self._frame._insert(values)
             self._note(id)
             return id
         return self._change(change, values)
@@ -130,7 +134,7 @@ class Desk:
         def change() -> None:
             before = self.record(self._row(id).numbers)
             self._check_unchanged(id, [name in values for name in self._named], seen)
-            self._frame.update(id, values)
+            self._frame._update(id, values)
             self._note(id)
             after = self.record(self._row(id).numbers)
             self._since[id] = tuple(version if after[name] == before[name] else self.version + 1 for name, version in zip(after, self._versions(id)))
@@ -141,7 +145,7 @@ class Desk:
         def change() -> Dict[str, Any]:
             row = self._row(id)
             self._check_unchanged(id, [True] * len(self.columns), seen)
-            self._frame.delete(id)
+            self._frame._delete(id)
             del self._rows[id]
             self._since.pop(id, None)
             return self.record(row.numbers)
@@ -167,10 +171,13 @@ class Desk:
 
     def picture(self, text: str, selection: Selection = Selection()) -> Picture:
         """The rows and the answer to a question, and to what is asked beside it, at one version."""
-        with self._changed:
+        def begun() -> Tuple[Question, List[Column], int, Dict[int, Held], Optional[FrameQuery]]:
             self._look_again()
-            question, columns, version, rows = self.read(text, selection), self.columns, self.version, dict(self._rows)
-            query = self._frame.begun(text, selection) if selection.is_answered_by(question, columns) else None
+            question, columns = self.read(text, selection), self.columns
+            query = self._frame.begun(text, selection, waits=False) if selection.is_answered_by(question, columns) else None
+            return question, columns, self.version, dict(self._rows), query
+
+        question, columns, version, rows, query = locked(self._changed, begun)
         if query is None:
             return computed_picture(text, selection, version, columns, list(rows.values()))
         with query:
@@ -179,17 +186,22 @@ class Desk:
 
     def _read(self) -> None:
         """Takes the columns and the rows as they are in the frame."""
-        self._opened = self._frame._opened
-        self._show_columns(self._opened.columns)
+        self._show_opened()
         outside = self._opened.ids.outside
         self._rows = {id: Held(id, tuple(numbers)) for id, numbers in ((outside(inside), numbers) for inside, numbers in self.table.rows())}
 
     def _note(self, id: int) -> None:
         """Takes a row as it is in the frame; all of them where that has opened another table for it."""
+        changed: Iterable[int] = [id]
         if self._opened is not self._frame._opened:
-            self._read()
-        else:
-            self._rows[id] = Held(id, tuple(self.table.get(self._opened.ids.inside(id))))
+            self._show_opened()
+            changed = [*self._rows, id]
+        # One by one, which takes no client.
+        self._rows.update({id: Held(id, tuple(self.table.get(self._opened.ids.inside(id)))) for id in changed})
+
+    def _show_opened(self) -> None:
+        self._opened = self._frame._opened
+        self._show_columns(self._opened.columns)
 
     def _show_columns(self, columns: Iterable[Column]) -> None:
         self.columns = list(columns)
@@ -219,7 +231,7 @@ class Desk:
 
     def _change(self, change: Callable[[], Result], values: Iterable[str] = ()) -> Result:
         """A change, for which columns of these names have values."""
-        with self._changed:
+        def made() -> Result:
             if self._closed:
                 raise Ended("the desk was closed", "closed")
             for name in values:
@@ -237,10 +249,14 @@ class Desk:
             self._wake()
             return result
 
+        found: Result = self._frame._change(made)
+        return found
+
     def _look_again(self) -> None:
         """Takes the rows as they are in the frame where a change was interrupted, which may have been made there."""
         if self._is_whole:
             return
+        self.table._free.check_at_hand()
         before = self._rows
         self._read()
         self.version += 1

@@ -240,14 +240,16 @@ class Frame(LiveRows):
 
         return self._answer(question, opened.kept.get((question, selection), least, made)[1])
 
-    def begun(self, question: str, selection: Selection) -> FrameQuery:
-        """A query, whose answer is kept; one that is over where it was."""
+    def begun(self, question: str, selection: Selection, *, waits: bool = True) -> FrameQuery:
+        """A query, whose answer is kept; one that is over where it was. Where it `waits` for no client, there is `NoClient` in place of a wait."""
         opened, key = self._opened, (question, selection)
         version = version_kept(opened, selection)
         found = None if version is None else opened.kept.find(key, version)
         if found is not None:
             kept: Answered = found
             return FrameQuery(Over(), lambda _: kept, partial(self._answer, question))
+        if not waits:
+            opened.table._free.check_at_hand()
         query = self._query(opened, question, selection)
         return query if version is None else query.keeping(partial(opened.kept.keep, key, version))
 

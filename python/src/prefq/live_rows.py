@@ -3,6 +3,7 @@ import os
 import threading
 from typing import Any, Callable, Dict, Iterable, Iterator, List, Mapping, Optional, Sequence, Tuple, TypeVar, Union
 
+from .clients import locked
 from .columns import Column
 from .errors import Refused, no_such_row
 from .kinds import Kind
@@ -76,12 +77,7 @@ class LiveRows:
         ...     frame.insert({"x": 5})
         2
         """
-        def insert() -> int:
-            [numbers] = self._numbers([record])
-            self._opened.note_gaps([numbers])
-            self._last = self._opened.ids.outside(self.table.insert(numbers))
-            return self._last
-        return self._change(insert)
+        return self._change(lambda: self._insert(record))
 
     def insert_many(self, records: Iterable[Any]) -> Sequence[int]:
         """Adds records at one moment, and returns their ids; all of them or, where there is no room, none.
@@ -111,16 +107,11 @@ class LiveRows:
         ...     frame.get(1)
         <id 1: {'x': 1, 'y': None}>
         """
-        def update() -> None:
-            [numbers] = self._numbers([record], [id])
-            whole = self._whole(id, record, numbers)
-            self._opened.note_gaps([whole])
-            self._of_row(id, lambda row: self.table.update(row, whole))
-        self._change(update)
+        self._change(lambda: self._update(id, record))
 
     def delete(self, id: int) -> None:
         """Deletes a row; its id is never used again."""
-        self._change(lambda: self._of_row(id, self.table.delete))
+        self._change(lambda: self._delete(id))
 
     def commit(self, *changes: Sequence[Any]) -> int:
         """Makes one to eight changes at one moment, or none: each is ("insert", record), ("update", id, record) or ("delete", id). Kinds grow as by `insert`.
@@ -175,6 +166,7 @@ class LiveRows:
 
         def contents() -> Contents:
             opened = self._opened
+            opened.table._free.check_at_hand()
             pairs = opened.table.rows()
             columns = tuple(map(Description.of, opened.columns))
             ids = [opened.ids.outside(inside) for inside, _ in pairs]
@@ -187,6 +179,21 @@ class LiveRows:
     def room(self) -> int:
         """How many more versions of rows there is room for."""
         return self.table.room()
+
+    def _insert(self, record: Any) -> int:
+        [numbers] = self._numbers([record])
+        self._opened.note_gaps([numbers])
+        self._last = self._opened.ids.outside(self.table.insert(numbers))
+        return self._last
+
+    def _update(self, id: int, record: Any) -> None:
+        [numbers] = self._numbers([record], [id])
+        whole = self._whole(id, record, numbers)
+        self._opened.note_gaps([whole])
+        self._of_row(id, lambda row: self.table.update(row, whole))
+
+    def _delete(self, id: int) -> None:
+        self._of_row(id, self.table.delete)
 
     def _numbers(self, records: Sequence[Any], ids: Iterable[int] = ()) -> List[List[int]]:
         """The numbers of some records, for which columns that are too narrow become wider, if the rows with these ids are there."""
@@ -243,12 +250,14 @@ class LiveRows:
 
     def _alone(self, call: Callable[[], Result]) -> Result:
         """One call after the other. A signal handler of this thread makes none while the table is opened anew, which would not have it."""
-        with self._changing:
+        def made() -> Result:
             if self._is_opening:
                 raise Refused("a change that opens the table anew is under way in this thread", "client")
             return call()
+        return locked(self._changing, made)
 
     def _open_anew(self, kinds: Mapping[str, Kind]) -> None:
+        self.table._free.check_at_hand()      # for all of its rows
         self._is_opening = True
         try:
             self._opened = self._opened.anew(kinds, self._last)
