@@ -52,7 +52,7 @@ def together(calls):
 
 class OfNumbers(TestCase):
     def setUp(self):
-        self.kept, self.made = Kept(lambda value: value < 100), []
+        self.kept, self.made = Kept(lambda value: value if value < 100 else None), []
 
     def make(self, version, value, seconds=0.0):
         def make():
@@ -117,7 +117,7 @@ class OfNumbers(TestCase):
         self.assertEqual(self.kept.get("a", 1, self.make(1, 7)), (1, 5))
 
     def test_what_is_made_may_be_of_what_is_kept_elsewhere(self):
-        other = Kept()
+        other = Kept(lambda _: 1)
         for key in ("a", "b"):
             self.assertEqual(self.kept.get(key, 1, lambda: (1, other.find("c", 1) or other.keep("c", 1, self.make(1, 50)()[1]))), (1, 50))
         self.assertEqual(self.made, [50])
@@ -134,6 +134,46 @@ class OfNumbers(TestCase):
 
         with self.within(30):
             self.assertEqual(sorted(together([lambda: asks(1, "2"), lambda: asks(2, "1")])), [(1, 1), (1, 2)])
+
+    def test_two_threads_whose_finalizers_look_into_what_the_other_one_has_locked(self):
+        class Key:
+            """Whose hash is asked for in the middle of a look, where a finalizer may come."""
+
+            def __init__(self, other):
+                self.other = other
+
+            def __hash__(self):
+                both.wait(30)
+                self.other.find("a", 1)
+                self.other.keep("b", 1, 5)
+                return 0
+
+        both, other = threading.Barrier(2), Kept(lambda _: 1)
+        threads = [threading.Thread(target=mine.find, args=[Key(theirs), 1], daemon=True) for mine, theirs in ((self.kept, other), (other, self.kept))]
+        for thread in threads:
+            thread.start()
+        for thread in threads:
+            thread.join(30)
+            self.assertFalse(thread.is_alive())
+
+    def test_so_many_bytes_are_kept(self):
+        with unittest.mock.patch("prefq.kept.MOST_BYTES_KEPT", 100):
+            for value in (10, 50, 40, 30):
+                self.kept.keep(value, 1, value)
+            self.assertEqual(list(self.kept._made), [40, 30])
+            self.kept.find(40, 1)
+            self.kept.get(50, 1, self.make(1, 50))
+            self.assertEqual(list(self.kept._made), [40, 50])
+
+    def test_a_look_and_what_is_too_large_push_nothing_out(self):
+        self.kept.keep("a", 1, 5)
+        for key in range(2 * MOST_KEPT):
+            self.assertIsNone(self.kept.find(key, 1))
+            self.kept.keep(key, 1, 500)
+        self.assertEqual(self.kept.find("a", 1), 5)
+        for key in range(2 * MOST_KEPT):
+            self.kept.get(key, 1, self.make(1, 500))
+        self.assertEqual((self.kept.find("a", 1), list(self.kept._made)), (5, ["a"]))
 
     def test_the_last_ones_that_were_asked_for_are_kept(self):
         for key in (*range(MOST_KEPT), 0, MOST_KEPT):
@@ -167,8 +207,10 @@ class OfAFollowedTable(test_follow.OfSqlite):
         self.count(3, top=2)
         self.count(4, where="price > 50")
         self.count(4, top=2)
+        for _ in range(2):
+            self.count(5, top=1, ties="high(dist)")
         self.db.execute("update offers set dist = 9 where id = 3")      # as it was: the place is another one
-        self.assertEqual(self.count(5).at, self.frame.now())
+        self.assertEqual(self.count(6).at, self.frame.now())
 
     def test_an_answer_is_the_askers_own(self):
         answer = self.count(1)
@@ -269,7 +311,8 @@ class OfAFrame(TestCase):
             self.frame.best(prefq.low("price") * prefq.low("dist"))
             self.assertEqual(prefq.psel(self.frame, "low(price + dist)").ids, [1])
             self.frame.best("best low(price) * low(dist)", by="hotel")
-        self.assertEqual(self.asked.call_count, 5)
+            self.assertEqual(self.frame.best(QUESTION, top=1, ties="low(dist)").ids, [2])
+        self.assertEqual(self.asked.call_count, 6)
 
     def test_a_change_below_the_frame_is_seen_at_once(self):
         self.assertEqual(self.count(1, "best low(price)").ids, [1])

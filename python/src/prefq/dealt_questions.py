@@ -61,7 +61,9 @@ class AskedOfTables(Asked):
         moment = moment_of_pairs(self.columns, [(row.key, row.numbers) for row in found])
         read = reading(self._text, self._selection, moment)
         rows = [Row(row.level, number, list(values)) for number, (row, values) in enumerate(zip(found, zip(*read.lists)), 1)]
-        return [found[row.id - 1] for row in picked(rows, read, self._selection, moment)]
+        first, absent_in_ties = picked(rows, read, self._selection, moment)
+        self.unknown = [*self._plan.unknown, *absent_in_ties]
+        return [found[row.id - 1] for row in first]
 
     def _merged(self, rows: List[Found]) -> List[Found]:
         """The answer over the rows that the tables' answers have together. Refused where too many are left, and another pass has no use."""
@@ -85,8 +87,9 @@ class AskedOfRows(Asked):
         pairs = list(self._begun.pairs().items())
         moment = moment_of_pairs(self.columns, pairs)
         read = reading(self._text, self._selection, moment)
-        self.unknown = read.unknown
-        return [Found(row.level, *pairs[row.id - 1]) for row in picked(answered(read, None, {}), read, self._selection, moment)]
+        rows, absent_in_ties = picked(answered(read, None, {}), read, self._selection, moment)
+        self.unknown = [*read.unknown, *absent_in_ties]
+        return [Found(row.level, *pairs[row.id - 1]) for row in rows]
 
 
 def asked_of(dealt: Dealt, text: str, selection: Selection) -> Asked:

@@ -275,10 +275,10 @@ def computed_picture(text: str, selection: Selection, version: int, columns: Lis
     moment = moment_of_picture(columns, rows)
     read = reading(text, selection, moment)
     with query_of(read) as query:
-        found = picked(query.rows(), read, selection, moment)
+        found, absent_in_ties = picked(query.rows(), read, selection, moment)
     best = [Found(row.level, *rows[row.id - 1]) for row in found]
     named = {column.name: column for column in columns}
-    return Picture(version, columns, rows, best, [named[name] for name in selection.names(text, moment.names)], tuple(read.unknown))
+    return Picture(version, columns, rows, best, [named[name] for name in selection.names(text, moment.names)], (*read.unknown, *absent_in_ties))
 
 
 def moment_of_picture(columns: Sequence[Column], rows: Sequence[Held]) -> Moment:

@@ -73,7 +73,7 @@ class Followed:
         self._is_whole = False
         self._is_followed = False       # whether the source says what has changed since these rows: not where it has read others, which were refused
         self._dealt: Optional[Dealt] = None
-        self._kept: Kept[Answered] = Kept(Answered.is_small)
+        self._kept: Kept[Answered] = Kept(Answered.size)
         try:
             check_known(list(kinds), source.columns)
             self._catch_up()
@@ -190,8 +190,7 @@ class Followed:
         def made() -> Tuple[int, Answered]:
             return self._made(question, selection)
 
-        # What decides between equally good rows warns where it is asked.
-        found_version, found = made() if selection.ties is not None else self._kept.get((question, selection), version, made)
+        found_version, found = self._kept.get((question, selection), version, made)
         warn_of(found.unknown)
         # Where no row has changed since, it is the answer at each place up to now.
         return Answer(question, found.columns, records_of(found.columns, found.rows), others=self.rows, at=at if found_version == version else found.at)

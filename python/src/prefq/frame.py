@@ -228,22 +228,23 @@ class Frame(LiveRows):
             with self._query(opened, question, selection) as query:
                 return query.answered(partial(progress, "scanning") if progress else None)
 
-        version = None if progress else version_kept(opened, selection)
+        engine = opened.table._engine
+        version = None if progress else engine.version()
         # A thread that has an open query waits for no other one, which may wait for its client.
-        if version is None or threading.get_ident() in opened.table._engine.threads():
+        if version is None or threading.get_ident() in engine.threads():
             return self._answer(question, asked())
         least = version
 
         def made() -> Tuple[int, Answered]:
             # The version now, behind the wait for others: that of who asks meanwhile.
-            return version_kept(opened, selection) or least, asked()
+            return engine.version() or least, asked()
 
         return self._answer(question, opened.kept.get((question, selection), least, made)[1])
 
     def begun(self, question: str, selection: Selection, *, waits: bool = True) -> FrameQuery:
         """A query, whose answer is kept; one that is over where it was. Where it `waits` for no client, there is `NoClient` in place of a wait."""
         opened, key = self._opened, (question, selection)
-        version = version_kept(opened, selection)
+        version = opened.table._engine.version()
         found = None if version is None else opened.kept.find(key, version)
         if found is not None:
             kept: Answered = found
@@ -294,7 +295,8 @@ class Frame(LiveRows):
         read = reading(question, selection, moment)
 
         def found(rows: List[Row]) -> Answered:
-            return answered(opened, [(row.level, *pairs[row.id - 1]) for row in picked(rows, read, selection, moment)], read.unknown)
+            some, absent_in_ties = picked(rows, read, selection, moment)
+            return answered(opened, [(row.level, *pairs[row.id - 1]) for row in some], [*read.unknown, *absent_in_ties])
 
         return FrameQuery(query_of(read), found, partial(self._answer, question))
 
@@ -331,11 +333,6 @@ class Frame(LiveRows):
         there = answered(opened, [(None, *pairs[moment.id(place + 1) - 1]) for place in order], read.unknown)
         warn_of(there.unknown)
         return Hasse(text, there.columns, records_of(there.columns, there.rows), worse)
-
-
-def version_kept(opened: Opened, selection: Selection) -> Optional[int]:
-    """The version of which an answer is kept; None where it is not, as of what decides between equally good rows, which warns where it is asked."""
-    return None if selection.ties is not None else opened.table._engine.version()
 
 
 def answered(opened: Opened, rows: Sequence[Found], unknown: Sequence[str]) -> Answered:

@@ -72,7 +72,7 @@ class Opened(Columns):
         self.ids = ids
         self._options = options
         self.table = Table(list(self.below.values()), rows, **options)
-        self.kept: Kept[Answered] = Kept(Answered.is_small)
+        self.kept: Kept[Answered] = Kept(Answered.size)
 
     def moment(self, rows: Sequence[Tuple[int, Sequence[int]]]) -> Moment:
         """Rows of the table as they are at one moment, counted from 1."""

@@ -152,7 +152,7 @@ class Job:
         if self.selection.ties is not None:
             plan_of_ties(self.selection.ties, moment.column, moment.names)
         rows = sorted(Row(level, place, list(values)) for place, (level, *values) in enumerate(zip(found.levels, *read.lists), 1))
-        levels = {row.id - 1: row.level for row in picked(rows, read, self.selection, moment)}
+        levels = {row.id - 1: row.level for row in picked(rows, read, self.selection, moment)[0]}
         return Found(found.rows.kept(sorted(levels)), [levels[place] for place in sorted(levels)], True)
 
     def loaded(self, source: Opened, what: str) -> Tuple[Partial, List[QuestionRead]]:

@@ -5,6 +5,7 @@ import re
 import threading
 from dataclasses import replace
 from decimal import Decimal
+from sys import getsizeof
 from typing import Any, Callable, Dict, Iterable, List, NamedTuple, Optional, Sequence, Tuple, TypeVar, Union
 
 from .answer import Answer
@@ -117,7 +118,7 @@ class Shown:
     def __init__(self, desk: Desk) -> None:
         self._desk = desk
         self._making = threading.BoundedSemaphore(MOST_AT_ONCE)
-        self._kept: Kept[str] = Kept()
+        self._kept: Kept[str] = Kept(getsizeof)
 
     def get(self, asked: Asked, axes: Sequence[Optional[str]]) -> Tuple[int, str]:
         """The version of the picture as it is now, and the picture as JSON."""

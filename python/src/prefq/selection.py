@@ -230,8 +230,9 @@ def selected(text: str, selection: Selection, moment: Moment, *, progress: Optio
     """The rows of an answer over the rows of a moment that count, with the numbers of the columns that the question names."""
     read = reading(text, selection, moment)
     answer = answered(read, progress, options)
-    warn_of(read.unknown)
-    return picked(answer, read, selection, moment, options)
+    rows, absent_in_ties = picked(answer, read, selection, moment, options)
+    warn_of([*read.unknown, *absent_in_ties])
+    return rows
 
 
 def answered(read: Reading, progress: Optional[Progress], options: Mapping[str, Any]) -> List[Row]:
@@ -250,11 +251,11 @@ def query_of(read: Reading) -> Query:
         return Table(read.names, Zipped(read.lists), clients=1, capacity=max(1, len(read.lists[0]))).query(read.plan.text)
 
 
-def picked(answer: List[Row], read: Reading, selection: Selection, moment: Moment, options: Mapping[str, Any] = {}) -> List[Row]:
-    """The rows of the answer to a question over the rows of a moment, by their ids there: those that are selected."""
+def picked(answer: List[Row], read: Reading, selection: Selection, moment: Moment, options: Mapping[str, Any] = {}) -> Tuple[List[Row], List[str]]:
+    """The rows of the answer to a question over the rows of a moment, by their ids there: those that are selected; and what is said of the values of the ties."""
     rows = [row._replace(id=moment.id(row.id)) for row in without_twins(answer, read.plan)]
     if selection.top is None or selection.ties is None:
-        return first_rows(rows, read.plan, selection.top)
+        return first_rows(rows, read.plan, selection.top), []
     return with_ties(Cut.of(rows, selection.top, group_in(read.plan)), selection.ties, [column.name for column in read.question.by], moment, options)
 
 
@@ -283,20 +284,19 @@ def plan_of_ties(ties: str, column: Callable[[str], Optional[Column]], names: Se
     return plan(ties, question, below(columns_in(question)))
 
 
-def with_ties(cut: Cut, ties: str, by: Sequence[str], moment: Moment, options: Mapping[str, Any]) -> List[Row]:
-    """The first rows, of those that are equally good the ones that a preference likes best, and of these the first in their order."""
+def with_ties(cut: Cut, ties: str, by: Sequence[str], moment: Moment, options: Mapping[str, Any]) -> Tuple[List[Row], List[str]]:
+    """The first rows, of those that are equally good the ones that a preference likes best, and of these the first in their order; and what is said of its values."""
     crowded = [(wanted, rows) for wanted, rows in cut.tied if len(rows) > wanted]
     if not crowded:
-        return cut.by_order()
+        return cut.by_order(), []
     some = moment.only(sorted(row.id for _, rows in crowded for row in rows))
     selection = Selection(("at_least", max(wanted for wanted, _ in crowded)), by=tuple(by))
     read = reading(ties, selection, some)
-    answer = picked(answered(read, None, options), read, selection, some)
-    if moment.has_all_values:
-        warn_of(read.unknown)
+    answer, _ = picked(answered(read, None, options), read, selection, some)
     places = {row.id: place for place, row in enumerate(answer)}
 
     def liked(row: Row) -> int:
         return places.get(row.id, len(places))
 
-    return in_order([*cut.first, *(row for wanted, rows in cut.tied for row in sorted(rows, key=liked)[:wanted])])
+    rows = in_order([*cut.first, *(row for wanted, rows in cut.tied for row in sorted(rows, key=liked)[:wanted])])
+    return rows, read.unknown if moment.has_all_values else []
