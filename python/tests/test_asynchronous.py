@@ -1,14 +1,18 @@
 """The table for asyncio."""
 import asyncio
+import contextlib
 import gc
+import os
 import random
 import threading
 import unittest
+from contextlib import AsyncExitStack
 
 import prefq
 from support import HOTELS, QUESTION, SKYLINE, TestCase, around, in_a_fork
 
 SECONDS = 120
+COUNT = int(os.environ.get("PREFQ_TEST_COUNT", 1000)) // 10
 
 
 class Tasks(TestCase):
@@ -193,6 +197,112 @@ class Tasks(TestCase):
                 await prefq.AsyncTable.open(["price"], [[0.5]])
             with self.refuses(prefq.Refused, kind="opening"):
                 await self.open(capacity=3)
+        self.run_async(main)
+
+
+class OfAFrame(TestCase):
+    """Tasks that call an `AsyncFrame`, of which some are cancelled."""
+
+    CLIENTS = 2
+
+    async def opened(self, rows=200):
+        chance = random.Random(4)
+        records = [{"x": chance.randrange(60), "y": chance.randrange(60)} for _ in range(rows)]
+        return await prefq.AsyncFrame.open(prefq.Frame.from_records, records, clients=self.CLIENTS, block=16)
+
+    def run_async(self, function):
+        return asyncio.run(asyncio.wait_for(function(), SECONDS))
+
+    def test_calls_that_need_a_client_wait_while_each_one_scans(self):
+        calls = {"rows": lambda frame: frame.rows(), "why": lambda frame: frame.why(1, "best low(x) * low(y)"), "hasse": lambda frame: frame.hasse("low(x) * low(y)"),
+                 "grows": lambda frame: frame.insert({"x": "0.5"}), "many": lambda frame: frame.insert_many({"x": number} for number in ("1.5", 7)),
+                 "commit": lambda frame: frame.commit(("delete", 1), ("insert", ["0.25", 1])), "update": lambda frame: frame.update(1, {"x": "0.5"})}
+
+        async def main(call):
+            async with await self.opened() as frame, AsyncExitStack() as stack:
+                queries = [await frame._call(frame._frame.query, "best low(x) * low(y)") for _ in range(self.CLIENTS)]
+                held = [await frame._free.get() for _ in queries]
+                for query in queries:
+                    stack.enter_context(query)
+                calling = asyncio.ensure_future(call(frame))
+                await asyncio.sleep(0.05)
+                for query, client in zip(queries, held):
+                    answer = await asyncio.wait_for(frame._call(query.answer), 0.8)
+                    frame._free.put_nowait(client)
+                found = await calling
+                self.assertEqual(answer.ids, [row.id for row in answer])
+                return found, len(frame), await frame.rows()
+
+        for name, call in calls.items():
+            with self.subTest(name):
+                found, count, rows = self.run_async(lambda: main(call))
+                self.assertEqual(count, len(rows))
+                self.assertEqual(count, 200 + {"grows": 1, "many": 2}.get(name, 0))
+                self.assertEqual(found, {"grows": 201, "many": range(201, 203), "commit": 201, "update": None}.get(name, found))
+
+    def test_who_is_told_of_a_change_may_wait_for_a_client(self):
+        """The change was made by then, and is not made again."""
+        async def main():
+            async with await self.opened() as frame:
+                frame._frame.subscribe(lambda: frame._frame.best("best low(x)"))
+                queries = [await frame._call(frame._frame.query, "best low(x) * low(y)") for _ in range(self.CLIENTS)]
+                with self.assertRaises(prefq.Refused):
+                    await frame.insert([5, 5])
+                for query in queries:
+                    query.abandon()
+                return len(frame)
+
+        self.assertEqual(self.run_async(main), 201)
+
+    def test_tasks_that_are_cancelled_at_random_moments(self):
+        """Each change is made whole or not at all, each answer is one of rows that there were meanwhile, and no client is lost."""
+        chance = random.Random(5)
+
+        async def at_random(call):
+            task, delay = asyncio.ensure_future(call), chance.choice([0, 0, 0.0005, 0.003, None]) and chance.random() * 0.005
+            if delay is None:
+                return await task
+            for _ in range(chance.randrange(8)):
+                await asyncio.sleep(0)
+            await asyncio.sleep(delay)
+            task.cancel()
+            return await task
+
+        def best(rows):
+            values = set(rows.values())
+            return sorted(id for id, (x, y) in rows.items() if not any(a <= x and b <= y and (a, b) != (x, y) for a, b in values))
+
+        async def main():
+            async with await self.opened(60) as frame:
+                async def rows():
+                    return {row.id: (row.x, row.y) for row in await frame.rows()}
+
+                async def changes():
+                    for _ in range(COUNT):
+                        before, id, values = seen[-1], chance.randrange(1, 60), [chance.randrange(60), chance.randrange(60)]
+                        seen.append(None)       # while it is not known whether it was made
+                        with contextlib.suppress(asyncio.CancelledError):
+                            await at_random(frame.commit(("update", id, values), ("update", 60, values[::-1])))
+                        after = await rows()
+                        self.assertIn(after, [before, {**before, id: tuple(values), 60: tuple(values[::-1])}])
+                        seen[-1] = after
+
+                async def asks():
+                    while not changing.done():
+                        first = max(0, len(seen) - 2)
+                        with contextlib.suppress(asyncio.CancelledError):
+                            answer = await at_random(frame.best(*chance.choice([("best low(x) * low(y)",), ("best low(x) * low(y + 0)",)])))
+                            while seen[-1] is None:
+                                await asyncio.sleep(0.001)
+                            self.assertIn(sorted(answer.ids), [best(some) for some in seen[first:] if some])
+
+                seen = [await rows()]
+                changing = asyncio.ensure_future(changes())
+                await asyncio.gather(changing, *(asks() for _ in range(5)))
+                while frame._free.qsize() < self.CLIENTS or frame._table._engine.queries:
+                    frame._table._engine.settle()
+                    await asyncio.sleep(0.001)
+
         self.run_async(main)
 
 

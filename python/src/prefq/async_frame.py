@@ -49,15 +49,15 @@ class AsyncFrame(Awaited):
 
     async def insert(self, record: Any) -> int:
         """See `Frame.insert`."""
-        return await self._call(self._frame.insert, record)
+        return await self._asks(self._frame.insert, record)
 
     async def insert_many(self, records: Iterable[Any]) -> Sequence[int]:
         """See `Frame.insert_many`."""
-        return await self._call(self._frame.insert_many, records)
+        return await self._asks(self._frame.insert_many, await self._call(list, records))
 
     async def update(self, id: int, record: Any) -> None:
         """See `Frame.update`."""
-        await self._call(self._frame.update, id, record)
+        await self._asks(self._frame.update, id, record)
 
     async def get(self, id: int) -> Record:
         """See `Frame.get`."""
@@ -65,19 +65,19 @@ class AsyncFrame(Awaited):
 
     async def rows(self) -> List[Record]:
         """See `Frame.rows`."""
-        return await self._call(self._frame.rows)
+        return await self._asks(self._frame.rows)
 
     async def save(self, path: Path) -> None:
         """See `Frame.save`."""
-        await self._call(self._frame.save, path)
+        await self._asks(self._frame.save, path)
 
     async def why(self, id: int, question: Asked, *, where: Optional[Operand] = None, by: Names = None) -> Answer:
         """See `Frame.why`."""
-        return await self._call(partial(self._frame.why, id, question, where=where, by=by))
+        return await self._asks(partial(self._frame.why, id, question, where=where, by=by))
 
     async def hasse(self, question: Asked, *, where: Optional[Operand] = None, by: Names = None) -> Hasse:
         """See `Frame.hasse`."""
-        return await self._call(partial(self._frame.hasse, question, where=where, by=by))
+        return await self._asks(partial(self._frame.hasse, question, where=where, by=by))
 
     async def best(self, question: Asked, *, where: Optional[Operand] = None, top: Optional[int] = None, ties: Optional[Asked] = None, by: Names = None) -> Answer:
         """See `Frame.best`. Other tasks' calls may come between the pieces that it scans."""

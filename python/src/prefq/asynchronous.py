@@ -6,7 +6,7 @@ from functools import partial
 from typing import Any, Callable, Generator, Iterable, List, Optional, Sequence, Tuple, Type, TypeVar, Union
 
 from .answer import Answer
-from .clients import SECONDS_TO_COLLECTION
+from .clients import SECONDS_TO_COLLECTION, NoClient, hastily
 from .errors import Ended, Refused
 from .frame import Frame
 from .query import Query
@@ -54,7 +54,7 @@ class Awaited:
 
     async def commit(self, *changes: Sequence[Any]) -> int:
         """See `Table.commit` and `Frame.commit`."""
-        return await self._call(self._called.commit, *changes)
+        return await self._asks(self._called.commit, *changes)
 
     async def room(self) -> int:
         """See `Table.room`."""
@@ -80,6 +80,17 @@ class Awaited:
 
     async def _call(self, function: Callable[..., Result], *words: Any) -> Result:
         return await asyncio.wrap_future(self._submit(function, *words))
+
+    async def _asks(self, function: Callable[..., Result], *words: Any) -> Result:
+        """A call that may need a client. Where none is free, it waits until one is, and is made again: the thread itself goes on with the queries of other tasks."""
+        try:
+            return await self._call(hastily, function, *words)
+        except NoClient:
+            client = await self._free.get()
+        try:
+            return await self._call(function, *words)
+        finally:
+            self._free.put_nowait(client)
 
 
 async def on_a_thread(make: Callable[[], Opened]) -> Tuple[ThreadPoolExecutor, Opened]:

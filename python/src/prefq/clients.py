@@ -15,13 +15,14 @@ MOST_TIME_FOR_COLLECTIONS = 1 / 20
 STEP = 0.005
 
 
-class _AtHand(threading.local):
-    """Who has a client for the next query of this thread."""
+class _Thread(threading.local):
+    """Who has a client for the next query of this thread, and whether no client is waited for."""
 
-    asker: Optional[Asker] = None
+    at_hand: Optional[Asker] = None
+    is_hasty = False
 
 
-_at_hand = _AtHand()
+_thread = _Thread()
 
 
 class Clients:
@@ -34,13 +35,15 @@ class Clients:
 
     def give(self, asker: Asker, client: Optional[int]) -> None:
         """Gives this client, or any that has no open query, to this asker."""
-        if _at_hand.asker is not None and client is None and self._is_handed(asker):
+        if _thread.at_hand is not None and client is None and self._is_handed(asker):
             return
         begun, pause = time.monotonic(), STEP
         while not self._is_given(asker, client):
             self._engine.check()
             if client is not None:
                 raise Refused(f"client {client} has an open query", "client", 3)
+            if _thread.is_hasty:
+                raise NoClient(self)
             waited, waits_for_itself = time.monotonic() - begun, self._engine.threads() == {threading.get_ident()}
             if waited > (SECONDS_TO_COLLECTION if waits_for_itself else SECONDS_TO_WAIT):
                 raise Refused(f"each of the {self._count} clients has an open query", "client", 3)
@@ -56,25 +59,25 @@ class Clients:
     def check_at_hand(self) -> None:
         """Has a client at hand for the next query of this thread, or raises `NoClient`: without a wait."""
         asker = Asker()
-        if _at_hand.asker is None or not self._engine.is_open(_at_hand.asker):
+        if _thread.at_hand is None or not self._engine.is_open(_thread.at_hand):
             if not self._is_given(asker, None):
                 raise NoClient(self)
-            _at_hand.asker = asker
+            _thread.at_hand = asker
 
     def wait_for_one(self) -> None:
         """Waits until there is a client at hand for the next query of this thread."""
         asker = Asker()
         self.give(asker, None)
-        _at_hand.asker = asker
+        _thread.at_hand = asker
 
     def _is_handed(self, asker: Asker) -> bool:
         """Hands the client that this thread has at hand to this asker, where it is one of this table."""
-        before = _at_hand.asker
+        before = _thread.at_hand
         if before is None or not self._engine.is_open(before):
             return False
         asker.client, asker.thread = before.client, before.thread
         self._engine.queries[asker.client] = ref(asker)
-        _at_hand.asker = None
+        _thread.at_hand = None
         return True
 
     def collect(self) -> None:
@@ -101,7 +104,7 @@ class Clients:
 
 
 class NoClient(Error):
-    """A call that holds a lock needs a client, of which none is free. It has changed nothing."""
+    """A call that must not wait needs a client, of which none is free. It has changed nothing."""
 
     def __init__(self, clients: Clients) -> None:
         super().__init__("no client is free")
@@ -110,14 +113,35 @@ class NoClient(Error):
 
 def locked(lock: Any, call: Callable[[], Result]) -> Result:
     """A call that holds a lock. A client for its query is waited for without the lock, for which those may wait who have the clients."""
-    before = _at_hand.asker
+    before = _thread.at_hand
     try:
         while True:
             try:
                 with lock:
                     return call()
             except NoClient as none:
+                if _thread.is_hasty:
+                    raise
                 clients = none.clients
             clients.wait_for_one()
     finally:
-        _at_hand.asker = before
+        _thread.at_hand = before
+
+
+def hastily(call: Callable[..., Result], *words: Any) -> Result:
+    """A call that waits for no client: where it needs one and none is free, it raises `NoClient`."""
+    return _called(True, call, *words)
+
+
+def patiently(call: Callable[..., Result], *words: Any) -> Result:
+    """A call that waits for clients, in the middle of one that does not."""
+    return _called(False, call, *words)
+
+
+def _called(is_hasty: bool, call: Callable[..., Result], *words: Any) -> Result:
+    before = _thread.is_hasty
+    try:
+        _thread.is_hasty = is_hasty
+        return call(*words)
+    finally:
+        _thread.is_hasty = before

@@ -3,7 +3,7 @@ import os
 import threading
 from typing import Any, Callable, Dict, Iterable, Iterator, List, Mapping, Optional, Sequence, Tuple, TypeVar, Union
 
-from .clients import locked
+from .clients import locked, patiently
 from .columns import Column
 from .errors import Refused, no_such_row
 from .kinds import Kind
@@ -87,8 +87,10 @@ class LiveRows:
         ...     frame.insert_many([{"x": 5}, [6, 7]])
         range(2, 4)
         """
+        some = list(records)
+
         def insert_many() -> range:
-            numbers = self._numbers(list(records))      # By this the table may become another one.
+            numbers = self._numbers(some)       # By this the table may become another one.
             self._opened.note_gaps(numbers)
             inside = self.table.insert_many(numbers)
             if not inside:
@@ -245,7 +247,7 @@ class LiveRows:
         """A change, of which those who subscribed are told."""
         result = self._alone(change)
         for call in list(self._subscribed):
-            call()
+            patiently(call)
         return result
 
     def _alone(self, call: Callable[[], Result]) -> Result:
