@@ -120,6 +120,21 @@ class Frames(TestCase):
             again = found.drop(columns=".level").loc[[10, 20, 30]]
             pandas.testing.assert_frame_equal(again, frame, check_names=True)
 
+    def test_the_level_of_an_earlier_answer_is_no_level_of_this_one(self):
+        before = prefq.psel(pandas.DataFrame({"x": [2, 1], "y": [1, 2]}), "top_level 2 low(x)")
+        with prefq.Frame.from_dataframe(before) as opened:
+            found = opened.best("top_level 2 low(y)").to_dataframe()
+            self.assertEqual((list(found.columns), found.values.tolist()), ([".level", "x", "y"], [[1, 2, 1], [2, 1, 2]]))
+
+    def test_what_has_no_column_that_a_question_could_name(self):
+        for frame in (pandas.DataFrame([[1, 2]]), pandas.DataFrame()):
+            with self.refuses(prefq.Refused, "no column 'x'; there is none whose name is a text"):
+                prefq.psel(frame, "low(x)")
+
+    def test_records_are_no_dataframe(self):
+        with self.refuses(TypeError, "records is of type DataFrame: not a list of records (from_dataframe takes a DataFrame)"):
+            prefq.Frame.from_records(pandas.DataFrame({"x": [1]}))
+
     def test_questions(self):
         with prefq.Frame.from_dataframe(self.typed()) as opened:
             for question, labels in [("best low(size)", [20]), ("best high(size) & low(int64)", [30]), ("best low(time)", [30]), ("best high(time)", [10]),

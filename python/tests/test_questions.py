@@ -102,6 +102,7 @@ REFUSED_IN_EXPRESSIONS = [
     ("best low(Stars / (x - 0.5))", "row 1 has 0 behind the /, by which nothing is divided", 1, "/ ("),
     ("best low(Stars + Zzz)", "no column 'Zzz'; there are City", 2, "Zzz"),
     ("best low(Stars + stars)", "did you mean Stars?", 2, "stars"),
+    ("best true(City = null)", "Opened, Pool, x. Write is missing", 2, "null"),
     ("best true(City = Lyonn)", "A text stands in single quotes, 'Lyonn'", 2, "Lyonn"),
     ("best true(City < 'Lyon')", "column 'City' has texts, which have no order: write =, <> or in (..)", 1, "'Lyon'"),
     ("best true(City = 5)", "column 'City' (text) is compared with a value in quotes, such as 'Lyon'", 1, "5)"),

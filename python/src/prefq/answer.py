@@ -198,7 +198,8 @@ class Answer(List[Record]):
         return self.columns[place - 2] if place >= 2 else None
 
     def to_dataframe(self) -> Any:
-        """A DataFrame of pandas: a column `.level`, then the columns of the rows; its index is that of the frame it came from, else the ids."""
+        """A DataFrame of pandas: a column `.level`, in place of one of the rows that is called so, then the columns of the rows; its index is that of the frame it
+        came from, else the ids."""
         from .pandas_frames import dataframe_of
         return dataframe_of(self, self._index)
 

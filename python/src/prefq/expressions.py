@@ -253,7 +253,8 @@ class FrameReader(Reader):
         if not token.is_name():
             self._unexpected(AN_OPERAND)
         if self._column(token.text) is None and nearest(token.text, self._names) is None:
-            refuse(self._question, token.place, f"{unknown_column(token.text, self._names)}. A text stands in single quotes, {quoted(token.text)}", UNKNOWN_COLUMN)
+            instead = "Write is missing" if token.text.lower() in WORDS_OF_MISSING else f"A text stands in single quotes, {quoted(token.text)}"
+            refuse(self._question, token.place, f"{unknown_column(token.text, self._names)}. {instead}", UNKNOWN_COLUMN)
         return Named(self._name(), token.place)
 
     def _in_parentheses(self) -> Node:

@@ -89,6 +89,8 @@ class Frame(LiveRows):
         (Column('x', 'whole'), Column('y', 'float'))
         """
         check_options(options, ["columns", "kinds", *TABLE_OPTIONS], "Frame.from_records")
+        if hasattr(records, "iloc"):
+            raise TypeError(f"records is of type {type(records).__name__}: not a list of records (from_dataframe takes a DataFrame)")
         rows = list(mappings(fitting(records, "records")))
         if not rows and columns is not None:
             return cls.empty(columns, kinds or {}, **options)

@@ -86,7 +86,8 @@ def most_like(text: str, others: Iterable[str], least: float = 0.65) -> Optional
 def unknown_column(name: str, names: Sequence[str]) -> str:
     """What is said of a name that no column has."""
     near = nearest(name, names)
-    return f"no column {name!r}; " + (f"did you mean {spelled(near)}?" if near is not None else f"there are {listed(list(names))}")
+    there = f"there are {listed(list(names))}" if names else "there is none whose name is a text"
+    return f"no column {name!r}; " + (there if near is None else f"did you mean {spelled(near)}?")
 
 
 def hint_for_mode(question: str, kind: str, text: str, names: Sequence[str]) -> str:

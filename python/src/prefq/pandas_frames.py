@@ -150,7 +150,8 @@ def dataframe_of(answer: Any, index: Optional[Callable[[Sequence[Record]], Any]]
     rows = pandas.Index(answer.ids, name="id") if index is None else index(answer)
     found = pandas.DataFrame({".level": pandas.Series(answer.levels, index=rows, dtype="int64" if None not in answer.levels else "Int64")}, index=rows)
     for column in answer.columns:
-        found[column.name] = _series([record[column.name] for record in answer], column, rows)
+        if column.name != ".level":     # as of an earlier answer
+            found[column.name] = _series([record[column.name] for record in answer], column, rows)
     return found
 
 
