@@ -153,7 +153,7 @@ class Answer(List[Record]):
         text = "".join(lines)
         if target is not None:
             self._check_writable(text, getattr(target, "encoding", None) or UTF_8, getattr(target, "errors", None) or "strict")
-        return _given(text, target)
+        return given(text, target)
 
     def _check_writable(self, text: str, encoding: str, errors: str) -> None:
         """Refuses what a file of this encoding cannot have, by its place."""
@@ -192,7 +192,7 @@ class Answer(List[Record]):
             objects.append("{" + begin + apart.join(pairs) + end + "}")
         between = ", " if indent is None else f",{line}"
         text = "[" + (line if objects else "") + between.join(objects) + ("\n" if indent is not None and objects else "") + "]\n"
-        return _given(SURROGATE.sub(lambda found: f"\\u{ord(found[0]):x}", text), target)
+        return given(SURROGATE.sub(lambda found: f"\\u{ord(found[0]):x}", text), target)
 
     def _column(self, place: int) -> Optional[Column]:
         return self.columns[place - 2] if place >= 2 else None
@@ -218,7 +218,7 @@ class Answer(List[Record]):
     def to_svg(self, target: Target = None, *, x: Optional[str] = None, y: Optional[str] = None) -> Optional[str]:
         """The same picture as SVG, without matplotlib: into a file, or as a text where none is given."""
         from .plot import svg_of
-        return _given(svg_of(self, x, y), target)
+        return given(svg_of(self, x, y), target)
 
     def all_records(self) -> List[Record]:
         """The rows behind the answer, as they are now, where they can be had: not once the table has ended, nor while each of its clients has an open query. Else those
@@ -248,7 +248,7 @@ def _short(cell: str) -> str:
     return line if len(line) <= WIDEST else line[:WIDEST - 1] + "…"
 
 
-def _given(text: str, target: Target) -> Optional[str]:
+def given(text: str, target: Target) -> Optional[str]:
     """The text, or None once it is written."""
     if target is None:
         return text

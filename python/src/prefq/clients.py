@@ -128,17 +128,8 @@ def locked(lock: Any, call: Callable[[], Result]) -> Result:
         _thread.at_hand = before
 
 
-def hastily(call: Callable[..., Result], *words: Any) -> Result:
-    """A call that waits for no client: where it needs one and none is free, it raises `NoClient`."""
-    return _called(True, call, *words)
-
-
-def patiently(call: Callable[..., Result], *words: Any) -> Result:
-    """A call that waits for clients, in the middle of one that does not."""
-    return _called(False, call, *words)
-
-
-def _called(is_hasty: bool, call: Callable[..., Result], *words: Any) -> Result:
+def hastily(call: Callable[..., Result], *words: Any, is_hasty: bool = True) -> Result:
+    """A call that waits for no client: where it needs one and none is free, it raises `NoClient`. One in the middle of it that is not hasty waits."""
     before = _thread.is_hasty
     try:
         _thread.is_hasty = is_hasty

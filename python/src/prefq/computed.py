@@ -106,7 +106,9 @@ class Computer:
         if isinstance(kind, Whole):
             return Numbers([None if number == LEAST else number for number in numbers], kind.scale)
         if isinstance(kind, Floats):
-            shown = {number: shown_number(kind.decode(number)) for number in dict.fromkeys(numbers) if number != LEAST}
+            values = {number: kind.decode(number) for number in dict.fromkeys(numbers) if number != LEAST}
+            # The decimal number that Python shows for a float; an infinite one is itself.
+            shown: Dict[int, Number] = {number: Fraction(repr(value)) if math.isfinite(value) else value for number, value in values.items()}
             return Numbers([shown.get(number) for number in numbers])
         if isinstance(kind, Booleans):
             return Truths([None if number == LEAST else bool(number) for number in numbers])
@@ -286,11 +288,6 @@ def is_time(found: Values) -> bool:
 def each(function: Callable[[Any, Any], Any], left: Iterable[Any], right: Iterable[Any]) -> List[Any]:
     """What a function makes of the values of each row, None where one of them is missing."""
     return [None if a is None or b is None else function(a, b) for a, b in zip(left, right)]
-
-
-def shown_number(value: float) -> Number:
-    """The decimal number that Python shows for a float; an infinite one is itself."""
-    return Fraction(repr(value)) if math.isfinite(value) else value
 
 
 def column_of_numbers(name: str, found: Numbers) -> Tuple[Column, List[int]]:

@@ -5,7 +5,7 @@ from typing import Dict, Iterable, Iterator, List, Mapping, Sequence, Tuple
 from .columns import Column, listed
 from .errors import Refused
 from .expressions import Comparison, Literal, Named, Node, Operation, columns_of
-from .kinds import Kind, Times
+from .kinds import Times
 from .kinds.moments import offset_of
 from .moment import Moment
 from .partial import Absent
@@ -61,9 +61,4 @@ def moments_in(nodes: Iterable[Node], term: Term) -> Dict[str, str]:
     """By column of times with a zone, a text beside it in expressions, or in the term of a question, that names no zone: it is a time of the column's."""
     pairs = [(base.column, value.text) for base in bases_of(term) for values in base.sets for value in values]
     pairs += [pair for node in nodes for pair in texts_beside_columns(node)]
-    return {column.name: text for column, text in pairs if is_moment_without_a_zone(column.kind, text)}
-
-
-def is_moment_without_a_zone(kind: Kind, text: str) -> bool:
-    """Whether a text beside a column of this kind is a time of the zone of the column."""
-    return isinstance(kind, Times) and kind.zone is not None and offset_of(text) is None
+    return {column.name: text for column, text in pairs if isinstance(column.kind, Times) and column.kind.zone is not None and offset_of(text) is None}

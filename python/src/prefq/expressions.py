@@ -12,7 +12,7 @@ from typing import Callable, Dict, Iterator, List, Optional, Sequence, Tuple, Un
 from .columns import Column, quoted
 from .hints import nearest, unknown_column
 from .kinds.booleans import WORDS
-from .questions import TOO_DEEP, UNKNOWN_COLUMN, Base, Mode, Product, Question, Reader, Term, Token, Value, refuse
+from .questions import TOO_DEEP, UNKNOWN_COLUMN, Base, Mode, Question, Reader, Term, Token, Value, product, refuse
 
 FUNCTIONS = {"abs": 1, "min": 2, "max": 2}      # with the fewest arguments
 COMPARISONS = ("<=", ">=", "<>", "!=", "==", "<", ">", "=")
@@ -114,10 +114,7 @@ class FrameReader(Reader):
         return node
 
     def _prior(self) -> Term:
-        parts = [super()._prior()]
-        while self._takes_strange("|"):
-            parts.append(super()._prior())
-        return parts[0] if len(parts) == 1 else Product("|", tuple(parts))
+        return product("|", self._several(super()._prior, lambda: self._takes_strange("|")))
 
     def _base(self) -> Base:
         token = self._next
@@ -168,9 +165,7 @@ class FrameReader(Reader):
 
     def _joined(self, word: str, part: Callable[[], Node]) -> Node:
         place = self._next.place
-        parts = [part()]
-        while self._takes_word(word):
-            parts.append(part())
+        parts = self._several(part, lambda: self._takes_word(word) is not None)
         return parts[0] if len(parts) == 1 else self._operation(word, parts, place)
 
     def _not(self) -> Node:
@@ -213,9 +208,7 @@ class FrameReader(Reader):
 
     def _values_in(self, node: Node, place: int) -> Node:
         self._need("(")
-        values = [self._sum()]
-        while self._takes(","):
-            values.append(self._sum())
+        values = self._listed(self._sum)
         self._need(")")
         return self._operation("or", [self._compared("=", node, value, place) for value in values], place)
 
@@ -226,7 +219,7 @@ class FrameReader(Reader):
         node = part()
         while True:
             token = self._next
-            sign = next((sign for sign in signs if self._takes_sign(sign)), None)
+            sign = next((sign for sign in signs if self._takes(sign) or self._takes_strange(sign)), None)
             if sign is None:
                 return node
             node = self._operation(sign, [node, part()], token.place)
@@ -240,8 +233,12 @@ class FrameReader(Reader):
 
     def _primary(self) -> Node:
         token = self._next
-        if (token.kind, token.text) == ("sign", "("):
-            return self._in_parentheses()
+        if self._takes("("):
+            with self._inside_of(token):
+                node = self._or()
+            if not self._takes(")"):
+                self._unexpected("an operator or a )")
+            return node
         if token.kind == "number":
             return Literal("number", self._take().text, token.place)
         if token.kind in ("text", "date"):
@@ -257,13 +254,6 @@ class FrameReader(Reader):
             refuse(self._question, token.place, f"{unknown_column(token.text, self._names)}. {instead}", UNKNOWN_COLUMN)
         return Named(self._name(), token.place)
 
-    def _in_parentheses(self) -> Node:
-        with self._inside_of(self._take()):
-            node = self._or()
-        if not self._takes(")"):
-            self._unexpected("an operator or a )")
-        return node
-
     def _call(self) -> Node:
         token = self._next
         fewest = FUNCTIONS.get(token.text)
@@ -273,9 +263,7 @@ class FrameReader(Reader):
         self._at += 1
         self._need("(")
         with self._inside_of(token):
-            parts = [self._sum()]
-            while fewest > 1 and self._takes(","):
-                parts.append(self._sum())
+            parts = [self._sum()] if fewest == 1 else list(self._listed(self._sum))
         if len(parts) < fewest:
             self._unexpected("a , and another number")
         self._need(")")
@@ -305,9 +293,6 @@ class FrameReader(Reader):
             refuse(self._question, token.place, f"more than {DEEPEST_IN_AN_EXPRESSION} nestings in an expression", TOO_DEEP)
         yield
         self._nested -= 1
-
-    def _takes_sign(self, sign: str) -> bool:
-        return self._takes(sign) or self._takes_strange(sign)
 
     def _takes_strange(self, sign: str) -> bool:
         """Takes a sign that the program's language does not have, of one character or two, if it is next."""

@@ -303,16 +303,15 @@ class Followed:
     def _wait(self, place: int, seconds: float) -> None:
         """Waits until the rows are those of this place or a later one."""
         end = time.monotonic() + seconds
-        while not self._is_at(place):
+        while True:
+            with self._alone():
+                if self._is_whole and self.at >= place:
+                    return
             if self._surviving(lambda _: self.at, until=end) >= place:
                 return
             if time.monotonic() >= end:
                 raise Refused(f"{self._source.name} is at {self.at}, and not at {place} after {seconds:g} seconds", "follow")
             time.sleep(PAUSE)
-
-    def _is_at(self, place: int) -> bool:
-        with self._alone():
-            return self._is_whole and self.at >= place
 
     def _catch_up(self, until: Optional[float] = None) -> None:
         """Takes in what has changed, or everything. Calls with a place that is there go on while the database is waited for."""

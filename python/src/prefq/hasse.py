@@ -5,6 +5,7 @@ import shutil
 import subprocess
 from typing import Any, Callable, Dict, Iterator, List, Optional, Sequence, Tuple, Union
 
+from .answer import given
 from .better_than import Order, places_in, rows_alike
 from .columns import Column
 from .errors import Refused, no_such_row
@@ -76,12 +77,7 @@ class Hasse(List[Edge]):
 
     def to_svg(self, path: Optional[Union[str, "os.PathLike[str]"]] = None, label: Label = None) -> Optional[str]:
         """The diagram as a picture, into a file, or as a text where no path is given: by Graphviz where its command `dot` is there, else with each level in a row."""
-        text = by_graphviz(self.to_dot(label)) if shutil.which("dot") else self._drawn(label)
-        if path is None:
-            return text
-        with open(path, "w", encoding="utf-8") as file:
-            file.write(text)
-        return None
+        return given(by_graphviz(self.to_dot(label)) if shutil.which("dot") else self._drawn(label), path)
 
     def _repr_svg_(self) -> str:
         """As a notebook shows it."""

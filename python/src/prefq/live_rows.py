@@ -3,7 +3,7 @@ import os
 import threading
 from typing import Any, Callable, Dict, Iterable, Iterator, List, Mapping, Optional, Sequence, Tuple, TypeVar, Union
 
-from .clients import locked, patiently
+from .clients import hastily, locked
 from .columns import Column
 from .errors import Refused, no_such_row
 from .kinds import Kind
@@ -247,7 +247,7 @@ class LiveRows:
         """A change, of which those who subscribed are told."""
         result = self._alone(change)
         for call in list(self._subscribed):
-            patiently(call)
+            hastily(call, is_hasty=False)
         return result
 
     def _alone(self, call: Callable[[], Result]) -> Result:

@@ -23,7 +23,7 @@ class Moment:
     @property
     def count(self) -> int:
         """How many rows count."""
-        return self._total() if self.kept is None else len(self.kept)
+        return len(self.kept) if self.kept is not None else max((len(numbers) for _, numbers in self._loaded.values()), default=0)
 
     def column(self, name: str) -> Optional[Column]:
         """The column of this name, None where there is none."""
@@ -69,9 +69,6 @@ class Moment:
         part._loaded = self._loaded
         part.kept = ids
         return part
-
-    def _total(self) -> int:
-        return max((len(numbers) for _, numbers in self._loaded.values()), default=0)
 
 
 def moment_of(columns: Sequence[Column], rows: Sequence[Sequence[int]], called: Callable[[int], Any]) -> Moment:

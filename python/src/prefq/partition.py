@@ -101,17 +101,12 @@ def values_of_rows(partition: Partition) -> Iterator[Sequence[Any]]:
     for number, row in enumerate(partition.rows, 1):
         values = _numbers(number, row) if isinstance(row, (str, bytes)) else row
         if not isinstance(values, Sequence):
-            values = _as_sequence(number, values)
+            if not hasattr(values, "tolist"):
+                raise TypeError(f"row {number} is {row!r}, of type {type(row).__name__}: not a list of values")
+            values = values.tolist()
         if len(values) != width:
             raise ValueError(f"row {number}, {len(values)} values: not {width}, those of {', '.join(partition.columns)}")
         yield values
-
-
-def _as_sequence(number: int, row: Any) -> Sequence[Any]:
-    as_list: Optional[Callable[[], List[Any]]] = getattr(row, "tolist", None)
-    if as_list is None:
-        raise TypeError(f"row {number} is {row!r}, of type {type(row).__name__}: not a list of values")
-    return as_list()
 
 
 def _numbers(number: int, row: Union[str, bytes]) -> List[int]:

@@ -5,13 +5,14 @@ import math
 import os
 from typing import Any, Dict, Iterable, List, NamedTuple, Optional, Sequence, Tuple, Union
 
-from .answer import Answer
+from .answer import Answer, given
 from .columns import Column
 from .errors import Refused
 from .expressions import read_frames_question
 from .hints import unknown_column
 from .kinds import Booleans, Choices, Clock, Texts
 from .questions import Base, Converse, Product, Question, Term
+from .records import Record
 from .visible import in_xml
 
 WIDTH, HEIGHT = 720, 480
@@ -70,22 +71,20 @@ class Picture:
 
     def save(self, path: Union[str, "os.PathLike[str]"]) -> None:
         """Writes the picture into a file."""
-        with open(path, "w", encoding="utf-8") as file:
-            file.write(self.svg)
+        given(self.svg, path)
 
 
 def drawing(answer: Answer, x: Optional[str], y: Optional[str]) -> Drawing:
     """What is drawn of an answer."""
     question = _question(answer)
     ways = {name: way for name, way in ways_of(question.term).items() if name in answer.names} if question else {}
-    across, along = (_axis(answer, name, ways) for name in _names(answer, x, y, ways))
+    columns = {column.name: column for column in answer.columns}
+    across, along = (Axis(columns[name], ways.get(name)) for name in _names(answer, x, y, ways))
     groups = [column.name for column in question.by] if question else []
-    shown = [_point(record, across, along, groups) for record in answer]
-    points = [point for point in shown if point is not None]
+    points = _points(answer, across, along, groups)
     ids = {record.id for record in answer}
-    behind = [_point(record, across, along, groups) for record in answer.all_records() if record.id not in ids]
-    fronts = _fronts(points, across, along) if question and is_of_two(question.term, across, along) else []
-    others = [point for point in behind if point is not None]
+    others = _points([record for record in answer.all_records() if record.id not in ids], across, along, groups)
+    fronts = _fronts(points, across) if question and is_of_two(question.term, across, along) else []
     return Drawing(answer.question, across, along, others[::max(1, -(-len(others) // MOST_OTHERS))], len(others), points, fronts)
 
 
@@ -130,15 +129,9 @@ def _names(answer: Answer, x: Optional[str], y: Optional[str], ways: Dict[str, b
     return first, y if y is not None else (free.pop(0) if free else first)
 
 
-def _axis(answer: Answer, name: str, ways: Dict[str, bool]) -> Axis:
-    return Axis(next(column for column in answer.columns if column.name == name), ways.get(name))
-
-
-def _point(record: Any, across: Axis, along: Axis, groups: Sequence[str]) -> Optional[Point]:
-    x, y = (place_of(axis.column, record.get(axis.column.name)) for axis in (across, along))
-    if x is None or y is None:
-        return None
-    return Point(x, y, record.level, record.id, tuple(record.get(name) for name in groups))
+def _points(records: Iterable[Record], across: Axis, along: Axis, groups: Sequence[str]) -> List[Point]:
+    rows = [(record, place_of(across.column, record.get(across.column.name)), place_of(along.column, record.get(along.column.name))) for record in records]
+    return [Point(x, y, record.level, record.id, tuple(map(record.get, groups))) for record, x, y in rows if x is not None and y is not None]
 
 
 def place_of(column: Column, value: Any) -> Optional[float]:
@@ -158,7 +151,7 @@ def place_of(column: Column, value: Any) -> Optional[float]:
     return place if math.isfinite(place) else None
 
 
-def _fronts(points: List[Point], across: Axis, along: Axis) -> List[List[Tuple[float, float]]]:
+def _fronts(points: List[Point], across: Axis) -> List[List[Tuple[float, float]]]:
     """The staircase of the first level, in each group."""
     groups: Dict[Tuple[Any, ...], List[Tuple[float, float]]] = {}
     for point in points:

@@ -6,7 +6,7 @@ false, or a text in quotes. Whatever is wrong is refused at its place, with what
 import re
 from contextlib import suppress
 from dataclasses import dataclass
-from typing import Callable, Dict, List, NamedTuple, NoReturn, Optional, Sequence, Tuple, Union
+from typing import Callable, Dict, List, NamedTuple, NoReturn, Optional, Sequence, Tuple, TypeVar, Union
 
 from .columns import Column, quoted
 from .errors import Refused
@@ -75,6 +75,7 @@ class Converse:
 
 
 Term = Union[Base, Product, Converse]
+Part = TypeVar("Part")
 # best, top_level or at_least, and its count, which is 1 for best.
 Mode = Tuple[str, int]
 
@@ -93,6 +94,11 @@ class Question:
 def refuse(question: str, place: int, message: str, number: int = UNEXPECTED) -> NoReturn:
     """Refuses a question at a character of it."""
     raise Refused(message, "term", number, len(question[:place].encode(errors="replace")), question)
+
+
+def product(sign: str, parts: Sequence[Term]) -> Term:
+    """The product of some terms, of which one may stand alone."""
+    return parts[0] if len(parts) == 1 else Product(sign, tuple(parts))
 
 
 def tokens_of(question: str) -> List[Token]:
@@ -167,12 +173,23 @@ class Reader:
         self._at += token.kind != "end"
         return token
 
-    def _takes(self, sign: str) -> bool:
-        """Takes this sign, if it is next."""
-        if (self._next.kind, self._next.text) != ("sign", sign):
+    def _takes(self, text: str, kind: str = "sign") -> bool:
+        """Takes this sign, or another token, if it is next."""
+        if (self._next.kind, self._next.text) != (kind, text):
             return False
         self._at += 1
         return True
+
+    def _several(self, part: Callable[[], Part], goes_on: Callable[[], bool]) -> List[Part]:
+        """One part, and further ones as long as it goes on."""
+        found = [part()]
+        while goes_on():
+            found.append(part())
+        return found
+
+    def _listed(self, part: Callable[[], Part]) -> Tuple[Part, ...]:
+        """Parts with commas between them."""
+        return tuple(self._several(part, lambda: self._takes(",")))
 
     def _takes_word(self, *words: str) -> Optional[str]:
         """Takes one of these words, in any case, if it is next."""
@@ -204,7 +221,7 @@ class Reader:
             return self._clause()
         name, count = self._mode(mode)
         term = self._prior()
-        by = self._columns() if self._takes_by() else ()
+        by = self._listed(self._name) if self._takes("by", "word") else ()
         if self._next.kind != "end":
             self._unexpected("a , or the end" if by else f"{SIGNS}, by or the end")
         return Question(name, count, term, by)
@@ -219,12 +236,6 @@ class Reader:
             refuse(self._question, self._next.place, f"a question begins with best, top_level K, at_least K or skyline of{hint}")
         return mode
 
-    def _takes_by(self) -> bool:
-        if self._next.kind == "word" and self._next.text == "by":
-            self._at += 1
-            return True
-        return False
-
     def _count(self) -> int:
         token = self._next
         if token.kind != "number" or not token.text.isdigit():
@@ -236,12 +247,6 @@ class Reader:
             refuse(self._question, token.place, f"the count is {shown}", BAD_COUNT)
         self._at += 1
         return count
-
-    def _columns(self) -> Tuple[Column, ...]:
-        found = [self._name()]
-        while self._takes(","):
-            found.append(self._name())
-        return tuple(found)
 
     def _name(self) -> Column:
         token = self._next
@@ -257,11 +262,8 @@ class Reader:
     def _prior(self) -> Term:
         return self._product("&", lambda: self._product("*", self._unary))
 
-    def _product(self, sign: str, part: Callable[[], Term]) -> Term:
-        parts = [part()]
-        while self._takes(sign):
-            parts.append(part())
-        return parts[0] if len(parts) == 1 else Product(sign, tuple(parts))
+    def _product(self, sign: str, part: Callable[[], Term], kind: str = "sign") -> Term:
+        return product(sign, self._several(part, lambda: self._takes(sign, kind)))
 
     def _unary(self) -> Term:
         token = self._next
@@ -272,8 +274,7 @@ class Reader:
             return term
         if (token.kind, token.text) == ("sign", "("):
             return self._inside()
-        if token.kind == "word" and token.text == "reverse":
-            self._at += 1
+        if self._takes("reverse", "word"):
             return Converse(self._inside())
         return self._base()
 
@@ -310,7 +311,8 @@ class Reader:
             self._need(",")
             sets = (self._values(column),)
         elif token.text == "layered":
-            sets = self._sets(column)
+            self._need(",")
+            sets = self._listed(lambda: self._set(column))
         self._need(")")
         return Base(token.text, column, sets, token.place)
 
@@ -318,21 +320,14 @@ class Reader:
         """What a base term is about."""
         return self._name()
 
-    def _sets(self, column: Column) -> Tuple[Tuple[Value, ...], ...]:
-        sets = []
-        self._need(",")
-        while True:
-            self._need("{")
-            sets.append(self._values(column))
-            self._need("}")
-            if not self._takes(","):
-                return tuple(sets)
+    def _set(self, column: Column) -> Tuple[Value, ...]:
+        self._need("{")
+        values = self._values(column)
+        self._need("}")
+        return values
 
     def _values(self, column: Column) -> Tuple[Value, ...]:
-        values = [self._value(column)]
-        while self._takes(","):
-            values.append(self._value(column))
-        return tuple(values)
+        return self._listed(lambda: self._value(column))
 
     def _value(self, column: Column) -> Value:
         place = self._next.place
@@ -365,4 +360,4 @@ class Reader:
             self._unexpected("a , or the end")
         if not parts:
             refuse(self._question, 0, "the clause has no min or max", NO_MIN_OR_MAX)
-        return Question("best", 1, parts[0] if len(parts) == 1 else Product("*", tuple(parts)), tuple(by), distinct)
+        return Question("best", 1, product("*", parts), tuple(by), distinct)
