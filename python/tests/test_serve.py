@@ -441,7 +441,8 @@ class ManyThreads(TestCase):
                 time.sleep(0.2)         # and it waits for a client
                 release.set()
                 self.assertEqual([future.result() for future in asking], [[1], [1]])
-                self.assertEqual(changing.result(), {"grows": 5, "frame": 5, "picture": [1], "save": None}[wanted])
+                # It comes behind the first of the two, or behind both.
+                self.assertIn(changing.result(), {"grows": (4, 5), "frame": (4, 5), "picture": ([1],), "save": (None,)}[wanted])
                 self.assertEqual(desk.table._engine.queries, {})
 
     def test_a_table_that_has_ended(self):
