@@ -1,5 +1,5 @@
 """Values of a column with the keys of their rows: the column that takes them, or what is wrong with the first one, said with its key."""
-from typing import Any, Collection, Dict, Mapping, Optional, Sequence, Tuple
+from typing import Any, Dict, Mapping, Optional, Sequence, Tuple
 
 from .columns import Column
 from .dealt import Dealt, Key, Numbers
@@ -16,9 +16,9 @@ TYPES: Dict[Any, Any] = {Whole: int, Floats: (int, float)}
 def column_at_keys(name: str, values: Sequence[Any], column: Optional[Column], keys: Sequence[Key]) -> Tuple[Column, Sequence[int]]:
     """This column, or one of the kind of the values, with their numbers. A value that it does not take is `Refused`, with its key."""
     try:
-        return column_of_values(name, values, None) if column is None else (column, encoded(column, values))
+        return column_of_values(name, values, None, keys, "key") if column is None else (column, encoded(column, values, keys, "key"))
     except (TypeError, ValueError) as why:
-        raise Refused(_at_its_key(column or Column(name, kind_of_values(name, values)), values, keys) or str(why), "follow") from None
+        raise Refused(str(why), "follow") from None
     except Refused as why:
         raise Refused(_of_no_kind(name, values, keys) or str(why), "follow") from None
 
@@ -35,7 +35,7 @@ def _numbers_of_column(dealt: Dealt, place: int, keys: Sequence[Key], cells: Seq
     if Unchanged in types:
         others = iter(_numbers_of_column(dealt, place, keys, [cell for cell in cells if cell is not UNCHANGED]))
         return [_number_before(dealt, place, key) if cell is UNCHANGED else next(others) for key, cell in zip(keys, cells)]
-    if not _keeps_its_kind(column, types):
+    if column.grows and not all(issubclass(found, (type(None), TYPES.get(type(column.kind), str))) for found in types):
         raise TypeError(f"column {column.name!r} has another kind with these values")
     numbers = plain_whole_numbers(cells) if type(column.kind) is Whole else None
     if numbers is None:
@@ -49,21 +49,6 @@ def _number_before(dealt: Dealt, place: int, key: Key) -> int:
     if before is None:
         raise ValueError(f"key {key!r} has a value that was never seen")
     return before[place]
-
-
-def _keeps_its_kind(column: Column, types: Collection[type]) -> bool:
-    """Whether a column whose kind was taken from its values has the same one with values of these types."""
-    return not column.grows or all(issubclass(found, (type(None), TYPES.get(type(column.kind), str))) for found in types)
-
-
-def _at_its_key(column: Column, values: Sequence[Any], keys: Sequence[Key]) -> str:
-    """What is wrong with the first of these values that a column does not take, with the key of its row."""
-    for key, value in zip(keys, values):
-        try:
-            column.encode(value)
-        except (TypeError, ValueError) as why:
-            return f"key {key!r}, {why}"
-    return ""
 
 
 def _of_no_kind(name: str, values: Sequence[Any], keys: Sequence[Key]) -> str:

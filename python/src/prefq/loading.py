@@ -365,14 +365,14 @@ def rescaled(part: Part, kind: Kind) -> Iterable[int]:
     return part.numbers if by == 1 else (number if number == LEAST else number * by for number in part.numbers)
 
 
-def column_of_values(name: str, values: Sequence[Any], kinds: Kinds, ids: Optional[Sequence[int]] = None) -> Encoded:
+def column_of_values(name: str, values: Sequence[Any], kinds: Kinds, ids: Optional[Sequence[Any]] = None, what: str = "row") -> Encoded:
     """A column of Python's values, and its numbers; see `encoded`."""
     given = kinds[name] if kinds and name in kinds else None
     whole = plain_whole_numbers(values) if given is None else None
     column = Column(name, Whole() if whole is not None else kind_of_values(name, values) if given is None else given)
     column.grows = given is None
     if whole is None:
-        return column, encoded(column, values, ids)
+        return column, encoded(column, values, ids, what)
     column.has_gaps = LEAST in whole
     return column, whole
 
@@ -388,24 +388,23 @@ def plain_whole_numbers(values: Sequence[Any]) -> Optional[List[int]]:
     return [LEAST if value is None else value for value in values]
 
 
-def encoded(column: Column, values: Sequence[Any], ids: Optional[Sequence[int]] = None) -> List[int]:
-    """The numbers of a column's values. What has none is named with its row, whose id is 1, 2, 3 and so on where none are given."""
+def encoded(column: Column, values: Sequence[Any], ids: Optional[Sequence[Any]] = None, what: str = "row") -> List[int]:
+    """The numbers of a column's values. What has none is named with its row, or `what` else has the ids; they are 1, 2, 3 and so on where none are given."""
     rows = range(1, len(values) + 1) if ids is None else ids
+
+    def numbers_of(some: Sequence[Any]) -> Iterator[int]:
+        for place, value in enumerate(some):
+            try:
+                yield column.encode(value)
+            except (TypeError, ValueError) as why:
+                raise type(why)(f"{what} {rows[place if some is values else values.index(value)]!r}, {why}") from None
+
     if {str}.issuperset(map(type, values)):
         # Texts mostly come again and again.
         different = list(dict.fromkeys(values))
-        numbers: Dict[str, int] = dict(zip(different, column.kind.read_all(different) or _encoded(column, different, values, rows)))
+        numbers: Dict[str, int] = dict(zip(different, column.kind.read_all(different) or numbers_of(different)))
         return list(map(numbers.__getitem__, values))
-    return list(_encoded(column, values, values, rows))
-
-
-def _encoded(column: Column, some: Sequence[Any], values: Sequence[Any], ids: Sequence[int]) -> Iterator[int]:
-    for place, value in enumerate(some):
-        try:
-            yield column.encode(value)
-        except (TypeError, ValueError) as why:
-            row = ids[place if some is values else values.index(value)]
-            raise type(why)(f"row {row}, {why}") from None
+    return list(numbers_of(values))
 
 
 def decoded(columns: Sequence[Column], rows: Sequence[Sequence[int]]) -> Iterator[Tuple[Any, ...]]:
