@@ -28,15 +28,16 @@ fn single_changes_are_answered(rt: HostRuntime) -> Result<(), Fail> {
 }
 
 /// This many events in which client 1 asks for room.
-fn asks_for_room(alloc: Global, count: u32) -> Result<Vec<Event>, Fail> {
+fn asks_for_room(rt: &impl Abort, alloc: Global, count: u32) -> Vec<Event> {
     let mut events = Vec::new(alloc);
     for _event in 0..count {
-        events.push(Event {
+        let event = Event {
             client: 1,
             act: Act::Room,
-        })?;
+        };
+        events.push(event).expect(rt, "memory");
     }
-    Ok(events)
+    events
 }
 
 /// This many replies, each of which says that there is room for one row.
@@ -49,23 +50,20 @@ fn check_all_room(rt: &impl Abort, replies: &[Reply], count: usize) {
 }
 
 #[test]
-fn a_million_events_are_answered_in_turn(rt: HostRuntime) -> Result<(), Fail> {
-    let alloc = rt.alloc();
-    let setup = setup_of(1, 1, 1, 1)?;
-    let events = asks_for_room(alloc, 1_000_000)?;
-    let replies = replay(alloc, setup, &[], events)?;
+fn a_million_events_are_answered_in_turn(rt: HostRuntime) {
+    let setup = setup_of(1, 1, 1, 1).expect(&rt, "a setup");
+    let events = asks_for_room(&rt, rt.alloc(), 1_000_000);
+    let replies = replay(rt.alloc(), setup, &[], events).expect(&rt, "replies");
     check_all_room(&rt, &replies, 1_000_000);
-    Ok(())
 }
 
 #[test]
-fn a_part_is_the_whole_where_memory_is_there(rt: HostRuntime) -> Result<(), Fail> {
-    let alloc = rt.alloc();
-    let setup = setup_of(1, 1, 1, 1)?;
-    let part = replay_part(alloc, setup, &[], asks_for_room(alloc, 3)?)?;
+fn a_part_is_the_whole_where_memory_is_there(rt: HostRuntime) {
+    let setup = setup_of(1, 1, 1, 1).expect(&rt, "a setup");
+    let events = asks_for_room(&rt, rt.alloc(), 3);
+    let part = replay_part(rt.alloc(), setup, &[], events).expect(&rt, "replies");
     assert_same(&rt, "stopped", part.stopped, false);
     check_all_room(&rt, &part.replies, 3);
-    Ok(())
 }
 
 /// These three rows are refused for want of room.
@@ -77,16 +75,15 @@ fn check_too_many(rt: &impl Abort, alloc: Global, setup: Setup, opening: &[Row])
 }
 
 #[test]
-fn too_many_opening_rows_are_refused(rt: HostRuntime) -> Result<(), Fail> {
-    let alloc = rt.alloc();
-    let setup = setup_of(1, 2, 1, 1)?;
-    check_too_many(&rt, alloc, setup, &rows_of(alloc, &[1, 2, 3])?);
-    Ok(())
+fn too_many_opening_rows_are_refused(rt: HostRuntime) {
+    let setup = setup_of(1, 2, 1, 1).expect(&rt, "a setup");
+    let rows = rows_of(rt.alloc(), &[1, 2, 3]).expect(&rt, "rows");
+    check_too_many(&rt, rt.alloc(), setup, &rows);
 }
 
 #[test]
-fn a_setup_has_its_limits(rt: HostRuntime) -> Result<(), Fail> {
-    let setup = Setup::new(8, 10, 4, 1).ok_or("setup")?;
+fn a_setup_has_its_limits(rt: HostRuntime) {
+    let setup = setup_of(8, 10, 4, 1).expect(&rt, "a setup");
     let clients = u32::from(setup.clients());
     let slots = (setup.capacity(), setup.block(), setup.blocks());
     let found = (clients, slots, setup.window());
@@ -103,21 +100,26 @@ fn a_setup_has_its_limits(rt: HostRuntime) -> Result<(), Fail> {
         let refused = Setup::new(clients, capacity, block, window).is_none();
         assert_same(&rt, case, refused, true);
     }
-    Ok(())
+}
+
+/// The default setup with these numbers in place of its own.
+fn with_numbers(clients: u8, capacity: u32, block: u32, window: u32) -> Result<Setup, SetupFault> {
+    let setup = Setup::default().with_clients(clients)?;
+    setup
+        .with_capacity(capacity)?
+        .with_block(block)?
+        .with_window(window)
 }
 
 #[test]
-fn a_setup_is_made_of_the_default_one(rt: HostRuntime) -> Result<(), Fail> {
+fn a_setup_is_made_of_the_default_one(rt: HostRuntime) {
     let setup = Setup::default();
     assert_same(&rt, "default", Some(setup), Setup::new(4, 1024, 1024, 64));
-    let large = setup.with_clients(8)?.with_capacity(65_536)?;
-    let set = large.with_block(65_536)?.with_window(65_536)?;
+    let set = with_numbers(8, 65_536, 65_536, 65_536).ok();
     let wanted = Setup::new(8, 65_536, 65_536, 65_536);
-    assert_same(&rt, "the most", Some(set), wanted);
-    let small = setup.with_clients(1)?.with_capacity(1)?;
-    let set = small.with_block(1)?.with_window(1)?;
-    assert_same(&rt, "the least", Some(set), Setup::new(1, 1, 1, 1));
-    Ok(())
+    assert_same(&rt, "the most", set, wanted);
+    let set = with_numbers(1, 1, 1, 1).ok();
+    assert_same(&rt, "the least", set, Setup::new(1, 1, 1, 1));
 }
 
 /// A number that is refused says which one it is, what was given, and its range.
@@ -127,47 +129,80 @@ fn check_refused(
     set: Result<Setup, SetupFault>,
     fault: SetupFault,
     text: &str,
-) -> Result<(), Fail> {
+) {
     assert_same(rt, text, set, Err(fault));
-    let shown = format!(in alloc; "{fault}")?;
+    let shown = format!(in alloc; "{fault}").expect(rt, "memory");
     assert_same(rt, "its text", shown.as_str(), text);
-    Ok(())
 }
 
+/// The numbers of clients, of slots, and of the rows of a block and of a window; and the refusal of one of them.
+static REFUSED: [((u8, u32, u32, u32), SetupFault, &str); 8] = [
+    (
+        (0, 1, 1, 1),
+        SetupFault::Clients { given: 0 },
+        "clients must be 1 to 8, not 0",
+    ),
+    (
+        (9, 1, 1, 1),
+        SetupFault::Clients { given: 9 },
+        "clients must be 1 to 8, not 9",
+    ),
+    (
+        (1, 0, 1, 1),
+        SetupFault::Capacity { given: 0 },
+        "capacity must be 1 to 65536, not 0",
+    ),
+    (
+        (1, 65_537, 1, 1),
+        SetupFault::Capacity { given: 65_537 },
+        "capacity must be 1 to 65536, not 65537",
+    ),
+    (
+        (1, 1, 0, 1),
+        SetupFault::Block { given: 0 },
+        "block must be 1 to 65536, not 0",
+    ),
+    (
+        (1, 1, 65_537, 1),
+        SetupFault::Block { given: 65_537 },
+        "block must be 1 to 65536, not 65537",
+    ),
+    (
+        (1, 1, 1, 0),
+        SetupFault::Window { given: 0 },
+        "window must be 1 to 65536, not 0",
+    ),
+    (
+        (1, 1, 1, 65_537),
+        SetupFault::Window { given: 65_537 },
+        "window must be 1 to 65536, not 65537",
+    ),
+];
+
 #[test]
-fn a_setup_says_which_number_is_refused(rt: HostRuntime) -> Result<(), Fail> {
-    let alloc = rt.alloc();
-    let setup = Setup::default();
-    let fault = SetupFault::Clients { given: 9 };
-    let text = "clients must be 1 to 8, not 9";
-    check_refused(&rt, alloc, setup.with_clients(9), fault, text)?;
-    let fault = SetupFault::Capacity { given: 65_537 };
-    let text = "capacity must be 1 to 65536, not 65537";
-    check_refused(&rt, alloc, setup.with_capacity(65_537), fault, text)?;
-    let fault = SetupFault::Block { given: 0 };
-    let text = "block must be 1 to 65536, not 0";
-    check_refused(&rt, alloc, setup.with_block(0), fault, text)?;
-    let fault = SetupFault::Window { given: 0 };
-    let text = "window must be 1 to 65536, not 0";
-    check_refused(&rt, alloc, setup.with_window(0), fault, text)
+fn a_setup_says_which_number_is_refused(rt: HostRuntime) {
+    for ((clients, capacity, block, window), fault, text) in &REFUSED {
+        let set = with_numbers(*clients, *capacity, *block, *window);
+        check_refused(&rt, rt.alloc(), set, *fault, text);
+    }
 }
 
 /// An answer of two rows, with the ids 3 and 5.
-fn two_rows(alloc: Global) -> Result<RankedList, Fail> {
-    let mut rows = Vec::new(alloc);
-    for id in [3, 5] {
-        rows.push(Ranked {
-            level: 1,
-            id,
-            row: row_of(alloc, 7)?,
-        })?;
-    }
-    Ok(RankedList::of(rows))
+fn two_rows(rt: &impl Abort, alloc: Global) -> RankedList {
+    let row = row_of(alloc, 7).expect(rt, "a row");
+    let first = Ranked {
+        level: 1,
+        id: 3,
+        row,
+    };
+    let second = Ranked { id: 5, ..first };
+    let rows = [first, second];
+    RankedList::of(rows.to_vec(alloc).expect(rt, "memory"))
 }
 
 #[test]
-fn an_answer_is_gone_through(rt: HostRuntime) -> Result<(), Fail> {
-    let answer = two_rows(rt.alloc())?;
+fn an_answer_is_gone_through(rt: HostRuntime) {
+    let answer = two_rows(&rt, rt.alloc());
     let sizes = (answer.len(), answer.is_empty());
     assert_same(&rt, "rows", sizes, (2, false));
     let mut ids: u64 = 0;
@@ -177,13 +212,11 @@ fn an_answer_is_gone_through(rt: HostRuntime) -> Result<(), Fail> {
     assert_same(&rt, "ids", ids, 35);
     let last = answer.iter().last().map(|best| best.id);
     assert_same(&rt, "the last", last, Some(5));
-    Ok(())
 }
 
 #[test]
-fn an_answer_is_given_back(rt: HostRuntime) -> Result<(), Fail> {
+fn an_answer_is_given_back(rt: HostRuntime) {
     let list = RankedList::of(Vec::new(rt.alloc()));
     assert_same(&rt, "rows", list.as_slice().len(), 0);
     assert_same(&rt, "rows given back", list.into_vec().len(), 0);
-    Ok(())
 }

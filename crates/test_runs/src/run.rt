@@ -2,7 +2,7 @@
 
 use crate::acts::{Does, act, columns, rows_of, setup_of};
 use pref_core::{Event, Setup};
-use pref_table::{Row, Schema};
+use pref_table::{Row, Schema, TableFault};
 use std::alloc::Global;
 use std::test::Fail;
 
@@ -21,11 +21,11 @@ pub struct Run {
 
 impl Run {
     /// The setup of its numbers, with a window of 64.
-    pub fn setup(&self) -> Result<Setup, Fail> {
+    pub fn setup(&self) -> Result<Setup, &'static str> {
         setup_of(self.clients, self.capacity, self.block, 64)
     }
 
-    pub fn opening_rows(&self, alloc: Global) -> Result<Vec<Row>, Fail> {
+    pub fn opening_rows(&self, alloc: Global) -> Result<Vec<Row>, TableFault> {
         rows_of(alloc, self.opening)
     }
 

@@ -1,20 +1,17 @@
 //! The calls of a machine: the value that each returns, and a refusal of each.
 
-use super::fixtures::with_machine;
+use super::fixtures::small_machine;
 use crate::same::assert_same;
-use pref_core::{Commit, Committed, CoreFault, Machine};
+use pref_core::{Change, Commit, Committed, CoreFault, Machine};
 use pref_table::{Row, Schema};
 use pref_term::{Ask, read_ask};
 use std::alloc::Global;
 use std::process::Abort;
-use std::test::Fail;
-use test_runs::Changes::{Adds, Removes};
-use test_runs::{answer_text, changes_of, row};
+use test_runs::{answer_text, columns, row_of};
 
 /// A commit that adds a row and removes row 3.
-fn commit_of_two(alloc: Global, schema: &Schema) -> Result<Commit, Fail> {
-    let changes = changes_of(alloc, schema, &[Adds(8), Removes(3)])?;
-    Ok(Commit::of(&changes)?)
+fn commit_of_two(rt: &impl Abort, row: Row) -> Commit {
+    Commit::of(&[Change::Add(row), Change::Remove(3)]).expect(rt, "a commit")
 }
 
 /// Changes of client 2 over the rows 1 and 2, which leave the rows 2 and 4.
@@ -66,30 +63,23 @@ fn check_refused_changes(
 }
 
 #[test]
-fn changes_return_their_values(rt: HostRuntime) -> Result<(), Fail> {
+fn changes_return_their_values(rt: HostRuntime) {
     let alloc = rt.alloc();
-    with_machine(alloc, |schema, machine| {
-        let added = row(schema, 9)?;
-        let commit = commit_of_two(alloc, schema)?;
-        check_changes(&rt, alloc, machine, &added, &commit);
-        check_refused_changes(&rt, alloc, machine, &added, &commit);
-        Ok(())
-    })
+    let added = row_of(alloc, 9).expect(&rt, "a row");
+    let commit = commit_of_two(&rt, added);
+    let mut machine = small_machine(&rt, alloc);
+    check_changes(&rt, alloc, &mut machine, &added, &commit);
+    check_refused_changes(&rt, alloc, &mut machine, &added, &commit);
 }
 
-fn lowest(alloc: Global, schema: &Schema) -> Result<Ask, Fail> {
-    Ok(read_ask(alloc, schema, b"best low(x)")?)
+fn lowest(rt: &impl Abort, alloc: Global, schema: &Schema) -> Ask {
+    read_ask(alloc, schema, b"best low(x)").expect(rt, "a question")
 }
 
 /// A query of client 1 goes through its two blocks, and each call is refused where it comes too early or too late.
-fn check_query(
-    rt: &impl Abort,
-    alloc: Global,
-    schema: &Schema,
-    machine: &mut Machine,
-) -> Result<(), Fail> {
-    let begun = machine.begin(1, lowest(alloc, schema)?);
-    let again = machine.begin(1, lowest(alloc, schema)?);
+fn check_query(rt: &impl Abort, alloc: Global, schema: &Schema, machine: &mut Machine) {
+    let begun = machine.begin(1, lowest(rt, alloc, schema));
+    let again = machine.begin(1, lowest(rt, alloc, schema));
     let wanted = (Ok(2), Err(CoreFault::QueryOpen));
     assert_same(rt, "begin, begin again", (begun, again), wanted);
     let first = (machine.scan(alloc, 1), machine.finish(alloc, 1).err());
@@ -98,32 +88,26 @@ fn check_query(
     let last = (machine.scan(alloc, 1), machine.scan(alloc, 1));
     let wanted = (Ok(0), Err(CoreFault::AllScanned));
     assert_same(rt, "last scan, past the last", last, wanted);
-    let answer = answer_text(alloc, machine.finish(alloc, 1)?.as_slice())?;
+    let list = machine.finish(alloc, 1).expect(rt, "an answer");
+    let answer = answer_text(alloc, list.as_slice()).expect(rt, "memory");
     assert_same(rt, "answer", answer.as_str(), "answer 1\nlevel 1 id 1: 5");
-    Ok(())
 }
 
 /// An abandoned query is gone.
-fn check_abandon(
-    rt: &impl Abort,
-    alloc: Global,
-    schema: &Schema,
-    machine: &mut Machine,
-) -> Result<(), Fail> {
-    let begun = machine.begin(2, lowest(alloc, schema)?);
+fn check_abandon(rt: &impl Abort, alloc: Global, schema: &Schema, machine: &mut Machine) {
+    let begun = machine.begin(2, lowest(rt, alloc, schema));
     let returned = (begun, machine.abandon(2), machine.abandon(2));
     let wanted = (Ok(2), Ok(()), Err(CoreFault::NoQuery));
     assert_same(rt, "begin, abandon, abandon again", returned, wanted);
-    Ok(())
 }
 
 #[test]
-fn a_query_returns_its_blocks_and_its_answer_or_nothing(rt: HostRuntime) -> Result<(), Fail> {
+fn a_query_returns_its_blocks_and_its_answer_or_nothing(rt: HostRuntime) {
     let alloc = rt.alloc();
-    with_machine(alloc, |schema, machine| {
-        check_query(&rt, alloc, schema, machine)?;
-        check_abandon(&rt, alloc, schema, machine)
-    })
+    let schema = columns(alloc).expect(&rt, "columns");
+    let mut machine = small_machine(&rt, alloc);
+    check_query(&rt, alloc, &schema, &mut machine);
+    check_abandon(&rt, alloc, &schema, &mut machine);
 }
 
 /// Row 1 is this one, and there is room for two rows beside the two.
@@ -137,10 +121,7 @@ fn check_reads(rt: &impl Abort, machine: &Machine, row: Row) {
 }
 
 #[test]
-fn reads_return_a_row_and_the_room(rt: HostRuntime) -> Result<(), Fail> {
-    let alloc = rt.alloc();
-    with_machine(alloc, |schema, machine| {
-        check_reads(&rt, machine, row(schema, 5)?);
-        Ok(())
-    })
+fn reads_return_a_row_and_the_room(rt: HostRuntime) {
+    let first = row_of(rt.alloc(), 5).expect(&rt, "a row");
+    check_reads(&rt, &small_machine(&rt, rt.alloc()), first);
 }

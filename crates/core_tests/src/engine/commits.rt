@@ -61,38 +61,32 @@ static LISTS: [(&[Changes], Option<CoreFault>); 10] = [
 ];
 
 #[test]
-fn a_commit_has_its_changes_as_they_stand(rt: HostRuntime) -> Result<(), Fail> {
-    let added = row_of(rt.alloc(), 5)?;
+fn a_commit_has_its_changes_as_they_stand(rt: HostRuntime) {
+    let added = row_of(rt.alloc(), 5).expect(&rt, "a row");
     let adds = [Change::Add(added); 8];
     for count in 1..9 {
-        let commit = Commit::of(&adds[..count])?;
+        let commit = Commit::of(&adds[..count]).expect(&rt, "a commit");
         assert_same(&rt, count, commit.as_slice(), &adds[..count]);
     }
-    Ok(())
 }
 
-/// The refusal that a list of changes meets, or none.
-fn refusal_of(alloc: Global, schema: &Schema, list: &[Changes]) -> Result<Option<CoreFault>, Fail> {
-    Ok(Commit::of(&changes_of(alloc, schema, list)?).err())
-}
-
-fn check_refusals(
+/// A list of changes meets this refusal, or none.
+fn check_refusal(
     rt: &impl Abort,
     alloc: Global,
     schema: &Schema,
-    lists: &[(&[Changes], Option<CoreFault>)],
-) -> Result<(), Fail> {
-    for (case, (list, wanted)) in lists.iter().enumerate() {
-        let refusal = refusal_of(alloc, schema, list)?;
-        assert_same(rt, case, refusal, *wanted);
-    }
-    Ok(())
+    (list, wanted): (&[Changes], Option<CoreFault>),
+) {
+    let changes = changes_of(alloc, schema, list).expect(rt, "changes");
+    assert_same(rt, list.len(), Commit::of(&changes).err(), wanted);
 }
 
 #[test]
-fn what_is_no_commit_is_refused(rt: HostRuntime) -> Result<(), Fail> {
-    let alloc = rt.alloc();
-    check_refusals(&rt, alloc, &columns(alloc)?, &LISTS)
+fn what_is_no_commit_is_refused(rt: HostRuntime) {
+    let schema = columns(rt.alloc()).expect(&rt, "columns");
+    for case in &LISTS {
+        check_refusal(&rt, rt.alloc(), &schema, *case);
+    }
 }
 
 #[test]

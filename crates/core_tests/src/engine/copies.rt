@@ -1,41 +1,31 @@
 //! A store and its copy.
 
-use super::fixtures::with_store;
+use super::fixtures::opened_store;
 use crate::same::assert_same;
-use pref_core::CoreFault;
 use pref_core::engine::{Call, Store};
-use pref_table::{Row, Schema};
+use pref_table::Row;
 use std::process::Abort;
-use std::test::Fail;
-use test_runs::row;
+use test_runs::row_of;
 
 /// The row takes the place of row 1 in the copy.
-fn update_copy(copy: &mut Store, new: Row) -> Result<(), CoreFault> {
-    let op = copy.plan(1, Call::Update(1, new))?;
+fn update_copy(rt: &impl Abort, copy: &mut Store, new: Row) {
+    let op = copy.plan(1, Call::Update(1, new)).expect(rt, "a plan");
     copy.apply(&op);
-    Ok(())
 }
 
-fn goes_its_own_way(
-    rt: &impl Abort,
-    schema: &Schema,
-    store: &Store,
-    copy: &mut Store,
-) -> Result<(), Fail> {
-    let old = row(schema, 4)?;
-    let new = row(schema, 5)?;
+fn goes_its_own_way(rt: &impl Abort, store: &Store, copy: &mut Store, old: Row, new: Row) {
     assert_same(rt, "copied", copy.get(1), store.get(1));
-    update_copy(copy, new)?;
+    update_copy(rt, copy, new);
     let found = (copy.get(1), store.get(1));
     assert_same(rt, "copy and store", found, (Some(new), Some(old)));
-    Ok(())
 }
 
 #[test]
-fn a_copy_of_a_store_goes_its_own_way(rt: HostRuntime) -> Result<(), Fail> {
+fn a_copy_of_a_store_goes_its_own_way(rt: HostRuntime) {
     let alloc = rt.alloc();
-    with_store(alloc, &[4], |schema, store| {
-        let mut copy = store.copy(alloc)?;
-        goes_its_own_way(&rt, schema, store, &mut copy)
-    })
+    let old = row_of(alloc, 4).expect(&rt, "a row");
+    let new = row_of(alloc, 5).expect(&rt, "a row");
+    let store = opened_store(&rt, alloc, 3, &[4]);
+    let mut copy = store.copy(alloc).expect(&rt, "memory");
+    goes_its_own_way(&rt, &store, &mut copy, old, new);
 }

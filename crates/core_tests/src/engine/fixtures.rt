@@ -4,7 +4,7 @@ use crate::same::assert_same;
 use pref_core::engine::{Call, Store};
 use pref_core::{Machine, Reply, Setup, replay};
 use pref_table::Schema;
-use std::alloc::Global;
+use std::alloc::{AllocError, Global};
 use std::fmt::Debug;
 use std::process::Abort;
 use std::test::Fail;
@@ -17,7 +17,7 @@ pub(crate) fn check_reply<C: Debug + Copy>(
     case: C,
     reply: &Reply,
     wanted: &str,
-) -> Result<(), Fail> {
+) -> Result<(), AllocError> {
     let returned = reply_text(alloc, reply)?;
     assert_same(rt, case, returned.as_str(), wanted);
     Ok(())
@@ -30,7 +30,7 @@ pub(crate) fn check_replies<C: Debug + Copy>(
     case: C,
     replies: &[Reply],
     turns: &[Turn],
-) -> Result<(), Fail> {
+) -> Result<(), AllocError> {
     for (number, (reply, turn)) in replies.iter().zip(turns).enumerate() {
         check_reply(rt, alloc, (case, number), reply, turn.2)?;
     }
@@ -60,7 +60,8 @@ pub(crate) fn check_turns<C: Debug + Copy>(
 ) -> Result<(), Fail> {
     let replies = replies_to(alloc, setup, values, turns)?;
     assert_same(rt, (case, "replies"), replies.len(), turns.len());
-    check_replies(rt, alloc, case, &replies, turns)
+    check_replies(rt, alloc, case, &replies, turns)?;
+    Ok(())
 }
 
 /// The replies to runs are those of their turns.
@@ -71,36 +72,23 @@ pub(crate) fn check_runs(rt: &impl Abort, alloc: Global, runs: &[Run]) -> Result
     Ok(())
 }
 
-/// A store of three slots with these rows, for two clients.
-fn opened_store(alloc: Global, values: &[i64]) -> Result<Store, Fail> {
-    let setup = setup_of(2, 3, 2, 1)?;
-    Ok(Store::new(alloc, &setup, &rows_of(alloc, values)?)?)
-}
-
-/// Lends a store of three slots with these rows, for two clients, and its schema. A proof pays for each way out of a function that owns
-/// a store, so one function does.
-pub(crate) fn with_store<L: FnOnce(&Schema, &mut Store) -> Result<(), Fail>>(
-    alloc: Global,
-    values: &[i64],
-    look: L,
-) -> Result<(), Fail>
-    requires { L.IsAlwaysCallable look }
-{
-    let schema = columns(alloc)?;
-    let mut store = opened_store(alloc, values)?;
-    look(&schema, &mut store)
+/// A store of so many slots with these rows, for two clients.
+pub(crate) fn opened_store(rt: &impl Abort, alloc: Global, slots: u32, values: &[i64]) -> Store {
+    let setup = setup_of(2, slots, 2, 1).expect(rt, "a setup");
+    let rows = rows_of(alloc, values).expect(rt, "rows");
+    Store::new(alloc, &setup, &rows).expect(rt, "a store")
 }
 
 /// The call of a change of one row, or of the begin or the end of a query.
-pub(crate) fn call_of(schema: &Schema, does: Does) -> Result<Call, Fail> {
-    Ok(match does {
-        Does::Inserts(value) => Call::Insert(row(schema, value)?),
-        Does::Updates(id, value) => Call::Update(id, row(schema, value)?),
+pub(crate) fn call_of(rt: &impl Abort, schema: &Schema, does: Does) -> Call {
+    match does {
+        Does::Inserts(value) => Call::Insert(row(schema, value).expect(rt, "a row")),
+        Does::Updates(id, value) => Call::Update(id, row(schema, value).expect(rt, "a row")),
         Does::Deletes(id) => Call::Delete(id),
         Does::Begins => Call::Begin,
         Does::Abandons => Call::Abandon,
-        _ => return Err("another call".into()),
-    })
+        _ => panic!(rt; "another call"),
+    }
 }
 
 /// The value of a row of a store.
@@ -113,15 +101,9 @@ pub(crate) fn opened_machine(alloc: Global, setup: Setup, values: &[i64]) -> Res
     Ok(Machine::new(alloc, setup, &rows_of(alloc, values)?)?)
 }
 
-/// Lends a machine of four slots with two rows, for two clients, and its schema.
-pub(crate) fn with_machine<L: FnOnce(&Schema, &mut Machine) -> Result<(), Fail>>(
-    alloc: Global,
-    look: L,
-) -> Result<(), Fail>
-    requires { L.IsAlwaysCallable look }
-{
-    let setup = setup_of(2, 4, 2, 64)?;
-    let schema = columns(alloc)?;
-    let mut machine = opened_machine(alloc, setup, &[5, 7])?;
-    look(&schema, &mut machine)
+/// A machine of four slots with two rows, for two clients.
+pub(crate) fn small_machine(rt: &impl Abort, alloc: Global) -> Machine {
+    let setup = setup_of(2, 4, 2, 64).expect(rt, "a setup");
+    let rows = rows_of(alloc, &[5, 7]).expect(rt, "rows");
+    Machine::new(alloc, setup, &rows).expect(rt, "a machine")
 }

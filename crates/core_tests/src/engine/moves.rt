@@ -1,12 +1,13 @@
 //! Rows that had to move to another slot because an open query needs their old version.
 
-use super::fixtures::{call_of, value_of, with_store};
+use super::fixtures::{call_of, opened_store, value_of};
 use crate::same::assert_same;
 use pref_core::engine::Store;
 use pref_table::Schema;
+use std::alloc::Global;
 use std::process::Abort;
-use std::test::Fail;
 use test_runs::Does::{self, Abandons, Begins, Deletes, Inserts, Updates};
+use test_runs::columns;
 
 /// Calls over a table of three slots, and what is there then.
 struct Case {
@@ -72,24 +73,25 @@ static CASES: [Case; 5] = [
 ];
 
 /// A call, planned and done: the slot of its new row.
-fn done(schema: &Schema, store: &mut Store, client: u8, does: Does) -> Result<Option<u32>, Fail> {
-    let op = store.plan(client, call_of(schema, does)?)?;
-    store.apply(&op);
-    Ok(op.slots.as_slice().first().copied())
-}
-
-fn check_slot(
+fn done(
     rt: &impl Abort,
     schema: &Schema,
     store: &mut Store,
-    case: &Case,
-) -> Result<(), Fail> {
+    client: u8,
+    does: Does,
+) -> Option<u32> {
+    let call = call_of(rt, schema, does);
+    let op = store.plan(client, call).expect(rt, "a plan");
+    store.apply(&op);
+    op.slots.as_slice().first().copied()
+}
+
+fn check_slot(rt: &impl Abort, schema: &Schema, store: &mut Store, case: &Case) {
     let mut slot = None;
     for (client, does) in case.calls[0].iter().chain(case.calls[1]) {
-        slot = done(schema, store, *client, *does)?;
+        slot = done(rt, schema, store, *client, *does);
     }
     assert_same(rt, case.name, slot, case.slot);
-    Ok(())
 }
 
 fn check_rows(rt: &impl Abort, store: &Store, case: &Case) {
@@ -98,14 +100,16 @@ fn check_rows(rt: &impl Abort, store: &Store, case: &Case) {
     }
 }
 
+fn check_case(rt: &impl Abort, alloc: Global, schema: &Schema, case: &Case) {
+    let mut store = opened_store(rt, alloc, 3, case.opening);
+    check_slot(rt, schema, &mut store, case);
+    check_rows(rt, &store, case);
+}
+
 #[test]
-fn moved_rows_are_found(rt: HostRuntime) -> Result<(), Fail> {
+fn moved_rows_are_found(rt: HostRuntime) {
+    let schema = columns(rt.alloc()).expect(&rt, "columns");
     for case in &CASES {
-        with_store(rt.alloc(), case.opening, |schema, store| {
-            check_slot(&rt, schema, store, case)?;
-            check_rows(&rt, store, case);
-            Ok(())
-        })?;
+        check_case(&rt, rt.alloc(), &schema, case);
     }
-    Ok(())
 }

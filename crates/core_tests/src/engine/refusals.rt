@@ -6,7 +6,7 @@ ghost use Rattle.std.specs.Prelude.{IfOk};
 ghost use Rattle.pref_core.specs.Indexes.{IsIndexOf};
 ghost use Rattle.pref_core.specs.Scans.{NextIsNew};
 
-use super::fixtures::{check_reply, opened_machine, with_machine};
+use super::fixtures::{check_reply, opened_machine};
 use crate::same::assert_same;
 use pref_core::engine::{Index, LentCall, Query, Store};
 use pref_core::{Act, Change, Commit, Committed, CoreFault, Event, Machine, Reply, StepFault};
@@ -72,9 +72,9 @@ fn go_through_a_run(
 #[test]
 fn each_act_changes_nothing_where_refused_and_is_made_again(rt: HostRuntime) -> Result<(), Fail> {
     let alloc = rt.alloc();
-    with_machine(alloc, |schema, machine| {
-        go_through_a_run(&rt, alloc, schema, machine, &TURNS)
-    })
+    let schema = columns(alloc)?;
+    let mut machine = opened_machine(alloc, setup_of(2, 4, 2, 64)?, &[5, 7])?;
+    go_through_a_run(&rt, alloc, &schema, &mut machine, &TURNS)
 }
 
 /// The removes of the eight oldest rows of a table of 18, in whose place eight new ones came this often.

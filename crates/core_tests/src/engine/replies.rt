@@ -1,6 +1,6 @@
 //! Replies of a machine to one event after another, refusals among them.
 
-use super::fixtures::{check_reply, with_machine};
+use super::fixtures::{check_reply, small_machine};
 use crate::same::assert_same;
 use pref_core::{Act, CoreFault, Event, Machine, StepFault};
 use pref_table::Schema;
@@ -8,7 +8,7 @@ use pref_term::read_ask;
 use std::alloc::Global;
 use std::process::Abort;
 use std::test::Fail;
-use test_runs::{Does, Turn, begin_act, event_of};
+use test_runs::{Does, Turn, begin_act, columns, event_of};
 
 /// What clients do, and what is returned to them.
 static TURNS: [Turn; 5] = [
@@ -35,10 +35,9 @@ fn tells_what_is_refused(
 
 #[test]
 fn a_refusal_is_a_reply(rt: HostRuntime) -> Result<(), Fail> {
-    let alloc = rt.alloc();
-    with_machine(alloc, |schema, machine| {
-        tells_what_is_refused(&rt, alloc, schema, machine, &TURNS)
-    })
+    let schema = columns(rt.alloc())?;
+    let mut machine = small_machine(&rt, rt.alloc());
+    tells_what_is_refused(&rt, rt.alloc(), &schema, &mut machine, &TURNS)
 }
 
 /// How many levels the ask of a begin that is handed back asks for, or none.
@@ -56,40 +55,29 @@ fn check_handed_back(rt: &impl Abort, refused: &StepFault) {
 }
 
 /// A refused event is an error: its text is that of its fault, which it becomes.
-fn check_error(rt: &impl Abort, alloc: Global, refused: StepFault) -> Result<(), Fail> {
-    let text = format!(in alloc; "{refused}")?;
+fn check_error(rt: &impl Abort, alloc: Global, refused: StepFault) {
+    let text = format!(in alloc; "{refused}").expect(rt, "memory");
     assert_same(rt, "its text", text.as_str(), "query open");
-    assert_same(
-        rt,
-        "its fault",
-        CoreFault::from(refused),
-        CoreFault::QueryOpen,
-    );
-    Ok(())
+    let fault = CoreFault::from(refused);
+    assert_same(rt, "its fault", fault, CoreFault::QueryOpen);
 }
 
-fn hands_its_ask_back(
-    rt: &impl Abort,
-    alloc: Global,
-    schema: &Schema,
-    machine: &mut Machine,
-) -> Result<(), Fail> {
-    let begun = machine.begin(1, read_ask(alloc, schema, b"best low(x)")?);
-    assert_same(rt, "begun", begun, Ok(2));
-    let act = begin_act(alloc, schema, "top_level 3 low(x)")?;
+fn hands_its_ask_back(rt: &impl Abort, alloc: Global, schema: &Schema, machine: &mut Machine) {
+    let ask = read_ask(alloc, schema, b"best low(x)").expect(rt, "a question");
+    assert_same(rt, "begun", machine.begin(1, ask), Ok(2));
+    let act = begin_act(alloc, schema, "top_level 3 low(x)").expect(rt, "a question");
     match machine.step(alloc, Event { client: 1, act }) {
-        Ok(_reply) => Err("let in".into()),
+        Ok(_reply) => panic!(rt; "let in"),
         Err(refused) => {
             check_handed_back(rt, &refused);
-            check_error(rt, alloc, refused)
+            check_error(rt, alloc, refused);
         }
     }
 }
 
 #[test]
-fn a_refused_begin_hands_its_ask_back(rt: HostRuntime) -> Result<(), Fail> {
-    let alloc = rt.alloc();
-    with_machine(alloc, |schema, machine| {
-        hands_its_ask_back(&rt, alloc, schema, machine)
-    })
+fn a_refused_begin_hands_its_ask_back(rt: HostRuntime) {
+    let schema = columns(rt.alloc()).expect(&rt, "columns");
+    let mut machine = small_machine(&rt, rt.alloc());
+    hands_its_ask_back(&rt, rt.alloc(), &schema, &mut machine);
 }

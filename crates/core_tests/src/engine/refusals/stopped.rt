@@ -4,7 +4,7 @@ use crate::engine::fixtures::check_replies;
 use crate::same::assert_same;
 use pref_core::{Part, Setup, replay_part};
 use pref_table::{Row, Schema};
-use std::alloc::Global;
+use std::alloc::{AllocError, Global};
 use std::process::Abort;
 use std::test::Fail;
 use test_runs::{
@@ -38,7 +38,12 @@ static TURNS: [Turn; 4] = [
 ];
 
 /// The replies of a part are those of the first turns, and where it stopped some turns are left.
-fn are_first(rt: &impl Abort, alloc: Global, part: &Part, turns: &[Turn]) -> Result<(), Fail> {
+fn are_first(
+    rt: &impl Abort,
+    alloc: Global,
+    part: &Part,
+    turns: &[Turn],
+) -> Result<(), AllocError> {
     let is_short = part.replies.len() < turns.len();
     assert_same(rt, "stopped", part.stopped, is_short);
     check_replies(rt, alloc, "first replies", &part.replies, turns)
