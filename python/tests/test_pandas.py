@@ -1,9 +1,12 @@
 """DataFrames of pandas: `psel`, and frames that come from them and give answers as DataFrames."""
+import contextlib
 import io
 import time
 import unittest
 
 import prefq
+from prefq.checks import LEAST
+from prefq.pandas_frames import encoded_series
 from support import TestCase
 
 try:
@@ -130,6 +133,27 @@ class Frames(TestCase):
         for frame in (pandas.DataFrame([[1, 2]]), pandas.DataFrame()):
             with self.refuses(prefq.Refused, "no column 'x'; there is none whose name is a text"):
                 prefq.psel(frame, "low(x)")
+
+    def test_times_of_other_units_that_nanoseconds_do_not_reach(self):
+        def of_seconds(*texts):
+            values = numpy.array(texts, dtype="datetime64[s]")
+            with contextlib.suppress(ValueError):       # pandas before 2
+                if pandas.Series(values).dtype == values.dtype:
+                    return pandas.Series(values)
+            return pandas.Series(pandas.arrays.DatetimeArray._simple_new(values, dtype=values.dtype))
+
+        _, numbers = encoded_series(of_seconds("2024-01-01", "NaT", "1677-09-22", "2262-04-11"), "t")
+        self.assertEqual(numbers, [1_704_067_200 * 10**9, LEAST, -9_223_286_400 * 10**9, 9_223_286_400 * 10**9])
+        for text in ("3000-01-01", "9999-12-31", "1677-09-21", "0001-01-01"):
+            with self.subTest(text), self.refuses(prefq.Refused, f"row 2, column 't' has {text}T00:00:00, outside the years 1677 to 2262", kind="table"):
+                encoded_series(of_seconds("2024-01-01", text), "t")
+
+    def test_long_floats_that_are_no_floats(self):
+        wide = numpy.array([0.5, 1, numpy.nan, 3], dtype="longdouble")
+        for values in (wide, pandas.arrays.SparseArray(wide.astype("float64"))):
+            self.assertEqual(list(prefq.psel(pandas.DataFrame({"x": values}), "low(x)").index), [0])
+        with self.refuses(prefq.Refused, "row 4, column 'x' has", "which is no 64-bit float"):
+            prefq.psel(pandas.DataFrame({"x": wide / [1, 1, 1, 7]}), "low(x)")
 
     def test_records_are_no_dataframe(self):
         with self.refuses(TypeError, "records is of type DataFrame: not a list of records (from_dataframe takes a DataFrame)"):

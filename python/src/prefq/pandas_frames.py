@@ -70,11 +70,11 @@ def _by_type(series: Any, name: str) -> Tuple[Kind, Optional[List[int]]]:
     if types.is_integer_dtype(series.dtype):
         return Whole(), _whole(series, name)
     if types.is_float_dtype(series.dtype):
-        return Floats(), _floats(series)
+        return Floats(), _floats(series, name)
     if types.is_datetime64_any_dtype(series.dtype):
         zone = getattr(series.dtype, "tz", None)
         plain = series if zone is None else series.dt.tz_convert("UTC").dt.tz_localize(None)
-        return Timestamps(zone), plain.to_numpy(dtype="datetime64[ns]").view("int64").tolist()
+        return Timestamps(zone), _nanoseconds(plain.to_numpy(), name)
     if isinstance(series.dtype, pandas.CategoricalDtype):
         return _categories(series, name)
     values = series.tolist()
@@ -98,13 +98,30 @@ def _whole(series: Any, name: str) -> List[int]:
     return _numbers(series)
 
 
-def _floats(series: Any) -> List[int]:
+def _floats(series: Any, name: str) -> List[int]:
     import numpy
     values = series.to_numpy(dtype="float64", na_value=numpy.nan)
+    if getattr(series.dtype, "itemsize", 0) > values.itemsize:
+        _check_same(values, series.to_numpy(), name, "which is no 64-bit float")
     bits = values.view("int64")
     numbers = numpy.where(bits < 0, numpy.int64(LEAST) - bits, bits)
     numbers[numpy.isnan(values)] = LEAST
     return list(numbers.tolist())
+
+
+def _nanoseconds(moments: Any, name: str) -> List[int]:
+    """The nanoseconds since 1970 of times of any unit."""
+    found = moments.astype("datetime64[ns]")
+    _check_same(found, moments, name, "outside the years 1677 to 2262 of nanoseconds: give it the kind 'time' by kinds={..}")
+    return list(found.view("int64").tolist())
+
+
+def _check_same(found: Any, given: Any, name: str, why: str) -> None:
+    """Refuses the first value that is another one in the type that was made of it, of which numpy says nothing."""
+    import numpy
+    wrong = numpy.flatnonzero((found.astype(given.dtype) != given) & (given == given))
+    if len(wrong):
+        raise Refused(f"row {wrong[0] + 1}, column {name!r} has {given[wrong[0]]}, {why}", "table")
 
 
 def _categories(series: Any, name: str) -> Tuple[Kind, Optional[List[int]]]:
