@@ -3,6 +3,7 @@ import contextlib
 import io
 import time
 import unittest
+from decimal import Decimal
 
 import prefq
 from prefq.checks import LEAST
@@ -154,6 +155,18 @@ class Frames(TestCase):
             self.assertEqual(list(prefq.psel(pandas.DataFrame({"x": values}), "low(x)").index), [0])
         with self.refuses(prefq.Refused, "row 4, column 'x' has", "which is no 64-bit float"):
             prefq.psel(pandas.DataFrame({"x": wide / [1, 1, 1, 7]}), "low(x)")
+
+    def test_decimals_that_no_float_shows_stay_decimals(self):
+        for texts, dtype in ((("1.50", "2.25"), "float64"), (("123456789012345.67", "123456789012345.68"), "object"), (("9007199254740993.01", "1.00"), "object")):
+            values = list(map(Decimal, texts))
+            with self.subTest(texts), prefq.Frame.from_records([{"x": value} for value in (*values, None)]) as opened:
+                found = opened.best("top_level 3 low(x)").to_dataframe().x
+                self.assertEqual((found.dtype, sorted(Decimal(str(value)) for value in found.dropna())), (dtype, sorted(values)))
+
+    def test_a_category_that_its_kind_does_not_have_is_refused_with_its_column(self):
+        sizes = pandas.Categorical.from_codes([0, 1], pandas.to_datetime(["2024-01-01 00:00:00.000000001", "2024-01-02"]), ordered=True)
+        with self.refuses(prefq.Refused, "column 'x' has a category that its kind, time, does not have", "has parts of a microsecond", kind="table"):
+            prefq.psel(pandas.DataFrame({"x": sizes}), "low(x)")
 
     def test_records_are_no_dataframe(self):
         with self.refuses(TypeError, "records is of type DataFrame: not a list of records (from_dataframe takes a DataFrame)"):

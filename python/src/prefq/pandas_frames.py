@@ -1,6 +1,7 @@
 """DataFrames of pandas: their columns as those of a table, and answers as DataFrames. Only imported where pandas is there."""
 import datetime
 import warnings
+from decimal import Decimal
 from fractions import Fraction
 from typing import Any, Callable, List, Mapping, Optional, Sequence, Tuple
 
@@ -129,7 +130,10 @@ def _categories(series: Any, name: str) -> Tuple[Kind, Optional[List[int]]]:
     of = kind_of_values(name, categories)
     if not series.cat.ordered and not isinstance(of, Texts):
         return of, None
-    kind: Kind = Choices(categories, of) if series.cat.ordered else Texts(categories)
+    try:
+        kind: Kind = Choices(categories, of) if series.cat.ordered else Texts(categories)
+    except ValueError as why:
+        raise Refused(f"column {name!r} has a category that its kind, {of}, does not have: {why}", "table") from None
     return kind, [code + 1 if code >= 0 else LEAST for code in series.cat.codes.tolist()]
 
 
@@ -190,8 +194,11 @@ def _series(values: List[Any], column: Column, index: Any) -> Any:
 def _dtype(values: List[Any], column: Column) -> str:
     gaps = None in values
     kind = column.kind
-    if isinstance(kind, Decimals) or isinstance(kind, Floats):
+    if isinstance(kind, Floats):
         return "float64"
+    if isinstance(kind, Decimals):
+        # Floats that are shown as these numbers, where they are.
+        return "float64" if all(value is None or Decimal(repr(float(value))) == value for value in values) else "object"
     if isinstance(kind, Whole):
         return "Int64" if gaps else "int64"
     if isinstance(kind, Booleans):
