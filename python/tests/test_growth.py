@@ -1,11 +1,15 @@
 """Kinds grow: a column takes numbers with more decimals by opening its table anew under the same ids, or refuses them and stays as it was."""
 import io
+import tempfile
 import threading
+import time
 import unittest.mock
 import warnings
 import weakref
+from concurrent.futures import ThreadPoolExecutor
 from decimal import Decimal
 from fractions import Fraction
+from pathlib import Path
 
 import prefq
 from prefq.desk import Desk
@@ -326,6 +330,40 @@ class OfADesk(TestCase):
             with self.assertRaises(prefq.Ended) as caught:
                 desk.insert({"price": "48.5"})
             self.assertEqual((caught.exception.kind, str(desk.columns[0].kind)), ("closed", "whole"))
+
+
+class Waiting(TestCase):
+    def test_nobody_waits_for_a_client_with_the_lock(self):
+        """All clients have open queries, and those who opened them wait for the desk, before they end these, while a row makes a column wider, or a picture is made."""
+        for wanted in ("grows", "picture", "frame", "save"):
+            with self.subTest(wanted), self.within(30), Desk(prefq.Frame.from_records([{"x": 1}, {"x": 2}], clients=2)) as desk, ThreadPoolExecutor(3) as pool:
+                queries_are_open, release = threading.Barrier(3), threading.Event()
+
+                def asks(number):
+                    with desk.table.query("best low(c0)") as query:
+                        queries_are_open.wait(30)
+                        release.wait(30)
+                        desk.insert({"x": number})
+                        return query.answer().ids
+
+                def changes():
+                    if wanted == "picture":
+                        return [row.id for row in desk.picture("best low(x)").best]
+                    if wanted == "save":
+                        with tempfile.TemporaryDirectory() as folder:
+                            return desk._frame.save(Path(folder, "saved"))
+                    return (desk if wanted == "grows" else desk._frame).insert({"x": "0.5"})
+
+                asking = [pool.submit(asks, number) for number in (5, 6)]
+                queries_are_open.wait(30)
+                changing = pool.submit(changes)
+                time.sleep(0.2)         # and it waits for a client
+                release.set()
+                self.assertEqual([future.result() for future in asking], [[1], [1]])
+                # It comes behind the first of the two, or behind both.
+                self.assertIn(changing.result(), {"grows": (4, 5), "frame": (4, 5), "picture": ([1],), "save": (None,)}[wanted])
+                self.assertEqual(desk.table._engine.queries, {})
+
 
 
 class Closing(TestCase):

@@ -414,37 +414,6 @@ class ManyThreads(TestCase):
             self.assertEqual({id: (row["Hotel"], row["Distance"]) for id, row in rows.items() if id > 4}, made)
             self.assertEqual(sorted(numbers[2] for _, numbers in desk.table.rows()), sorted(row["Distance"] for row in rows.values()))
 
-    def test_nobody_waits_for_a_client_with_the_lock(self):
-        """All clients have open queries, and those who opened them wait for the desk, before they end these, while a row makes a column wider, or a picture is made."""
-        for wanted in ("grows", "picture", "frame", "save"):
-            with self.subTest(wanted), self.within(30), Desk(prefq.Frame.from_records([{"x": 1}, {"x": 2}], clients=2)) as desk, ThreadPoolExecutor(3) as pool:
-                queries_are_open, release = threading.Barrier(3), threading.Event()
-
-                def asks(number):
-                    with desk.table.query("best low(c0)") as query:
-                        queries_are_open.wait(30)
-                        release.wait(30)
-                        desk.insert({"x": number})
-                        return query.answer().ids
-
-                def changes():
-                    if wanted == "picture":
-                        return [row.id for row in desk.picture("best low(x)").best]
-                    if wanted == "save":
-                        with tempfile.TemporaryDirectory() as folder:
-                            return desk._frame.save(Path(folder, "saved"))
-                    return (desk if wanted == "grows" else desk._frame).insert({"x": "0.5"})
-
-                asking = [pool.submit(asks, number) for number in (5, 6)]
-                queries_are_open.wait(30)
-                changing = pool.submit(changes)
-                time.sleep(0.2)         # and it waits for a client
-                release.set()
-                self.assertEqual([future.result() for future in asking], [[1], [1]])
-                # It comes behind the first of the two, or behind both.
-                self.assertIn(changing.result(), {"grows": (4, 5), "frame": (4, 5), "picture": ([1],), "save": (None,)}[wanted])
-                self.assertEqual(desk.table._engine.queries, {})
-
     def test_a_table_that_has_ended(self):
         with served() as server:
             server.desk.table.close()
