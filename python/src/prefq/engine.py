@@ -161,22 +161,22 @@ class Engine:
     def insert(self, values: bytes) -> int:
         """Adds a row, and returns its id."""
         id = c_uint64()
-        self._change(1, self._calls.prefq_insert, self._pointer, values, self._width, id)
+        self._change(1, self._calls.prefq_insert, (self._pointer, values, self._width, id))
         return id.value
 
     def insert_many(self, values: bytes, rows: int) -> int:
         """Adds rows, and returns the id of the first."""
         first = c_uint64()
-        self._change(rows, self._calls.prefq_insert_many, self._pointer, values, rows, self._width, first)
+        self._change(rows, self._calls.prefq_insert_many, (self._pointer, values, rows, self._width, first))
         return first.value
 
     def update(self, id: int, values: bytes) -> None:
         """Gives a row these values."""
-        self._change(0, self._calls.prefq_update, self._pointer, id, values, self._width)
+        self._change(0, self._calls.prefq_update, (self._pointer, id, values, self._width))
 
     def delete(self, id: int) -> None:
         """Deletes a row."""
-        self._change(-1, self._calls.prefq_delete, self._pointer, id)
+        self._change(-1, self._calls.prefq_delete, (self._pointer, id))
 
     def commit(self, changes: Sequence[Tuple[str, int, Optional[bytes]]]) -> int:
         """Makes changes at one moment, and returns the id of the first new row, or 0. Each is a verb, an id and values."""
@@ -185,12 +185,12 @@ class Engine:
         for place, (verb, id, _) in enumerate(changes):
             made[place] = Change(VERBS[verb], id, ctypes.cast(kept[place], c_void_p))
         more = sum({"insert": 1, "delete": -1}.get(verb, 0) for verb, _, _ in changes)
-        self._change(more, self._calls.prefq_commit, self._pointer, made, len(changes), self._width, first)
+        self._change(more, self._calls.prefq_commit, (self._pointer, made, len(changes), self._width, first))
         return first.value
 
     def update_together(self, changes: int, count: int) -> None:
         """Makes so many updates at one moment, which stand at this address one after the other."""
-        self._change(0, self._calls.prefq_commit, self._pointer, changes, count, self._width, c_uint64())
+        self._change(0, self._calls.prefq_commit, (self._pointer, changes, count, self._width, c_uint64()))
 
     def get(self, id: int) -> List[int]:
         """The values of a row."""
@@ -225,8 +225,8 @@ class Engine:
             if self.changes == changes:
                 self.rows = rows
 
-    def _change(self, more: int, call: Any, *words: Any) -> None:
-        """A call behind which there are so many rows more."""
+    def _change(self, more: int, call: Any, words: Tuple[Any, ...]) -> None:
+        """A call with these words, behind which there are so many rows more."""
         if self._forks != _forks:
             self.ours()
         with self.lock:
