@@ -100,7 +100,7 @@ def measure(db, mark, count, chance):
             frame.best(QUESTIONS[0])
 
         def ask_anew(question, **beside):
-            frame._kept.drop()
+            frame._kept._made.clear()
             return frame.best(question, at_least=frame.at, **beside)
 
         for question in QUESTIONS:
