@@ -38,5 +38,5 @@ returns g c =
     let within = subst (λ (l : List (Worked g.row.J.Denot g.row.T.Denot)). (i : ℕ) (d : Worked g.row.J.Denot g.row.T.Denot) → i < length l → StandsWithin o c.check_all-whole.result (get_or l i d).client) c.deref_mut.ensures.value c.check_all-whole.ensures.within in
     let at = (goal.at.returns g c).In_ok-jobs in
     let (works, clients, tasks, are) = works_of {E = AllocError} o (g.G.Gate.says c.args.gate.now) g.T.Task.left g.T.Task.took c.check_all-whole.result jobs all size (few g at)
-        (λ i job d lt. rw c.in_ok-worked.ensures (c.in_ok-work_all.ensures.each i job d (omega (arith, lt, c.in_ok-jobs.jobs.ok.0)))) within in
+    (λ i job d lt. rw c.in_ok-worked.ensures (c.in_ok-work_all.ensures.each i job d (omega (arith, lt, c.in_ok-jobs.jobs.ok.0)))) within in
     record { history = c.check_all-whole.result; legal = c.check_all-whole.ensures.legal; works = works; clients_are = clients ∙ (parts g at).0; tasks_are = tasks ∙ (parts g at).1; are = are ∙ sym (written ∙ same) }
