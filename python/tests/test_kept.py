@@ -175,6 +175,12 @@ class OfNumbers(TestCase):
             self.kept.get(key, 1, self.make(1, 500))
         self.assertEqual((self.kept.find("a", 1), list(self.kept._made)), (5, ["a"]))
 
+    def test_what_has_failed_takes_no_place(self):
+        self.kept.keep("a", 1, 5)
+        for key in range(2 * MOST_KEPT):
+            self.assertRaises(ZeroDivisionError, self.kept.get, key, 1, lambda: (1, 1 // 0))
+        self.assertEqual(list(self.kept._made), ["a"])
+
     def test_the_last_ones_that_were_asked_for_are_kept(self):
         for key in (*range(MOST_KEPT), 0, MOST_KEPT):
             self.kept.get(key, 1, self.make(1, key))

@@ -98,6 +98,7 @@ class Kept(Generic[Value]):
                     made.found = make()
                 except BaseException:
                     made.has_failed = True
+                    self._locked(partial(self._forget, key, made))
                     raise
                 self._locked(partial(self._settle, key, made))
             return made.found
@@ -137,13 +138,17 @@ class Kept(Generic[Value]):
         self._made[wanted] = made
         return made
 
+    def _forget(self, key: Hashable, made: Made[Value]) -> None:
+        """Drops what is not kept, which somebody else may have replaced."""
+        if self._made.get(key) is made:
+            del self._made[key]
+
     def _settle(self, key: Hashable, made: Made[Value]) -> None:
         """Keeps an answer that was made, or does not; and drops the oldest where there are too many."""
         assert made.found is not None
         size = self._size_of(made.found[1])
         if size is None:
-            if self._made.get(key) is made:
-                del self._made[key]
+            self._forget(key, made)
             return
         made.size = size
         total = sum(other.size for other in self._made.values())
