@@ -240,6 +240,17 @@ class OfAFrame(TestCase):
                 self.assertEqual(count, 200 + {"grows": 1, "many": 2}.get(name, 0))
                 self.assertEqual(found, {"grows": 201, "many": range(201, 203), "commit": 201, "update": None}.get(name, found))
 
+    def test_changes_come_in_the_order_in_which_they_were_asked_for(self):
+        async def main():
+            async with await self.opened(1) as frame:
+                changes = [frame.insert_many([[2, 2], [3, 3]]), frame.insert_many([4, 4] for _ in "a"), frame.insert([5, 5]), frame.update(5, [6, 6]), frame.commit(("insert", [7, 7])),
+                           frame.insert_many(iter(())), frame.insert_many([number, 1 // (8 - number)] for number in (7, 8)), frame.insert_many([[8, 8]]), frame.delete(7)]
+                found = await asyncio.gather(*changes, return_exceptions=True)
+                self.assertIsInstance(found[6], ZeroDivisionError)
+                return found[:6] + found[7:], [(row.id, row.x) for row in await frame.rows()][1:]
+
+        self.assertEqual(self.run_async(main), ([range(2, 4), range(4, 5), 5, None, 6, range(0), range(7, 8), None], [(2, 2), (3, 3), (4, 4), (5, 6), (6, 7)]))
+
     def test_who_is_told_of_a_change_may_wait_for_a_client(self):
         """The change was made by then, and is not made again."""
         async def main():

@@ -5,6 +5,7 @@ from typing import Any, Callable, Iterable, List, Optional, Sequence, Tuple
 
 from .answer import Answer
 from .asynchronous import Awaited, on_a_thread
+from .clients import hastily
 from .columns import Column
 from .follow import Followed
 from .frame import Frame
@@ -53,7 +54,13 @@ class AsyncFrame(Awaited):
 
     async def insert_many(self, records: Iterable[Any]) -> Sequence[int]:
         """See `Frame.insert_many`."""
-        return await self._asks(self._frame.insert_many, await self._call(list, records))
+        listed: List[List[Any]] = []
+
+        def insert_many() -> Sequence[int]:
+            if not listed:      # once, also where the insert is made again; a generator may ask the frame itself, and waits for a client then
+                listed.append(hastily(list, records, is_hasty=False))
+            return self._frame.insert_many(listed[0])
+        return await self._asks(insert_many)
 
     async def update(self, id: int, record: Any) -> None:
         """See `Frame.update`."""
