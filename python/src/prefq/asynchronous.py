@@ -18,7 +18,8 @@ Self = TypeVar("Self", bound="Awaited")
 
 
 class Awaited:
-    """Calls that are awaited: they are made one after the other, in the order in which they were asked for, on a thread of their own."""
+    """Calls that are awaited: they are made one after the other on a thread of their own, in the order in which they were asked for, but that one which needs a client
+    waits where each client scans for another task."""
 
     def __init__(self, executor: ThreadPoolExecutor, called: Union[Table, Frame], clients: int) -> None:
         self._executor, self._called = executor, called
@@ -104,8 +105,8 @@ async def on_a_thread(make: Callable[[], Opened]) -> Tuple[ThreadPoolExecutor, O
 
 
 class AsyncTable(Awaited):
-    """A live table whose calls are awaited. They are made one after the other, in the order in which they were asked for, on a thread of the table's own, so the
-    event loop goes on.
+    """A live table whose calls are awaited. They are made one after the other on a thread of the table's own, so the event loop goes on; in the order in which they
+    were asked for, but that a question waits where each client scans for another task, and others' calls come between its pieces.
 
     `open` takes what `prefq.Table` takes. A task that is cancelled while it awaits a call leaves the table as it is: a call that has not begun is not
     made, and one that has is made whole, though nobody gets its reply. A query of a cancelled task is abandoned.
