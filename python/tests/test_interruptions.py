@@ -149,6 +149,13 @@ class Interrupted(TestCase):
                 table.insert([3])
                 self.assertEqual((len(table), table.count), (rows + 1, rows + 1))
 
+    def test_a_change_of_no_row_more_leaves_their_number(self):
+        with numbers(3) as table:
+            for name, change in (("update", lambda: table.update(1, [5])), ("commit", lambda: table.commit(("delete", 1), ("insert", [6])))):
+                with around(table, name, behind=raises(Interruption())), self.assertRaises(Interruption):
+                    change()
+                self.assertEqual(table._engine.rows, 3)
+
     def test_a_change_while_the_rows_are_counted_behind_an_interruption(self):
         """As another thread makes it: what was counted before it is no longer their number."""
         with numbers(3) as table:

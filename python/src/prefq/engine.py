@@ -242,7 +242,8 @@ class Engine:
             except Error:
                 raise
             except BaseException:
-                self.rows = None
+                if more:
+                    self.rows = None
                 raise
 
     # ---- queries; each is of a client ----
