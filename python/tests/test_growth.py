@@ -364,6 +364,18 @@ class Waiting(TestCase):
                 self.assertIn(changing.result(), {"grows": (4, 5), "frame": (4, 5), "picture": ([1],), "save": (None,)}[wanted])
                 self.assertEqual(desk.table._engine.queries, {})
 
+    def test_nobody_waits_for_a_client_with_the_lock_behind_an_interruption(self):
+        """Rows are counted where code books are large, which takes a client, and are not where they are small."""
+        for growth, change in ((-1, lambda frame: frame.delete(1)), (0, lambda frame: frame.update(1, {"price": 7}))):
+            with self.subTest(growth), unittest.mock.patch("prefq.opened.BYTES_OF_GROWTH", growth), self.within(30), prices(60, 50, clients=1) as frame, ThreadPoolExecutor(1) as pool:
+                with around(frame.table, "insert", behind=raises(KeyboardInterrupt())), self.assertRaises(KeyboardInterrupt):
+                    frame.insert({"price": 40})
+                with frame.table.query("best low(c0)") as query:
+                    changing = pool.submit(frame.insert, {"price": 30})
+                    time.sleep(0.2)         # and it waits for a client, or not
+                    change(frame)
+                    query.answer()
+                self.assertEqual((changing.result(), len(frame)), (4, 3 if growth else 4))
 
 
 class Closing(TestCase):

@@ -107,7 +107,12 @@ class Opened(Columns):
         return found
 
     def is_outgrown(self) -> bool:
-        """Whether the code books may be mostly texts that no row has any more."""
+        """Whether the code books may be mostly texts that no row has any more. Where rows have to be counted for it, as behind an interruption, a client is there or
+        `NoClient` is raised."""
+        if not self.have_outgrown(0):
+            return False
+        if self.table._engine.rows is None:
+            self.table._free.check_at_hand()
         return self.have_outgrown(self.table.count)
 
     def anew(self, kinds: Mapping[str, Kind], last: int) -> "Opened":
