@@ -28,7 +28,8 @@ void *paged_realloc(void *block, size_t size)
         return __real_realloc(block, size);
     void *larger = paged_malloc(size);
     if (larger != NULL) {
-        memcpy(larger, block, had);
+        if (had > 0)
+            memcpy(larger, block, had);
         free(block);
     }
     return larger;

@@ -99,7 +99,7 @@ void *__wrap_realloc(void *block, size_t size)
 static void test_large_blocks(void)
 {
     enum { LARGE = 1 << 21 };
-    static const size_t sizes[] = {100, LARGE / 2, LARGE, 3 * LARGE + 5, LARGE + 7, 50, 4 * LARGE};
+    static const size_t sizes[] = {LARGE, 100, LARGE / 2, LARGE, 3 * LARGE + 5, LARGE + 7, 50, 4 * LARGE};
     unsigned char *block = NULL;
     size_t had = 0;
     for (size_t number = 0; number < sizeof sizes / sizeof *sizes; number++) {
