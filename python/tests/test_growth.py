@@ -302,6 +302,20 @@ class OfADesk(TestCase):
             desk.update(2, {"price": 8})
             self.assertEqual({id: row[0] for id, row in self.rows(desk).items()}, {2: 8, 4: 7})
 
+    def test_a_frame_that_is_changed_beside_its_desk(self):
+        """Which nobody does: but what is made is not said to be refused, and the next picture has the rows of the answer."""
+        for beside, wanted in ((lambda frame: frame.delete(1), {2: 50, 3: Decimal("0.25")}), (lambda frame: frame.insert({"price": 0}), {1: 60, 2: 50, 3: 0, 4: Decimal("0.25")}),
+                               (lambda frame: frame.insert({"price": "-0.5"}), {1: 60, 2: 50, 3: Decimal("-0.5"), 4: Decimal("0.25")}),
+                               (lambda frame: (frame.insert({"price": "0.5"}), frame.delete(2)), {1: 60, 3: Decimal("0.5"), 4: Decimal("0.25")})):
+            frame = prices(60, 50)
+            with Desk(frame) as desk:
+                beside(frame)
+                self.assertEqual(desk.insert({"price": "0.25"}), max(wanted))
+                picture = desk.picture("top_level 5 low(price)")
+                self.assertEqual({row.id: desk.record(row.numbers)["price"] for row in picture.rows}, wanted)
+                self.assertEqual(sorted(row.id for row in picture.best), sorted(wanted))
+                self.assertEqual((len(desk), desk.picture("top_level 5 low(price)")), (len(wanted), picture))
+
     def test_a_refusal_leaves_it_as_it_was(self):
         with Desk(prices(60, 50)) as desk:
             before, version = self.rows(desk), desk.version

@@ -85,7 +85,7 @@ class Desk:
         # The versions in which the cells of a row changed last, by its id; none of a row that is as it came.
         self._since: Dict[int, Tuple[int, ...]] = {}
         self._subscribed: List[Callable[[], None]] = []
-        # Whether the rows here are those of the frame: not where a change was interrupted.
+        # Whether the rows here are those of the frame: not where a change was interrupted, nor where the answer to a question has a row that is not here.
         self._is_whole = True
         self._rows: Dict[int, Held] = {}
         self._read()
@@ -182,6 +182,11 @@ class Desk:
             return computed_picture(text, selection, version, columns, list(rows.values()))
         with query:
             found = query.answered()
+        if not all(id in rows for _, id, _ in found.rows):
+            # They were inserted beside the desk.
+            with self._changed:
+                self._is_whole = False
+            return self.picture(text, selection)
         return Picture(version, columns, list(rows.values()), [Found(level or 0, id, rows[id].numbers) for level, id, _ in found.rows], columns_in(question), tuple(found.unknown))
 
     def _read(self) -> None:
@@ -195,6 +200,8 @@ class Desk:
         changed: Iterable[int] = [id]
         if self._opened is not self._frame._opened:
             self._show_opened()
+            # The others were deleted beside the desk.
+            self._rows = {other: row for other, row in self._rows.items() if self._opened.ids.inside(other)}
             changed = [*self._rows, id]
         # One by one, which takes no client.
         self._rows.update({id: Held(id, tuple(self.table.get(self._opened.ids.inside(id)))) for id in changed})
@@ -253,7 +260,7 @@ class Desk:
         return found
 
     def _look_again(self) -> None:
-        """Takes the rows as they are in the frame where a change was interrupted, which may have been made there."""
+        """Takes the rows as they are in the frame where they may be others than those here: a change that was interrupted may have been made there."""
         if self._is_whole:
             return
         self.table._free.check_at_hand()
