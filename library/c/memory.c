@@ -1,38 +1,31 @@
-/* What the library asks of malloc and realloc comes here: library/build.sh tells the linker to (`--wrap`). A large block begins at a large page, and the system is
-   asked to make it of such pages: rows far apart miss the processor's table of pages less often, and an answer of many rows takes few faults of pages. */
+/* What the library asks of malloc and realloc comes here: library/build.sh tells the linker to (`--wrap`). The system is asked to make large blocks of large pages:
+   rows far apart miss the processor's table of pages less often, and an answer of many rows takes few faults of pages. */
 #define _GNU_SOURCE
 #include "memory.h"
-#include <malloc.h>
+#include <stdint.h>
 #include <stdlib.h>
-#include <string.h>
 #include <sys/mman.h>
 
-/* Of a large page, and of the smallest block that gets one. */
+/* Of a large page, and of the smallest block that stands on some. */
 enum { LARGE = 1 << 21 };
+
+/* A block as it was given, where that has not failed. Its first and last page are asked for whole: blocks that begin at a page leave gaps, which the heap keeps. */
+static void *on_large_pages(void *block, size_t size)
+{
+    uintptr_t begin = (uintptr_t)block / LARGE * LARGE, end = ((uintptr_t)block + size + LARGE - 1) / LARGE * LARGE;
+    if (block != NULL && size >= LARGE)
+        madvise((void *)begin, end - begin, MADV_HUGEPAGE); /* A system that has none to give gives small ones. */
+    return block;
+}
 
 void *paged_malloc(size_t size)
 {
-    void *block;
-    if (size < LARGE)
-        return __real_malloc(size);
-    if (posix_memalign(&block, LARGE, size) != 0)
-        return NULL;
-    madvise(block, size, MADV_HUGEPAGE); /* A system that has none to give gives small ones. */
-    return block;
+    return on_large_pages(__real_malloc(size), size);
 }
 
 void *paged_realloc(void *block, size_t size)
 {
-    size_t had = malloc_usable_size(block);
-    if (size < LARGE || size <= had)
-        return __real_realloc(block, size);
-    void *larger = paged_malloc(size);
-    if (larger != NULL) {
-        if (had > 0)
-            memcpy(larger, block, had);
-        free(block);
-    }
-    return larger;
+    return on_large_pages(__real_realloc(block, size), size);
 }
 
 /* What the linker calls in place of them. The tests have their own, which refuse requests. */
