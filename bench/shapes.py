@@ -14,6 +14,7 @@ import os
 import tempfile
 from statistics import mean
 
+import data_shapes
 import runs
 import workloads
 
@@ -81,7 +82,7 @@ class Measured:
         return [taken(command, lines, play, self.args.most) for command in self.commands]
 
     def load(self, name, arrival):
-        rows, _ = workloads.SHAPES[name]
+        rows, _ = data_shapes.SHAPES[name]
         if (rows, arrival) not in self.loads:
             self.loads[rows, arrival] = self.both(workloads.table_of_shape(name, arrival, self.args.rows), workloads.options(self.args.rows))
         return self.loads[rows, arrival]
@@ -110,8 +111,8 @@ def main():
     choices = workloads.blocks_and_windows(workloads.BLOCKS if args.blocks else [1024], workloads.WINDOWS if args.windows else [64])
     heads = [head.format("--" + args.against) for head in HEADS]
     print("| " + " | ".join(heads) + " |\n|" + "---|" * len(heads), flush=True)
-    for name in workloads.SHAPES:
-        for arrival in workloads.ARRIVALS:
+    for name in data_shapes.SHAPES:
+        for arrival in data_shapes.ARRIVALS:
             if args.only in f"{name} {arrival}":
                 for block, window in choices:
                     print(measured.row(name, arrival, block, window), flush=True)
