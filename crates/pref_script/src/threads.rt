@@ -74,9 +74,9 @@ fn joint_parts<'script, J: BoardBrand + Send + Sync, R: Threads + Wait + Sync, G
 /// output: first the lines that belong to no client, then the lines of each client, each in the order of the script.
 ///
 /// The replies are those of one legal history, and of the sequential table for one interleaving of the clients' acts; which
-/// one is not said. Refused `NoTable`, `NoEnd`, `Table`, `Opening`, in this
-/// order, `Memory` as soon as memory runs out, and `Threads` where clients were stopped, with the refusal of the first of them: by the
-/// gate (`Held`, which an [`OpenGate`] never does), or by `Closed`, which no run of a script is known to meet.
+/// one is not said. Refused `NoTable`, `NoEnd`, `Table`, `Opening`, in this order, and `Memory` as soon as memory runs out.
+/// Refused `Threads` where clients were stopped, with the refusal of the first of them: by the gate (`Held`, which an
+/// [`OpenGate`] never does), or by `Closed`, which no run of a script is known to meet.
 ///
 /// ```rust
 /// let output = run_threads(rt, alloc, script, setup, &OpenGate)?;

@@ -24,8 +24,8 @@ pub fn cutting_does_not_matter()
         → held_after over cut [] pieces ≡ levels over (flat_map (λ piece. piece) pieces) cut }
 {}
 
-/// The law of parts: the levels up to a cut of a list are those of what the levels of its parts hold, however it is cut into parts; and
-/// a question's answer from what its parts hold up to its own cut is that from the whole list. What parts hold has different ids too, so
+/// The law of parts: the levels up to a cut of a list are those of what the levels of its parts hold, however it is cut into parts. A
+/// question's answer from what its parts hold up to its own cut is that from the whole list. What parts hold has different ids too, so
 /// it may be a part in turn, to any depth.
 #[tactic(auto, using(crate::proofs::LevelLaws::levels_of_held, crate::proofs::LevelLaws::held_of_parts_differ, crate::proofs::LevelLaws::answer_of_held))]
 pub fn levels_of_parts()
@@ -67,8 +67,8 @@ pub fn best_keeps_the_first_of_twins()
 {}
 
 /// "At least k" gives in each group the levels 1 to m, where m is the smallest number whose levels 1 to m
-/// hold at least k entries of the group, or all its entries where there are fewer: an entry is kept
-/// exactly where no number below its level does.
+/// hold at least k entries of the group, or all its entries where there are fewer. So an entry is kept
+/// exactly where no number below its level is one of these.
 pub fn at_least_keeps_the_least_number_of_levels()
     ensures kept { (same : Row → Row → Bool) (k : ℕ) (all : List Ranked) (r : Ranked)
         → Among r (at_least same k all)

@@ -22,14 +22,13 @@ impl Ask {
     /// A question of these parts, with the limits of [`read_ask`](crate::read_ask): the term, the columns that group the rows, and how many
     /// of the best are wanted. Columns count from 0. Of equal rows all are kept.
     ///
-    /// Refused for the first of these that is so: a base term, from left to right, has a column above 15 ([`AskFault::ColumnRange`]), a range
-    /// that ends before it begins (`EmptyRange`), a set without numbers (`EmptySet`) or layers without a set (`NoSets`); a column of the group
-    /// is above 15 (`ColumnRange`); a count is not 1 to 1000 (`BadCount`); memory ran out (`OutOfMemory`). A refusal leaves nothing: the parts
-    /// are let go.
+    /// Refused for the first fault, and leaves nothing then: the parts are let go. Of the base terms, from left to right: a column above 15
+    /// ([`AskFault::ColumnRange`]), a range that ends before it begins (`EmptyRange`), a set without numbers (`EmptySet`), layers without a
+    /// set (`NoSets`). Then a column of the group above 15, a count that is not 1 to 1000 (`BadCount`), and memory that ran out
+    /// (`OutOfMemory`).
     ///
-    /// No term is too deep, since nestings are not counted: `read_ask` refuses the shown text of one with more than 64 open
-    /// ([`TermFault::TooDeep`](crate::TermFault::TooDeep)), and its question is built all the same. What compares rows goes down the term, so a
-    /// deep one takes more stack. Takes memory as `read_ask` does, for the keys and the chains that lead the term, and goes over the term and
+    /// No term is too deep, since nestings are not counted. One with more than 64 open has a question, though `read_ask` refuses its shown
+    /// text ([`TermFault::TooDeep`](crate::TermFault::TooDeep)). What compares rows goes down the term, so a deep one takes more stack. Takes memory as `read_ask` does, for the keys and the chains that lead the term, and goes over the term and
     /// its sets once more.
     ///
     /// ```rust

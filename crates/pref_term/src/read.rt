@@ -19,9 +19,9 @@ const LONGEST: usize = 4096;
 
 /// Reads a question text: the ask that it spells over the columns of the schema.
 ///
-/// Refused `TooLong` for more than 4,096 bytes; else the first token from the left that has a fault decides: one that
-/// no text of the grammar has there is `Unexpected`, before its own faults `UnknownColumn`, `NumberRange`, `TooDeep` and
-/// `BadCount`; a skyline clause of DIFF columns alone is `NoMinOrMax`, reported at the end. A place is a byte's, from 0.
+/// Refused `TooLong` for more than 4,096 bytes; else for the first token from the left that has a fault. One that no text of
+/// the grammar has there is `Unexpected`, before its own faults `UnknownColumn`, `NumberRange`, `TooDeep`, `BadCount` and
+/// `EmptyRange`. A skyline clause of DIFF columns alone is `NoMinOrMax`, reported at the end. A place is a byte's, from 0.
 /// `OutOfMemory` comes as soon as memory runs out. Reads each byte a fixed number of times. Takes memory for the term, for
 /// the keys that lead it and, where it is a chain or a product of two, for these chains.
 ///

@@ -44,7 +44,7 @@ With no arguments it runs play. These options stand after play, live or threads:
   --clients <N>  How many clients there are, 1 to 8 (4 by default)
   --cap <N>      How many versions of rows there is room for, 1 to 65536 (1024 by default)
   --block <N>    How many slots one scan reads, 1 to 65536 (1024 by default)
-  --window <N>   How many rows are compared at a time, 1 to 65536 (64 by default)
+  --window <N>   Rows of a window of block-nested-loops, 1 to 65536 (64 by default): no question uses one
 
 A script begins with a table of whole numbers: the line 'table', the names of the columns, the rows, the line 'end'.
 The rows have the ids 1, 2, 3 and so on. Then each line is a command of a client K:
@@ -119,7 +119,7 @@ const OPTIONS: [(&str, i64, &str, &str); 4] = [
         "window",
         65_536,
         "64",
-        "How many rows are compared at a time, 1 to 65536",
+        "Rows of a window of block-nested-loops, 1 to 65536",
     ),
 ];
 

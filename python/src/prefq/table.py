@@ -26,7 +26,7 @@ class Table:
     - `rows`: up to 65,536 rows of whole numbers from -2**63 to 2**63 - 1
     - `capacity`: how many versions of rows there is room for, 1 to 65536; if it is not given, at least 1024, and twice as many as there are rows
     - `clients`: 1 to 8, how many queries may be open at once
-    - `block`: how many slots one scan reads, 1 to 65536; `window`: how many rows are compared at a time, 1 to 65536
+    - `block`: how many slots one scan reads, 1 to 65536; `window`: the rows of a window of block-nested-loops, 1 to 65536, which no question uses
 
     What is refused raises `Refused` and changes nothing. An interruption, as by Ctrl-C, comes before or after a change, and between two pieces of a long
     question, which is abandoned then; the table goes on.

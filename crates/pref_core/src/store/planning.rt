@@ -223,9 +223,8 @@ impl Contents {
         call.is_change() && used == slots.len()
     }
 
-    /// How many slots are used after a change, by how many are before it, where it fits at once: an added row may have
-    /// the next slot if that is free, and a row that is set the one where it stands, if no open query needs what is
-    /// there.
+    /// How many slots are used after a change, by how many are before it, where it fits at once. An added row may have the
+    /// next slot if that is free; a row that is set, the one where it stands if no open query needs what is there.
     #[inline(always)]
     fn used_after(
         &self,
