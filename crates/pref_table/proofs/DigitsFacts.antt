@@ -1,30 +1,23 @@
 -- Eight bytes of a text at once: how many of them are digits before another byte, and the value of these.
-use Rattle.pref_table.proofs.Common.{◌≡◌, ℕ, zero, suc, ◌+◌, ◌-◌, ◌*◌, ◌^◌, ◌<◌, ◌≤◌, Bool, true, false, not, List, [], ◌∷◌, length, take, drop, get_or, map, refl, ap, subst, ◌∙◌, arith, ◌==◌, if◌then◌else◌}
-use Rattle.pref_table.proofs.Common.{add-zero, digits_value, get_or-drop, length-drop, length-map, le-ltb, lt-ltb, nat_lt, ◌||◌, inl, inr}
+use Rattle.pref_table.proofs.Common.{◌≡◌, ℕ, zero, suc, ◌+◌, ◌-◌, ◌*◌, ◌^◌, ◌<◌, ◌≤◌, Bool, true, not, List, [], ◌∷◌, length, take, drop, get_or, map, refl, sym, ap, subst, ◌∙◌, arith, ◌==◌, if◌then◌else◌}
+use Rattle.pref_table.proofs.Common.{add-zero, digits_value, get_or-drop, length-drop, length-map, le-ltb, lt-ltb, nat_lt, inl, inr}
 use Rattle.std.proofs.Common.{◌/◌, ◌%◌, Fits, w8, bit_and}
-use Rattle.std.proofs.Math.Nat.{mul-le-mul_right, pow-suc}
+use Rattle.std.proofs.Math.Nat.{mul-le-mul_right, pow-le-pow_right, pow-suc}
 use Rattle.std.proofs.lemmas.Nat.{pow-add}
-use Rattle.std.specs.Char.{digit_value}
+use Rattle.std.specs.Char.{digit_value, is_ascii_digit}
 use Rattle.std.proofs.lemmas.Bool.{agree_below, agree_below_at, cases_lt}
 use Rattle.std.proofs.lemmas.Int.Digits.{digits_value_more}
 use Rattle.std.proofs.lemmas.Nat.{and_block, and_mask}
-use Rattle.std.proofs.lemmas.Simd.{first_set_mask_l, length-chunk, map-map, mask_l-mod, run_in_chunk_fails, run_in_chunk_le}
+use Rattle.std.proofs.lemmas.Simd.{first_set_mask_l, length-chunk, map-map, mask_l-mod, run_in_chunk_fails, run_in_chunk_le, run_in_chunk_stops}
 use Rattle.std.specs.Int.{trailing_zeros, w64}
 use Rattle.std.specs.List.{prefix_len}
-use Rattle.std.specs.Prelude.{nat_le}
 use Rattle.std.specs.Simd.Lanes.{chunk, mask_l, top}
 use Rattle.pref_table.specs.Digits.{digit_at, eight_bytes, eight_digits}
 use Rattle.pref_table.specs.Fields.{AreLeadingDigits}
-use Rattle.pref_table.proofs.FieldsFacts.{AreDigits, IsDigit, value_more}
+use Rattle.pref_table.proofs.LeadingFacts.{AreDigits, IsDigit, digit_is, leading_are, leading_below, leading_few, leading_inside, leading_is, leading_stops}
 use Rattle.pref_table.proofs.NumberFacts.{digit_value-of}
 
 -- ---- how many are digits
-
-from_le : (byte : ℕ) → nat_le 48 byte ≡ true → 48 ≤ byte
-from_le byte h = grind (arith)
-
-from_lt : (byte : ℕ) → nat_lt byte 58 ≡ true → byte < 58
-from_lt byte h = grind (arith)
 
 module _ (text lanes : List ℕ) (lane : ℕ → ℕ) (count : ℕ) (room : 8 ≤ length text) (fits : (k : ℕ) → Fits w8 (get_or text k 0))
     (are : lanes ≡ map lane (chunk 0 8 text)) (found : let bits = mask_l (map (top 7) lanes) % 2 ^ 64 in count ≡ (if bits == 0 then 8 else trailing_zeros w64 bits)) where
@@ -39,17 +32,14 @@ module _ (text lanes : List ℕ) (lane : ℕ → ℕ) (count : ℕ) (room : 8 �
       ap (λ l. mask_l (map (top 7) l) % 2 ^ 64) are ∙ ap (λ l. mask_l l % 2 ^ 64) (map-map (top 7) lane front) ∙ mask_l-mod (map other front) 64 (omega (arith, length-map front other, long)) in
       found ∙ ap (λ b. if b == 0 then 8 else trailing_zeros w64 b) bits ∙ first_set_mask_l other front 8 long (omega arith)
 
-  pub few_digits : count ≤ 8
-  few_digits = run_in_chunk_le other text 0 8 count 0 room counted
-
-  -- where each byte below 48, and each from 58 on, is one at which a lane stops
-  pub are_digits : agree_below (λ byte. other byte || nat_le 48 byte) (λ _. true) 256 ≡ true → agree_below (λ byte. other byte || nat_lt byte 58) (λ _. true) 256 ≡ true → AreDigits text count
-  are_digits low high k early =
-      let byte = get_or text k 0 in
-      let none : other byte ≡ false = run_in_chunk_fails other text 0 8 count 0 room counted k (omega arith) (omega arith) in
-      let at_least = agree_below_at (λ byte. other byte || nat_le 48 byte) (λ _. true) 256 byte low (fits k).fits in
-      let below = agree_below_at (λ byte. other byte || nat_lt byte 58) (λ _. true) 256 byte high (fits k).fits in
-      (from_le byte (rw none at at_least), from_lt byte (rw none at below))
+  -- where the lanes stop at those bytes that are no digits
+  pub digits_counted : agree_below (λ byte. not (other byte)) is_ascii_digit 256 ≡ true → count ≡ prefix_len is_ascii_digit (take 8 text)
+  digits_counted agree =
+      let few = run_in_chunk_le other text 0 8 count 0 room counted in
+      let same = λ (k : ℕ). agree_below_at (λ byte. not (other byte)) is_ascii_digit 256 (get_or text k 0) agree (fits k).fits in
+      leading_is 8 text count few (omega (arith, few))
+      (λ k early. digit_is (get_or text k 0) (sym (same k) ∙ ap not (run_in_chunk_fails other text 0 8 count 0 room counted k (omega arith) (omega arith))))
+      (λ less _. sym (same count) ∙ ap not (subst (λ k. other (get_or text k 0) ≡ true) {x = 0 + count} {y = count} (omega arith) (run_in_chunk_stops other text 0 8 count 0 room counted less)))
 
 -- ---- the value of eight digits
 
@@ -158,32 +148,40 @@ module _ (text : List ℕ) where
       let up = λ (k : ℕ). digit_up byte count k in
       omega (arith, up 0, up 1, up 2, up 3, up 4, up 5, up 6, digit_last byte count, digit_first byte count few)
 
-  -- what these digits write, and that it has no more digits
-  pub value_of_front : (count : ℕ) → count ≤ 8 → count ≤ length text → AreDigits text count
-      → (eight_digits (digit_at (λ k. get_or text k 0) count) ≡ digits_value 10 (take count text)) × (eight_digits (digit_at (λ k. get_or text k 0) count) < 10 ^ count)
-  value_of_front zero few inside are = (refl, omega arith)
+  -- what these digits write
+  pub value_of_front : (count : ℕ) → count ≤ 8 → count ≤ length text → AreDigits text count → eight_digits (digit_at (λ k. get_or text k 0) count) ≡ digits_value 10 (take count text)
+  value_of_front zero few inside are = refl
   value_of_front (suc count) few inside are =
       let before = value_of_front count (omega arith) (omega arith) (λ k h. are k (omega arith)) in
       let digit = are count (omega arith) in
       let next = digits_next (λ k. get_or text k 0) count (omega arith) in
       let whole = ap (λ k. digits_value 10 (take k text)) {x = suc count} {y = count + 1} (omega arith) ∙ value_next count (omega arith) digit in
-      let small = value_more count _ (get_or text count 0 - 48) _ before.1 (omega (arith, digit)) next in
-      (omega (arith, next, before.0, whole), subst (λ k. eight_digits (digit_at (λ k. get_or text k 0) (suc count)) < 10 ^ k) {x = count + 1} {y = suc count} (omega arith) small)
+      omega (arith, next, before, whole)
 
-  pub leading_more : (value more count : ℕ) → AreLeadingDigits text value 8 → AreLeadingDigits (drop 8 text) more count → count ≤ 8 → AreLeadingDigits text (value * 10 ^ count + more) (8 + count)
-  leading_more value more count first more_are few =
-      let size = length-drop 8 text in
-      let whole = value_joined 8 count (omega (arith, more_are.inside)) in
-      record {
-        inside = omega (arith, more_are.inside);
-        digits = λ k h. elim (cases_lt k 8) [
-          | inl early ↦ first.digits k early
-          | inr late ↦ subst IsDigit (get_or-drop 8 text (k - 8) 0 ∙ ap (λ j. get_or text j 0) (omega arith)) (more_are.digits (k - 8) (omega arith))
-        ];
-        reads = omega (arith, first.reads, more_are.reads, ap (λ v. v * 10 ^ count) first.reads);
-        few = omega arith;
-        small = omega (arith, room_for value more (10 ^ count) first.small more_are.small, pow-add 10 8 count);
-      }
+  module _ (value more count : ℕ) (first : AreLeadingDigits 8 text value 8) (behind : AreLeadingDigits 8 (drop 8 text) more count) where
+    -- there is room for all of them
+    pub both_below : value * 10 ^ count + more < 10 ^ 16
+    both_below =
+        let few = leading_few 8 (drop 8 text) count behind.all in
+        let small : value < 10 ^ 8 = omega (arith, first.reads, leading_below 8 text 8 first.all) in
+        let less : more < 10 ^ count = omega (arith, behind.reads, leading_below 8 (drop 8 text) count behind.all) in
+        omega (arith, room_for value more (10 ^ count) small less, pow-add 10 8 count, pow-le-pow_right {n = 10} (omega arith) few)
+
+    pub both_lead : AreLeadingDigits 16 text (value * 10 ^ count + more) (8 + count)
+    both_lead =
+        let few = leading_few 8 (drop 8 text) count behind.all in
+        let eight = leading_inside 8 text 8 first.all in
+        let inside = leading_inside 8 (drop 8 text) count behind.all in
+        let size = length-drop 8 text in
+        record {
+          all = leading_is 16 text (8 + count) (omega arith) (omega (arith, size))
+              (λ k h. elim (cases_lt k 8) [
+                | inl early ↦ leading_are 8 text 8 first.all k early
+                | inr late ↦ subst IsDigit (get_or-drop 8 text (k - 8) 0 ∙ ap (λ j. get_or text j 0) (omega arith)) (leading_are 8 (drop 8 text) count behind.all (k - 8) (omega arith))
+              ])
+              (λ less within. ap is_ascii_digit (sym (get_or-drop 8 text count 0)) ∙ leading_stops 8 (drop 8 text) count behind.all (omega arith) (omega (arith, size)));
+          reads = omega (arith, value_joined 8 count (omega (arith, size)), first.reads, behind.reads, ap (λ v. v * 10 ^ count) first.reads);
+        }
 
 pub power_is : (count : ℕ) → count ≤ 8 → get_or (1 ∷ 10 ∷ 100 ∷ 1000 ∷ 10000 ∷ 100000 ∷ 1000000 ∷ 10000000 ∷ 100000000 ∷ []) count 0 ≡ 10 ^ count
 power_is zero few = refl

@@ -1,29 +1,17 @@
 -- A field of digits, perhaps behind a sign, read in the pass that finds its end.
-use Rattle.pref_table.proofs.Common.{◌≡◌, ℕ, ◌+◌, ◌-◌, ◌<◌, ◌≤◌, ◌*◌, ◌^◌, Bool, true, false, List, [], ◌∷◌, length, take, drop, get_or, sym, refl, arith, suc, Ok, ℤ, pos}
-use Rattle.pref_table.proofs.Common.{◌==◌, all_ascii_digits, digits_value, starts_with_minus, without_leading_sign, eqb-true, le-leb}
+use Rattle.pref_table.proofs.Common.{◌≡◌, ℕ, ◌+◌, ◌-◌, ◌<◌, ◌≤◌, ◌^◌, Bool, true, false, List, [], ◌∷◌, length, take, drop, get_or, sym, refl, arith, suc, Ok, ℤ, pos}
+use Rattle.pref_table.proofs.Common.{◌==◌, digits_value, starts_with_minus, without_leading_sign, eqb-true}
 use Rattle.pref_table.proofs.Common.{ne_eqb, get_or-drop, get_or-take, length-drop, length-take-le, take_all, fits_cell, is_blank, number_of, signed_by, without_blanks, ArePlain, IsPlain}
-use Rattle.pref_table.proofs.Common.{below_more, length-take, ◌∙◌, ap, subst}
+use Rattle.pref_table.proofs.Common.{length-take, ◌∙◌, ap, subst}
 use Rattle.std.proofs.lemmas.List.{drop-take, take-take, take_rest}
-use Rattle.std.proofs.Math.Nat.{pow-le-pow_right, pow-suc}
-use Rattle.std.proofs.lemmas.Int.Digits.{digits_value_more}
 use Rattle.std.proofs.lemmas.List.Sums.{prefix_len-drop_no, suffix_len-take_no}
 use Rattle.std.proofs.lemmas.Str.Parse.{without_leading_plus_none}
 use Rattle.pref_table.specs.Capped.{IsCapped}
 use Rattle.pref_table.specs.Fields.{AreLeadingDigits, IsFront, IsPlainField}
-use Rattle.pref_table.proofs.NumberFacts.{digit_value-of, number-fits}
+use Rattle.std.specs.Char.{is_ascii_digit}
+use Rattle.pref_table.proofs.LeadingFacts.{AreDigits, IsDigit, all_digits, leading_are, leading_digits-are, leading_few, leading_inside, leading_is, leading_small, leading_stops}
+use Rattle.pref_table.proofs.NumberFacts.{number-fits}
 use Rattle.pref_table.proofs.RowsFacts.{cut_at, cut_none}
-
-abbrev pub IsDigit : ℕ → Type 0
-IsDigit byte = (48 ≤ byte) × (byte < 58)
-
-abbrev pub AreDigits : List ℕ → ℕ → Type 0
-AreDigits text count = (k : ℕ) → k < count → IsDigit (get_or text k 0)
-
-all_digits : (ds : List ℕ) → AreDigits ds (length ds) → all_ascii_digits ds ≡ true
-all_digits [] h = refl
-all_digits (d ∷ ds) h =
-    let (low, high) = h 0 (omega arith) in
-    rw (le-leb 48 d low, le-leb d 57 (omega arith), all_digits ds (λ k b. h (suc k) (omega arith))) refl
 
 -- a sign or a digit
 abbrev IsSigned : ℕ → Type 0
@@ -37,20 +25,6 @@ digit_signed byte (low, high) = (omega arith, high, λ e. absurd (omega arith))
 
 signed_plain : (byte : ℕ) → IsSigned byte → IsPlain byte
 signed_plain byte (low, high, other) = (λ e. absurd (omega arith), λ e. absurd (omega arith), λ e. absurd (omega arith))
-
--- one digit more, at the end of those so far
-pub room_below : (place most value : ℕ) → place ≤ most → value < 10 ^ place → value < 10 ^ most
-room_below place most value h small = omega (arith, pow-le-pow_right {n = 10} (omega arith) h)
-
-pub value_more : (place value digit new : ℕ) → value < 10 ^ place → digit < 10 → new ≡ 10 * value + digit → new < 10 ^ (place + 1)
-value_more place value digit new small few e = grind (arith, pow-suc 10 place)
-
-pub digit_more : (text : List ℕ) (place value : ℕ) → place < length text → IsDigit (get_or text place 0) → value ≡ digits_value 10 (take place text)
-    → (new : ℕ) → new ≡ 10 * value + (get_or text place 0 - 48) → new ≡ digits_value 10 (take (place + 1) text)
-digit_more text place value inside digit so_far new here = grind (arith, digits_value_more, digit_value-of)
-
-pub digits_more : (text : List ℕ) (place : ℕ) → AreDigits text place → IsDigit (get_or text place 0) → AreDigits text (place + 1)
-digits_more text place = below_more (λ k. IsDigit (get_or text k 0)) place
 
 -- a field that neither begins nor ends with a blank
 no_blanks : (field : List ℕ) → 0 < length field → is_blank (get_or field 0 0) ≡ false → is_blank (get_or field (length field - 1) 0) ≡ false → field ≡ without_blanks field
@@ -83,57 +57,56 @@ last_not_blank digits sign some are = grind (arith)
 each_signed : (sign : ℕ) (line : List ℕ) (count : ℕ) → IsSigned sign → AreDigits line count → (k : ℕ) → k < suc count → IsSigned (get_or (sign ∷ line) k 0)
 each_signed sign line count signed are k h = grind (arith)
 
-pub leading_small : (text : List ℕ) (value count : ℕ) → AreLeadingDigits text value count → value < 10 ^ 18
-leading_small text value count led = room_below count 18 value led.few led.small
-
 front_take : (line text : List ℕ) (count : ℕ) → IsFront line text → count ≤ length line → take count text ≡ take count line
 front_take line text count front within = sym (ap (take count) front ∙ take-take count (length line) text within)
 
 -- digits that a text begins with, where they are within a line that it begins with
-pub leading_within : (line text : List ℕ) (value count : ℕ) → IsFront line text → count ≤ length line → AreLeadingDigits text value count → AreLeadingDigits line value count
-leading_within line text value count front within led =
+pub leading_within : (most : ℕ) (line text : List ℕ) (value count : ℕ) → IsFront line text → count ≤ length line → AreLeadingDigits most text value count → AreLeadingDigits most line value count
+leading_within most line text value count front within led =
+    let at = λ (k : ℕ) (h : k < length line). ap (λ l. get_or l k 0) front ∙ get_or-take (length line) text k 0 h in
     record {
-      inside = within;
-      digits = λ k h. rw (front, get_or-take (length line) text k 0 (omega arith)) (led.digits k h);
+      all = leading_is most line count (leading_few most text count led.all) within
+          (λ k h. subst IsDigit (sym (at k (omega arith))) (leading_are most text count led.all k h))
+          (λ less inside. ap is_ascii_digit (at count inside) ∙ leading_stops most text count led.all less (omega (arith, inside, ap length front, length-take (length line) text)));
       reads = led.reads ∙ ap (digits_value 10) (front_take line text count front within);
-      few = led.few;
-      small = led.small;
     }
 
 module _ (line : List ℕ) (value count : ℕ) (some : 0 < count) where
   -- digits alone
-  pub unsigned_field : AreLeadingDigits line value count → (count < length line → get_or line count 0 ≡ 44) → IsPlainField line (pos value) count
+  pub unsigned_field : AreLeadingDigits 18 line value count → (count < length line → get_or line count 0 ≡ 44) → IsPlainField line (pos value) count
   unsigned_field led comma =
+      let inside = leading_inside 18 line count led.all in
       let field = take count line in
-      let size = length-take-le count line led.inside in
-      let are : AreDigits field (length field) = λ k h. rw (get_or-take count line k 0 (omega (arith, size))) (led.digits k (omega (arith, size))) in
+      let size = length-take-le count line inside in
+      let are = leading_digits-are 18 line count led.all in
       let first = are 0 (omega (arith, size)) in
       let blanks = no_blanks field (omega (arith, size)) (not_blank _ (digit_signed _ first)) (not_blank _ (digit_signed _ (are (length field - 1) (omega (arith, size))))) in
       let minus : starts_with_minus field ≡ false = ne_eqb (get_or field 0 0) 45 (λ e. absurd (omega (arith, first))) in
       let sign : field ≡ without_leading_sign field = rw minus (sym (without_leading_plus_none field (λ e. absurd (omega (arith, first))))) in
       let reads = field_reads field field value sign (omega (arith, size)) are blanks led.reads (leading_small line value count led) in
-      field_ends line (pos value) count some led.inside (rw minus at reads) (λ k h. digit_signed _ (led.digits k h)) comma
+      field_ends line (pos value) count some inside (rw minus at reads) (λ k h. digit_signed _ (leading_are 18 line count led.all k h)) comma
 
   -- digits behind a sign
   signed_field : (sign : ℕ) (negative : Bool) → (sign == 45) ≡ negative → IsSigned sign → without_leading_sign (sign ∷ take count line) ≡ take count line
-      → AreLeadingDigits line value count → (count < length line → get_or line count 0 ≡ 44) → IsPlainField (sign ∷ line) (signed_by negative value) (suc count)
+      → AreLeadingDigits 18 line value count → (count < length line → get_or line count 0 ≡ 44) → IsPlainField (sign ∷ line) (signed_by negative value) (suc count)
   signed_field sign negative minus signed rest led comma =
+      let inside = leading_inside 18 line count led.all in
       let digits = take count line in
-      let size = length-take-le count line led.inside in
-      let are : AreDigits digits (length digits) = λ k h. rw (get_or-take count line k 0 (omega (arith, size))) (led.digits k (omega (arith, size))) in
+      let size = length-take-le count line inside in
+      let are = leading_digits-are 18 line count led.all in
       let end : length (sign ∷ digits) - 1 ≡ length digits = omega arith in
       let blanks = no_blanks (sign ∷ digits) (omega arith) (not_blank sign signed) (rw end (last_not_blank digits sign (omega (arith, size)) are)) in
       let reads = field_reads (sign ∷ digits) digits value (sym rest) (omega (arith, size)) are blanks led.reads (leading_small line value count led) in
-      field_ends (sign ∷ line) (signed_by negative value) (suc count) (omega arith) (omega (arith, led.inside)) (rw minus at reads) (each_signed sign line count signed led.digits) (λ h. comma (omega arith))
+      field_ends (sign ∷ line) (signed_by negative value) (suc count) (omega arith) (omega (arith, inside)) (rw minus at reads) (each_signed sign line count signed (leading_are 18 line count led.all)) (λ h. comma (omega arith))
 
 -- a line that begins with so many digits behind an optional sign, and then ends or goes on with a comma
-pub plain_is : (line : List ℕ) (value count size : ℕ) → 0 < count → AreLeadingDigits (without_leading_sign line) value count
+pub plain_is : (line : List ℕ) (value count size : ℕ) → 0 < count → AreLeadingDigits 18 (without_leading_sign line) value count
     → size ≡ length line - length (without_leading_sign line) + count → (size < length line → get_or line size 0 ≡ 44)
     → IsPlainField line (signed_by (starts_with_minus line) value) size
-plain_is [] value count size some = λ led s comma. absurd (omega (arith, led.inside))
+plain_is [] value count size some = λ led s comma. absurd (omega (arith, leading_inside 18 [] count led.all))
 plain_is (c ∷ cs) value count size some = by (c == 45) (c == 43) refl refl
   where
-    by : (minus plus : Bool) → (c == 45) ≡ minus → (c == 43) ≡ plus → AreLeadingDigits (without_leading_sign (c ∷ cs)) value count
+    by : (minus plus : Bool) → (c == 45) ≡ minus → (c == 43) ≡ plus → AreLeadingDigits 18 (without_leading_sign (c ∷ cs)) value count
         → size ≡ length (c ∷ cs) - length (without_leading_sign (c ∷ cs)) + count → (size < length (c ∷ cs) → get_or (c ∷ cs) size 0 ≡ 44)
         → IsPlainField (c ∷ cs) (signed_by (starts_with_minus (c ∷ cs)) value) size
     by true plus e f led s comma =

@@ -1,8 +1,9 @@
 -- No public contract cites this.
 -- The fields of a line, one after the other. (this project)
-use Rattle.std.specs.Prelude.{◌≡◌, ◌⊎◌, ◌≤◌, ◌<◌, ◌+◌, ◌^◌, ℕ, ℤ, List, [], ◌∷◌, length, slice_index, take, drop, Result, Ok}
+use Rattle.std.specs.Prelude.{◌≡◌, ◌⊎◌, ◌≤◌, ◌<◌, ◌+◌, ℕ, ℤ, List, [], ◌∷◌, length, take, drop, Result, Ok}
+use Rattle.std.specs.Char.{is_ascii_digit}
 use Rattle.std.specs.Str.Parse.{digits_value}
-use Rattle.std.specs.List.{slice_split}
+use Rattle.std.specs.List.{prefix_len, slice_split}
 use Rattle.pref_table.specs.Number.{number_of}
 use Rattle.pref_table.specs.Plain.{ArePlain}
 use Rattle.pref_table.specs.Rows.{cell_in, is_comma}
@@ -12,13 +13,10 @@ use Rattle.pref_table.specs.declared.fault.TableFault.{TableFault}
 abbrev pub IsCutInto : (line field after : List ℕ) → Type 0
 IsCutInto line field after = (slice_split is_comma line ≡ field ∷ slice_split is_comma after) ⊎ (slice_split is_comma line ≡ field ∷ [])
 
--- a text begins with so many digits, 18 at most, which have this value
-pub record AreLeadingDigits (text : List ℕ) (value count : ℕ) : Type 0 where
-  pub inside : count ≤ length text
-  pub digits : (k : ℕ) → k < count → (48 ≤ slice_index text k) × (slice_index text k < 58)
+-- the digits that the first so many bytes of a text begin with: their value, and how many they are
+pub record AreLeadingDigits (most : ℕ) (text : List ℕ) (value count : ℕ) : Type 0 where
+  pub all : count ≡ prefix_len is_ascii_digit (take most text)
   pub reads : value ≡ digits_value 10 (take count text)
-  pub few : count ≤ 18
-  pub small : value < 10 ^ count
 
 -- what a text begins with
 abbrev pub IsFront : List ℕ → List ℕ → Type 0

@@ -1,6 +1,8 @@
 //! The digits that a text begins with, eight bytes at a time.
-ghost use Rattle.std.specs.Prelude.{◌≡◌, ◌==◌, ◌<◌, ◌≤◌, ◌^◌, ℕ, length, slice_index, if◌then◌else◌};
+ghost use Rattle.std.specs.Prelude.{◌≡◌, ◌==◌, ◌<◌, ◌≤◌, ◌^◌, ℕ, length, slice_index, take, if◌then◌else◌};
+ghost use Rattle.std.specs.Char.{is_ascii_digit};
 ghost use Rattle.std.specs.Int.{trailing_zeros, w64};
+ghost use Rattle.std.specs.List.{prefix_len};
 ghost use Rattle.pref_table.specs.Digits.{digit_at, eight_bytes, eight_digits};
 ghost use Rattle.pref_table.specs.Fields.{AreLeadingDigits};
 
@@ -41,8 +43,7 @@ fn lowest_of_eight(bits: u64) -> usize
 #[inline(always)]
 fn count_digits(text: &[u8]) -> usize
     requires { 8 ≤ length text.now }
-    ensures few { result ≤ 8 }
-    ensures digits { (k : ℕ) → k < result → (48 ≤ slice_index text.now k) × (slice_index text.now k < 58) }
+    ensures { result ≡ prefix_len is_ascii_digit (take 8 text.now) }
 {
     let values = u8x8::from_slice(text) - u8x8::splat(b'0');
     lowest_of_eight(values.simd_ge(u8x8::splat(10)).to_bitmask())
@@ -84,7 +85,7 @@ fn value_of_eight(digits: u64) -> u64
 #[inline(always)]
 fn first_eight(text: &[u8]) -> (u64, usize)
     requires { 8 ≤ length text.now }
-    ensures digits { AreLeadingDigits text.now result.0 result.1 }
+    ensures digits { AreLeadingDigits 8 text.now result.0 result.1 }
     ensures few { result.1 ≤ 8 }
 {
     let count = count_digits(text);
@@ -98,8 +99,8 @@ fn first_eight(text: &[u8]) -> (u64, usize)
 #[inline(never)]
 fn one_by_one(text: &[u8], so_far: u64, begin: usize) -> (u64, usize)
     requires few { begin ≤ 16 }
-    requires digits { AreLeadingDigits text.now so_far begin }
-    ensures { AreLeadingDigits text.now result.0 result.1 }
+    requires digits { AreLeadingDigits begin text.now so_far begin }
+    ensures { AreLeadingDigits 18 text.now result.0 result.1 }
 {
     let most = text.len().min(PLAIN_DIGITS);
     let mut value = so_far;
@@ -116,8 +117,8 @@ fn one_by_one(text: &[u8], so_far: u64, begin: usize) -> (u64, usize)
 /// Goes on from eight digits. A call of its own, since few fields have as many.
 #[inline(never)]
 fn more_digits(text: &[u8], eight: u64) -> (u64, usize)
-    requires { AreLeadingDigits text.now eight 8 }
-    ensures { AreLeadingDigits text.now result.0 result.1 }
+    requires { AreLeadingDigits 8 text.now eight 8 }
+    ensures { AreLeadingDigits 18 text.now result.0 result.1 }
 {
     if text.len() < 16 {
         return one_by_one(text, eight, 8);
@@ -133,7 +134,7 @@ fn more_digits(text: &[u8], eight: u64) -> (u64, usize)
 /// The value of the digits that a text begins with, of which it takes at most 18, and how many it took.
 #[inline(always)]
 pub(crate) fn leading_digits(text: &[u8]) -> (u64, usize)
-    ensures { AreLeadingDigits text.now result.0 result.1 }
+    ensures { AreLeadingDigits 18 text.now result.0 result.1 }
 {
     if text.len() < 8 {
         return one_by_one(text, 0, 0);
