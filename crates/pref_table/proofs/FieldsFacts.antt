@@ -1,8 +1,9 @@
 -- A field of digits, perhaps behind a sign, read in the pass that finds its end.
 use Rattle.pref_table.proofs.Common.{◌≡◌, ℕ, ◌+◌, ◌-◌, ◌<◌, ◌≤◌, ◌^◌, Bool, true, false, List, [], ◌∷◌, length, take, drop, get_or, sym, refl, arith, suc, Ok, ℤ, pos}
-use Rattle.pref_table.proofs.Common.{◌==◌, digits_value, starts_with_minus, without_leading_sign, eqb-true}
+use Rattle.pref_table.proofs.Common.{◌==◌, ◌||◌, digits_value, starts_with_minus, without_leading_sign, eqb-true}
 use Rattle.pref_table.proofs.Common.{ne_eqb, get_or-drop, get_or-take, length-drop, length-take-le, take_all, fits_cell, is_blank, number_of, signed_by, without_blanks, ArePlain, IsPlain}
 use Rattle.pref_table.proofs.Common.{length-take, ◌∙◌, ap, subst}
+use Rattle.std.proofs.lemmas.Bool.Decides.{nat_tests}
 use Rattle.std.proofs.lemmas.List.{drop-take, take-take, take_rest}
 use Rattle.std.proofs.lemmas.List.Sums.{prefix_len-drop_no, suffix_len-take_no}
 use Rattle.std.proofs.lemmas.Str.Parse.{without_leading_plus_none}
@@ -56,6 +57,10 @@ last_not_blank digits sign some are = grind (arith)
 
 each_signed : (sign : ℕ) (line : List ℕ) (count : ℕ) → IsSigned sign → AreDigits line count → (k : ℕ) → k < suc count → IsSigned (get_or (sign ∷ line) k 0)
 each_signed sign line count signed are k h = grind (arith)
+
+-- what ends a first field that does not end with its line
+pub comma_there : (size long byte : ℕ) → ((size == long) || (byte == 44)) ≡ true → size < long → byte ≡ 44
+comma_there size long byte ends inside = grind (arith, nat_tests)
 
 front_take : (line text : List ℕ) (count : ℕ) → IsFront line text → count ≤ length line → take count text ≡ take count line
 front_take line text count front within = sym (ap (take count) front ∙ take-take count (length line) text within)
