@@ -1,7 +1,9 @@
 //! Clients of one board, one call after the other.
 
+use crate::acts::best_low;
 use crate::boards::{Play, begin_low, first_two, play_on_a_new_board};
 use crate::same::assert_same;
+use pref_core::CoreFault;
 use pref_share::{Board, BoardBrand, Client, ShareFault};
 use std::alloc::Global;
 use std::io::Print;
@@ -97,8 +99,27 @@ fn refused_calls_have_not_joined(rt: HostRuntime) -> Result<(), Fail> {
     check_run(&rt, &REFUSED_CALLS_HAVE_NOT_JOINED)
 }
 
-/// The second client, who is the last, begins a query of one block and is dropped. What is returned to the first then is what the turns
-/// say.
+/// A begin beside an open query is refused. The refusal is an error: its text is that of its fault, which it becomes.
+fn check_second_begin<J: BoardBrand, R: Wait + Abort>(
+    rt: &R,
+    alloc: Global,
+    board: &Board<J>,
+    client: &mut Client<J>,
+) -> Result<(), Fail> {
+    match client.begin(rt, alloc, board, best_low(alloc)?) {
+        Ok(_blocks) => panic!(rt; "let in"),
+        Err(refused) => {
+            let text = format!(in alloc; "{refused}")?;
+            let found = (text.as_str(), ShareFault::from(refused));
+            let wanted = ("query open", ShareFault::Core(CoreFault::QueryOpen));
+            assert_same(rt, "a second begin", &found, &wanted);
+            Ok(())
+        }
+    }
+}
+
+/// The second client, who is the last, begins a query of one block, is refused another, and is dropped. What is returned to the first then
+/// is what the turns say.
 #[derive(Drop)]
 struct DroppedOpen<'a> {
     turns: &'a [Turn],
@@ -114,6 +135,7 @@ impl<'a> Play for DroppedOpen<'a> {
         let (_first, last) = first_two(rt, clients);
         let blocks = begin_low(rt, rt.alloc(), board, last)?;
         assert_same(rt, "a client that is dropped", &blocks, &1);
+        check_second_begin(rt, rt.alloc(), board, last)?;
         drop(clients.pop());
         check_turns(rt, rt.alloc(), board, clients, self.turns)
     }
