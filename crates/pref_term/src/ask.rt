@@ -6,7 +6,8 @@ use crate::chain::{Chain, Leading, LeadingChains};
 use crate::dominance::Dominance;
 use crate::key::Key;
 use crate::keys::{
-    compare_by_keys, compare_in_chain, in_same_group, is_product, keys_in_order, leading_keys,
+    compare_by_keys, compare_in_chain, in_same_group, is_better_by_keys, is_product, keys_in_order,
+    leading_keys,
 };
 use crate::relation::Relation;
 use crate::signature::{Scales, scales_for};
@@ -228,6 +229,18 @@ impl Ask {
             compare(&self.term, a, b)
         }
     }
+
+    /// Whether the first row is better by the term alone. Inlined as [`Ask::compare_in_group`] is.
+    #[inline(always)]
+    fn is_better_in_group(&self, a: &Row, b: &Row) -> bool
+        ensures { result ≡ better self.now.preference a.now b.now }
+    {
+        if self.flat {
+            is_better_by_keys(&self.keys, a, b)
+        } else {
+            compare(&self.term, a, b).is_better()
+        }
+    }
 }
 
 impl PartialEq for Ask {
@@ -264,7 +277,7 @@ impl Dominance for Ask {
 
     #[inline(always)]
     fn over(&self, a: &Row, b: &Row) -> bool {
-        self.compare(a, b).is_better()
+        in_same_group(&self.group, a, b) && self.is_better_in_group(a, b)
     }
 
     /// Whether of the two rows one is kept. What keeps one of equal rows is a skyline clause, where rows of

@@ -5,7 +5,7 @@ ghost use Rattle.pref_term.specs.Better.{in_same_group};
 ghost use Rattle.pref_term.specs.Chains.{AreInRow, by_chain};
 ghost use Rattle.pref_term.specs.Extension.{IsShortened, all_keys, group_keys};
 ghost use Rattle.pref_term.specs.Keys.{by_key, by_keys, is_number, is_product, leading};
-ghost use Rattle.pref_term.specs.Order.{is_same};
+ghost use Rattle.pref_term.specs.Order.{is_better, is_same};
 ghost use Rattle.pref_term.specs.Preference.{preference_of};
 ghost use Rattle.pref_term.specs.declared.relation.Relation.TheVariants.{Neither};
 
@@ -205,6 +205,26 @@ pub(crate) fn compare_by_keys(keys: &[Key], a: &Row, b: &Row) -> Relation
         }
     }
     Relation::by_sides(better, worse)
+}
+
+/// Whether the first row is better than the second one by the product of these keys, none of which has sets.
+///
+/// One loop, which stops at the first key by which the second row is better. Takes no memory.
+#[inline(never)]
+pub(crate) fn is_better_by_keys(keys: &[Key], a: &Row, b: &Row) -> bool
+    requires columns { All (λ key. key.col < 16) keys.now }
+    requires numbers { All (λ key. is_number key.score ≡ true) keys.now }
+    ensures { result ≡ is_better (by_keys keys.now a.now b.now) }
+{
+    let mut better = false;
+    for key in keys {
+        let (is_better, is_worse) = key.sides_by_number(a, b);
+        if is_worse {
+            return false;
+        }
+        better |= is_better;
+    }
+    better
 }
 
 /// By the first of these keys in which the rows differ. Takes no memory.
