@@ -58,7 +58,7 @@ class ManyTables(OfSqlite):
         self.db.execute("update offers set price = 99")
         self.db.execute("insert into offers values (50, 'x', 50, 50)")
         self.assertEqual([row.price for row in frame.rows()], [99] * 8 + [50])
-        self.assertEqual(list(begun.pairs()), list(range(12)))
+        self.assertEqual([key for key, _ in begun.rows()], list(range(12)))
         self.db.execute("delete from offers where id = 4")
         self.assertEqual(len(frame), 8)
         self.assertEqual(sum(len(shard.keys) for shard in frame._dealt._shards), 8 + 1)     # that of the row that has just gone

@@ -238,7 +238,7 @@ class MoreRowsThanOneTableHolds(TestCase):
             for _ in range(5):
                 asked, ties, top = ask.question(), chance.choice([None, ask.term(2)]), chance.randrange(1, 8)
                 opened = frame._opened
-                moments = [opened.moment(opened.table.rows()) for _ in range(2)]
+                moments = [opened.moment(opened.table.columnar_rows()) for _ in range(2)]
                 whole = selected(asked.text, Selection(), moments[0])
                 some = selected(asked.text, Selection.of(top=top, ties=ties and ties.text), moments[1])
                 self.assertEqual([(row.level, row.id) for row in whole], asked.answer(rows), asked.text)

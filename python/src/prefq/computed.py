@@ -2,63 +2,35 @@
 
 Numbers are whole numbers and fractions in units of a decimal place, a float is the decimal number that Python shows for it, and nothing is rounded. What is made of
 a missing value is missing; so is a comparison with one, and by `not`, `and` and `or` as SQL has them. A row meets a condition where it is true.
+
+All of it goes column by column, by the numbers that stand in the table. What compares a column with a value that is written only says in which ranges its numbers are.
 """
 import math
 import operator
-from dataclasses import dataclass
+from dataclasses import replace
 from fractions import Fraction
-from typing import Any, Callable, Dict, Iterable, List, Optional, Sequence, Tuple, Union
+from functools import reduce
+from itertools import chain
+from typing import Any, Callable, Dict, List, Optional, Tuple, Union
 
-from .checks import LEAST, MOST
+from .checks import LEAST
 from .columns import Column
+from .computed_values import NoValues, NumberColumn, Numbers, Others, Truths, Values, Within, both_known, combined, compared, joined, known_in
+from .computed_numbers import column_of_numbers, decoded_texts, numbers_of_floats, position_in
 from .expressions import Comparison, Literal, Named, Node, Operation
 from .kinds import Booleans, Choices, Dates, Floats, Texts, Times, Whole
 from .kinds.booleans import WORDS
-from .kinds.exact import Exact, Number, Ranked
-from .kinds.numbers import are_in_range
+from .kinds.exact import Number as Rational
+from .kinds.numbers import Number
 from .moment import Moment
 from .questions import refuse
+from .ranges import MISSING, VALUES, Ranges, beside, complement
 from .translate import check_kind_is_known, check_order
 from .widening import Nothing
 
 COMPARE: Dict[str, Callable[[Any, Any], bool]] = {"=": operator.eq, "<>": operator.ne, "<": operator.lt, "<=": operator.le, ">": operator.gt, ">=": operator.ge}
+TURNED = {"<": ">", "<=": ">=", ">": "<", ">=": "<="}      # the comparisons with their sides exchanged, of which = and <> are the same
 COMBINE: Dict[str, Callable[[Any, Any], Any]] = {"+": operator.add, "-": operator.sub, "*": operator.mul, "min": min, "max": max}
-
-
-@dataclass(frozen=True)
-class Numbers:
-    """A number for each row, in units of 1/scale; None where it is missing."""
-
-    values: Sequence[Optional[Number]]
-    scale: int = 1
-
-    def in_units(self, scale: int) -> Sequence[Optional[Number]]:
-        """The same numbers in finer units."""
-        by = scale // self.scale
-        return self.values if by == 1 else [value if value is None or isinstance(value, float) else value * by for value in self.values]
-
-
-@dataclass(frozen=True)
-class Truths:
-    """Whether something holds, for each row; None where that is not known."""
-
-    values: Sequence[Optional[bool]]
-
-
-@dataclass(frozen=True)
-class Others:
-    """The values of a column that are neither numbers nor truths, as they stand in the table."""
-
-    column: Column
-    numbers: Sequence[int]
-
-
-@dataclass(frozen=True)
-class NoValues:
-    """A column none of whose rows has a value here; elsewhere it may have values of any kind."""
-
-
-Values = Union[Numbers, Truths, Others, NoValues, Literal]
 
 
 class Computer:
@@ -68,23 +40,36 @@ class Computer:
         self._text, self._moment = text, moment
         # Each value of the text that no row of a column has.
         self.absent: List[Tuple[Column, str]] = []
+        # The rows that have a value in a column, by its identity.
+        self._known_in: Dict[int, Optional[bytes]] = {}
 
     def column(self, node: Node, text: str, place: int) -> Column:
         """The column of an expression, whose name is its text."""
         found = self._values(node)
-        if isinstance(found, Numbers):
-            column, numbers = column_of_numbers(text, found)
-        elif isinstance(found, Truths):
-            column, numbers = Column(text, Booleans()), [LEAST if value is None else int(value) for value in found.values]
+        if isinstance(found, (Numbers, NumberColumn)):
+            column, numbers = column_of_numbers(text, self._read(found), self._moment.count)
+        elif isinstance(found, (Truths, Within)):
+            column, numbers = Column(text, Booleans()), self._masks(found).numbers()
         else:
             refuse(self._text, place, "an expression computes a number or a truth value")
         column.has_gaps = LEAST in numbers
         self._moment.add(column, numbers)
         return column
 
-    def met(self, node: Node) -> List[int]:
-        """The places, from 0, of the rows that meet a condition."""
-        return [place for place, value in enumerate(self._truths(node).values) if value]
+    def met(self, node: Node) -> bytes:
+        """The mask of the rows that meet a condition."""
+        return self._masks(self._truths(node)).true
+
+    def conjunction(self, node: Node, wanted: bool = True) -> Optional[List[Tuple[Column, Ranges]]]:
+        """The columns and ranges in all of which the numbers of a row are where a condition is true, or is false where that is `wanted`; None where it says more."""
+        if isinstance(node, Operation) and node.name == "not":
+            return self.conjunction(node.parts[0], not wanted)
+        if isinstance(node, Operation) and node.name == ("and" if wanted else "or"):
+            parts = [self.conjunction(part, wanted) for part in node.parts]
+            there = [part for part in parts if part is not None]
+            return list(chain.from_iterable(there)) if len(there) == len(parts) else None
+        found = self._truths(node)
+        return [(found.column, found.holds if wanted else found.fails)] if isinstance(found, Within) else None
 
     def _values(self, node: Node) -> Values:
         if isinstance(node, Literal):
@@ -102,27 +87,45 @@ class Computer:
         return self._combined(node)
 
     def _named(self, node: Named) -> Values:
-        kind, numbers = node.column.kind, self._moment.numbers(node.column)
-        if isinstance(kind, Whole):
-            return Numbers([None if number == LEAST else number for number in numbers], kind.scale)
-        if isinstance(kind, Floats):
-            values = {number: kind.decode(number) for number in dict.fromkeys(numbers) if number != LEAST}
-            # The decimal number that Python shows for a float; an infinite one is itself.
-            shown: Dict[int, Number] = {number: Fraction(repr(value)) if math.isfinite(value) else value for number, value in values.items()}
-            return Numbers([shown.get(number) for number in numbers])
-        if isinstance(kind, Booleans):
-            return Truths([None if number == LEAST else bool(number) for number in numbers])
-        return NoValues() if isinstance(kind, Nothing) else Others(node.column, numbers)
+        column = node.column
+        numbers = self._moment.numbers(column)
+        if isinstance(column.kind, Number):
+            return NumberColumn(column, numbers)
+        if isinstance(column.kind, Booleans):
+            return Within(column, [(1, 1)], [(0, 0)])
+        return NoValues() if isinstance(column.kind, Nothing) else Others(column, numbers)
 
-    def _numbers(self, node: Node) -> Numbers:
-        found = self._values(node)
+    def _known(self, column: Column) -> Optional[bytes]:
+        """The rows that have a value in a column; None where all have one."""
+        if id(column) not in self._known_in:
+            self._known_in[id(column)] = known_in(self._moment.numbers(column))
+        return self._known_in[id(column)]
+
+    def _masks(self, found: Union[Truths, Within]) -> Truths:
+        if isinstance(found, Truths):
+            return found
+        return found.masks(self._moment.numbers(found.column), self._known(found.column))
+
+    def _numbers(self, node: Node, found: Values) -> Numbers:
+        """What an expression has that stands for numbers."""
         if isinstance(found, Literal) and found.kind == "number":
             return self._constant(found)
         if isinstance(found, NoValues):
-            return Numbers(self._gaps())
-        if not isinstance(found, Numbers):
+            return Numbers([0], known=bytes(self._moment.count), is_constant=True)
+        if not isinstance(found, (Numbers, NumberColumn)):
             refuse(self._text, node.place, f"{self._shown(node, found)}, and numbers are computed with")
-        return found
+        return self._read(found)
+
+    def _read(self, found: Union[Numbers, NumberColumn]) -> Numbers:
+        """The numbers of a column, with which something is computed."""
+        if isinstance(found, Numbers):
+            return found
+        kind, known = found.column.kind, self._known(found.column)
+        return Numbers(found.numbers, kind.scale, known) if isinstance(kind, Whole) else numbers_of_floats(found.numbers, known)
+
+    def _as_they_stand(self, found: Union[NumberColumn, Others]) -> Numbers:
+        """The numbers that the table has for the values of a column."""
+        return Numbers(found.numbers, known=self._known(found.column))
 
     def _constant(self, literal: Literal) -> Numbers:
         try:
@@ -132,106 +135,146 @@ class Computer:
         decimals = next((decimals for decimals in range(19) if 10**decimals % value.denominator == 0), None)
         scale = 1 if decimals is None else 10**decimals
         scaled = value * scale
-        return Numbers([scaled.numerator if scaled.denominator == 1 else scaled] * self._moment.count, scale)
+        is_whole = scaled.denominator == 1
+        return Numbers([scaled.numerator if is_whole else scaled], scale, are_whole=is_whole, is_constant=True)
 
-    def _finite(self, node: Node) -> Numbers:
-        found = self._numbers(node)
-        place = next((place for place, value in enumerate(found.values) if isinstance(value, float)), None)
+    def _finite(self, node: Node, found: Values) -> Numbers:
+        numbers = self._numbers(node, found)
+        place = None if numbers.are_whole else next((place for place, value in enumerate(numbers.values) if isinstance(value, float)), None)
         if place is not None:
-            refuse(self._text, node.place, f"row {self._moment.called(place)} has {found.values[place]}, with which nothing is computed")
-        return found
+            refuse(self._text, node.place, f"row {self._moment.called(place)} has {numbers.values[place]}, with which nothing is computed")
+        return numbers
 
     def _combined(self, node: Operation) -> Numbers:
         """What + - * min, max and abs make of numbers."""
         if node.name == "-":
-            times = self._distance(node)
+            values = [self._values(part) for part in node.parts]
+            times = self._distance(*values)
             if times is not None:
                 return times
-        found = [self._finite(part) for part in node.parts]
+            whole, *rest = [self._finite(part, found) for part, found in zip(node.parts, values)]
+        else:
+            whole, *rest = [self._finite(part, self._values(part)) for part in node.parts]
         if node.name == "abs":
-            return Numbers(each(COMBINE["max"], found[0].values, [None if value is None else -value for value in found[0].values]), found[0].scale)
-        whole = found[0]
-        for part in found[1:]:
+            return replace(whole, values=[abs(value) for value in whole.values])
+        for part in rest:
             scale = whole.scale * part.scale if node.name == "*" else math.lcm(whole.scale, part.scale)
-            left, right = (whole.values, part.values) if node.name == "*" else (whole.in_units(scale), part.in_units(scale))
-            whole = Numbers(each(COMBINE[node.name], left, right), scale)
+            factors = (1, 1) if node.name == "*" else (scale // whole.scale, scale // part.scale)
+            whole = combined(COMBINE[node.name], whole, part, factors, scale)
         return whole
 
-    def _distance(self, node: Operation) -> Optional[Numbers]:
+    def _distance(self, left: Values, right: Values) -> Optional[Numbers]:
         """The days between two dates, or the seconds between two times; None where there are others."""
-        left, right = map(self._values, node.parts)
         if is_time(left) and isinstance(right, NoValues) or isinstance(left, NoValues) and is_time(right):
-            return Numbers(self._gaps())
+            return Numbers([0], known=bytes(self._moment.count), is_constant=True)
         if not isinstance(left, Others) or not isinstance(right, Others) or not self._are_alike(left, right) or not is_time(left):
             return None
         kind = left.column.kind
-        values = each(operator.sub, *([None if number == LEAST else number for number in some.numbers] for some in (left, right)))
-        return Numbers(values, 10**9 // kind.nanoseconds if isinstance(kind, Times) else 1)
+        return combined(operator.sub, self._as_they_stand(left), self._as_they_stand(right), (1, 1), 10**9 // kind.nanoseconds if isinstance(kind, Times) else 1)
 
     def _quotient(self, node: Operation) -> Numbers:
-        left, right = (self._finite(part) for part in node.parts)
-        place = next((place for place, (a, b) in enumerate(zip(left.values, right.values)) if b == 0 and a is not None), None)
-        if place is not None:
+        left, right = (self._finite(part, self._values(part)) for part in node.parts)
+        if right.is_constant and right.known is None and right.are_whole and right.values[0]:
+            # In units of one that many times smaller the numbers stay whole.
+            divisor = int(right.values[0])
+            return combined(operator.mul, left, Numbers([1 if divisor > 0 else -1], is_constant=True), (right.scale, 1), left.scale * abs(divisor))
+        known = both_known(left.known, right.known)
+        zeros = bytes([value == 0 for value in right.values]) * (self._moment.count if right.is_constant else 1)
+        place = (zeros if known is None else joined(operator.and_, zeros, known)).find(1)
+        if place >= 0:
             refuse(self._text, node.place, f"row {self._moment.called(place)} has 0 behind the /, by which nothing is divided: leave such rows out by where=")
 
-        def quotient(a: Any, b: Any) -> Number:
-            found = Fraction(a * right.scale, b * left.scale)
+        def quotient(a: Any, b: Any) -> Rational:
+            found = Fraction(a * right.scale, b * left.scale) if b else Fraction(0)     # where one of them is missing
             return found.numerator if found.denominator == 1 else found
 
-        return Numbers(each(quotient, left.values, [None if b == 0 else b for b in right.values]))
+        return replace(combined(quotient, left, right, (1, 1), 1), are_whole=False)
 
-    def _truths(self, node: Node) -> Truths:
-        found = self._values(node)
+    def _truths(self, node: Node) -> Union[Truths, Within]:
+        return self._as_truths(node, self._values(node))
+
+    def _as_truths(self, node: Node, found: Values) -> Union[Truths, Within]:
         if isinstance(found, Literal) and found.kind == "truth":
-            return Truths([WORDS[found.text.lower()]] * self._moment.count)
+            true = bytes([WORDS[found.text.lower()]]) * self._moment.count
+            return Truths.of(true, None)
         if isinstance(found, NoValues):
-            return Truths(self._gaps())
-        if not isinstance(found, Truths):
+            return self._gaps()
+        if not isinstance(found, (Truths, Within)):
             refuse(self._text, node.place, f"{self._shown(node, found)}, and a condition is true or false: write a comparison, such as x > 5 or City = 'Lyon'")
         return found
 
-    def _logic(self, node: Operation) -> Truths:
-        parts = [self._truths(part).values for part in node.parts]
+    def _logic(self, node: Operation) -> Union[Truths, Within]:
+        parts = [self._truths(part) for part in node.parts]
         if node.name == "not":
-            return Truths([None if value is None else not value for value in parts[0]])
-        decides = node.name == "or"
-        return Truths([decides if decides in values else None if None in values else not decides for values in zip(*parts)])
+            return parts[0].inverse()
+        is_and = node.name == "and"
+        ranges: Dict[int, Within] = {}      # of what is said of one column, by its identity
+        others: List[Truths] = []
+        for part in parts:
+            if isinstance(part, Truths):
+                others.append(part)
+            else:
+                before = ranges.get(id(part.column))
+                ranges[id(part.column)] = part if before is None else before.both(part) if is_and else before.either(part)
+        if not others and len(ranges) == 1:
+            return next(iter(ranges.values()))
+        return reduce(Truths.both if is_and else Truths.either, [*map(self._masks, ranges.values()), *others])
 
-    def _missing(self, node: Node) -> Truths:
+    def _missing(self, node: Node) -> Union[Truths, Within]:
         found = self._values(node)
         if isinstance(found, Literal):
             refuse(self._text, node.place, "a value that is written is never missing")
         if isinstance(found, NoValues):
-            return Truths([True] * self._moment.count)
-        gap = LEAST if isinstance(found, Others) else None
-        values: Sequence[Any] = found.numbers if isinstance(found, Others) else found.values
-        return Truths([value == gap for value in values])
+            return self._gaps().missing()
+        if isinstance(found, (Others, NumberColumn)):
+            return Within(found.column, MISSING, VALUES)
+        if isinstance(found, Within):
+            return Within(found.column, complement(found.known), found.known)
+        if isinstance(found, Truths):
+            return found.missing()
+        known = bytes([1]) * self._moment.count if found.known is None else found.known
+        return Truths.of(known, None).inverse()
 
-    def _compared(self, node: Comparison) -> Truths:
+    def _compared(self, node: Comparison) -> Union[Truths, Within]:
         left, right = self._values(node.left), self._values(node.right)
         if isinstance(left, Literal) and isinstance(right, Literal):
             refuse(self._text, node.place, "two values that are written are compared")
         if NoValues in (type(left), type(right)):
-            return Truths(self._gaps())
+            return self._gaps()
         if isinstance(left, Others) and isinstance(right, Literal):
             return self._with_literal(node.sign, left, right)
         if isinstance(left, Literal) and isinstance(right, Others):
-            turned = {"<": ">", "<=": ">=", ">": "<", ">=": "<="}.get(node.sign, node.sign)
-            return self._with_literal(turned, right, left)
+            return self._with_literal(TURNED.get(node.sign, node.sign), right, left)
         if isinstance(left, Others) and isinstance(right, Others):
             return self._two_columns(node, left, right)
-        if Truths in (type(left), type(right)):
-            return self._two_truths(node)
-        first, second = self._numbers(node.left), self._numbers(node.right)
-        scale = math.lcm(first.scale, second.scale)
-        return Truths(each(COMPARE[node.sign], first.in_units(scale), second.in_units(scale)))
+        if any(isinstance(side, (Truths, Within)) for side in (left, right)):
+            return self._two_truths(node, left, right)
+        return self._two_numbers(node, left, right)
 
-    def _two_truths(self, node: Comparison) -> Truths:
+    def _two_numbers(self, node: Comparison, left: Values, right: Values) -> Union[Truths, Within]:
+        if isinstance(left, NumberColumn) and isinstance(right, NumberColumn) and isinstance(left.column.kind, Floats) and isinstance(right.column.kind, Floats):
+            # The numbers in the table have the order of the floats.
+            return compared(COMPARE[node.sign], self._as_they_stand(left), self._as_they_stand(right), (1, 1), self._moment.count)
+        for sign, side, other, place in ((node.sign, left, right, node.right), (TURNED.get(node.sign, node.sign), right, left, node.left)):
+            if isinstance(side, NumberColumn) and not isinstance(other, NumberColumn):
+                constant = self._numbers(place, other)
+                if constant.is_constant and constant.known is None:
+                    return Within.of(side.column, beside(sign, position_in(side.column, constant)))
+        first, second = self._numbers(node.left, left), self._numbers(node.right, right)
+        scale = math.lcm(first.scale, second.scale)
+        return compared(COMPARE[node.sign], first, second, (scale // first.scale, scale // second.scale), self._moment.count)
+
+    def _two_truths(self, node: Comparison, left: Values, right: Values) -> Union[Truths, Within]:
         if node.sign not in ("=", "<>"):
             refuse(self._text, node.place, f"{node.sign} compares numbers, dates and so on: of true and false write = or <>")
-        return Truths(each(COMPARE[node.sign], self._truths(node.left).values, self._truths(node.right).values))
+        first, second = self._as_truths(node.left, left), self._as_truths(node.right, right)
+        for truths, written in ((first, right), (second, left)):
+            if isinstance(written, Literal):
+                return truths if WORDS[written.text.lower()] == (node.sign == "=") else truths.inverse()
+        alike = self._masks(first).alike(self._masks(second))
+        return alike if node.sign == "=" else alike.inverse()
 
-    def _with_literal(self, sign: str, column: Others, literal: Literal) -> Truths:
+    def _with_literal(self, sign: str, column: Others, literal: Literal) -> Within:
         """A column of texts, dates and so on beside a value that is written."""
         kind = column.column.kind
         self._check_order(sign, column, literal.place)
@@ -243,16 +286,15 @@ class Computer:
             refuse(self._text, literal.place, f"column {column.column.name!r} ({kind}): {why}")
         if wanted is None:
             self.absent.append((column.column, literal.text))
-        compare = COMPARE[sign]
-        return Truths([None if number == LEAST else compare(number, wanted) for number in column.numbers])
+            return Within.of(column.column, VALUES if sign == "<>" else [])
+        return Within.of(column.column, beside(sign, Fraction(wanted)))
 
     def _two_columns(self, node: Comparison, left: Others, right: Others) -> Truths:
         if not self._are_alike(left, right):
             refuse(self._text, node.place, f"columns {left.column.name!r} ({left.column.kind}) and {right.column.name!r} ({right.column.kind}) are not compared")
         self._check_order(node.sign, left, node.place)
-        values = [[None if number == LEAST else some.column.kind.decode(number) if isinstance(some.column.kind, Texts) else number for number in some.numbers]
-                  for some in (left, right)]
-        return Truths(each(COMPARE[node.sign], *values))
+        values = [decoded_texts(some) if isinstance(some.column.kind, Texts) else some.numbers for some in (left, right)]
+        return Truths.of(bytes(map(COMPARE[node.sign], *values)), both_known(self._known(left.column), self._known(right.column)))
 
     def _check_order(self, sign: str, column: Others, place: int) -> None:
         if sign not in ("=", "<>"):
@@ -265,9 +307,9 @@ class Computer:
             return kinds[0].nanoseconds == kinds[1].nanoseconds and (kinds[0].zone is None) == (kinds[1].zone is None)
         return type(kinds[0]) is type(kinds[1]) and (not isinstance(kinds[0], Choices) or repr(kinds[0]) == repr(kinds[1]))
 
-    def _gaps(self) -> List[None]:
-        """A value for each row, all of them missing."""
-        return [None] * self._moment.count
+    def _gaps(self) -> Truths:
+        """A truth value for each row, none of which is known."""
+        return Truths(bytes(self._moment.count), bytes(self._moment.count))
 
     def _shown(self, node: Node, found: Values) -> str:
         """What an expression is, in a message."""
@@ -276,48 +318,10 @@ class Computer:
             return f"column {found.column.name!r} has the kind {found.column.kind}"
         if isinstance(found, Literal):
             return f"{found.text!r} is a {'truth value' if found.kind == 'truth' else found.kind}"
-        what = "true or false" if isinstance(found, Truths) else "a number"
+        what = "true or false" if isinstance(found, (Truths, Within)) else "a number"
         return f"column {node.column.name!r} is {what}" if isinstance(node, Named) else f"this is {what}"
 
 
 def is_time(found: Values) -> bool:
     """Whether these are dates or times."""
     return isinstance(found, Others) and isinstance(found.column.kind, (Dates, Times))
-
-
-def each(function: Callable[[Any, Any], Any], left: Iterable[Any], right: Iterable[Any]) -> List[Any]:
-    """What a function makes of the values of each row, None where one of them is missing."""
-    return [None if a is None or b is None else function(a, b) for a, b in zip(left, right)]
-
-
-def column_of_numbers(name: str, found: Numbers) -> Tuple[Column, List[int]]:
-    """A column of computed numbers: in units in which all of them are whole, where 64 bits have them, else by their ranks."""
-    there = {value: None for value in found.values if value is not None}
-    unit = common_unit(there)
-    if unit is not None and are_in_range([int(value * unit) for value in there]):
-        numbers = [LEAST if value is None else int(value * unit) for value in found.values]
-        return Column(name, Exact(found.scale * unit)), numbers
-    ordered = ascending(there)
-    ranks = {value: rank for rank, value in enumerate(ordered)}
-    return Column(name, Ranked(ordered, found.scale)), [LEAST if value is None else ranks[value] for value in found.values]
-
-
-def ascending(values: Iterable[Number]) -> List[Number]:
-    """Numbers in their order. Rounding keeps it, so that most are told apart by their floats, which is quick, and the others exactly."""
-    some = list(values)
-    try:
-        return [value for _, value in sorted((float(value), value) for value in some)]
-    except OverflowError:
-        return sorted(some)
-
-
-def common_unit(values: Iterable[Number]) -> Optional[int]:
-    """The least number by which all values become whole; None where it is too large for 64 bits, or a value is infinite."""
-    unit = 1
-    for value in values:
-        if isinstance(value, float):
-            return None
-        unit = math.lcm(unit, value.denominator)
-        if unit > MOST:
-            return None
-    return unit

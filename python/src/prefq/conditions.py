@@ -33,7 +33,7 @@ def _met(condition: str, view: Iterable[Segment], count: int) -> Tuple[Sequence[
     segments = {segment.column.name: segment for segment in view}
     moment = Moment(list(segments), lambda name: (segments[name].column, segments[name].numbers))
     absent = absent_in(kept(Selection(where=condition), moment))
-    return range(count) if moment.kept is None else [id - 1 for id in moment.kept], absent
+    return range(count) if moment.places is None else moment.places, absent
 
 
 def absent_in(found: Iterable[Tuple[Column, str]]) -> Absent:

@@ -2,12 +2,13 @@
 
 Whoever changes the rows or begins a question holds one lock meanwhile (that of `Followed`), so a question begins on all tables between two changes.
 """
+import operator
 import os
 from array import array
 from collections import deque
 from concurrent.futures import ThreadPoolExecutor
 from contextlib import ExitStack
-from itertools import chain
+from itertools import chain, islice
 from typing import Any, Callable, Collection, Deque, Dict, Iterable, List, Mapping, NamedTuple, Optional, Sequence, Tuple, TypeVar, Union
 
 from .checks import MOST_ROWS
@@ -17,12 +18,12 @@ from .errors import Refused
 from .library import Change
 from .opened import Columns
 from .query import Query
-from .rows import Zipped
+from .rows import ColumnarRows, Zipped
 from .table import IN_COMMIT, Table
 
 Key = Union[int, str]
 Numbers = Sequence[int]
-Row = TypeVar("Row")
+Answer = TypeVar("Answer")
 FULL = ("client", 8)
 # How much of a table rows may fill, which leaves room for their next versions.
 FILLED = 7 / 8
@@ -233,12 +234,14 @@ class Begun:
         """What each table answers; the question has ended then."""
         return self._of_each(lambda shard, query: [Found(row.level, shard.keys[row.id], row.values) for row in query.rows()])
 
-    def pairs(self) -> Dict[Key, Numbers]:
-        """The rows that the tables answer by their keys, in the order of these; the question has ended then."""
-        pairs = chain.from_iterable(self._of_each(lambda shard, query: [(shard.keys[id], numbers) for id, numbers in query.pairs()]))
-        return dict(sorted(pairs, key=lambda pair: ordered(pair[0])))
+    def rows(self) -> ColumnarRows:
+        """The rows that the tables answer with their keys, in the order of these; the question has ended then."""
+        width = len(self._dealt.below)
+        parts = self._of_each(lambda shard, query: keyed(shard, query.columnar(), width))
+        keys = list(chain.from_iterable(keys for keys, _ in parts))
+        return ColumnarRows([answer for _, answer in parts], width, keys, places_in_order(keys))
 
-    def _of_each(self, answer: Callable[[Shard, Query], List[Row]]) -> List[List[Row]]:
+    def _of_each(self, answer: Callable[[Shard, Query], Answer]) -> List[Answer]:
         """What a call gives of each table and its query."""
         try:
             if len(self._queries) == 1:
@@ -254,6 +257,20 @@ class Begun:
             left.callback(self._dealt.ended, self)
             for _, query in self._queries:
                 left.callback(query.abandon)
+
+
+def keyed(shard: Shard, answer: bytes, width: int) -> Tuple[List[Key], bytes]:
+    """The keys of the rows of an answer, and the answer."""
+    return list(map(shard.keys.__getitem__, memoryview(answer).cast("q")[1::2 + width])), answer
+
+
+def places_in_order(keys: Sequence[Key]) -> Optional[List[int]]:
+    """The places of keys in their order; None where they are in order."""
+    if len(set(map(type, keys))) > 1:
+        return sorted(range(len(keys)), key=lambda place: ordered(keys[place]))
+    if all(map(operator.lt, keys, islice(keys, 1, None))):
+        return None
+    return sorted(range(len(keys)), key=keys.__getitem__)
 
 
 def ordered(key: Key) -> Tuple[bool, Key]:

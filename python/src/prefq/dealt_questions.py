@@ -8,12 +8,12 @@ from itertools import chain
 from typing import Iterator, List, Sequence, Tuple
 
 from .columns import Column
-from .dealt import Begun, Dealt, Found, Key, Numbers, ordered
-from .moment import Moment, moment_of
+from .dealt import Begun, Dealt, Found, ordered
+from .moment import Moment, moment_of, moment_of_columnar
 from .once import ask_once
 from .parts import fitting
 from .questions import Question
-from .rows import Row, Zipped
+from .rows import ColumnarRows, Row, Zipped
 from .selection import Selection, answered, picked, reading
 from .translate import clause_of, plan
 
@@ -58,7 +58,7 @@ class AskedOfTables(Asked):
 
     def _first(self, found: List[Found]) -> List[Found]:
         """The first rows of the answer that are wanted."""
-        moment = moment_of_pairs(self.columns, [(row.key, row.numbers) for row in found])
+        moment = moment_of(self.columns, [row.numbers for row in found], lambda number: repr(found[number - 1].key))
         read = reading(self._text, self._selection, moment)
         rows = [Row(row.level, number, list(values)) for number, (row, values) in enumerate(zip(found, zip(*read.lists)), 1)]
         first, absent_in_ties = picked(rows, read, self._selection, moment)
@@ -84,8 +84,8 @@ class AskedOfRows(Asked):
         self._begun = dealt.begin_all()
 
     def answer(self) -> List[Found]:
-        pairs = list(self._begun.pairs().items())
-        moment = moment_of_pairs(self.columns, pairs)
+        pairs = self._begun.rows()
+        moment = moment_of_keyed(self.columns, pairs)
         read = reading(self._text, self._selection, moment)
         rows, absent_in_ties = picked(answered(read, None, {}), read, self._selection, moment)
         self.unknown = [*read.unknown, *absent_in_ties]
@@ -101,9 +101,9 @@ def asked_of(dealt: Dealt, text: str, selection: Selection) -> Asked:
     return AskedOfRows(dealt, text, selection)
 
 
-def moment_of_pairs(columns: Sequence[Column], pairs: Sequence[Tuple[Key, Numbers]]) -> Moment:
+def moment_of_keyed(columns: Sequence[Column], rows: ColumnarRows) -> Moment:
     """Rows of these columns as they are at one moment, which messages call by their keys."""
-    return moment_of(columns, [numbers for _, numbers in pairs], lambda number: repr(pairs[number - 1][0]))
+    return moment_of_columnar(columns, rows, lambda number: repr(rows[number - 1][0]))
 
 
 def _first_of_twins(rows: Sequence[Found], places: Sequence[int]) -> Iterator[Found]:

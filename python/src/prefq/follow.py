@@ -12,7 +12,7 @@ from .answer import Answer
 from .checks import LEAST, MOST, seconds, whole
 from .columns import Column
 from .dealt import Begun, Dealt, Found, Key, Numbers, ordered
-from .dealt_questions import Asked, asked_of, moment_of_pairs
+from .dealt_questions import Asked, asked_of, moment_of_keyed
 from .errors import Ended, Refused, no_such_row
 from .follow_source import Changes, Source
 from .kept import Answered, Kept
@@ -166,8 +166,8 @@ class Followed:
         def begun(dealt: Dealt) -> Tuple[Sequence[Column], Begun]:
             return dealt.columns, dealt.begin_all()
 
-        columns, pairs = self._answered(begun, lambda begun: (begun[0], begun[1].pairs()))
-        return records_of(columns, [(None, key, numbers) for key, numbers in pairs.items()])
+        columns, pairs = self._answered(begun, lambda begun: (begun[0], begun[1].rows()))
+        return records_of(columns, [(None, key, numbers) for key, numbers in pairs])
 
     def best(self, question: AskedFor, *, at_least: Any = None, wait: float = 60.0, where: Optional[Operand] = None, top: Optional[int] = None,
              ties: Optional[AskedFor] = None, by: Names = None) -> Answer:
@@ -216,7 +216,7 @@ class Followed:
 
         def answered(begun: Tuple[int, Sequence[Column], Asked, Begun]) -> Snapshot:
             version, columns, asked, everything = begun
-            return Snapshot(version, asked.columns, everything.pairs(), asked.answer(), columns, asked.unknown)
+            return Snapshot(version, asked.columns, dict(everything.rows()), asked.answer(), columns, asked.unknown)
 
         found: Snapshot = self._answered(begun, answered)
         return found
@@ -228,8 +228,8 @@ class Followed:
         def begun(dealt: Dealt) -> Tuple[Dealt, Begun, int]:
             return dealt, dealt.begin_all(), self.at
 
-        dealt, at, pairs = self._answered(begun, lambda begun: (begun[0], begun[2], list(begun[1].pairs().items())))
-        found, unknown = explained(text, selection, moment_of_pairs(dealt.columns, pairs), pairs, number_of(pairs, id), id)
+        dealt, at, pairs = self._answered(begun, lambda begun: (begun[0], begun[2], begun[1].rows()))
+        found, unknown = explained(text, selection, moment_of_keyed(dealt.columns, pairs), pairs, number_of(pairs, id), id)
         warn_of(unknown)
         return Answer(text, dealt.columns, records_of(dealt.columns, found), others=self.rows, at=at)
 

@@ -292,7 +292,7 @@ class Frame(LiveRows):
 
     def _of_moment(self, opened: Opened, question: str, selection: Selection) -> FrameQuery:
         """A query of a table of what is computed over the rows as they are now."""
-        pairs = opened.table.rows()
+        pairs = opened.table.columnar_rows()
         moment = opened.moment(pairs)
         read = reading(question, selection, moment)
 
@@ -315,7 +315,7 @@ class Frame(LiveRows):
         [1]
         """
         text, opened = text_asked(question), self._opened
-        pairs = opened.table.rows()
+        pairs = opened.table.columnar_rows()
         number = number_of(pairs, opened.ids.inside(id))
         return self._answer(text, answered(opened, *explained(text, Selection.of(where=where, by=by), opened.moment(pairs), pairs, number, id)))
 
@@ -328,7 +328,7 @@ class Frame(LiveRows):
         [(1, 3), (2, 3)]
         """
         text, opened = text_preferred(question), self._opened
-        pairs = opened.table.rows()
+        pairs = opened.table.columnar_rows()
         moment = opened.moment(pairs)
         read = reading(text, Selection.of(("best", 1), where=where, by=by), moment)
         order, worse = ranked(read)

@@ -1,19 +1,23 @@
 """Rows as they are at one moment."""
+from array import array
+from itertools import compress
 from typing import Any, Callable, Dict, List, Optional, Sequence, Tuple
 
 from .columns import Column
 from .loading import Encoded
 from .reading import Progress, check_names
+from .rows import ColumnarRows
 
 
 class Moment:
-    """Rows as they are at one moment, each column of which is loaded when it is named. Their ids are 1, 2, 3 and so on; `kept` are those that count, all at first."""
+    """Rows as they are at one moment, each column of which is loaded when it is named. Their ids are 1, 2, 3 and so on; `places`, from 0, are of those that count: all
+    at first, where it is None."""
 
     def __init__(self, names: Sequence[Any], load: Callable[[str], Encoded], progress: Optional[Progress] = None,
                  called: Callable[[int], Any] = lambda id: id) -> None:
         self._all_names, self._load, self._progress, self._called = names, load, progress, called
         self.names = [name for name in names if isinstance(name, str)]
-        self.kept: Optional[Sequence[int]] = None
+        self.places: Optional[Sequence[int]] = None
         # Whether a value that no row here has is one that no row has at all: not so of what is left of parts.
         self.has_all_values = True
         self._loaded: Dict[str, Encoded] = {}
@@ -23,7 +27,7 @@ class Moment:
     @property
     def count(self) -> int:
         """How many rows count."""
-        return len(self.kept) if self.kept is not None else max((len(numbers) for _, numbers in self._loaded.values()), default=0)
+        return len(self.places) if self.places is not None else max((len(numbers) for _, numbers in self._loaded.values()), default=0)
 
     def column(self, name: str) -> Optional[Column]:
         """The column of this name, None where there is none."""
@@ -39,7 +43,7 @@ class Moment:
         if id(column) in self._computed:
             return self._computed[id(column)][1]
         numbers = self._loaded[column.name][1]
-        return numbers if self.kept is None else [numbers[id - 1] for id in self.kept]
+        return numbers if self.places is None else array("q", map(numbers.__getitem__, self.places))
 
     def add(self, column: Column, numbers: Sequence[int]) -> None:
         """Adds a column that is computed."""
@@ -47,17 +51,17 @@ class Moment:
 
     def place(self, id: int) -> Optional[int]:
         """The place, from 0, of a row among those that count; None where it does not."""
-        if self.kept is None:
+        if self.places is None:
             return id - 1
-        return self.kept.index(id) if id in self.kept else None
+        return self.places.index(id - 1) if id - 1 in self.places else None
 
-    def keep(self, places: Sequence[int]) -> None:
-        """Of the rows that count, only those at these places, from 0, count from now on."""
-        self.kept = [self.id(place + 1) for place in places]
+    def keep(self, mask: bytes) -> None:
+        """Of the rows that count, only those count from now on for which the mask has a 1."""
+        self.places = list(compress(range(self.count) if self.places is None else self.places, mask))
 
     def id(self, number: int) -> int:
         """The id of a row by its number, from 1, among those that count."""
-        return number if self.kept is None else self.kept[number - 1]
+        return number if self.places is None else self.places[number - 1] + 1
 
     def called(self, place: int) -> Any:
         """What the row at a place, from 0, among those that count is called in a message."""
@@ -67,15 +71,20 @@ class Moment:
         """The same moment, of which only these rows count."""
         part = Moment(self._all_names, self._load, self._progress, self._called)
         part._loaded = self._loaded
-        part.kept = ids
+        part.places = [id - 1 for id in ids]
         return part
 
 
 def moment_of(columns: Sequence[Column], rows: Sequence[Sequence[int]], called: Callable[[int], Any]) -> Moment:
     """Rows as numbers of these columns, which are all at hand. `called` gives what messages call a row by its number, from 1 on."""
+    return _moment(columns, lambda place: [row[place] for row in rows], called)
+
+
+def moment_of_columnar(columns: Sequence[Column], rows: ColumnarRows, called: Callable[[int], Any]) -> Moment:
+    """The same of rows whose columns are taken when they are named."""
+    return _moment(columns, rows.column, called)
+
+
+def _moment(columns: Sequence[Column], numbers: Callable[[int], Sequence[int]], called: Callable[[int], Any]) -> Moment:
     places = {column.name: place for place, column in enumerate(columns)}
-
-    def load(name: str) -> Encoded:
-        return columns[places[name]], [row[places[name]] for row in rows]
-
-    return Moment(list(places), load, called=called)
+    return Moment(list(places), lambda name: (columns[places[name]], numbers(places[name])), called=called)

@@ -7,11 +7,11 @@ from .checks import LEAST, MOST_IDS, whole
 from .columns import Column
 from .kept import Answered, Kept
 from .kinds import Decimals, Kind, Texts, Whole
-from .loading import Encoded, check_width
-from .moment import Moment
+from .loading import check_width
+from .moment import Moment, moment_of_columnar
 from .reading import check_names
 from .records import values_of
-from .rows import WholeRows, Zipped
+from .rows import ColumnarRows, WholeRows, Zipped
 from .table import Table
 
 # A code book is worth a new one where it has grown to twice what it was, and by this and so much for each row, so that what this takes is spread over many texts.
@@ -74,13 +74,9 @@ class Opened(Columns):
         self.table = Table(list(self.below.values()), rows, **options)
         self.kept: Kept[Answered] = Kept(Answered.size)
 
-    def moment(self, rows: Sequence[Tuple[int, Sequence[int]]]) -> Moment:
+    def moment(self, rows: ColumnarRows) -> Moment:
         """Rows of the table as they are at one moment, counted from 1."""
-        def load(name: str) -> Encoded:
-            place = self.columns.index(self.by_name[name])
-            return self.by_name[name], [numbers[place] for _, numbers in rows]
-
-        return Moment(self.names, load, called=lambda number: self.ids.outside(rows[number - 1][0]))
+        return moment_of_columnar(self.columns, rows, lambda number: self.ids.outside(rows[number - 1][0]))
 
     def numbers(self, record: Any, kinds: Mapping[str, Kind] = {}) -> List[int]:
         """The numbers of a record, where these columns have other kinds. What it does not name is missing, which is not noted yet: a row may have a value there."""

@@ -76,6 +76,10 @@ class Query(Asker):
         """The answer as pairs of an id and its values."""
         return self._made(as_pairs, None)
 
+    def columnar(self) -> bytes:
+        """The answer as `ColumnarRows` takes it."""
+        return self._finished(None)
+
     def abandon(self) -> None:
         """Ends the query without an answer; nothing is done where it has ended. Waits for nothing: the table does it before its next call."""
         if self._is_open:

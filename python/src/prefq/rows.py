@@ -2,8 +2,9 @@
 import gc
 import struct
 from array import array
+from bisect import bisect_right
 from collections.abc import Iterable, Mapping, Set
-from itertools import chain, islice
+from itertools import accumulate, chain, islice
 from typing import Any, Callable, Iterator, List, NamedTuple, Optional, Sequence, Tuple, TypeVar
 
 from .checks import LEAST, MOST, MOST_ROWS, whole
@@ -24,6 +25,40 @@ class Row(NamedTuple):
     level: int
     id: int
     values: List[int]
+
+
+class ColumnarRows(Sequence[Tuple[Any, List[int]]]):
+    """The rows of answers that follow each other, as pairs of what a row is known by and its numbers. They stay as the library gave them: a row or a column is taken of
+    them when it is asked for."""
+
+    def __init__(self, answers: Sequence[bytes], width: int, known_by: Optional[Sequence[Any]] = None, order: Optional[Sequence[int]] = None) -> None:
+        """`known_by` is what the rows are known by, where these are not their ids; `order` has the places that the rows have in the answers, where it is another one."""
+        self._size = 2 + width
+        self._answers = answers
+        self._numbers = [memoryview(answer).cast("q") for answer in answers]
+        self._ends = list(accumulate(len(numbers) // self._size for numbers in self._numbers))
+        self._known_by, self._order = known_by, order
+
+    def __len__(self) -> int:
+        return self._ends[-1] if self._ends else 0
+
+    def __iter__(self) -> Iterator[Tuple[Any, List[int]]]:
+        pairs = list(chain.from_iterable(rows_of(answer, self._size - 2, as_pairs) for answer in self._answers))
+        if self._known_by is not None:
+            pairs = [(known_by, numbers) for known_by, (_, numbers) in zip(self._known_by, pairs)]
+        return iter(pairs) if self._order is None else map(pairs.__getitem__, self._order)
+
+    def __getitem__(self, number: int) -> Tuple[Any, List[int]]:  # type: ignore[override]
+        place = range(len(self))[number] if self._order is None else self._order[number]
+        answer = bisect_right(self._ends, place)
+        begin = self._size * (place - (self._ends[answer - 1] if answer else 0))
+        _, id, *numbers = self._numbers[answer][begin:begin + self._size]
+        return id if self._known_by is None else self._known_by[place], numbers
+
+    def column(self, place: int) -> "array[int]":
+        """The numbers of the column at this place."""
+        found = array("q", b"".join(numbers[2 + place::self._size].tobytes() for numbers in self._numbers))
+        return found if self._order is None else array("q", map(found.__getitem__, self._order))
 
 
 class WholeRows:

@@ -13,7 +13,7 @@ from .library import Setup
 from .query import Query
 from .questions import explained
 from .records import Record
-from .rows import Packing, WholeRows, as_records, packed, rows_of
+from .rows import ColumnarRows, Packing, WholeRows, as_records, packed, rows_of
 
 Values = Iterable[int]
 IN_COMMIT = 8
@@ -189,6 +189,11 @@ class Table:
         """
         with self.query(self.all_rows) as query:
             return query.pairs()
+
+    def columnar_rows(self) -> ColumnarRows:
+        """The same, of which a row or a column is taken when it is asked for."""
+        with self.query(self.all_rows) as query:
+            return ColumnarRows([query.columnar()], len(self.columns))
 
     @property
     def all_rows(self) -> str:
