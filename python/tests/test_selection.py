@@ -202,7 +202,7 @@ class Queries(TestCase):
     def test_a_row_with_a_new_text_may_come_before_the_query(self):
         """The question is then translated once more, where its first query must not have the only client any more."""
         with prefq.Frame.from_records(HOTELS, clients=1) as frame:
-            plan = prefq.frame.plan
+            plan = prefq.condition_terms.plan
             plans = []
 
             def planned(*words):
@@ -211,7 +211,7 @@ class Queries(TestCase):
                     frame.insert({"city": "Ulm", "price": 1, "dist": 1})
                 return plan(*words)
 
-            with unittest.mock.patch("prefq.frame.plan", planned):
+            with unittest.mock.patch("prefq.condition_terms.plan", planned):
                 self.assertEqual(frame.best("best pos(city, 'Ulm')").ids, [7])
             self.assertEqual(len(plans), 4)
 

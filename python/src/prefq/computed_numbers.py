@@ -8,7 +8,7 @@ from typing import Any, Callable, Iterable, List, Optional, Sequence, Tuple
 from .checks import LEAST, MOST
 from .columns import Column
 from .computed_values import Numbers, Others
-from .kinds import Floats, Whole
+from .kinds import Whole
 from .kinds.at_once import MOST_DECIMALS, PlainTexts
 from .kinds.exact import Exact, Number, Ranked
 from .kinds.numbers import are_in_range

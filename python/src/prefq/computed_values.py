@@ -10,7 +10,6 @@ from typing import Any, Callable, Iterable, List, Optional, Sequence, Tuple, Uni
 from .checks import LEAST
 from .columns import Column
 from .expressions import Literal
-from .kinds import Booleans, Dates, Times
 from .kinds.exact import Number
 from .ranges import VALUES, Ranges, complement, intersection, union, within
 

@@ -8,6 +8,7 @@ from itertools import chain
 from typing import Iterator, List, Sequence, Tuple
 
 from .columns import Column
+from .condition_terms import RangeCondition, planned
 from .dealt import Begun, Dealt, Found, ordered
 from .moment import Moment, moment_of, moment_of_columnar
 from .once import ask_once
@@ -15,7 +16,7 @@ from .parts import fitting
 from .questions import Question
 from .rows import ColumnarRows, Row, Zipped
 from .selection import Selection, answered, picked, reading
-from .translate import clause_of, plan
+from .translate import Plan, clause_of, plan
 
 
 class Asked:
@@ -33,23 +34,24 @@ class AskedOfTables(Asked):
     """A question that each table answers, and of whose answer the first rows may be wanted. Of rows that are equal in the columns of a distinct clause, the one with
     the smallest key is in the answer: a table would take the one that came first."""
 
-    def __init__(self, dealt: Dealt, text: str, question: Question, selection: Selection = Selection()) -> None:
+    def __init__(self, dealt: Dealt, text: str, question: Question, plans: Tuple[Plan, RangeCondition], selection: Selection) -> None:
+        """`plans` are those of the question as the tables are asked it, without a distinct clause, and of its condition."""
         self.columns = dealt.columns
         self._count = len(dealt)
-        self._text, self._selection = text, selection
+        self._text, self._selection = text, replace(selection, where=None)
         self._twins = [dealt.columns.index(column) for column in [*(base.column for base in clause_of(question.term)), *question.by]] if question.distinct else None
-        plain = replace(question, distinct=False)
-        self._plan = plan(text, plain, dealt.below)
-        self.unknown = self._plan.unknown
+        self._plan = plan(text, replace(question, distinct=False), dealt.below)
+        of_tables, self._condition = plans
+        self.unknown = [*self._condition.unknown, *of_tables.unknown]
         self._names = list(dealt.below.values())
-        # Each level has a row, so the first k levels hold what `at_least k` wants of all rows.
-        of_parts = replace(plain, mode="top_level") if question.mode == "at_least" and len(dealt.tables) > 1 else plain
-        self._text_of_parts = plan(text, of_parts, dealt.below).text
-        with self._plan.refusing():
-            self._begun = Begun(dealt, self._text_of_parts)
+        self._text_of_parts = of_tables.text
+        with of_tables.refusing():
+            self._begun = Begun(dealt, of_tables.text)
 
     def answer(self) -> List[Found]:
         parts = self._begun.answers()
+        if self._condition.ranges:
+            parts = [[row for row in part if self._condition.is_met(row.numbers)] for part in parts]
         rows = parts[0] if len(parts) == 1 else self._merged(list(chain.from_iterable(parts)))
         rows.sort(key=lambda row: (row.level, ordered(row.key)))
         if self._twins is not None:
@@ -62,7 +64,7 @@ class AskedOfTables(Asked):
         read = reading(self._text, self._selection, moment)
         rows = [Row(row.level, number, list(values)) for number, (row, values) in enumerate(zip(found, zip(*read.lists)), 1)]
         first, absent_in_ties = picked(rows, read, self._selection, moment)
-        self.unknown = [*self._plan.unknown, *absent_in_ties]
+        self.unknown = [*self.unknown, *absent_in_ties]
         return [found[row.id - 1] for row in first]
 
     def _merged(self, rows: List[Found]) -> List[Found]:
@@ -96,9 +98,17 @@ def asked_of(dealt: Dealt, text: str, selection: Selection) -> Asked:
     """Begins a question, with what is asked beside it. No row may change meanwhile."""
     question = selection.read(text, dealt.by_name.get, dealt.names)
     # What decides between equally good rows is asked of the answer.
-    if replace(selection, ties=None).is_answered_by(question, dealt.columns):
-        return AskedOfTables(dealt, text, question, selection)
+    if replace(selection, where=None, ties=None).is_answered_by(question, dealt.columns):
+        plans = planned(text, of_tables(question, len(dealt.tables)), selection.where, dealt)
+        if plans is not None:
+            return AskedOfTables(dealt, text, question, plans, selection)
     return AskedOfRows(dealt, text, selection)
+
+
+def of_tables(question: Question, tables: int) -> Question:
+    """What so many tables are asked for a question. Each level has a row, so the first k levels hold what `at_least k` wants of all rows."""
+    plain = replace(question, distinct=False)
+    return replace(plain, mode="top_level") if question.mode == "at_least" and tables > 1 else plain
 
 
 def moment_of_keyed(columns: Sequence[Column], rows: ColumnarRows) -> Moment:

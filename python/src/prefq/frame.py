@@ -1,11 +1,13 @@
 """Frames: live tables of columns of every kind."""
 import threading
+from dataclasses import replace
 from functools import partial
 from typing import Any, Dict, Iterable, Iterator, List, Mapping, Optional, Sequence, Tuple
 
 from .answer import Answer
 from .checks import MOST_ROWS
 from .columns import Column, listed
+from .condition_terms import planned
 from .errors import Refused
 from .follow import Followed
 from .follow_source import source_of
@@ -24,7 +26,6 @@ from .reading import Dialect, Progress, Source, read_csv
 from .records import mapping_of, values_of
 from .rows import Row, WholeRows, Zipped
 from .selection import Names, Selection, first_rows, picked, query_of, reading, without_twins
-from .translate import plan
 from .warned import warn_of
 from .why import explained, number_of
 
@@ -269,24 +270,30 @@ class Frame(LiveRows):
 
     def _query(self, opened: Opened, question: str, selection: Selection) -> FrameQuery:
         read = selection.read(question, opened.by_name.get, opened.names)
-        if selection.is_answered_by(read, opened.columns):
-            return self._of_table(opened, question, read, selection)
-        return self._of_moment(opened, question, selection)
+        query = None
+        if replace(selection, where=None).is_answered_by(read, opened.columns):
+            query = self._of_table(opened, question, read, selection)
+        return self._of_moment(opened, question, selection) if query is None else query
 
-    def _of_table(self, opened: Opened, question: str, read: Question, selection: Selection) -> FrameQuery:
-        """A query of the table below."""
+    def _of_table(self, opened: Opened, question: str, read: Question, selection: Selection) -> Optional[FrameQuery]:
+        """A query of the table below; None where it cannot be asked with this condition."""
         while True:
-            asked = plan(question, read, opened.below)
+            plans = planned(question, read, selection.where, opened)
+            if plans is None:
+                return None
+            asked, condition = plans
             with asked.refusing():
                 query = opened.table.query(asked.text)
             # A row that came in the meantime may have a new text, or the first gap of a column.
-            if plan(question, read, opened.below).text == asked.text:
+            again = planned(question, read, selection.where, opened)
+            if again is not None and again[0].text == asked.text:
                 break
             query.abandon()         # It may have the only client.
 
         def found(rows: List[Row]) -> Answered:
-            some = first_rows(without_twins(rows, asked), asked, selection.top)
-            return answered(opened, [(row.level, row.id, row.values) for row in some], asked.unknown)
+            there = [row for row in rows if condition.is_met(row.values)] if condition.ranges else rows
+            some = first_rows(without_twins(there, asked), asked, selection.top)
+            return answered(opened, [(row.level, row.id, row.values) for row in some], [*condition.unknown, *asked.unknown])
 
         return FrameQuery(query, found, partial(self._answer, question))
 

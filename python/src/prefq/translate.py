@@ -101,9 +101,9 @@ def different(columns: Iterable[Column]) -> List[Column]:
     return list({id(column): column for column in columns}.values())
 
 
-def plan(text: str, question: Question, names: Dict[int, str]) -> Plan:
-    """The plan of a question whose columns have these names in the table below, by their identity."""
-    return Translator(text, names).plan(question)
+def plan(text: str, question: Question, names: Dict[int, str], before: Sequence[str] = ()) -> Plan:
+    """The plan of a question whose columns have these names in the table below, by their identity. Terms of that table that stand `before` decide first."""
+    return Translator(text, names).plan(question, before)
 
 
 def term_below(text: str, term: Term, names: Dict[int, str]) -> str:
@@ -124,14 +124,15 @@ class Translator:
         self._write(term, False)
         return "".join(piece.text for piece in self._pieces)
 
-    def plan(self, question: Question) -> Plan:
+    def plan(self, question: Question, before: Sequence[str]) -> Plan:
         by = tuple(self._name(column) for column in question.by)
         twins = tuple(self._name(base.column) for base in clause_of(question.term)) + by if question.distinct else None
-        if question.distinct and self._is_said_by_a_clause(question.term):
+        if question.distinct and not before and self._is_said_by_a_clause(question.term):
             self._clause(clause_of(question.term), by)
             twins = None
         else:
             self._put("best " if question.mode == "best" else f"{question.mode} {question.count} ", 0)
+            self._put("".join(f"{term} & " for term in before), 0)
             self._write(question.term, False)
             if by:
                 self._put(" by " + ", ".join(by), len(self._text))

@@ -1,0 +1,107 @@
+"""A condition as terms of a table, by which the rows that meet it are equally good, and better than all others.
+
+Where they stand before an &, a question about all rows has the answer of one about the rows that meet the condition, and other rows behind it: none of those dominates
+a row that meets it, and each of those is dominated by all that meet it in its group. So the rows that meet it have the levels that they have among themselves, and
+the others are left out of the answer.
+
+Each part of the condition is to be about one column and values that are written, so that it says in which ranges of numbers that column is. Another condition is
+computed over all rows (`computed`).
+"""
+from dataclasses import dataclass
+from typing import Dict, List, Mapping, Optional, Sequence, Tuple
+
+from .checks import LEAST, MOST
+from .computed import Computer
+from .expressions import FUNCTIONS, Comparison, Literal, Named, Node, Operation, read_condition
+from .moment import moment_of
+from .opened import Columns
+from .questions import Question
+from .ranges import Ranges, complement, intersection, numbers_in, size
+from .translate import Plan, plan, unknown_value
+
+EVERY_NUMBER: Ranges = [(LEAST, MOST)]
+MOST_VALUES_WRITTEN = 100
+LONGEST_QUESTION = 4096     # bytes that a table reads
+
+
+@dataclass(frozen=True)
+class RangeCondition:
+    """A condition that says of some columns in which ranges a row has their numbers, and the terms of it. `unknown` is what is said of each value of it that no row
+    of a column has."""
+
+    ranges: Mapping[int, Ranges]        # by the place of a column
+    terms: Sequence[str] = ()
+    unknown: Sequence[str] = ()
+
+    def is_met(self, numbers: Sequence[int]) -> bool:
+        """Whether a row with these numbers meets it."""
+        return all(any(first <= numbers[place] <= last for first, last in ranges) for place, ranges in self.ranges.items())
+
+
+EVERY_ROW = RangeCondition({})
+
+
+def planned(text: str, question: Question, where: Optional[str], columns: Columns) -> Optional[Tuple[Plan, RangeCondition]]:
+    """What a table of these columns is asked about the rows that meet a condition, and the condition, which the rows of its answer are to meet; None where the table
+    cannot be asked so."""
+    condition = EVERY_ROW if where is None else range_condition(where, columns)
+    if condition is None:
+        return None
+    asked = plan(text, question, columns.below, condition.terms)
+    return None if condition.terms and len(asked.text) > LONGEST_QUESTION else (asked, condition)
+
+
+def range_condition(text: str, columns: Columns) -> Optional[RangeCondition]:
+    """The condition of this text, which is refused where it means nothing; None where it has other parts."""
+    no_rows = moment_of(columns.columns, [], lambda number: number)
+    node = read_condition(text, no_rows.column, no_rows.names)
+    if not has_ranges(node):
+        return None
+    computer = Computer(text, no_rows)      # Of such a condition nothing is refused because of a row.
+    parts = computer.conjunction(node)
+    if parts is None:
+        return None
+    ranges: Dict[int, Ranges] = {}
+    for column, some in parts:
+        place = columns.columns.index(column)
+        ranges[place] = intersection(some, ranges.get(place, EVERY_NUMBER))
+    terms: List[str] = []
+    for place, some in ranges.items():
+        found = terms_of(columns.below[id(columns.columns[place])], some)
+        if found is None:
+            return None
+        terms += found
+    return RangeCondition(ranges, terms, [unknown_value(column, text) for column, text in computer.absent])
+
+
+def has_ranges(node: Node) -> bool:
+    """Whether each part of a condition is about one column and values that are written. Nothing is divided in it, which may be refused for a row."""
+    if isinstance(node, Comparison):
+        sides = node.left, node.right
+        return any(isinstance(side, Named) and is_written(other) for side, other in (sides, sides[::-1]))
+    if isinstance(node, Operation) and node.name in ("and", "or", "not"):
+        return all(map(has_ranges, node.parts))
+    return isinstance(node.parts[0] if isinstance(node, Operation) and node.name == "missing" else node, Named)
+
+
+def is_written(node: Node) -> bool:
+    """Whether this is a value, or a number that is computed of some."""
+    return isinstance(node, Literal) or isinstance(node, Operation) and node.name in ("+", "-", "*", *FUNCTIONS) and all(map(is_written, node.parts))
+
+
+def terms_of(name: str, ranges: Ranges) -> Optional[List[str]]:
+    """Terms by which the numbers of a column in these ranges are equally good, and better than all others; None where there are none. Where the ranges have all numbers
+    or none, the rows need no order."""
+    if not ranges or not complement(ranges):
+        return []
+    first, last = ranges[0][0], ranges[-1][1]
+    holes = intersection(complement(ranges), [(first, last)])
+    if written(holes) is not None:
+        whole = [f"between({name}, {first}, {last})"] if (first, last) != (LEAST, MOST) else []
+        return whole + ([f"-pos({name}, {written(holes)})"] if holes else [])
+    return None if written(ranges) is None else [f"pos({name}, {written(ranges)})"]
+
+
+def written(ranges: Ranges) -> Optional[str]:
+    """The numbers in some ranges, one by one; None where they are too many."""
+    return None if size(ranges) > MOST_VALUES_WRITTEN else ", ".join(map(str, numbers_in(ranges)))
