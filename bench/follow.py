@@ -22,9 +22,12 @@ import prefq
 
 QUESTIONS = ["best low(price) * low(dist)", "best low(price) * low(dist) * low(noise)", "top_level 5 low(price) * low(dist)"]
 BESIDE = {"top": 10, "ties": "low(noise)"}
+# The tables are asked the first two with the question; the others are computed over all rows.
+CONDITIONS = ["price > 500000", "price > 500000 and not noise in (1, 2, 3)", "price > 500000 or noise < 500000", "price + dist < 1000000"]
 TABLE = "create table offers (id integer primary key, price integer, dist integer, noise integer)"
 CHANGES = 20_000
 ROUNDS = 15
+ROUNDS_WITH_CONDITIONS = 3
 MEDIANS = 10
 MOST = 10**6
 
@@ -38,6 +41,17 @@ def show(what, call, rounds=ROUNDS, each=1):
         walls.append(time.perf_counter() - begun)
     processor = (time.process_time() - processor) / rounds / each * 1e6
     print(f"{what}: {processor:,.1f} us of a processor, wall {statistics.median(walls) / each * 1e6:,.0f} us at a load of {os.getloadavg()[0]:.0f}", flush=True)
+
+
+def show_least(what, prepare, call, each):
+    """Prints the least processor time that each of so many parts of a call takes in some runs, each with what is prepared for it."""
+    times = []
+    for _ in range(ROUNDS):
+        given = prepare()
+        begun = time.process_time()
+        call(given)
+        times.append((time.process_time() - begun) / each * 1e6)
+    print(f"{what}: {min(times):.1f} us of a processor at the least, up to {max(times):.1f} us, at a load of {os.getloadavg()[0]:.0f}", flush=True)
 
 
 def show_delay(change, ask):
@@ -107,7 +121,9 @@ def measure(db, mark, count, chance):
             show(f"{question}, {len(frame.best(question))} rows", lambda: ask_anew(question))
         show("the same as before, which is kept", lambda: frame.best(QUESTIONS[-1], at_least=frame.at))
         show(f"{QUESTIONS[0]}, {BESIDE}", lambda: ask_anew(QUESTIONS[0], **BESIDE))
-        show(f"{QUESTIONS[0]} where price > 500000", lambda: ask_anew(QUESTIONS[0], where="price > 500000"), 1)
+        for where in CONDITIONS:
+            show(f"{QUESTIONS[0]} where {where}", lambda: ask_anew(QUESTIONS[0], where=where), ROUNDS_WITH_CONDITIONS)
+        show("the last one again, which is kept", lambda: frame.best(QUESTIONS[0], where=CONDITIONS[-1], at_least=frame.at))
         show("a change and an answer that has it", change_and_ask)
         show_delay(change, lambda: frame.best(QUESTIONS[0]))
         cursor.execute("begin")
@@ -115,8 +131,8 @@ def measure(db, mark, count, chance):
             change()
         cursor.execute("commit")
         show(f"each of {CHANGES} changes of a transaction taken in", frame.refresh, 1, CHANGES)
-        rows = changed_rows(frame, chance)
-        show(f"each of {CHANGES} changes in the tables alone", lambda: frame._dealt.change(rows), 1, CHANGES)      # the last one: the database has others
+        # The last one: the database has other rows.
+        show_least(f"each of {CHANGES} changes in the tables alone", lambda: changed_rows(frame, chance), frame._dealt.change, CHANGES)
 
 
 def main():

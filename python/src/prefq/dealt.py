@@ -183,15 +183,16 @@ class Dealt(Columns):
     def _by_shards(self, rows: Mapping[Key, Numbers], address: int) -> Tuple[List[Tuple[List[int], List[int]]], Dict[Key, Numbers]]:
         """Of the rows that are there the ids in each table, and where their numbers are, which stand from this address on; and the rows that are new."""
         there: List[Tuple[List[int], List[int]]] = [([], []) for _ in self._shards]
+        adding = [(ids.append, addresses.append) for ids, addresses in there]
         new: Dict[Key, Numbers] = {}
         size = BYTES * len(self.below)
         for key, place, at in zip(rows, map(self._places.get, rows), range(address, address + size * len(rows), size)):
             if place is None:
                 new[key] = rows[key]
                 continue
-            ids, addresses = there[place >> ID_BITS]
-            ids.append(place & IDS)
-            addresses.append(at)
+            add_id, add_address = adding[place >> ID_BITS]
+            add_id(place & IDS)
+            add_address(at)
         return there, new
 
     def _insert(self, rows: Mapping[Key, Numbers]) -> None:
