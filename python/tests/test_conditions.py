@@ -10,7 +10,7 @@ import plain_expressions
 import prefq
 import random_frames
 from prefq import checks, ranges
-from prefq.condition_terms import range_condition
+from prefq.condition_terms import narrowing_terms, range_condition
 from prefq.dealt import Dealt
 from prefq.dealt_questions import asked_of
 from prefq.kinds.numbers import number_of_float
@@ -30,7 +30,8 @@ OF_THE_TABLE = [("price > 50", [2, 3]), ("60 >= price", [1, 2, 5]), ("not price 
                 ("not pool and stars = 4", [3]), ("stars in (1, 4)", [3, 4]), ("2 <= stars < 5", [1, 3, 5]), ("price < 55 or price > 65", [1, 3, 5]), ("stars > 9", []),
                 ("stars > 2 and stars < 2", []), ("price >= -3 * 2 and price <= max(60, 2)", [1, 2, 5]), ("pool is not missing", [1, 3, 4, 5])]
 OF_ALL_ROWS = [("price < 55 or stars > 4", [1, 2, 5]), ("price > 15 * stars", [1, 3, 5]), ("price / stars > 15", [1, 3, 5]), ("stars < 4 or stars > 1000", [1, 4, 5]),
-               ("(price > 50) = pool", []), ("abs(stars - 4) = 1", [1, 2, 5])]
+               ("(price > 50) = pool", []), ("abs(stars - 4) = 1", [1, 2, 5]), ("city = 'Lyon' and (pool or stars = 4)", [1, 3, 5]), ("stars > 9 and price > stars", []),
+               ("not (price > 60 or price < 10 * stars)", [1, 2, 5])]
 
 
 class OfATable(FrameTestCase):
@@ -47,6 +48,32 @@ class OfATable(FrameTestCase):
             with self.subTest(where):
                 self.assertIsNone(range_condition(where, self.frame._opened))
                 self.assertEqual(sorted(self.frame.best("top_level 9 low(stars)", where=where).ids), ids)
+
+    def test_only_rows_that_meet_the_parts_about_single_columns_are_read_for_another_one(self):
+        for where, count in [("price > 55 and price > 15 * stars", 2), ("city = 'Lyon' and (pool or stars = 4) and stars < 4", 2), ("price > 55 or price > 15 * stars", 5),
+                             ("stars > 4 and price / stars > 1", 5), ("city in ('Bern', 'Ulm') and price >= stars", 1), ("stars > 100 and price > stars", 1)]:
+            with self.subTest(where):
+                terms = narrowing_terms(where, self.frame._opened)
+                self.assertEqual(len(self.frame._opened.table.columnar_rows(terms)), count)
+
+    def test_a_row_that_is_refused_is_so_whatever_else_the_condition_says(self):
+        for where, says in [("stars > 4 and price / (stars - 4) > 1", "row 3 has 0 behind the /"), ("price / (stars - 4) > 1 and stars > 4", "row 3 has 0 behind the /")]:
+            with self.subTest(where), self.refuses(prefq.Refused, says):
+                self.frame.best("best low(price)", where=where)
+        with prefq.Frame.from_records([{"x": 1.5, "y": 1}, {"x": float("inf"), "y": 2}]) as frame, self.refuses(prefq.Refused, "row 2 has inf"):
+            frame.best("best low(x)", where="y = 1 and x + 1 > 2")
+
+    def test_a_row_with_a_new_text_may_come_before_the_rows_are_read(self):
+        with prefq.Frame.from_records(HOTELS) as frame:
+            rows = prefq.table.Table.columnar_rows
+
+            def inserting(*words):
+                if len(frame) == 5:
+                    frame.insert({"city": "Ulm", "price": 80, "stars": 2})
+                return rows(*words)
+
+            with unittest.mock.patch("prefq.table.Table.columnar_rows", inserting):
+                self.assertEqual(frame.best("best empty()", where="city in ('Bern', 'Ulm') and price > stars").ids, [2, 6])
 
     def test_other_rows_are_left_out_of_levels_counts_groups_and_equal_rows(self):
         for asked, beside, found in [("at_least 4 low(price)", {}, [(1, 1), (1, 5), (2, 2), (3, 3)]), ("at_least 3 low(stars)", {}, [(1, 1), (1, 5), (2, 3)]),

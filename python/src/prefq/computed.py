@@ -61,7 +61,7 @@ class Computer:
         return self._masks(self._truths(node)).true
 
     def conjunction(self, node: Node, wanted: bool = True) -> Optional[List[Tuple[Column, Ranges]]]:
-        """The columns and ranges in all of which the numbers of a row are where a condition is true, or is false where that is `wanted`; None where it says more."""
+        """Columns with ranges: a condition is true where a row has its numbers in all of them, or is false where that is `wanted`. None where it is another condition."""
         if isinstance(node, Operation) and node.name == "not":
             return self.conjunction(node.parts[0], not wanted)
         if isinstance(node, Operation) and node.name == ("and" if wanted else "or"):

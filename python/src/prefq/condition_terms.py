@@ -8,17 +8,22 @@ Each part of the condition is to be about one column and values that are written
 computed over all rows (`computed`).
 """
 from dataclasses import dataclass
-from typing import Dict, List, Mapping, Optional, Sequence, Tuple
+from itertools import chain
+from typing import Dict, Iterable, List, Mapping, Optional, Sequence, Tuple
 
 from .checks import LEAST, MOST
+from .columns import Column
 from .computed import Computer
-from .expressions import FUNCTIONS, Comparison, Literal, Named, Node, Operation, read_condition
+from .errors import Refused
+from .expressions import FUNCTIONS, Comparison, Literal, Named, Node, Operation, columns_of, read_condition
+from .kinds import Floats
 from .moment import moment_of
 from .opened import Columns
 from .questions import Question
 from .ranges import Ranges, complement, intersection, numbers_in, size
 from .translate import Plan, plan, unknown_value
 
+ARITHMETIC = ("+", "-", "*", *FUNCTIONS)       # without the /, behind which a row may have 0
 EVERY_NUMBER: Ranges = [(LEAST, MOST)]
 MOST_VALUES_WRITTEN = 100
 LONGEST_QUESTION = 4096     # bytes that a table reads
@@ -55,23 +60,46 @@ def range_condition(text: str, columns: Columns) -> Optional[RangeCondition]:
     """The condition of this text, which is refused where it means nothing; None where it has other parts."""
     no_rows = moment_of(columns.columns, [], lambda number: number)
     node = read_condition(text, no_rows.column, no_rows.names)
-    if not has_ranges(node):
-        return None
-    computer = Computer(text, no_rows)      # Of such a condition nothing is refused because of a row.
-    parts = computer.conjunction(node)
+    computer = Computer(text, no_rows)
+    parts = computer.conjunction(node) if has_ranges(node) else None
     if parts is None:
         return None
-    ranges: Dict[int, Ranges] = {}
-    for column, some in parts:
+    ranges = ranges_by_place(parts, columns)
+    terms = terms_of_places(ranges, columns)
+    return None if terms is None else RangeCondition(ranges, terms, [unknown_value(column, text) for column, text in computer.absent])
+
+
+def narrowing_terms(text: Optional[str], columns: Columns) -> Sequence[str]:
+    """Terms by which the rows that meet some parts of a condition are better than all others: of these none meets it. There are none where the others might be refused."""
+    if text is None:
+        return []
+    no_rows = moment_of(columns.columns, [], lambda number: number)
+    try:
+        node = read_condition(text, no_rows.column, no_rows.names)
+        if may_refuse_rows(node):
+            return []
+        computer = Computer(text, no_rows)
+        nodes = node.parts if isinstance(node, Operation) and node.name == "and" else (node,)
+        found = [computer.conjunction(part) or [] for part in nodes if has_ranges(part)]
+    except Refused:     # which is said where all of it is computed
+        return []
+    return terms_of_places(ranges_by_place(chain.from_iterable(found), columns), columns) or []
+
+
+def ranges_by_place(parts: Iterable[Tuple[Column, Ranges]], columns: Columns) -> Dict[int, Ranges]:
+    """The ranges in all of which the numbers of columns are, by the places of these."""
+    found: Dict[int, Ranges] = {}
+    for column, ranges in parts:
         place = columns.columns.index(column)
-        ranges[place] = intersection(some, ranges.get(place, EVERY_NUMBER))
-    terms: List[str] = []
-    for place, some in ranges.items():
-        found = terms_of(columns.below[id(columns.columns[place])], some)
-        if found is None:
-            return None
-        terms += found
-    return RangeCondition(ranges, terms, [unknown_value(column, text) for column, text in computer.absent])
+        found[place] = intersection(ranges, found.get(place, EVERY_NUMBER))
+    return found
+
+
+def terms_of_places(ranges: Mapping[int, Ranges], columns: Columns) -> Optional[List[str]]:
+    """Terms by which rows with numbers in these ranges are equally good, and better than all others; None where there are none."""
+    found = [terms_of(columns.below[id(columns.columns[place])], some) for place, some in ranges.items()]
+    there = [terms for terms in found if terms is not None]
+    return list(chain.from_iterable(there)) if len(there) == len(found) else None
 
 
 def has_ranges(node: Node) -> bool:
@@ -84,9 +112,19 @@ def has_ranges(node: Node) -> bool:
     return isinstance(node.parts[0] if isinstance(node, Operation) and node.name == "missing" else node, Named)
 
 
+def may_refuse_rows(node: Node) -> bool:
+    """Whether a row may be refused in which something is divided by 0, or computed of an infinite float."""
+    if isinstance(node, Comparison):
+        return may_refuse_rows(node.left) or may_refuse_rows(node.right)
+    if not isinstance(node, Operation):
+        return False
+    is_computed = node.name in ARITHMETIC and any(isinstance(column.kind, Floats) for column in columns_of(node))
+    return node.name == "/" or is_computed or any(map(may_refuse_rows, node.parts))
+
+
 def is_written(node: Node) -> bool:
     """Whether this is a value, or a number that is computed of some."""
-    return isinstance(node, Literal) or isinstance(node, Operation) and node.name in ("+", "-", "*", *FUNCTIONS) and all(map(is_written, node.parts))
+    return isinstance(node, Literal) or isinstance(node, Operation) and node.name in ARITHMETIC and all(map(is_written, node.parts))
 
 
 def terms_of(name: str, ranges: Ranges) -> Optional[List[str]]:

@@ -145,9 +145,9 @@ class Dealt(Columns):
         """Deletes all rows."""
         self.change({}, list(self._places))
 
-    def begin_all(self) -> "Begun":
-        """Begins a question on all tables whose answer has all rows. No row may change meanwhile."""
-        return Begun(self, self._shards[0].table.all_rows)
+    def begin_all(self, terms: Sequence[str] = ()) -> "Begun":
+        """Begins a question on all tables whose answer has all rows, or those of each table that are best by some terms. No row may change meanwhile."""
+        return Begun(self, self._shards[0].table.best_by(terms))
 
     def began(self, begun: "Begun") -> List[Shard]:
         """The tables that a question begins on; what they have is kept for it."""

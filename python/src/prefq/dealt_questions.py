@@ -8,7 +8,7 @@ from itertools import chain
 from typing import Iterator, List, Sequence, Tuple
 
 from .columns import Column
-from .condition_terms import RangeCondition, planned
+from .condition_terms import RangeCondition, narrowing_terms, planned
 from .dealt import Begun, Dealt, Found, ordered
 from .moment import Moment, moment_of, moment_of_columnar
 from .once import ask_once
@@ -83,7 +83,7 @@ class AskedOfRows(Asked):
     def __init__(self, dealt: Dealt, text: str, selection: Selection) -> None:
         self.columns = dealt.columns
         self._text, self._selection = text, selection
-        self._begun = dealt.begin_all()
+        self._begun = dealt.begin_all(narrowing_terms(selection.where, dealt))
 
     def answer(self) -> List[Found]:
         pairs = self._begun.rows()

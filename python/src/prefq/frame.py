@@ -7,7 +7,7 @@ from typing import Any, Dict, Iterable, Iterator, List, Mapping, Optional, Seque
 from .answer import Answer
 from .checks import MOST_ROWS
 from .columns import Column, listed
-from .condition_terms import planned
+from .condition_terms import narrowing_terms, planned
 from .errors import Refused
 from .follow import Followed
 from .follow_source import source_of
@@ -299,7 +299,12 @@ class Frame(LiveRows):
 
     def _of_moment(self, opened: Opened, question: str, selection: Selection) -> FrameQuery:
         """A query of a table of what is computed over the rows as they are now."""
-        pairs = opened.table.columnar_rows()
+        while True:
+            terms = narrowing_terms(selection.where, opened)
+            pairs = opened.table.columnar_rows(terms)
+            # A row that came in the meantime may have a new text.
+            if narrowing_terms(selection.where, opened) == terms:
+                break
         moment = opened.moment(pairs)
         read = reading(question, selection, moment)
 

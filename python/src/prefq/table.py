@@ -190,10 +190,14 @@ class Table:
         with self.query(self.all_rows) as query:
             return query.pairs()
 
-    def columnar_rows(self) -> ColumnarRows:
-        """The same, of which a row or a column is taken when it is asked for."""
-        with self.query(self.all_rows) as query:
+    def columnar_rows(self, terms: Sequence[str] = ()) -> ColumnarRows:
+        """The same, of which a row or a column is taken when it is asked for; or only the rows that are best by some terms, of which the first decides first."""
+        with self.query(self.best_by(terms)) as query:
             return ColumnarRows([query.columnar()], len(self.columns))
+
+    def best_by(self, terms: Sequence[str]) -> str:
+        """A question for the rows that are best by some terms; for all rows where there are none."""
+        return f"best {' & '.join(terms)}" if terms else self.all_rows
 
     @property
     def all_rows(self) -> str:
