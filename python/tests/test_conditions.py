@@ -76,10 +76,11 @@ class OfATable(FrameTestCase):
                 self.assertEqual(frame.best("best empty()", where="city in ('Bern', 'Ulm') and price > stars").ids, [2, 6])
 
     def test_other_rows_are_left_out_of_levels_counts_groups_and_equal_rows(self):
-        for asked, beside, found in [("at_least 4 low(price)", {}, [(1, 1), (1, 5), (2, 2), (3, 3)]), ("at_least 3 low(stars)", {}, [(1, 1), (1, 5), (2, 3)]),
-                                     ("best low(stars) by pool", {}, [(1, 1), (1, 2), (1, 3), (1, 5)]), ("skyline of distinct price min", {}, [(1, 1)]),
-                                     ("skyline of distinct price max, stars min, city diff", {}, [(1, 1), (1, 2), (1, 3)]), ("best low(price)", {"top": 3}, [(1, 1), (1, 5), (2, 2)]),
-                                     ("best high(stars)", {"top": 2, "ties": "low(price)"}, [(1, 2), (2, 3)]), ("best -(low(stars) * high(price))", {}, [(1, 1), (1, 2), (1, 5)])]:
+        for asked, beside, found in [
+                ("at_least 4 low(price)", {}, [(1, 1), (1, 5), (2, 2), (3, 3)]), ("at_least 3 low(stars)", {}, [(1, 1), (1, 5), (2, 3)]),
+                ("best low(stars) by pool", {}, [(1, 1), (1, 2), (1, 3), (1, 5)]), ("skyline of distinct price min", {}, [(1, 1)]),
+                ("skyline of distinct price max, stars min, city diff", {}, [(1, 1), (1, 2), (1, 3)]), ("best low(price)", {"top": 3}, [(1, 1), (1, 5), (2, 2)]),
+                ("best high(stars)", {"top": 2, "ties": "low(price)"}, [(1, 2), (2, 3)]), ("best -(low(stars) * high(price))", {}, [(1, 1), (1, 2), (1, 5)])]:
             with self.subTest(asked):
                 self.assertEqual(pairs(self.frame.best(asked, where="stars > 2", **beside)), found)
 

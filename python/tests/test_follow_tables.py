@@ -4,6 +4,8 @@ import unittest.mock
 import prefq
 from plain import Ask, Low, Pareto
 from prefq.follow_source import Changes
+from prefq.selection import Selection
+from support import pairs
 from test_follow import QUESTION, OfSqlite
 
 
@@ -36,6 +38,31 @@ class ManyTables(OfSqlite):
         with unittest.mock.patch("prefq.parts.MOST_ROWS", 30), self.refuses(prefq.parts.RowsLeft, "40 rows of 40 are left after each part was asked", kind="parts"):
             frame.best(QUESTION)
         self.assertEqual(len(frame.best(QUESTION)), 40)
+
+    def test_rows_that_meet_a_condition_are_asked_where_too_many_are_left_of_the_tables(self):
+        """A table is asked for as many levels as rows are wanted, which may have more rows than one table holds; the rows themselves are asked for 4 at first."""
+        frame = self.offers(*((number, "x", number, 200 - number + 10 * (number % 20)) for number in range(200)), capacity=64)
+        wanted = frame.best(QUESTION, top=10, where="price > 20")
+        rows = prefq.dealt_questions.AskedOfRows
+        with unittest.mock.patch("prefq.parts.MOST_ROWS", 60), unittest.mock.patch("prefq.dealt_questions.AskedOfRows", side_effect=rows) as asked:
+            frame._kept._made.clear()
+            self.assertEqual(pairs(frame.best(QUESTION, top=10, where="price > 20")), pairs(wanted))
+            self.assertEqual(asked.call_count, 1)
+            picture = frame.snapshot(QUESTION, Selection.of(top=10, where="price > 20"))
+            self.assertEqual([(row.level, row.key) for row in picture.best], list(pairs(wanted)))
+            with self.refuses(prefq.parts.RowsLeft, "200 rows of 200 are left"):
+                frame.best("best empty()")
+            with unittest.mock.patch("prefq.selection.MOST_ROWS", 60), self.refuses(prefq.parts.RowsLeft, "179 rows of 179 are left"):
+                frame.best("best empty()", where="price > 20")
+
+    def test_more_rows_than_a_few_levels_have_are_asked_of_the_rows_that_meet_a_condition(self):
+        frame = self.offers(*((number, "x", number * 7 % 50, number * 11 % 53) for number in range(60)), capacity=16)
+        for asked, top, is_of_tables in [(QUESTION, 32, True), (QUESTION, 33, False), ("best low(price)", 60, True), ("best low(price) * low(dist) * pos(hotel, 'x') * high(price)", 1, False)]:
+            with self.subTest(asked, top=top), unittest.mock.patch("prefq.dealt_questions.AskedOfTables", side_effect=prefq.dealt_questions.AskedOfTables) as tables:
+                found = pairs(frame.best(asked, top=top, where="price > 20"))
+                self.assertEqual(tables.call_count, is_of_tables)
+                frame._kept._made.clear()
+                self.assertEqual(found, pairs(frame.best(asked, top=top, where="price > 20 + 0 * dist")))
 
     def test_many_rows_that_are_left_are_asked_in_pieces(self):
         frame = self.offers(*((number, "x", number % 20, number // 20) for number in range(60)), capacity=16)

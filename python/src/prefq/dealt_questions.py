@@ -16,7 +16,11 @@ from .parts import fitting
 from .questions import Question
 from .rows import ColumnarRows, Row, Zipped
 from .selection import Selection, answered, picked, reading
-from .translate import Plan, clause_of, plan
+from .translate import Plan, bases_of, clause_of, plan
+
+
+# So many levels are asked of tables for as many rows, by the number of base terms: more take longer than to read the rows that meet a condition.
+MOST_LEVELS_FOR_ROWS = {1: 1000, 2: 32, 3: 10}
 
 
 class Asked:
@@ -95,14 +99,28 @@ class AskedOfRows(Asked):
 
 
 def asked_of(dealt: Dealt, text: str, selection: Selection) -> Asked:
-    """Begins a question, with what is asked beside it. No row may change meanwhile."""
+    """Begins a question, with what is asked beside it. No row may change meanwhile. Where tables are asked with a condition, more rows may be left of them than one holds
+    (`RowsLeft`), though it could be answered by `asked_of_rows`."""
     question = selection.read(text, dealt.by_name.get, dealt.names)
+    asked = of_tables(question, len(dealt.tables))
     # What decides between equally good rows is asked of the answer.
-    if replace(selection, where=None, ties=None).is_answered_by(question, dealt.columns):
-        plans = planned(text, of_tables(question, len(dealt.tables)), selection.where, dealt)
+    if replace(selection, where=None, ties=None).is_answered_by(question, dealt.columns) and (selection.where is None or is_of_few_levels(question, asked)):
+        plans = planned(text, asked, selection.where, dealt)
         if plans is not None:
             return AskedOfTables(dealt, text, question, plans, selection)
     return AskedOfRows(dealt, text, selection)
+
+
+def asked_of_rows(dealt: Dealt, text: str, selection: Selection) -> Asked:
+    """The same, computed over the rows whatever the tables could be asked."""
+    selection.read(text, dealt.by_name.get, dealt.names)
+    return AskedOfRows(dealt, text, selection)
+
+
+def is_of_few_levels(question: Question, asked: Question) -> bool:
+    """Whether the tables are asked for no more levels than the question has. Where they are, but for a few, the rows that meet a condition are asked sooner: for
+    4 levels at first, then for 16 and so on."""
+    return asked.mode == question.mode or asked.count <= MOST_LEVELS_FOR_ROWS.get(len(bases_of(question.term)), 0)
 
 
 def of_tables(question: Question, tables: int) -> Question:

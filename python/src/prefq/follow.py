@@ -5,19 +5,21 @@ place. The frame makes these changes at one moment, so that a question sees whol
 """
 import os
 import time
-from contextlib import contextmanager
-from typing import Any, Iterator, List, Mapping, NamedTuple, Optional, Sequence, Tuple
+from contextlib import contextmanager, suppress
+from functools import partial
+from typing import Any, Callable, Iterator, List, Mapping, NamedTuple, Optional, Sequence, Tuple
 
 from .answer import Answer
 from .checks import LEAST, MOST, seconds, whole
 from .columns import Column
 from .dealt import Begun, Dealt, Found, Key, Numbers, ordered
-from .dealt_questions import Asked, asked_of, moment_of_keyed
+from .dealt_questions import Asked, asked_of, asked_of_rows, moment_of_keyed
 from .errors import Ended, Refused, no_such_row
 from .follow_source import Changes, Source
 from .kept import Answered, Kept
 from .keyed_values import column_at_keys, numbers_of_rows
 from .loading import check_known, records_of
+from .parts import RowsLeft
 from .preferences import Asked as AskedFor, Operand, text_asked
 from .records import Record
 from .rows import Zipped
@@ -26,6 +28,7 @@ from .turns import Turns
 from .warned import warn_of
 from .why import explained, number_of
 
+Ask = Callable[[Dealt, str, Selection], Asked]
 TRIES = 3           # how often a call reads the table anew where its own were refused memory
 PAUSE = 0.002       # seconds between two looks at a place that is waited for
 INTERRUPTS = 0.05   # seconds between two interruptions of a call that waits for others
@@ -197,28 +200,28 @@ class Followed:
 
     def _made(self, question: str, selection: Selection) -> Tuple[int, Answered]:
         """The answer to a question over the rows as they are in the tables, with their version."""
-        def begun(dealt: Dealt) -> Tuple[int, int, Asked]:
-            return self.version, self.at, asked_of(dealt, question, selection)
+        def begun(ask: Ask, dealt: Dealt) -> Tuple[int, int, Asked]:
+            return self.version, self.at, ask(dealt, question, selection)
 
         def answered(begun: Tuple[int, int, Asked]) -> Tuple[int, Answered]:
             version, at, asked = begun
             rows = asked.answer()
             return version, Answered(asked.columns, rows, asked.unknown, at)
 
-        found: Tuple[int, Answered] = self._answered(begun, answered, is_there=True)
+        found: Tuple[int, Answered] = self._asked(begun, answered, selection, is_there=True)
         return found
 
     def snapshot(self, question: str, selection: Selection = Selection()) -> Snapshot:
         """All rows and the answer to a question, with what is asked beside it, at one moment, as numbers."""
-        def begun(dealt: Dealt) -> Tuple[int, Sequence[Column], Asked, Begun]:
-            asked = asked_of(dealt, question, selection)
+        def begun(ask: Ask, dealt: Dealt) -> Tuple[int, Sequence[Column], Asked, Begun]:
+            asked = ask(dealt, question, selection)
             return self.version, [dealt.by_name[name] for name in selection.names(question, dealt.names)], asked, dealt.begin_all()
 
         def answered(begun: Tuple[int, Sequence[Column], Asked, Begun]) -> Snapshot:
             version, columns, asked, everything = begun
             return Snapshot(version, asked.columns, dict(everything.rows()), asked.answer(), columns, asked.unknown)
 
-        found: Snapshot = self._answered(begun, answered)
+        found: Snapshot = self._asked(begun, answered, selection)
         return found
 
     def why(self, id: Key, question: AskedFor, *, where: Optional[Operand] = None, by: Names = None) -> Answer:
@@ -287,6 +290,15 @@ class Followed:
                 if last or self._is_closed:
                     raise
         raise Refused(f"{self._source.name} was read {TRIES + 1} times, and other calls of this frame were interrupted each time: ask again", "follow")
+
+    def _asked(self, begin: Any, answer: Any, selection: Selection, is_there: bool = False) -> Any:
+        """What a question begins, which is answered while others go on. Where too many rows were left of the tables with a condition, it is begun once more, over the rows
+        that meet it."""
+        if selection.where is None:
+            return self._answered(partial(begin, asked_of), answer, is_there)
+        with suppress(RowsLeft):
+            return self._answered(partial(begin, asked_of), answer, is_there)
+        return self._answered(partial(begin, asked_of_rows), answer, is_there)
 
     def _answered(self, begin: Any, answer: Any, is_there: bool = False) -> Any:
         """What is begun by one call, and answered while others go on."""

@@ -21,6 +21,8 @@ class Moment:
         # Whether a value that no row here has is one that no row has at all: not so of what is left of parts.
         self.has_all_values = True
         self._loaded: Dict[str, Encoded] = {}
+        # The numbers of columns in the rows that count, where these are not all.
+        self._of_places: Dict[str, "array[int]"] = {}
         # The numbers of columns that are computed over the rows that count, by the identity of the column, which is kept.
         self._computed: Dict[int, Tuple[Column, Sequence[int]]] = {}
 
@@ -43,7 +45,11 @@ class Moment:
         if id(column) in self._computed:
             return self._computed[id(column)][1]
         numbers = self._loaded[column.name][1]
-        return numbers if self.places is None else array("q", map(numbers.__getitem__, self.places))
+        if self.places is None:
+            return numbers
+        if column.name not in self._of_places:
+            self._of_places[column.name] = array("q", map(numbers.__getitem__, self.places))
+        return self._of_places[column.name]
 
     def add(self, column: Column, numbers: Sequence[int]) -> None:
         """Adds a column that is computed."""
@@ -58,6 +64,7 @@ class Moment:
     def keep(self, mask: bytes) -> None:
         """Of the rows that count, only those count from now on for which the mask has a 1."""
         self.places = list(compress(range(self.count) if self.places is None else self.places, mask))
+        self._of_places.clear()
 
     def id(self, number: int) -> int:
         """The id of a row by its number, from 1, among those that count."""
