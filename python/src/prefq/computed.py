@@ -23,6 +23,7 @@ from .kinds.booleans import WORDS
 from .kinds.exact import Number as Rational
 from .kinds.numbers import Number
 from .moment import Moment
+from .pauses import extended
 from .questions import refuse
 from .ranges import MISSING, VALUES, Ranges, beside, complement
 from .translate import check_kind_is_known, check_order
@@ -294,7 +295,7 @@ class Computer:
             refuse(self._text, node.place, f"columns {left.column.name!r} ({left.column.kind}) and {right.column.name!r} ({right.column.kind}) are not compared")
         self._check_order(node.sign, left, node.place)
         values = [decoded_texts(some) if isinstance(some.column.kind, Texts) else some.numbers for some in (left, right)]
-        return Truths.of(bytes(map(COMPARE[node.sign], *values)), both_known(self._known(left.column), self._known(right.column)))
+        return Truths.of(bytes(extended(bytearray(), map(COMPARE[node.sign], *values))), both_known(self._known(left.column), self._known(right.column)))
 
     def _check_order(self, sign: str, column: Others, place: int) -> None:
         if sign not in ("=", "<>"):

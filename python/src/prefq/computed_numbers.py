@@ -12,6 +12,7 @@ from .kinds import Whole
 from .kinds.at_once import MOST_DECIMALS, PlainTexts
 from .kinds.exact import Exact, Number, Ranked
 from .kinds.numbers import are_in_range
+from .pauses import extended
 from .ranges import float_position
 
 
@@ -52,7 +53,7 @@ def by_value(values_of: Callable[[List[int]], List[Any]], numbers: Sequence[int]
     """What is made of numbers, each of them once."""
     different = list(dict.fromkeys(numbers))
     values = values_of(different)
-    return values if len(different) == len(numbers) else list(map(dict(zip(different, values)).__getitem__, numbers))
+    return values if len(different) == len(numbers) else extended([], map(dict(zip(different, values)).__getitem__, numbers))
 
 
 def column_of_numbers(name: str, found: Numbers, count: int) -> Tuple[Column, Sequence[int]]:

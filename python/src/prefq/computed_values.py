@@ -11,6 +11,7 @@ from .checks import LEAST
 from .columns import Column
 from .expressions import Literal
 from .kinds.exact import Number
+from .pauses import extended
 from .ranges import VALUES, Ranges, complement, intersection, union, within
 
 INVERTED = bytes.maketrans(b"\0\1", b"\1\0")
@@ -157,7 +158,7 @@ def combined(function: Callable[[Any, Any], Any], left: Numbers, right: Numbers,
     if is_constant:
         values = [function(left.values[0] * factors[0], right.values[0] * factors[1])]
     else:
-        values = list(map(function, left.each(factors[0]), right.each(factors[1])))
+        values = extended([], map(function, left.each(factors[0]), right.each(factors[1])))
     return Numbers(values, scale, both_known(left.known, right.known), left.are_whole and right.are_whole, is_constant)
 
 
@@ -166,5 +167,5 @@ def compared(function: Callable[[Any, Any], bool], left: Numbers, right: Numbers
     if left.is_constant and right.is_constant:
         holds = bytes([function(left.values[0] * factors[0], right.values[0] * factors[1])]) * count
     else:
-        holds = bytes(map(function, left.each(factors[0]), right.each(factors[1])))
+        holds = bytes(extended(bytearray(), map(function, left.each(factors[0]), right.each(factors[1]))))
     return Truths.of(holds, both_known(left.known, right.known))

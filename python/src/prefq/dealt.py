@@ -17,6 +17,7 @@ from .engine import BYTES, VERBS
 from .errors import Refused
 from .library import Change
 from .opened import Columns
+from .pauses import extended
 from .query import Query
 from .rows import ColumnarRows, Zipped
 from .table import IN_COMMIT, Table
@@ -262,7 +263,7 @@ class Begun:
 
 def keyed(shard: Shard, answer: bytes, width: int) -> Tuple[List[Key], bytes]:
     """The keys of the rows of an answer, and the answer."""
-    return list(map(shard.keys.__getitem__, memoryview(answer).cast("q")[1::2 + width])), answer
+    return extended([], map(shard.keys.__getitem__, memoryview(answer).cast("q")[1::2 + width])), answer
 
 
 def places_in_order(keys: Sequence[Key]) -> Optional[List[int]]:

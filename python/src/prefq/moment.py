@@ -5,6 +5,7 @@ from typing import Any, Callable, Dict, List, Optional, Sequence, Tuple
 
 from .columns import Column
 from .loading import Encoded
+from .pauses import extended
 from .reading import Progress, check_names
 from .rows import ColumnarRows
 
@@ -48,7 +49,7 @@ class Moment:
         if self.places is None:
             return numbers
         if column.name not in self._of_places:
-            self._of_places[column.name] = array("q", map(numbers.__getitem__, self.places))
+            self._of_places[column.name] = extended(array("q"), map(numbers.__getitem__, self.places))
         return self._of_places[column.name]
 
     def add(self, column: Column, numbers: Sequence[int]) -> None:
@@ -63,7 +64,7 @@ class Moment:
 
     def keep(self, mask: bytes) -> None:
         """Of the rows that count, only those count from now on for which the mask has a 1."""
-        self.places = list(compress(range(self.count) if self.places is None else self.places, mask))
+        self.places = extended([], compress(range(self.count) if self.places is None else self.places, mask))
         self._of_places.clear()
 
     def id(self, number: int) -> int:

@@ -1,7 +1,10 @@
 """Room for other threads while one of them computes for long."""
 import threading
 import time
+from itertools import islice
+from typing import Any, Iterator
 
+TOGETHER = 4096
 LONGEST = 0.000_5
 SHORTEST = 0.000_05
 
@@ -26,3 +29,13 @@ def let_others_run() -> None:
     if time.thread_time() - _computed.seconds >= LONGEST:
         time.sleep(SHORTEST)
         _computed.seconds = time.thread_time()
+
+
+def extended(some: Any, values: Iterator[Any]) -> Any:
+    """A list or an array with further values, which iterators that are written in C make without a moment for others."""
+    count = -1
+    while count != len(some):
+        count = len(some)
+        some.extend(islice(values, TOGETHER))
+        let_others_run()
+    return some

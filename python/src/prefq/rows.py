@@ -10,7 +10,7 @@ from typing import Any, Callable, Iterator, List, NamedTuple, Optional, Sequence
 from .checks import LEAST, MOST, MOST_ROWS, whole
 from .engine import BYTES, Engine
 from .library import Setup
-from .pauses import let_others_run
+from .pauses import extended, let_others_run
 from .records import Record
 
 Made = TypeVar("Made")
@@ -58,7 +58,7 @@ class ColumnarRows(Sequence[Tuple[Any, List[int]]]):
     def column(self, place: int) -> "array[int]":
         """The numbers of the column at this place."""
         found = array("q", b"".join(numbers[2 + place::self._size].tobytes() for numbers in self._numbers))
-        return found if self._order is None else array("q", map(found.__getitem__, self._order))
+        return found if self._order is None else extended(array("q"), map(found.__getitem__, self._order))
 
 
 class WholeRows:
