@@ -18,16 +18,37 @@ static inline char *put_text(char *to, const char *text)
     return to + length;
 }
 
+/* The digits of a number below 100,000,000 as eight bytes, from the lowest on, with zeros before them: halves of four digits become pairs, and pairs digits, in all
+   parts of the word at once. The products give the quotients by 100 and by 10 of numbers below 10,000 and 100. */
+static inline uint64_t eight_digits(uint32_t number)
+{
+    uint64_t halves = number / 10000 | (uint64_t)(number % 10000) << 32;
+    uint64_t hundreds = halves * 10486 >> 20 & 0x7f0000007f;
+    uint64_t pairs = hundreds | (halves - 100 * hundreds) << 16;
+    uint64_t tens = pairs * 103 >> 10 & 0xf000f000f000f;
+    return tens | (pairs - 10 * tens) << 8;
+}
+
+/* Puts the eight bytes of a word, the lowest first, as x86-64 has them. */
+static inline void put_word(char *to, uint64_t word)
+{
+    memcpy(to, &word, sizeof word);
+}
+
+/* Needs room for the longest number, since whole words are put. */
 static inline char *put_natural(char *to, uint64_t number)
 {
-    char digits[LONGEST_NUMBER];
-    size_t count = 0;
-    do
-        digits[count++] = (char)('0' + number % 10);
-    while ((number /= 10) != 0);
-    while (count > 0)
-        *to++ = digits[--count];
-    return to;
+    enum { EIGHT = 100000000 };
+    const uint64_t zeros = 0x3030303030303030;
+    if (number >= EIGHT) {
+        to = put_natural(to, number / EIGHT);
+        put_word(to, eight_digits((uint32_t)(number % EIGHT)) + zeros);
+        return to + 8;
+    }
+    uint64_t digits = eight_digits((uint32_t)number);
+    int before = number > 0 ? __builtin_ctzll(digits) / 8 : 7; /* zeros before the first digit that is none */
+    put_word(to, (digits + zeros) >> 8 * before);
+    return to + 8 - before;
 }
 
 static inline char *put_number(char *to, int64_t number)
