@@ -37,13 +37,15 @@ prefq_result prefq_insert(prefq *table, const int64_t *values, size_t width, uin
     return result == PREFQ_OK ? leave(table, ask_number(table, put_row(begin_line(table, 1, " insert "), values, width), " inserted ", id)) : result;
 }
 
+static char *put_update(char *to, uint64_t id, const int64_t *values, size_t width)
+{
+    return put_row(put_text(put_natural(put_text(to, "update "), id), " "), values, width);
+}
+
 prefq_result prefq_update(prefq *table, uint64_t id, const int64_t *values, size_t width)
 {
     prefq_result result = enter_with(table, values, width);
-    if (result != PREFQ_OK)
-        return result;
-    char *to = put_text(put_natural(begin_line(table, 1, " update "), id), " ");
-    return leave(table, ask_number(table, put_row(to, values, width), " updated ", &id));
+    return result == PREFQ_OK ? leave(table, ask_number(table, put_update(begin_line(table, 1, " "), id, values, width), " updated ", &id)) : result;
 }
 
 prefq_result prefq_delete(prefq *table, uint64_t id)
@@ -118,7 +120,7 @@ static char *put_change(char *to, const prefq_change *change, size_t width)
     case PREFQ_DELETE:
         return put_natural(put_text(to, "delete "), change->id);
     case PREFQ_UPDATE:
-        return change->values == NULL ? NULL : put_row(put_text(put_natural(put_text(to, "update "), change->id), " "), change->values, width);
+        return change->values == NULL ? NULL : put_update(to, change->id, change->values, width);
     case PREFQ_INSERT:
         return change->values == NULL ? NULL : put_row(put_text(to, "insert "), change->values, width);
     }
@@ -141,6 +143,52 @@ prefq_result prefq_commit(prefq *table, const prefq_change *changes, size_t coun
             return leave(table, refused(PREFQ_ARGUMENTS, 0, "there is no such change place %zu", place + 1));
     }
     return leave(table, commit(table, to, first));
+}
+
+/* How many of these updates are made at one moment: as many as fit in a commit, up to the next one of the same row. */
+static size_t count_together(const uint64_t *ids, size_t count)
+{
+    size_t together = 1;
+    for (; together < count && together < MOST_CHANGES; together++)
+        for (size_t before = 0; before < together; before++)
+            if (ids[before] == ids[together])
+                return together;
+    return together;
+}
+
+/* Makes this many updates at one moment. */
+static prefq_result update_together(prefq *table, const uint64_t *ids, const int64_t *const *values, size_t count, size_t width)
+{
+    uint64_t none;
+    if (atomic_load(&table->is_ending))
+        return ended(table);
+    char *to = begin_line(table, 1, " commit ");
+    for (size_t change = 0; change < count; change++) {
+        if (values[change] == NULL)
+            return wrong_argument("the values are NULL");
+        to = put_update(change > 0 ? put_text(to, "; ") : to, ids[change], values[change], width);
+    }
+    return commit(table, to, &none);
+}
+
+prefq_result prefq_update_many(prefq *table, const uint64_t *ids, const int64_t *const *values, size_t count, size_t width, size_t *made)
+{
+    prefq_result result = enter(table);
+    if (result != PREFQ_OK)
+        return result;
+    if (count > 0 && (ids == NULL || values == NULL || width != table->width))
+        return leave(table, width != table->width ? refused(PREFQ_TABLE, 5, "width row 0") : wrong_argument("the ids or the values are NULL"));
+    size_t done = 0;
+    while (done < count && result == PREFQ_OK) {
+        size_t together = count_together(ids + done, count - done);
+        result = update_together(table, ids + done, values + done, together, width);
+        done += result == PREFQ_OK ? together : 0;
+    }
+    if (result == PREFQ_REFUSED && done > 0)
+        result = PREFQ_OK;
+    if (result == PREFQ_OK)
+        *made = done;
+    return leave(table, result);
 }
 
 /* ---- queries ---- */

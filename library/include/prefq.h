@@ -127,6 +127,11 @@ prefq_result prefq_delete(prefq *table, uint64_t id);
    changes of one row) and 13 (another number of changes), PREFQ_CLIENT 7 and 8. */
 prefq_result prefq_commit(prefq *table, const prefq_change *changes, size_t count, size_t width, uint64_t *first);
 
+/* Gives rows new values as prefq_update does, one after the other, and gives how many have them: `values` has the address of each row's. Up to eight rows get theirs
+   at one moment, all of them or none, and other calls wait until all is done. Stops before what is refused: where that comes first, the call is refused as
+   prefq_update is; else fewer than `count` were made, and a call for those that are left says why. After PREFQ_OUT_OF_MEMORY some were made. */
+prefq_result prefq_update_many(prefq *table, const uint64_t *ids, const int64_t *const *values, size_t count, size_t width, size_t *made);
+
 /* Copies a row's values. Refused PREFQ_CLIENT 7. */
 prefq_result prefq_get(prefq *table, uint64_t id, int64_t *values, size_t width);
 

@@ -25,6 +25,7 @@ CALLS = {
     "insert": [c_void_p, ROWS, c_size_t, POINTER(c_uint64)],
     "insert_many": [c_void_p, ROWS, c_size_t, c_size_t, POINTER(c_uint64)],
     "update": [c_void_p, c_uint64, ROWS, c_size_t],
+    "update_many": [c_void_p, POINTER(c_uint64), POINTER(ROWS), c_size_t, c_size_t, COUNT],
     "delete": [c_void_p, c_uint64],
     "commit": [c_void_p, POINTER(Change), c_size_t, c_size_t, POINTER(c_uint64)],
     "get": [c_void_p, c_uint64, ROWS, c_size_t],
@@ -86,6 +87,13 @@ class Table:
 
     def update(self, id, values):
         self._call("update", self._table, id, *self._values(values))
+
+    def update_many(self, ids, rows):
+        """Returns how many of the updates were made."""
+        made, kept = c_size_t(), [(c_int64 * len(row))(*row) for row in rows]
+        values = (ROWS * len(rows))(*(ctypes.cast(row, ROWS) for row in kept))
+        self._call("update_many", self._table, (c_uint64 * len(ids))(*ids), values, len(ids), len(rows[0]), byref(made))
+        return made.value
 
     def delete(self, id):
         self._call("delete", self._table, id)

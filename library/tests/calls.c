@@ -123,8 +123,10 @@ static void make_each_call(void)
     prefq *table;
     const int64_t *answer, more[] = {40, 9, 60, 3}, price[] = {7};
     const prefq_change changes[] = {{PREFQ_UPDATE, 1, hotels}, {PREFQ_DELETE, 2, NULL}, {PREFQ_INSERT, 0, more}};
+    const uint64_t ids[] = {1, 3};
+    const int64_t *const updates[] = {hotels, more};
     const char *replies;
-    size_t count, length;
+    size_t count, length, made;
     uint64_t id;
     uint32_t left;
     int64_t row[2];
@@ -141,6 +143,7 @@ static void make_each_call(void)
     prefq_result results[] = {
         prefq_insert(table, more, 2, &id),       prefq_insert_many(table, more, 2, 2, &id),
         prefq_update(table, 1, more, 2),         prefq_commit(table, changes, 3, 2, &id),
+        prefq_update_many(table, ids, updates, 2, 2, &made),
         prefq_get(table, 1, row, 2),             prefq_room(table, &left),
         prefq_rows(table, 2, &answer, &count),   prefq_ask(table, 1, low, sizeof low - 1, &answer, &count),
         prefq_lines(table, "as 1 get 1\nas 9 room\n\nno command", 33, &replies, &length),
@@ -203,6 +206,70 @@ static void test_calls(void)
     EXPECT(answer[2] == 50 && prefq_get(table, 2, values, 2) == PREFQ_ENDED && strcmp(prefq_last_refusal()->text, "the table has ended") == 0);
     prefq_close(table);
     prefq_close(NULL);
+}
+
+static int has_row(prefq *table, uint64_t id, int64_t price, int64_t dist)
+{
+    int64_t row[2];
+    return prefq_get(table, id, row, 2) == PREFQ_OK && row[0] == price && row[1] == dist;
+}
+
+/* Updates one after the other, of which up to eight are made at one moment. */
+static void test_many_updates(void)
+{
+    enum { COUNT = 20 };
+    static const int64_t numbers[] = {0, 9, 10, 99, 100, 999, 1000, 9999, 10000, 99999, 100000, 12345678, -1, -10, -12345, INT64_MAX, INT64_MIN, 1000000000000, 7, 42};
+    uint64_t ids[COUNT], id;
+    int64_t rows[COUNT][2];
+    const int64_t *values[COUNT];
+    size_t made = 77;
+    prefq *table = open_hotels();
+    for (size_t row = 0; row < COUNT; row++) {
+        EXPECT(prefq_insert(table, hotels, 2, &id) == PREFQ_OK);
+        ids[row] = id;
+        rows[row][0] = numbers[row];
+        rows[row][1] = -numbers[row] / 10;
+        values[row] = rows[row];
+    }
+    EXPECT(prefq_update_many(table, ids, values, COUNT, 2, &made) == PREFQ_OK && made == COUNT);
+    for (size_t row = 0; row < COUNT; row++)
+        EXPECT(has_row(table, ids[row], rows[row][0], rows[row][1]));
+    /* Of two updates of one row the later one counts, also where they are next to one another. */
+    ids[4] = ids[3] = ids[1];
+    EXPECT(prefq_update_many(table, ids + 1, values + 4, 4, 2, &made) == PREFQ_OK && made == 4);
+    EXPECT(has_row(table, ids[1], rows[7][0], rows[7][1]) && has_row(table, ids[2], rows[5][0], rows[5][1]));
+    EXPECT(prefq_update_many(table, NULL, NULL, 0, 2, &made) == PREFQ_OK && made == 0);
+    prefq_close(table);
+}
+
+/* What is refused first refuses the call; what is refused behind other updates ends it. */
+static void test_refused_updates(void)
+{
+    uint64_t ids[] = {1, 2, 3, 1, 2, 99, 3};
+    const int64_t row[] = {4, 5}, other[] = {6, 7}, *values[] = {row, row, row, other, other, other, other};
+    size_t made = 77;
+    uint32_t left;
+    const prefq_setup small = {1, 4, 1, 1};
+    prefq *table;
+    EXPECT(prefq_open("price,dist", 10, hotels, 3, 2, &small, &table) == PREFQ_OK);
+    EXPECT(is_refused(prefq_update_many(table, ids, values, 7, 1, &made), PREFQ_TABLE, 5, -1, "width row 0"));
+    EXPECT(is_refused(prefq_update_many(table, ids, NULL, 7, 2, &made), PREFQ_ARGUMENTS, 0, -1, "the ids or the values are NULL"));
+    EXPECT(is_refused(prefq_update_many(table, NULL, values, 7, 2, &made), PREFQ_ARGUMENTS, 0, -1, "the ids or the values are NULL"));
+    EXPECT(is_refused(prefq_update_many(NULL, ids, values, 7, 2, &made), PREFQ_ARGUMENTS, 0, -1, "the table is NULL") && made == 77);
+    /* Three at one moment, since the fourth is again of the first row; then four, of which one is of no row. */
+    EXPECT(prefq_update_many(table, ids, values, 7, 2, &made) == PREFQ_OK && made == 3 && has_row(table, 1, 4, 5) && has_row(table, 3, 4, 5));
+    made = 77;
+    EXPECT(is_refused(prefq_update_many(table, ids + 3, values + 3, 4, 2, &made), PREFQ_CLIENT, 7, -1, "no such row 99"));
+    EXPECT(prefq_last_refusal()->amount == 99 && made == 77 && has_row(table, 1, 4, 5) && has_row(table, 3, 4, 5));
+    values[5] = NULL;
+    EXPECT(is_refused(prefq_update_many(table, ids + 3, values + 3, 4, 2, &made), PREFQ_ARGUMENTS, 0, -1, "the values are NULL") && has_row(table, 1, 4, 5));
+    /* A query that needs what ends leaves room for one more version: that of row 1, which is made anew where it stands. */
+    EXPECT(prefq_begin(table, 1, low, sizeof low - 1, &left) == PREFQ_OK);
+    EXPECT(prefq_update_many(table, (const uint64_t[]){1, 1, 1, 2}, values, 4, 2, &made) == PREFQ_OK && made == 2);
+    EXPECT(is_refused(prefq_update_many(table, ids + 1, values, 1, 2, &made), PREFQ_CLIENT, 8, -1, "full needed 5") && made == 2);
+    prefq_end(table);
+    EXPECT(prefq_update_many(table, ids, values, 1, 2, &made) == PREFQ_ENDED);
+    prefq_close(table);
 }
 
 static void test_openings(void)
@@ -327,15 +394,37 @@ static void *ask_until_the_end(void *given)
     return NULL;
 }
 
+/* Many updates, which the end of the table does not wait for. */
+static void *update_until_the_end(void *given)
+{
+    enum { COUNT = 100000 };
+    static uint64_t ids[COUNT];
+    static const int64_t *values[COUNT];
+    size_t made = 0;
+    prefq_result result;
+    for (size_t at = 0; at < COUNT; at++) {
+        ids[at] = 1 + at % 3;
+        values[at] = hotels;
+    }
+    do
+        result = prefq_update_many(given, ids, values, COUNT, 2, &made);
+    while (result == PREFQ_OK && made == COUNT);
+    EXPECT(result == PREFQ_ENDED);
+    return NULL;
+}
+
 static void test_end_beside_calls(void)
 {
-    prefq *table = open_hotels();
-    pthread_t thread;
-    EXPECT(pthread_create(&thread, NULL, ask_until_the_end, table) == 0);
-    usleep(20000);
-    prefq_end(table);
-    EXPECT(pthread_join(thread, NULL) == 0);
-    prefq_close(table);
+    static void *(*const each[])(void *table) = {ask_until_the_end, update_until_the_end};
+    for (size_t at = 0; at < sizeof each / sizeof *each; at++) {
+        prefq *table = open_hotels();
+        pthread_t thread;
+        EXPECT(pthread_create(&thread, NULL, each[at], table) == 0);
+        usleep(20000);
+        prefq_end(table);
+        EXPECT(pthread_join(thread, NULL) == 0);
+        prefq_close(table);
+    }
 }
 
 static void *use_one_table(void *given)
@@ -617,6 +706,8 @@ int main(int count, char **words)
         return 0;
     }
     test_calls();
+    test_many_updates();
+    test_refused_updates();
     test_openings();
     test_refusals();
     test_large_blocks();

@@ -5,7 +5,7 @@
 
 Half of the scripts are those of bench/random_scripts.py; the others have each command, with faults of each kind. Each script goes through the library twice: as
 lines, by prefq_lines, and command by command, by the call that each is, whose result is written as the program writes it. Stops at the first script on which
-the three differ."""
+the three differ. Beside each script random updates are made by one call, and by the commits that it stands for."""
 import argparse
 import random
 import re
@@ -132,6 +132,50 @@ def differs(library, program, script, options, r):
     return played, called, given
 
 
+def moments(ids):
+    """Where the updates of rows with these ids that are made at one moment begin and end."""
+    begin = 0
+    for at, id in enumerate(ids):
+        if at == begin + 8 or id in ids[begin:at]:
+            yield begin, at
+            begin = at
+    yield begin, len(ids)
+
+
+def by_commits(table, ids, rows):
+    """How many updates are made, and why the next ones are not."""
+    made = 0
+    for begin, made in moments(ids):
+        try:
+            table.commit([("update", id, row) for id, row in zip(ids[begin:made], rows[begin:made])])
+        except binding.Refused as why:
+            return begin, str(why)
+    return made, None
+
+
+def by_one_call(table, ids, rows):
+    """The same, by a call for all and one for those that are left."""
+    made = 0
+    try:
+        while made < len(ids):
+            made += table.update_many(ids[made:], rows[made:])
+    except binding.Refused as why:
+        return made, str(why)
+    return made, None
+
+
+def updates_differ(library, r):
+    """What is made of random updates of nine rows, where the two ways differ. A query that is open keeps what ends."""
+    ids = [r.choice([*range(1, 10), *([99] if r.random() < .1 else [])]) for _ in range(r.choice([1, 8, 9, 40]))]
+    rows, capacity, found = [[r.choice(VALUES), r.choice(VALUES)] for _ in ids], r.choice([9, 12, 20]), []
+    for way in (by_commits, by_one_call):
+        table = binding.Table(library, b"a,b\n" + b"1,1\n" * 9, 2, capacity=capacity)
+        table.begin(2, b"best low(a)")
+        found.append((way(table, ids, rows), table.rows(), table.room()))
+        table.close()
+    return None if found[0] == found[1] else (ids, rows, capacity, *found)
+
+
 def main():
     parser = argparse.ArgumentParser(description=__doc__, formatter_class=argparse.RawDescriptionHelpFormatter)
     parser.add_argument("library")
@@ -147,7 +191,10 @@ def main():
             for name, replies in zip(("play", "by calls", "by lines"), found):
                 print(f"== {name}\n{replies}")
             sys.exit(f"script {number} differs, with the options {' '.join(options)}:\n{script}")
-    print(f"{given.count} random scripts: the library gives what play gives, by its calls and by lines")
+        found = updates_differ(library, r)
+        if found:
+            sys.exit("updates differ: ids, rows, capacity, by commits, by one call:\n" + "\n".join(map(str, found)))
+    print(f"{given.count} random scripts: the library gives what play gives, by its calls and by lines; and as many lists of updates")
 
 
 main()
