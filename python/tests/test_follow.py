@@ -344,7 +344,7 @@ class Survives(OfSqlite):
         for dist in (3, 4):
             self.db.execute("update offers set dist = ?", (dist,))
             engine = frame._dealt.tables[0]._engine
-            engine._calls = Refusing(engine._calls, "prefq_commit")
+            engine._calls = Refusing(engine._calls, "prefq_update_many")
             self.assertEqual([(row.id, row.dist) for row in frame.best(QUESTION)], [(1, dist)])
             self.assertIsNot(frame._dealt.tables[0]._engine, engine)
 

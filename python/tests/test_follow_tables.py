@@ -90,6 +90,21 @@ class ManyTables(OfSqlite):
         self.assertEqual(len(frame), 8)
         self.assertEqual(sum(len(shard.keys) for shard in frame._dealt._shards), 8 + 1)     # that of the row that has just gone
 
+    def test_rows_for_whose_versions_a_table_has_no_room_go_to_another_one(self):
+        frame = self.offers(*((number, "x", number, number) for number in range(56)), capacity=64)
+        begun = frame._dealt.begin_all()
+        self.db.execute("update offers set price = price + 100")
+        self.assertEqual([row.price for row in frame.rows()], list(range(100, 156)))        # eight of them had room in their table
+        self.assertGreater(frame.tables, 1)
+        self.assertEqual(list(begun.pairs()), list(range(56)))
+
+    def test_many_rows_of_a_table_are_changed_by_several_calls(self):
+        frame = self.offers(*((number, "x", number, number) for number in range(56)), capacity=64)
+        self.db.execute("update offers set price = price + 100")
+        with unittest.mock.patch("prefq.dealt.TOGETHER", 16):
+            self.assertEqual([row.price for row in frame.rows()], list(range(100, 156)))
+        self.assertEqual(frame.tables, 1)
+
     def test_the_number_of_rows_behind_a_clearing_is_that_of_the_rows_that_came_since(self):
         frame = self.offers(*((number, "x", number, number) for number in range(12)), capacity=4)
         rows = {number: ("y", number, 1) for number in range(10, 15)}

@@ -13,9 +13,8 @@ from typing import Any, Callable, Collection, Deque, Dict, Iterable, List, Mappi
 
 from .checks import MOST_ROWS
 from .columns import Column
-from .engine import BYTES, VERBS
+from .engine import BYTES
 from .errors import Refused
-from .library import Change
 from .opened import Columns
 from .pauses import extended
 from .query import Query
@@ -28,7 +27,8 @@ Answer = TypeVar("Answer")
 FULL = ("client", 8)
 # How much of a table rows may fill, which leaves room for their next versions.
 FILLED = 7 / 8
-UPDATE = bytes(Change(VERBS["update"]))
+# How many rows of a table are updated by one call, for which other threads wait: some milliseconds.
+TOGETHER = 4096
 # A place is the number of a table, and in its last bits the id of a row there: one number takes less memory than two, and the collector passes over it.
 ID_BITS = 48
 IDS = (1 << ID_BITS) - 1
@@ -63,19 +63,20 @@ class Shard:
         """Gives the rows with these ids the numbers at these addresses. Returns the ids of those that had to be deleted in place of an update, since the table has no
         room for their new versions."""
         moved: List[int] = []
-        changes = array("Q", UPDATE * len(ids))     # of each its verb, the id, and where the numbers are
-        changes[1::3], changes[2::3] = array("Q", ids), array("Q", addresses)
-        first, update_together = changes.buffer_info()[0], self.table._engine.update_together
-        for begin in range(0, len(ids), IN_COMMIT):
+        of_rows, of_numbers = array("Q", ids), array("Q", addresses)
+        made, update_many = 0, self.table._engine.update_many
+        while made < len(ids):
+            at = made * BYTES
             try:
-                update_together(first + begin * len(UPDATE), min(IN_COMMIT, len(ids) - begin))
+                made += update_many(of_rows.buffer_info()[0] + at, of_numbers.buffer_info()[0] + at, min(TOGETHER, len(ids) - made))
             except Refused as why:
                 if (why.kind, why.number) != FULL:
                     raise
-                some = ids[begin:begin + IN_COMMIT]
+                some = ids[made:made + IN_COMMIT]
                 moved += some
-                for inside in some:
-                    self.table.delete(inside)
+                for id in some:
+                    self.table.delete(id)
+                made += len(some)
         return moved
 
 

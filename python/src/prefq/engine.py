@@ -188,9 +188,12 @@ class Engine:
         self._change(more, self._calls.prefq_commit, (self._pointer, made, len(changes), self._width, first))
         return first.value
 
-    def update_together(self, changes: int, count: int) -> None:
-        """Makes so many updates at one moment, which stand at this address one after the other."""
-        self._change(0, self._calls.prefq_commit, (self._pointer, changes, count, self._width, c_uint64()))
+    def update_many(self, ids: int, addresses: int, count: int) -> int:
+        """Makes so many updates one after the other, up to eight at one moment, and returns how many were made before one that is refused: the first one is made, or
+        raises. The ids stand at one address one after the other, and those of their values at another."""
+        made = c_size_t()
+        self._change(0, self._calls.prefq_update_many, (self._pointer, ids, addresses, count, self._width, made))
+        return made.value
 
     def get(self, id: int) -> List[int]:
         """The values of a row."""

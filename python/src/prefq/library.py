@@ -43,6 +43,7 @@ CALLS: Dict[str, List[Any]] = {
     "insert": [c_void_p, c_void_p, c_size_t, ID],
     "insert_many": [c_void_p, c_void_p, c_size_t, c_size_t, ID],
     "update": [c_void_p, c_uint64, c_void_p, c_size_t],
+    "update_many": [c_void_p, c_void_p, c_void_p, c_size_t, c_size_t, COUNT],
     "delete": [c_void_p, c_uint64],
     "commit": [c_void_p, c_void_p, c_size_t, c_size_t, ID],
     "get": [c_void_p, c_uint64, c_void_p, c_size_t],
