@@ -8,7 +8,8 @@ from array import array
 from collections import deque
 from concurrent.futures import ThreadPoolExecutor
 from contextlib import ExitStack
-from itertools import chain, islice
+from itertools import chain, islice, starmap
+from struct import Struct
 from typing import Any, Callable, Collection, Deque, Dict, Iterable, List, Mapping, NamedTuple, Optional, Sequence, Tuple, TypeVar, Union
 
 from .checks import MOST_ROWS
@@ -135,7 +136,7 @@ class Dealt(Columns):
             shard.table.delete(inside)
             self._has_gone(key)
         # All rows in turn, as they lie in memory: those of one table after the other lie far apart, and took several times as long.
-        numbers = array("q", list(chain.from_iterable(rows.values())))
+        numbers = array("q", b"".join(starmap(Struct(f"{len(self.below)}q").pack, rows.values())))
         there, new = self._by_shards(rows, numbers.buffer_info()[0])
         for shard, (ids, addresses) in zip(self._shards, there):
             for key in map(shard.keys.__getitem__, shard.update(ids, addresses)):
