@@ -1,6 +1,7 @@
 """Columns: what kind each is taken for, that values come back exactly, and what does not fit."""
 import csv
 import datetime
+import enum
 import io
 import random
 import struct
@@ -225,6 +226,22 @@ class Refusals(TestCase):
             prefq.Frame.from_records([{"x": 1}, {"x": None}, {"x": 1.25}], kinds={"x": "decimal(1)"})
         with self.refuses(ValueError, "line 4, column 'x' (whole): 'c' is no number"):
             from_text("x\n1\n2\nc\n", kinds={"x": "whole"})
+
+
+class ValuesOfOtherTypes(TestCase):
+    """Values of enumerations, of numpy and so on are the values that they equal, or are refused."""
+
+    def test_texts_whose_str_is_another_text(self):
+        class City(str, enum.Enum):
+            LYON = "Lyon"
+            BERN = "Bern"
+
+        for kinds in ({}, {"city": "text"}, {"city": "choice(Bern, Lyon)"}):
+            with self.subTest(kinds=kinds), prefq.Frame.from_records([{"city": City.LYON}, {"city": "Bern"}], kinds=kinds) as frame:
+                frame.insert({"city": City.BERN})
+                frame.insert_many([{"city": City.LYON}, {"city": "Lyon"}])
+                self.assertEqual([(type(row.city), row.city) for row in frame.rows()], [(str, text) for text in ("Lyon", "Bern", "Bern", "Lyon", "Lyon")])
+                self.assertEqual(frame.best(prefq.pos("city", City.LYON)).ids, [1, 4, 5])
 
 
 class WholeNumbersAtOnce(TestCase):

@@ -45,8 +45,8 @@ class Texts(Kind):
     def read_all(self, texts: Sequence[str]) -> List[int]:
         codes = self._codes
         with ADDING:
-            # Texts of numpy are of a type of their own.
-            new = list(map(str, filterfalse(codes.__contains__, dict.fromkeys(texts))))
+            # Texts of numpy and of enumerations are of types of their own, whose `str` may be another text.
+            new = list(map(str.__str__, filterfalse(codes.__contains__, dict.fromkeys(texts))))
             begin = len(self._texts) + 1
             self._texts += new
             codes.update(zip(new, range(begin, begin + len(new))))
