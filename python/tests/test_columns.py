@@ -6,6 +6,7 @@ import io
 import random
 import struct
 import unittest
+import warnings
 from decimal import Decimal
 from fractions import Fraction
 
@@ -242,6 +243,23 @@ class ValuesOfOtherTypes(TestCase):
                 frame.insert_many([{"city": City.LYON}, {"city": "Lyon"}])
                 self.assertEqual([(type(row.city), row.city) for row in frame.rows()], [(str, text) for text in ("Lyon", "Bern", "Bern", "Lyon", "Lyon")])
                 self.assertEqual(frame.best(prefq.pos("city", City.LYON)).ids, [1, 4, 5])
+
+    def test_what_numpy_makes_a_float_of_and_is_no_number(self):
+        try:
+            import numpy
+        except ImportError:
+            raise unittest.SkipTest("numpy is not installed")
+        some = [numpy.True_, numpy.array(True), numpy.array([5.0]), numpy.array([numpy.nan]), numpy.complex128(1), numpy.ma.masked, numpy.bytes_(b"1"), numpy.timedelta64(5, "ns")]
+        with prefq.Frame.from_records([{"x": 0.5}]) as frame, warnings.catch_warnings():
+            warnings.simplefilter("ignore")     # numpy warns of what it makes of some of them
+            for value in some:
+                with self.subTest(value=repr(value)):
+                    with self.refuses((TypeError, ValueError), "column 'x' (float)"):
+                        frame.insert({"x": value})
+                    with self.refuses((TypeError, ValueError), "row 1, column 'x' (float)"):
+                        prefq.Frame.from_records([{"x": value}], kinds={"x": "float"})
+            for value in (numpy.float32(0.25), numpy.int8(7), numpy.array(2.5), Fraction(3, 4), Decimal("1.5")):
+                self.assertEqual(frame.get(frame.insert({"x": value})).x, value)
 
 
 class WholeNumbersAtOnce(TestCase):

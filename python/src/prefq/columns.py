@@ -75,6 +75,8 @@ def is_missing(value: Any) -> bool:
         return value.is_nan()
     if type(value).__name__ in ("NAType", "NaTType"):
         return True
+    if getattr(value, "shape", ()):
+        return False        # an array, even of one number that is none
     try:
         return bool(value != value)
     except (TypeError, ValueError):

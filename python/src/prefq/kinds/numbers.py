@@ -165,10 +165,10 @@ class Floats(Number):
     def encode(self, value: Any) -> int:
         if isinstance(value, str):
             return self.read(value)
-        if isinstance(value, bool) or not hasattr(value, "__float__"):
+        if not is_number(value):
             raise TypeError(f"{value!r} is no number")
         number = float(value)
-        if number != value:
+        if not number == value:     # Of numpy's masked value, which is a float that is no number, neither is so.
             raise NotRead(f"{value} is no 64-bit float; give the column a kind such as 'whole' or 'decimal(2)'")
         return number_of_float(number)
 
@@ -192,6 +192,13 @@ def number_of_float(value: float) -> int:
     """The bits of a negative number are its amount and the sign bit; those of -0.0 are the sign bit alone, which gives 0 as 0.0 does."""
     bits: int = struct.unpack("<q", struct.pack("<d", value))[0]
     return bits if bits >= 0 else LEAST - bits
+
+
+def is_number(value: Any) -> bool:
+    """Whether a float can be a value of Python. It can be asked of truths, arrays and complex numbers of numpy as well, which are none."""
+    if isinstance(value, bool) or not hasattr(value, "__float__"):
+        return False
+    return getattr(getattr(value, "dtype", None), "kind", "f") in "iuf" and not getattr(value, "shape", ())
 
 
 def shown(value: Any) -> str:
