@@ -5,6 +5,7 @@ import enum
 import io
 import random
 import struct
+import time
 import unittest
 import warnings
 from decimal import Decimal
@@ -243,6 +244,17 @@ class ValuesOfOtherTypes(TestCase):
                 frame.insert_many([{"city": City.LYON}, {"city": "Lyon"}])
                 self.assertEqual([(type(row.city), row.city) for row in frame.rows()], [(str, text) for text in ("Lyon", "Bern", "Bern", "Lyon", "Lyon")])
                 self.assertEqual(frame.best(prefq.pos("city", City.LYON)).ids, [1, 4, 5])
+
+    def test_decimals_of_a_million_digits_are_refused_at_once(self):
+        begun = time.process_time()
+        with prefq.Frame.from_records([{"w": 1, "d": Decimal("0.5"), "f": 0.5}]) as frame:
+            for value in map(Decimal, ["1E+1000000", "-1E+999999999", "1E-1000000", "Infinity"]):
+                for name in "wd":
+                    with self.subTest(value=value, column=name), self.refuses(ValueError, f"column '{name}'", f"{value} is no number that fits"):
+                        frame.insert({name: value})
+            frame.insert({"w": Decimal("0E+1000000"), "d": Decimal("1E+4"), "f": Decimal("5E-1")})
+            self.assertEqual(tuple(frame.get(2).values()), (0, 10000, 0.5))
+        self.assertLess(time.process_time() - begun, 3)
 
     def test_what_numpy_makes_a_float_of_and_is_no_number(self):
         try:

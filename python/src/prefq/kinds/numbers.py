@@ -19,6 +19,8 @@ FLOAT = re.compile(f"{NUMBER.pattern}|{INFINITY.pattern}", re.IGNORECASE)
 # So many digits of a decimal number come back from a float. One that needs more of them is a result of floats, and not the number that somebody wrote.
 FLOAT_DIGITS = 15
 LONGEST_SHOWN = 60
+# As exact fractions, numbers of more digits before or behind the point take seconds, and no column has them.
+MOST_DIGITS = 10_000
 
 
 class Number(Kind):
@@ -214,6 +216,8 @@ def exact(value: Any) -> Fraction:
     """The exact number that a value of Python is. A float is the decimal number that is shown for it."""
     if isinstance(value, bool) or isinstance(value, str):
         raise TypeError(f"{value!r} is no number")
+    if isinstance(value, Decimal) and value and abs(value.adjusted()) > MOST_DIGITS:
+        raise NotRead(f"{shown(value)} is no number that fits")
     try:
         if isinstance(value, float) or type(value).__module__ == "numpy":
             return Fraction(str(value))
