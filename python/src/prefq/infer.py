@@ -137,8 +137,8 @@ def kind_of_values(name: str, values: Iterable[Any]) -> Kind:
     if types == {datetime.time}:
         return Clock()
     if types == {datetime.datetime}:
-        zones = {value.tzinfo for value in present}
-        return Times(zones.pop() if len(zones) == 1 else datetime.timezone.utc)
+        zone = present[0].tzinfo        # Those of dateutil have no hash.
+        return Times(zone if all(value.tzinfo == zone for value in present) else datetime.timezone.utc)
     names = " and ".join(sorted(kind if isinstance(kind, str) else kind.__name__ for kind in types))
     raise Refused(f"column {name!r} has values of {names}: a column has whole numbers, Decimals, floats, bools, dates, times or texts; "
                   "leave it out by columns=[..], or give it a kind by kinds={..}", "table")
