@@ -22,11 +22,13 @@ class Timestamps(Times):
         import numpy
         import pandas
         if isinstance(value, numpy.datetime64):
-            value = pandas.Timestamp(value)
+            found = value.astype("datetime64[ns]")
+            if found.astype(value.dtype) != value:
+                raise NotRead(f"{value} has parts of a nanosecond, or lies outside the years 1677 to 2262, which a time of pandas can have")
+            value = pandas.Timestamp(found)
         if isinstance(value, str) or not isinstance(value, datetime.datetime):
             return super().encode(value)
-        if (value.tzinfo is None) != (self.zone is None):
-            raise NotRead(f"{value} has {'a' if value.tzinfo else 'no'} time zone, other than the rest of the column")
+        self.check_moment(value)
         return int(pandas.Timestamp(value).value)
 
     def _whole(self, position: Fraction, value: Any) -> int:

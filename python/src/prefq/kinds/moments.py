@@ -136,9 +136,15 @@ class Times(Kind):
             return self.read(value)
         if not isinstance(value, datetime.datetime):
             raise TypeError(f"{value!r} is no date with a time")
+        self.check_moment(value)
+        return self._whole(Fraction(since_epoch(universal(value)) + getattr(value, "nanosecond", 0), self.nanoseconds), value)
+
+    def check_moment(self, value: datetime.datetime) -> None:
+        """Refuses a time with a zone where the column has none, or the other way round, and one that the clocks of its zone skip, which comes back as another."""
         if (value.tzinfo is None) != (self.zone is None):
             raise NotRead(f"{value} has {'a' if value.tzinfo else 'no'} time zone, other than the rest of the column")
-        return self._whole(Fraction(since_epoch(universal(value)) + getattr(value, "nanosecond", 0), self.nanoseconds), value)
+        if value.tzinfo is not None and universal(value).replace(tzinfo=datetime.timezone.utc).astimezone(value.tzinfo) != value:
+            raise NotRead(f"{value} is no moment: the clocks of {value.tzinfo} skip this time")
 
     def _whole(self, position: Fraction, value: Any) -> int:
         if position.denominator != 1:

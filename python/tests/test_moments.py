@@ -1,0 +1,64 @@
+"""Moments: times of zones, of numpy, and texts of formats, each of which comes back as it was given or is refused."""
+import datetime
+import unittest
+
+import prefq
+from prefq.kinds import kind_named
+from support import TestCase
+
+try:
+    import numpy
+    import pandas
+except ImportError:
+    pandas = None
+
+skip_without_pandas = unittest.skipIf(pandas is None, "pandas is not installed")
+
+
+class TimesOfZones(TestCase):
+    def test_a_time_that_the_clocks_skip_is_refused(self):
+        """Python takes it for a time of an hour later."""
+        from zoneinfo import ZoneInfo
+        berlin = ZoneInfo("Europe/Berlin")
+        skipped, before = datetime.datetime(2026, 3, 29, 2, 30, tzinfo=berlin), datetime.datetime(2026, 3, 29, 1, 59, 59, 999999, tzinfo=berlin)
+        twice = [datetime.datetime(2026, 10, 25, 2, 30, tzinfo=berlin, fold=fold) for fold in (0, 1)]
+        with self.refuses(ValueError, "row 2, column 'at' (time(Europe/Berlin)): 2026-03-29 02:30:00", "the clocks of Europe/Berlin skip this time"):
+            prefq.Frame.from_records([{"at": before}, {"at": skipped}])
+        for zone in ("Europe/Berlin", "UTC"):
+            with prefq.Frame.empty(["at"], {"at": f"time({zone})"}) as frame:
+                with self.refuses(ValueError, "skip this time"):
+                    frame.insert({"at": skipped})
+                frame.insert_many([{"at": value} for value in (before, *twice)])
+                self.assertEqual([row.at.timestamp() for row in frame.rows()], [value.timestamp() for value in (before, *twice)])
+
+    @skip_without_pandas
+    def test_a_skipped_time_beside_times_of_pandas(self):
+        from zoneinfo import ZoneInfo
+        with prefq.Frame.from_dataframe(pandas.DataFrame({"at": pandas.to_datetime(["2026-05-01"]).tz_localize("Europe/Berlin")})) as frame:
+            with self.refuses(ValueError, "skip this time"):
+                frame.insert({"at": datetime.datetime(2026, 3, 29, 2, 30, tzinfo=ZoneInfo("Europe/Berlin"))})
+            self.assertEqual(len(frame), 1)
+
+    @skip_without_pandas
+    def test_times_of_pytz_and_of_dateutil(self):
+        """A zone of pytz that was not localised has an offset of its own, by which it is a moment."""
+        import dateutil.tz
+        import pytz
+        berlin = pytz.timezone("Europe/Berlin")
+        some = [berlin.localize(datetime.datetime(2026, 10, 25, 2, 30), is_dst=is_dst) for is_dst in (True, False)] + [datetime.datetime(2026, 5, 1, tzinfo=berlin)]
+        some += [datetime.datetime(2026, 10, 25, 2, 30, fold=fold, tzinfo=dateutil.tz.gettz("Europe/Berlin")) for fold in (0, 1)]
+        with prefq.Frame.from_records([{"at": value} for value in some]) as frame:
+            self.assertEqual([row.at.timestamp() for row in frame.rows()], [value.timestamp() for value in some])
+
+
+@skip_without_pandas
+class TimesOfNumpy(TestCase):
+    def test_parts_of_a_nanosecond_and_years_beyond_are_refused(self):
+        with prefq.Frame.from_dataframe(pandas.DataFrame({"at": pandas.to_datetime(["2026-05-01"])})) as frame:
+            for text, unit in [("2026-01-01T00:00:00.0000000001", "ps"), ("1970-01-01T00:00:00.0000000000000001", "as"), ("3000-01-01", "D"), ("1600-01-01", "s"), ("9999", "Y")]:
+                with self.subTest(text=text), self.refuses(ValueError, "column 'at' (time)", "has parts of a nanosecond, or lies outside the years 1677 to 2262"):
+                    frame.insert({"at": numpy.datetime64(text, unit)})
+            taken = [numpy.datetime64("2026-01-01T00:00:00.000000001"), numpy.datetime64("2026", "Y"), numpy.datetime64("1970-01-01T00:00:00.000000001", "ps"), numpy.datetime64("NaT")]
+            ids = frame.insert_many([{"at": value} for value in taken])
+            found = [frame.get(id).at for id in ids]
+            self.assertEqual((found[:3], found[3]), (list(map(pandas.Timestamp, ["2026-01-01 00:00:00.000000001", "2026-01-01", "1970-01-01 00:00:00.000000001"])), None))
