@@ -62,3 +62,33 @@ class TimesOfNumpy(TestCase):
             ids = frame.insert_many([{"at": value} for value in taken])
             found = [frame.get(id).at for id in ids]
             self.assertEqual((found[:3], found[3]), (list(map(pandas.Timestamp, ["2026-01-01 00:00:00.000000001", "2026-01-01", "1970-01-01 00:00:00.000000001"])), None))
+
+
+class TextsOfFormats(TestCase):
+    TAKEN = [('date("%d%m%Y")', "01052026", "2026-05-01"), ('date("%Y%m%d")', "20260115", "2026-01-15"), ('date("%d%m%y")', "010526", "2026-05-01"), ('date("%d%m%y")', "01052026", "2026-05-01"),
+             ('date("%d.%m.%Y")', " 1.5.2026", "2026-05-01"), ('date("%d.%m.%Y")', "01.05.0069", "0069-05-01"), ('date("%d.%m.%y")', "1.5.69", "1969-05-01"), ('date("%d %b %Y")', "1 may 2026", "2026-05-01"),
+             ('date("%A, %d.%m.%Y")', "friday,  1.5.2026", "2026-05-01"), ('date("%d.%m.%Y %j")', "1.5.2026 121", "2026-05-01"), ('date("%d.%m.%Y%%Y")', "1.5.2026%Y", "2026-05-01"),
+             ('time("%d.%m.%Y %I:%M %p")', "1.5.2026 1:30 pm", "2026-05-01 13:30:00"), ('time("%d.%m.%Y %I:%M %p")', "01.05.2026 12:05 AM", "2026-05-01 00:05:00"),
+             ('time("%d.%m.%Y %H:%M %p")', "01.05.2026 13:30 PM", "2026-05-01 13:30:00"), ('time("%Y%m%d%H%M%S")', "20260501013005", "2026-05-01 01:30:05"),
+             ('time("%d.%m.%Y %H:%M:%S.%f")', "1.5.2026 1:30:05.05", "2026-05-01 01:30:05.050000"), ('time("%d.%m.%Y %H:%M:%S.%f")', "1.5.2026 1:30:05.000", "2026-05-01 01:30:05")]
+    REFUSED = [('date("%d%m%Y")', ["1052026", "152026", "1112026"]), ('date("%Y%m%d")', ["2026115", "202611"]), ('date("%d%m%y")', ["11526", "1052026"]), ('date("%A, %d.%m.%Y")', ["Monday, 01.05.2026"]),
+               ('date("%d.%m.%Y %j")', ["01.05.2026 001"]), ('time("%d.%m.%Y %H:%M %p")', ["01.05.2026 01:30 PM", "01.05.2026 13:30 AM"]),
+               ('time("%Y%m%d%H%M%S")', ["2026050113305", "202605011335"]), ('time("%d.%m.%Y %H:%M%S.%f")', ["01.05.2026 13:305.5"])]
+
+    def test_what_a_format_reads(self):
+        for spelling, text, value in self.TAKEN:
+            with self.subTest(kind=spelling, text=text):
+                kind = kind_named(spelling)
+                self.assertEqual(str(kind.decode(kind.read(text))), value)
+                self.assertEqual(kind.read(kind.text(kind.decode(kind.read(text)))), kind.read(text))
+
+    def test_a_text_that_may_mean_or_tells_of_another_moment_is_refused(self):
+        """A spreadsheet drops the zero in front of 01052026, and strptime takes 1052026 for the tenth of May."""
+        for spelling, texts in self.REFUSED:
+            for text in texts:
+                with self.subTest(kind=spelling, text=text), self.refuses(ValueError, f"{text!r} is no date"):
+                    kind_named(spelling).read(text)
+
+    def test_a_sign_that_stands_twice(self):
+        with self.refuses(prefq.Refused, "the format '%d.%m.%Y %Y' cannot be read: redefinition of group name", kind="table"):
+            kind_named('date("%d.%m.%Y %Y")')

@@ -2,7 +2,7 @@
 import datetime
 import re
 from fractions import Fraction
-from typing import Any, List, Optional, Sequence
+from typing import Any, List, Optional, Sequence, Union
 
 from .at_once import are_days
 from .kind import Kind, NotRead, quoted
@@ -12,6 +12,9 @@ HOURS = r"(\d\d:\d\d)(?:(:\d\d)(?:[.,](\d{1,9}))?)?"
 # Zones of before 1900 have seconds.
 MOMENT = re.compile(rf"(\d{{4}}-\d\d-\d\d)(?:[T ]{HOURS}\s*(Z|[+-]\d\d:?\d\d(?::\d\d)?)?)?", re.ASCII)
 TIME_OF_DAY = re.compile(HOURS, re.ASCII)
+# A sign of a format; and the numbers, the words and what else stands in a text.
+SIGN = re.compile("%.", re.DOTALL)
+WORD = re.compile(r"\d+|[^\W\d]+|[^\w\s]")
 EPOCH = datetime.datetime(1970, 1, 1)
 MICROSECOND = datetime.timedelta(microseconds=1)
 # A date and a time that tell apart what a format has; and one whose day may be a month.
@@ -20,7 +23,8 @@ TURNED = datetime.datetime(2031, 12, 11, 10, 9, 8, 7)
 
 
 class Format:
-    """The format of a date or a time, in the signs of Python's strptime, as %d.%m.%Y. Where it has a year of two digits, one of four is read too.
+    """The format of a date or a time, in the signs of Python's strptime, as %d.%m.%Y. Where it has a year of two digits, one of four is read too. A text that strptime
+    reads, and the format would write otherwise, but for zeros in front, blanks and the case of letters, is refused.
 
     What ISO 8601 writes is read beside it, unless the format has texts of that look for other dates.
     """
@@ -29,7 +33,7 @@ class Format:
         self.signs, self.what = signs, what
         try:
             back = datetime.datetime.strptime(SAMPLE.strftime(signs), signs)
-        except ValueError as why:
+        except (ValueError, re.error) as why:       # the second where a sign stands there twice
             raise ValueError(f"the format {signs!r} cannot be read: {why}") from None
         if back.date() != SAMPLE.date() or has_hours and back.hour != SAMPLE.hour or "%z" in signs.lower():
             raise ValueError(f"the format {signs!r} is not that of a {what}: it has %d, %m and %Y" + (" and %H" if has_hours else ""))
@@ -47,7 +51,7 @@ class Format:
 
     def written(self, value: Any) -> str:
         """The value as the format has it, where that says all of it, and else as ISO 8601 has it."""
-        text = str(value.strftime(self.signs.replace("%y", "%Y").replace("%Y", f"{value.year:04}")))
+        text = written_by(self.signs.replace("%y", "%Y"), value)
         back = self._parsed(text)
         plain = value.replace(tzinfo=None) if isinstance(value, datetime.datetime) else datetime.datetime.combine(value, datetime.time())
         return text if back == plain else str(value)
@@ -55,9 +59,11 @@ class Format:
     def _parsed(self, text: str) -> Optional[datetime.datetime]:
         for signs in dict.fromkeys((self.signs, self.signs.replace("%y", "%Y"))):
             try:
-                return datetime.datetime.strptime(text.strip(), signs)
+                found = datetime.datetime.strptime(text.strip(), signs)
             except ValueError:
                 continue
+            if says(text, found, signs):
+                return found
         return None
 
 
@@ -204,6 +210,25 @@ class Clock(Kind):
 
     def decode(self, number: int) -> datetime.time:
         return (EPOCH + number * MICROSECOND).time()
+
+
+def written_by(signs: str, value: datetime.date, fraction: str = "%f") -> str:
+    """What a format writes for a value, with four digits for any year, and such digits behind the second."""
+    own = {"%Y": f"{value.year:04}", "%f": fraction}
+    return value.strftime(SIGN.sub(lambda found: own.get(found[0], found[0]), signs))
+
+
+def says(text: str, value: datetime.datetime, signs: str) -> bool:
+    """Whether a text that strptime read by a format says nothing else than the value, as it does where digits run together, so that another date may be meant
+    (1052026 for 1 May), or where a weekday, the day of the year, or AM and PM tell of another one."""
+    digits = f"{value.microsecond:06}"
+    fractions = [digits[:count] for count in range(1, 7) if not digits[count:].strip("0")] if "%f" in signs else [""]
+    return any(words_in(written_by(signs, value, fraction)) == words_in(text) for fraction in fractions)
+
+
+def words_in(text: str) -> List[Union[int, str]]:
+    """The numbers, words and signs of a text: without blanks, zeros in front, and the case of letters."""
+    return [int(word) if word.isdecimal() else word.casefold() for word in WORD.findall(text)]
 
 
 def day(text: str) -> datetime.date:
