@@ -216,6 +216,16 @@ class Files(TestCase):
         self.assertEqual(self.reads(("\ufeff" + text).encode("utf-16-be")), [{"city": "Köln", "x": 1}])
         self.assertEqual(self.reads(text.encode("utf-16-le"), encoding="utf-16-le"), [{"city": "Köln", "x": 1}])
 
+    def test_a_mark_that_an_encoding_leaves(self):
+        """Behind it a name may stand in quotes."""
+        text, record = '\ufeff"city, land",x\n"Bern, CH",1\n', {"city, land": "Bern, CH", "x": 1}
+        for encoding in ("utf-8", "utf-16-le", "utf-32-be"):
+            self.assertEqual(self.reads(text.encode(encoding), encoding=encoding), [record])
+            self.assertEqual(self.reads(f"\ufeffOffers\n{text[1:]}".encode(encoding), encoding=encoding, skip=1), [record])
+        with from_text(text) as frame:
+            self.assertEqual([dict(row) for row in frame.rows()], [record])
+        self.assertEqual(self.reads('x,t\n1,\ufeffa\n'.encode()), [{"x": 1, "t": "\ufeffa"}])
+
     def test_packed(self):
         data = gzip.compress(b"city,x\nBern,1\n")
         self.assertEqual(self.reads(data), [{"city": "Bern", "x": 1}])

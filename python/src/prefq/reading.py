@@ -27,6 +27,7 @@ END_OF_LINE = re.compile(rb"[\n\r]")
 # Python's own limit for a cell, 131,072 letters, is too low for texts.
 LONGEST_CELL = 2**31 - 1
 MARKS = ((b"\xef\xbb\xbf", "utf-8-sig"), (b"\xff\xfe\x00\x00", "utf-32"), (b"\x00\x00\xfe\xff", "utf-32"), (b"\xff\xfe", "utf-16"), (b"\xfe\xff", "utf-16"))
+MARK = "\ufeff"
 ALL_BYTES = bytes(range(256))
 SEPARATOR_LINE = re.compile(r'"?sep=(?P<sign>.)"?\r?\n?', re.IGNORECASE)
 # What is done, how much of it, and of how much, which is 0 where nobody knows.
@@ -187,9 +188,11 @@ class Cells:
 
     @contextmanager
     def _stream(self) -> Iterator[IO[str]]:
-        """The lines behind those that are skipped. Where they are no text of the encoding, the file is refused."""
+        """The lines behind the mark of the encoding, if there is one, and those that are skipped. Where they are no text of the encoding, the file is refused."""
         with io.TextIOWrapper(self._content.open(), self._content.encoding, self._content.errors, newline="") as stream:
             try:
+                if stream.read(1) != MARK:      # which an encoding that is given, or the text of an open file, may have left
+                    stream.seek(0)
                 for _ in range(self._before):
                     next(stream, None)
                 yield stream
@@ -240,7 +243,7 @@ class Cells:
         """Takes the line `sep=;` that Excel reads, and the lines that are skipped; the delimiter that is given, or that the first rows show."""
         with self._content.open() as file:
             sample = file.read(SAMPLE_BYTES)
-        text = sample.decode(self._content.encoding, errors="ignore").lstrip("\ufeff")
+        text = sample.decode(self._content.encoding, errors="ignore").lstrip(MARK)
         lines = io.StringIO(text, newline="").readlines()[self._before:]
         said = SEPARATOR_LINE.fullmatch(lines[0]) if lines else None
         if said:
@@ -253,7 +256,6 @@ class Cells:
             cells = self._names_in(reader)
         if not cells:
             raise Refused(f"{self.what} is empty: its first line has the names of the columns", "table")
-        cells[0] = cells[0].lstrip("\ufeff")
         while len(cells) > 1 and is_blank(cells[-1]) and self._is_surplus(len(cells) - 1):
             cells.pop()
         return [cell.strip() or f"column {place}" for place, cell in enumerate(cells, 1)]
