@@ -90,6 +90,8 @@ class Numpy(TestCase):
             self.assertEqual(table.get(numpy.int32(1)), [5, 5])
             self.assertEqual(table.insert_many(numpy.arange(10).reshape(5, 2)), range(9, 14))
             self.assertEqual(table.get(13), [8, 9])
+        with prefq.Table(["price", "dist"], numpy.array([(5, 6)], "i8, u2")) as table:
+            self.assertEqual(table.get(1), [5, 6])
 
     def test_arrays_of_numpy_of_every_shape(self):
         """A table takes the same from an array as from its list."""
@@ -113,6 +115,19 @@ class Numpy(TestCase):
                 with self.refuses(exception, words):
                     table.insert_many(rows)
                 self.assertEqual(len(table), 0)
+
+    def test_times_of_numpy_are_no_whole_numbers(self):
+        """numpy makes whole numbers of those that are in nanoseconds, and of no others."""
+        for dtype in ("M8[ns]", "m8[ns]", "M8[s]", "m8[D]"):
+            for rows in (numpy.array([[5, 6]]).astype(dtype), numpy.array([(5, 6)], [("a", dtype), ("b", "i8")])):
+                with self.subTest(dtype=rows.dtype), hotels() as table:
+                    for call in (table.insert_many, lambda rows: prefq.Table(["price", "dist"], rows)):
+                        with self.refuses(TypeError, "row 1, column price is numpy."):
+                            call(rows)
+                    with self.assertRaises((prefq.Refused, TypeError, ValueError)):
+                        prefq.parts.best([prefq.parts.Partition(["price", "dist"], rows)], "best low(dist) & low(price)")
+        for rows in (numpy.array([[5, 6]]), numpy.array([(5, 6)], "i8, f4")):
+            self.assertEqual([list(row.values()) for row in prefq.parts.best([prefq.parts.Partition(["price", "dist"], rows)], "best low(price)")], [[5, 6]])
 
     def test_other_values_of_numpy(self):
         for row in (numpy.array([3.7, 4.2]), numpy.array([True, False]), [numpy.float64(3), 4], [numpy.bool_(True), 4], numpy.array(["3", "4"])):

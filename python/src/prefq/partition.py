@@ -8,6 +8,7 @@ from .kinds.forms import PLAIN, Form
 from .missing import Missing
 from .options import check_options
 from .reading import Dialect
+from .rows import listed_array
 
 CELLS = re.compile(r"[ \t]*[-+]?[0-9]+[ \t]*(?:,[ \t]*[-+]?[0-9]+[ \t]*)*")
 OPTIONS = ("kinds", "missing", "encoding", "delimiter", "decimal", "thousands", "skip", "null_padding")
@@ -103,7 +104,7 @@ def values_of_rows(partition: Partition) -> Iterator[Sequence[Any]]:
         if not isinstance(values, Sequence):
             if not hasattr(values, "tolist"):
                 raise TypeError(f"row {number} is {row!r}, of type {type(row).__name__}: not a list of values")
-            values = values.tolist()
+            values = listed_array(values) if hasattr(values, "__array_interface__") else values.tolist()
         if len(values) != width:
             raise ValueError(f"row {number}, {len(values)} values: not {width}, those of {', '.join(partition.columns)}")
         yield values

@@ -189,13 +189,27 @@ def in_pieces(rows: Any) -> Iterator[Any]:
 def _sliced(rows: Any) -> Iterator[Any]:
     # Arrays of numpy are taken apart in pieces. A slice of another thing with tolist, such as a series of pandas, may count by its labels.
     if hasattr(rows, "__array_interface__"):
-        return (rows[at:at + TOGETHER].tolist() for at in range(0, len(rows), TOGETHER))
+        return (listed_array(rows[at:at + TOGETHER]) for at in range(0, len(rows), TOGETHER))
     if hasattr(rows, "tolist"):
         rows = rows.tolist()
     if isinstance(rows, LISTS):
         return (rows[at:at + TOGETHER] for at in range(0, len(rows), TOGETHER))
     one_by_one = iter(rows)
     return iter(lambda: list(islice(one_by_one, TOGETHER)), [])
+
+
+def listed_array(values: Any) -> List[Any]:
+    """What an array of numpy has, or one of its records, as a list. numpy itself makes whole numbers of times in nanoseconds."""
+    if not has_times(values.dtype):
+        return values.tolist()  # type: ignore[no-any-return]
+    if values.ndim == 0:
+        return [values[name] for name in values.dtype.names]
+    return list(values) if values.ndim == 1 and not values.dtype.names else list(map(listed_array, values))
+
+
+def has_times(dtype: Any) -> bool:
+    """Whether values of this type of numpy, or fields of them, are times or distances of times."""
+    return dtype.kind in "mM" or any(has_times(dtype[name]) for name in dtype.names or ())
 
 
 def packed(rows: Any, columns: Sequence[str]) -> Packed:
