@@ -270,6 +270,9 @@ class ValuesOfOtherTypes(TestCase):
                         frame.insert({"x": value})
                     with self.refuses((TypeError, ValueError), "row 1, column 'x' (float)"):
                         prefq.Frame.from_records([{"x": value}], kinds={"x": "float"})
+            for value in (numpy.datetime64("2026-05-01"), numpy.timedelta64(5, "D"), numpy.complex128(1), numpy.bytes_(b"1")):
+                with self.refuses(prefq.Refused, f"column 'x' has values of {type(value).__name__}", kind="table"):
+                    prefq.Frame.from_records([{"x": value}])
             for value in (numpy.float32(0.25), numpy.int8(7), numpy.array(2.5), Fraction(3, 4), Decimal("1.5")):
                 self.assertEqual(frame.get(frame.insert({"x": value})).x, value)
 

@@ -13,7 +13,7 @@ from .kinds.at_once import MOST_DECIMALS, PlainTexts
 from .kinds.booleans import WORDS as WORDS_OF_TRUTH
 from .kinds.forms import NUMBER, PLAIN, Form
 from .kinds.moments import DAY, MOMENT, offset_of
-from .kinds.numbers import FLOAT, Number, are_in_range, decimals_of, whole_numbers
+from .kinds.numbers import FLOAT, Number, are_in_range, decimals_of, is_number, whole_numbers
 from .missing import WORDS, folded
 
 WHOLE = re.compile(r"[+-]?\d+")
@@ -165,7 +165,7 @@ def _type_of(value: Any) -> Any:
         return bool
     if hasattr(value, "__index__"):
         return int
-    return float if hasattr(value, "__float__") and type(value).__module__ == "numpy" else type(value).__name__
+    return float if type(value).__module__ == "numpy" and is_number(value) else type(value).__name__
 
 
 # ---- what is said of a column of texts that looks like another ----
