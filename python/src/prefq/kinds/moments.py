@@ -149,7 +149,7 @@ class Times(Kind):
         """Refuses a time with a zone where the column has none, or the other way round, and one that the clocks of its zone skip, which comes back as another."""
         if (value.tzinfo is None) != (self.zone is None):
             raise NotRead(f"{value} has {'a' if value.tzinfo else 'no'} time zone, other than the rest of the column")
-        if value.tzinfo is not None and universal(value).replace(tzinfo=datetime.timezone.utc).astimezone(value.tzinfo) != value:
+        if value.tzinfo is not None and is_skipped(value):
             raise NotRead(f"{value} is no moment: the clocks of {value.tzinfo} skip this time")
 
     def _whole(self, position: Fraction, value: Any) -> int:
@@ -300,6 +300,14 @@ def universal(value: datetime.datetime) -> datetime.datetime:
         return value if value.tzinfo is None else value.astimezone(datetime.timezone.utc).replace(tzinfo=None)
     except OverflowError:
         raise NotRead(f"{value} lies outside the years 1 to 9999") from None
+
+
+def is_skipped(value: datetime.datetime) -> bool:
+    """Whether the clocks of the zone of a time show its moment as another one."""
+    try:
+        return universal(value).replace(tzinfo=datetime.timezone.utc).astimezone(value.tzinfo) != value
+    except ValueError:
+        return False        # The zone does not say what its clocks show.
 
 
 def shown_by(local: datetime.datetime, zone: datetime.tzinfo) -> datetime.datetime:
