@@ -8,6 +8,7 @@ import select
 import socket
 import time
 import unittest
+from decimal import Decimal
 from unittest import mock
 
 from prefq import replies
@@ -50,6 +51,24 @@ class Sites(Served):
 
     def bindings(self):
         return [{}, {"host": "0.0.0.0"}, {"host": "127.0.0.2"}]
+
+
+class Numbers(TestCase):
+    def test_a_number_keeps_all_digits_that_it_is_sent_with(self):
+        """As floats 92233720368547758.07 would be 92233720368547760.00, and 1e400 infinite."""
+        sent = [("price", "92233720368547758.07"), ("price", "-12345678901234567.5"), ("price", "0.10"), ("dist", "9223372036854775807"), ("dist", "5e2"), ("stars", "4.9")]
+        with served([{"price": "1", "dist": 2, "stars": 4.5}], {"price": "decimal(2)", "dist": "whole", "stars": "float"}) as server:
+            def cells():
+                return dict(zip(["price", "dist", "stars"], picture(server, "best low(price)")[1]["best"][0]["cells"]))
+
+            for name, number in sent:
+                self.assertEqual(ask(server, "PUT", "/rows/1", f'{{"{name}": {number}}}'), (200, {"id": 1}))
+                self.assertEqual(Decimal(cells()[name]), Decimal(number))
+            for number, said in [("1e400", "column 'stars' (float)"), ("92233720368547758.07", "column 'stars' (float)"), ("NaN", "no JSON"), ("-Infinity", "no JSON")]:
+                status, shown = ask(server, "PUT", "/rows/1", f'{{"stars": {number}}}')
+                self.assertEqual(status, 400, number)
+                self.assertIn(said, shown["error"])
+            self.assertEqual(cells()["stars"], "4.9")
 
 
 class Names(TestCase):

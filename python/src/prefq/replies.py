@@ -21,9 +21,10 @@ import json
 import re
 import secrets
 import threading
+from decimal import Decimal
 from functools import partial
 from pathlib import Path
-from typing import Any, Callable, Dict, Iterable, List, Mapping, NamedTuple, Optional, Sequence, Tuple, Union
+from typing import Any, Callable, Dict, Iterable, List, Mapping, NamedTuple, NoReturn, Optional, Sequence, Tuple, Union
 from urllib.parse import parse_qs
 
 from . import pictures
@@ -31,6 +32,7 @@ from .columns import quoted, spelled
 from .desk import Changed, Desk
 from .errors import Error, Refused
 from .hosts import Hosts
+from .infer import first_inexact
 from .kinds import Choices, Texts
 from .pictures import ID, NUMBER, Asked
 
@@ -209,7 +211,7 @@ class Site:
     def _values(self, body: bytes) -> Dict[str, Any]:
         """Values by the names of columns."""
         try:
-            values = json.loads(body.decode())
+            values = json.loads(body.decode(), parse_float=number_of, parse_constant=no_number)
         except (ValueError, RecursionError):
             raise Wrong(400, "the body is no JSON") from None
         if not isinstance(values, dict):
@@ -234,6 +236,16 @@ class Site:
     def _column_of(self, why: Exception) -> Optional[str]:
         """The name of the column that refuses a value, None where it is not one."""
         return next((column.name for column in self.desk.columns if str(why).startswith(f"column {column.name!r} (")), None)
+
+
+def number_of(text: str) -> Union[float, Decimal]:
+    """A number of JSON: a float where that is shown as this number, else all of its digits, since a column may have them."""
+    return float(text) if first_inexact([text]) is None else Decimal(text)
+
+
+def no_number(text: str) -> NoReturn:
+    """Refuses NaN and Infinity, which Python reads, and JSON does not have."""
+    raise ValueError(f"{text} is no JSON")
 
 
 def headers(kind: str) -> List[Tuple[str, str]]:
