@@ -335,7 +335,8 @@ class ComesBack(TestCase):
     def test_read_in_parts(self):
         """The same kinds and values, however many rows are read at a time."""
         cells = {"a": ["1", "2.5", "NA", "", "7"], "b": ["NA", "none", "-", "x", ""], "c": ["1", "2", "x", "4", "NA"], "d": ["NA", "-", "", "none", "NA"], "e": ["yes", "", "NA", "no", "true"],
-                 "f": ["2026-05-01", "2026-05-01 10:00", "", "NA", "2026-05-02"], "g": ["9223372036854775807", "1", "0.5", "2", "3"], "h": ["1", "inf", "0.5", "NA", "1e300"]}
+                 "f": ["2026-05-01", "2026-05-01 10:00", "", "NA", "2026-05-02"], "g": ["9223372036854775807", "1", "0.5", "2", "3"], "h": ["1", "inf", "0.5", "NA", "1e300"],
+                 "i": ["1", "2", "1e3", "NA", "5"]}
         text = io.StringIO()
         csv.writer(text).writerows([cells, *zip(*cells.values())])
         found = []
@@ -343,7 +344,7 @@ class ComesBack(TestCase):
             with unittest.mock.patch("prefq.reading.CHUNK", chunk), from_text(text.getvalue()) as frame:
                 found.append((list(map(str, frame.columns)), frame.rows(), frame.notes))
         self.assertEqual(found[1:], found[:-1])
-        self.assertEqual([str(column.kind) for column in frame.columns], ["decimal(1)", "text", "text", "text", "bool", "time", "text", "float"])
+        self.assertEqual([str(column.kind) for column in frame.columns], ["decimal(1)", "text", "text", "text", "bool", "time", "text", "float", "decimal(0)"])
 
     def test_json_has_the_values_of_columns_that_no_question_names(self):
         done = run("ask", "-", "best low(x)", "--json", text="x,y,z\n1,2.50,NA\n")

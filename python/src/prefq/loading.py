@@ -9,7 +9,7 @@ from .columns import Column, listed
 from .errors import Refused
 from .hints import unknown_column
 from .infer import kind_of_texts, kind_of_values, plain_column
-from .kinds import Kind, Texts, Whole, kind_named
+from .kinds import Decimals, Kind, Texts, Whole, kind_named
 from .kinds.forms import PLAIN, Form
 from .kinds.numbers import Number, are_in_range
 from .missing import Missing, folded, note_of
@@ -339,7 +339,8 @@ def joined_kind(parts: Sequence[Part]) -> Optional[Kind]:
     words = any(part.words for part in parts if part.kind is None)
     if not kinds:
         return None if words else Texts()
-    widest = max(kinds, key=lambda kind: kind.decimals if isinstance(kind, Whole) else 0)
+    # Decimals without decimals, as of 1e3, are decimals beside whole numbers too.
+    widest = max(kinds, key=lambda kind: (kind.decimals, isinstance(kind, Decimals)) if isinstance(kind, Whole) else (0, False))
     if isinstance(widest, Whole):
         if not all(isinstance(kind, Whole) and kind.form == widest.form for kind in kinds) or not all(map(fits, parts, [widest] * len(parts))):
             return None
