@@ -17,8 +17,6 @@ from .kinds.numbers import FLOAT, Number, are_in_range, decimals_of, is_number, 
 from .missing import WORDS, folded
 
 WHOLE = re.compile(r"[+-]?\d+")
-# Such digits are a postal code or an article number: as a number they would lose their zeros.
-LEADING_ZERO = re.compile(r"[+-]?0\d+")
 # What numbers and dates begin with.
 FIRST_SIGNS = frozenset("0123456789+-.")
 # So many texts are looked at for what is said of a column.
@@ -38,7 +36,7 @@ def kind_of_texts(texts: Sequence[str], form: Form = PLAIN) -> Kind:
         return Booleans()
     plain = plain_numbers(found, form)
     if plain is not None:
-        return kind_of_numbers(plain) if not any(map(LEADING_ZERO.fullmatch, found)) else Texts()
+        return kind_of_numbers(plain) if not any(map(has_zero_in_front, found)) else Texts()
     if all(map(MOMENT.fullmatch, found)):
         return _kind_of_moments(found)
     return Texts()
@@ -94,6 +92,12 @@ def kind_of_numbers(texts: Sequence[str]) -> Kind:
         if decimals <= MOST_DECIMALS and max(abs(Decimal(text)) for text in texts) * 10**decimals <= MOST:
             return Decimals(decimals)
     return Floats() if first_inexact(texts) is None else Texts()
+
+
+def has_zero_in_front(text: str) -> bool:
+    """Whether these are digits of a postal code or an article number, in any script: as a number they would lose their zeros."""
+    digits = text.lstrip("+-")
+    return len(digits) > 1 and digits.isdecimal() and int(digits[0]) == 0
 
 
 def first_inexact(texts: Iterable[str]) -> Optional[str]:
@@ -189,7 +193,7 @@ def oddity(texts: Sequence[str], form: Form = PLAIN) -> Optional[str]:
 def _inner_oddity(texts: Sequence[str]) -> Optional[str]:
     """What keeps texts that all look like numbers or like dates from being such a column."""
     if all(map(FLOAT.fullmatch, texts)):
-        zero = next(filter(LEADING_ZERO.fullmatch, texts), None)
+        zero = next(filter(has_zero_in_front, texts), None)
         return f"{zero} begins with a zero" if zero else f"{_short(_first_too_great(texts))} does not fit 64 bits: the kind float rounds it"
     if all(map(MOMENT.fullmatch, texts)):
         zones = {bool(MOMENT.fullmatch(text)[5]) for text in texts}  # type: ignore[index]
