@@ -4,6 +4,7 @@ import datetime
 import enum
 import io
 import random
+import sqlite3
 import struct
 import time
 import unittest
@@ -244,6 +245,18 @@ class ValuesOfOtherTypes(TestCase):
                 frame.insert_many([{"city": City.LYON}, {"city": "Lyon"}])
                 self.assertEqual([(type(row.city), row.city) for row in frame.rows()], [(str, text) for text in ("Lyon", "Bern", "Bern", "Lyon", "Lyon")])
                 self.assertEqual(frame.best(prefq.pos("city", City.LYON)).ids, [1, 4, 5])
+
+    def test_two_values_of_one_name(self):
+        database = sqlite3.connect(":memory:")
+        database.row_factory = sqlite3.Row
+        rows = database.execute("select 60 as price, 90 as price, 2 as dist").fetchall()
+        with prefq.Frame.from_records([{"price": 1, "dist": 1}]) as frame:
+            for call in (frame.insert, lambda row: frame.update(1, row), lambda row: frame.insert_many([row]), lambda row: prefq.psel([row], "low(price)"), lambda row: prefq.Frame.from_records([row])):
+                with self.refuses(prefq.Refused, "two columns are called 'price'", kind="table"):
+                    call(rows[0])
+            self.assertEqual([dict(row) for row in frame.rows()], [{"price": 1, "dist": 1}])
+        self.assertEqual(prefq.psel(database.execute("select 60 as price, 2 as dist").fetchall(), "low(price)")[0], {"price": 60, "dist": 2})
+        database.close()
 
     def test_decimals_of_a_million_digits_are_refused_at_once(self):
         begun = time.process_time()

@@ -6,6 +6,7 @@ from typing import Any, Dict, List, Optional, Tuple
 from .columns import Column
 from .errors import Refused
 from .hints import unknown_column
+from .reading import check_names
 
 
 class Record(Dict[str, Any]):
@@ -56,7 +57,8 @@ def mapping_of(record: Any) -> Optional[Dict[str, Any]]:
     if isinstance(record, Mapping):
         return dict(record)
     if hasattr(record, "keys") and hasattr(record, "__getitem__"):
-        return {name: record[name] for name in record.keys()}       # such as a row of sqlite3
+        # Such as a row of sqlite3, which gives the first of two values of one name.
+        return {name: record[name] for name in check_names(record.keys())}
     if isinstance(record, tuple) and hasattr(record, "_asdict"):
         return dict(record._asdict())
     if dataclasses.is_dataclass(record) and not isinstance(record, type):
