@@ -1,6 +1,7 @@
 """Columns: what kind each is taken for, that values come back exactly, and what does not fit."""
 import csv
 import datetime
+import decimal
 import enum
 import io
 import random
@@ -52,6 +53,13 @@ class Kinds(TestCase):
         for values in ([1, "a"], [1.5, Decimal("1.5")], [True, 1], [datetime.date(2026, 5, 1), datetime.datetime(2026, 5, 1)], [[1]], [b"x"], [1j]):
             with self.subTest(values=values), self.refuses(prefq.Refused, "column 'x' has values of", "columns=[..]", kind="table"):
                 prefq.Frame.from_records([{"x": value} for value in values])
+
+    def test_in_a_program_whose_decimals_have_few_digits(self):
+        for texts, kind in [(["922337203685477580.7", "1e0"], "decimal(1)"), (["922337203685477580.9", "1e0"], "text"), (["-92233720368547758.07", "1e-2"], "decimal(2)")]:
+            for rounding in ("ROUND_DOWN", "ROUND_UP"):
+                with self.subTest(texts=texts, rounding=rounding), decimal.localcontext() as context:
+                    context.prec, context.rounding = 5, rounding
+                    self.assertEqual(str(kind_of_texts(texts)), kind)
 
     def test_named(self):
         for spelling in ("whole", "decimal(2)", "float", "bool", "date", "time", "text"):

@@ -13,7 +13,7 @@ from .kinds.at_once import MOST_DECIMALS, PlainTexts
 from .kinds.booleans import WORDS as WORDS_OF_TRUTH
 from .kinds.forms import NUMBER, PLAIN, Form
 from .kinds.moments import DAY, MOMENT, offset_of
-from .kinds.numbers import FLOAT, Number, are_in_range, decimals_of, is_number, whole_numbers
+from .kinds.numbers import FLOAT, WIDE, Number, are_in_range, decimals_of, is_number, whole_numbers
 from .missing import WORDS, folded
 
 WHOLE = re.compile(r"[+-]?\d+")
@@ -89,7 +89,7 @@ def kind_of_numbers(texts: Sequence[str]) -> Kind:
     elif all(map(NUMBER.fullmatch, texts)):
         has_exponents = any("e" in text or "E" in text for text in texts)
         decimals = max(map(decimals_of, texts)) if has_exponents else most_decimals(texts)
-        if decimals <= MOST_DECIMALS and max(abs(Decimal(text)) for text in texts) * 10**decimals <= MOST:
+        if decimals <= MOST_DECIMALS and max(Decimal(text).copy_abs() for text in texts) <= Decimal(MOST).scaleb(-decimals, WIDE):
             return Decimals(decimals)
     return Floats() if first_inexact(texts) is None else Texts()
 
