@@ -168,6 +168,15 @@ class Frames(TestCase):
         with self.refuses(prefq.Refused, "column 'x' has a category that its kind, time, does not have", "has parts of a microsecond", kind="table"):
             prefq.psel(pandas.DataFrame({"x": sizes}), "low(x)")
 
+    def test_sparse_columns(self):
+        values = {"whole": [1, 0, 0], "truth": [True, False, False], "float": [0.5, float("nan"), 0.0]}
+        dataframe = pandas.DataFrame({name: pandas.arrays.SparseArray(some) for name, some in values.items()})
+        with prefq.Frame.from_dataframe(dataframe) as opened:
+            self.assertEqual([str(column.kind) for column in opened.columns], ["whole", "bool", "float"])
+            pandas.testing.assert_frame_equal(opened.best("top_level 9 high(whole)").to_dataframe().drop(columns=".level"), dataframe)
+        for name, labels in (("whole", [1, 2]), ("truth", [1, 2]), ("float", [2])):
+            self.assertEqual(list(prefq.psel(dataframe, f"low({name})").index), labels)
+
     def test_records_are_no_dataframe(self):
         with self.refuses(TypeError, "records is of type DataFrame: not a list of records (from_dataframe takes a DataFrame)"):
             prefq.Frame.from_records(pandas.DataFrame({"x": [1]}))

@@ -68,6 +68,8 @@ def _by_type(series: Any, name: str) -> Tuple[Kind, Optional[List[int]]]:
     """The kind of a type of pandas, and the numbers of its values where they are found all at once."""
     import pandas
     types = pandas.api.types
+    if isinstance(series.dtype, pandas.SparseDtype):
+        series = series.sparse.to_dense()       # Not each type of such is made another one.
     if types.is_bool_dtype(series.dtype) and not isinstance(series.dtype, pandas.CategoricalDtype):
         return Booleans(), _numbers(series.astype("boolean"))
     if types.is_integer_dtype(series.dtype):
