@@ -75,10 +75,8 @@ def is_missing(value: Any) -> bool:
         return value.is_nan()
     if type(value).__name__ in ("NAType", "NaTType"):
         return True
-    if getattr(value, "shape", ()):
-        return False        # an array, even of one number that is none
     try:
-        return bool(value != value)
+        return bool(value != value) and not getattr(value, "shape", ())     # An array of one NaN is an array.
     except (TypeError, ValueError):
         return False
 

@@ -28,7 +28,7 @@ class Timestamps(Times):
             value = pandas.Timestamp(found)
         if isinstance(value, str) or not isinstance(value, datetime.datetime):
             return super().encode(value)
-        self.check_moment(value)
+        self.moment(value)      # which refuses some
         return int(pandas.Timestamp(value).value)
 
     def _whole(self, position: Fraction, value: Any) -> int:

@@ -62,7 +62,7 @@ class Format:
                 found = datetime.datetime.strptime(text.strip(), signs)
             except ValueError:
                 continue
-            if says(text, found, signs):
+            if says(text.strip(), found, signs):
                 return found
         return None
 
@@ -142,15 +142,17 @@ class Times(Kind):
             return self.read(value)
         if not isinstance(value, datetime.datetime):
             raise TypeError(f"{value!r} is no date with a time")
-        self.check_moment(value)
-        return self._whole(Fraction(since_epoch(universal(value)) + getattr(value, "nanosecond", 0), self.nanoseconds), value)
+        return self._whole(Fraction(since_epoch(self.moment(value)) + getattr(value, "nanosecond", 0), self.nanoseconds), value)
 
-    def check_moment(self, value: datetime.datetime) -> None:
-        """Refuses a time with a zone where the column has none, or the other way round, and one that the clocks of its zone skip, which comes back as another."""
+    def moment(self, value: datetime.datetime) -> datetime.datetime:
+        """A time as one of UTC, without its zone. One that has a zone where the column has none is refused, or the other way round, and one that the clocks of its zone
+        skip, which would come back as another."""
         if (value.tzinfo is None) != (self.zone is None):
             raise NotRead(f"{value} has {'a' if value.tzinfo else 'no'} time zone, other than the rest of the column")
-        if value.tzinfo is not None and is_skipped(value):
+        found = universal(value)
+        if value.tzinfo is not None and not isinstance(value.tzinfo, datetime.timezone) and is_shown_otherwise(found, value):
             raise NotRead(f"{value} is no moment: the clocks of {value.tzinfo} skip this time")
+        return found
 
     def _whole(self, position: Fraction, value: Any) -> int:
         if position.denominator != 1:
@@ -214,6 +216,8 @@ class Clock(Kind):
 
 def written_by(signs: str, value: datetime.date, fraction: str = "%f") -> str:
     """What a format writes for a value, with four digits for any year, and such digits behind the second."""
+    if value.year > 999 and fraction == "%f":
+        return value.strftime(signs)
     own = {"%Y": f"{value.year:04}", "%f": fraction}
     return value.strftime(SIGN.sub(lambda found: own.get(found[0], found[0]), signs))
 
@@ -221,6 +225,8 @@ def written_by(signs: str, value: datetime.date, fraction: str = "%f") -> str:
 def says(text: str, value: datetime.datetime, signs: str) -> bool:
     """Whether a text that strptime read by a format says nothing else than the value, as it does where digits run together, so that another date may be meant
     (1052026 for 1 May), or where a weekday, the day of the year, or AM and PM tell of another one."""
+    if written_by(signs, value) == text:
+        return True
     digits = f"{value.microsecond:06}"
     fractions = [digits[:count] for count in range(1, 7) if not digits[count:].strip("0")] if "%f" in signs else [""]
     return any(words_in(written_by(signs, value, fraction)) == words_in(text) for fraction in fractions)
@@ -302,10 +308,10 @@ def universal(value: datetime.datetime) -> datetime.datetime:
         raise NotRead(f"{value} lies outside the years 1 to 9999") from None
 
 
-def is_skipped(value: datetime.datetime) -> bool:
-    """Whether the clocks of the zone of a time show its moment as another one."""
+def is_shown_otherwise(moment: datetime.datetime, value: datetime.datetime) -> bool:
+    """Whether the clocks of the zone of a time show its moment, a time of UTC, as another time."""
     try:
-        return universal(value).replace(tzinfo=datetime.timezone.utc).astimezone(value.tzinfo) != value
+        return moment.replace(tzinfo=datetime.timezone.utc).astimezone(value.tzinfo) != value
     except ValueError:
         return False        # The zone does not say what its clocks show.
 

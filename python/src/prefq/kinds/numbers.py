@@ -167,7 +167,7 @@ class Floats(Number):
     def encode(self, value: Any) -> int:
         if isinstance(value, str):
             return self.read(value)
-        if not is_number(value):
+        if type(value) is not float and not is_number(value):
             raise TypeError(f"{value!r} is no number")
         number = float(value)
         if not number == value:     # Of numpy's masked value, which is a float that is no number, neither is so.
