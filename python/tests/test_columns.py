@@ -254,6 +254,29 @@ class ValuesOfOtherTypes(TestCase):
                 self.assertEqual([(type(row.city), row.city) for row in frame.rows()], [(str, text) for text in ("Lyon", "Bern", "Bern", "Lyon", "Lyon")])
                 self.assertEqual(frame.best(prefq.pos("city", City.LYON)).ids, [1, 4, 5])
 
+    def test_floats_that_show_fewer_digits_than_they_have(self):
+        class Price(float):
+            def __str__(self):
+                return f"{float(self):.2f}"
+
+        with prefq.Frame.empty(["x"], {"x": "decimal(3)"}) as frame:
+            self.assertEqual(frame.get(frame.insert({"x": Price(59.999)})).x, Decimal("59.999"))
+            with self.refuses(ValueError, "has more than 3 decimals"):
+                frame.insert({"x": Price(59.9999)})
+        with prefq.Frame.from_records([{"x": 5}]) as frame:
+            self.assertEqual(frame.get(frame.insert({"x": Price(0.125)})).x, Decimal("0.125"))
+
+    def test_floats_of_numpy_under_its_older_options(self):
+        try:
+            import numpy
+        except ImportError:
+            raise unittest.SkipTest("numpy is not installed")
+        with numpy.printoptions(legacy="1.13"):
+            column = Column("x", "decimal(18)")
+            for value, shown in [(numpy.float64(0.1 + 0.2), "0.30000000000000004"), (numpy.float32(1) / numpy.float32(3), "0.33333334"), (numpy.float16(0.1), "0.1"), (numpy.longdouble("0.25"), "0.25"),
+                                 (numpy.float32(5), "5"), (numpy.array(0.5), "0.5")]:
+                self.assertEqual(column.decode(column.encode(value)), Decimal(shown))
+
     def test_two_values_of_one_name(self):
         database = sqlite3.connect(":memory:")
         database.row_factory = sqlite3.Row

@@ -112,7 +112,7 @@ class Whole(Number):
             decimals = decimals_needed(value, self.form)
         except (ValueError, InvalidOperation):
             return None
-        if isinstance(value, float) and len(Decimal(str(value)).as_tuple().digits) > FLOAT_DIGITS:
+        if isinstance(value, float) and len(Decimal(digits_of(value)).as_tuple().digits) > FLOAT_DIGITS:
             return None
         return Decimals(decimals, self.form if self.has_own_form else None) if self.decimals < decimals <= MOST_DECIMALS else None
 
@@ -220,12 +220,22 @@ def exact(value: Any) -> Fraction:
         raise NotRead(f"{shown(value)} is no number that fits")
     try:
         if isinstance(value, float) or type(value).__module__ == "numpy":
-            return Fraction(str(value))
+            return Fraction(digits_of(value))
         return Fraction(value) if isinstance(value, (Decimal, Fraction)) else Fraction(operator.index(value))
     except (InvalidOperation, OverflowError, ValueError):
         raise NotRead(f"{shown(value)} is no number that fits") from None
     except TypeError:
         raise TypeError(f"{value!r} is no number") from None
+
+
+def digits_of(value: Any) -> str:
+    """The decimal number that Python shows for a value: for a float the shortest one that is read as it, whatever a class of its own, or an option of numpy, shows."""
+    if isinstance(value, float):
+        return float.__repr__(value)
+    if type(value).__module__ == "numpy" and value.dtype.kind == "f" and not value.shape:
+        import numpy
+        return str(numpy.format_float_scientific(value))
+    return str(value)
 
 
 def fraction_of(plain: str) -> Fraction:
@@ -239,7 +249,7 @@ def fraction_of(plain: str) -> Fraction:
 def decimals_needed(value: Any, form: Form) -> int:
     """How many decimals a column needs for a value, which may be a text of this form. No number of them is enough for 1/3."""
     if not isinstance(value, Fraction):
-        return decimals_of(value, form) if isinstance(value, str) else decimals_of(str(value))
+        return decimals_of(value, form) if isinstance(value, str) else decimals_of(digits_of(value))
     found = next((decimals for decimals in range(MOST_DECIMALS + 1) if 10**decimals % value.denominator == 0), None)
     if found is None:
         raise NotRead(f"{shown(value)} has more than {MOST_DECIMALS} decimals")
