@@ -54,7 +54,7 @@ class Sites(Served):
 
 
 class Numbers(TestCase):
-    def test_a_number_keeps_all_digits_that_it_is_sent_with(self):
+    def test_a_number_keeps_all_digits_that_it_is_sent_with_or_is_refused(self):
         """As floats 92233720368547758.07 would be 92233720368547760.00, and 1e400 infinite."""
         sent = [("price", "92233720368547758.07"), ("price", "-12345678901234567.5"), ("price", "0.10"), ("dist", "9223372036854775807"), ("dist", "5e2"), ("stars", "4.9")]
         with served([{"price": "1", "dist": 2, "stars": 4.5}], {"price": "decimal(2)", "dist": "whole", "stars": "float"}) as server:
@@ -68,6 +68,7 @@ class Numbers(TestCase):
                 status, shown = ask(server, "PUT", "/rows/1", f'{{"stars": {number}}}')
                 self.assertEqual(status, 400, number)
                 self.assertIn(said, shown["error"])
+            self.assertEqual(ask(server, "PUT", "/rows/1", '{"stars": 1, "dist": 2, "stars": 3}'), (400, {"error": "a name stands twice in an object of the body"}))
             self.assertEqual(cells()["stars"], "4.9")
 
 

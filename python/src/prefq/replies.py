@@ -211,7 +211,7 @@ class Site:
     def _values(self, body: bytes) -> Dict[str, Any]:
         """Values by the names of columns."""
         try:
-            values = json.loads(body.decode(), parse_float=number_of, parse_constant=no_number)
+            values = json.loads(body.decode(), parse_float=number_of, parse_constant=no_number, object_pairs_hook=object_of)
         except (ValueError, RecursionError):
             raise Wrong(400, "the body is no JSON") from None
         if not isinstance(values, dict):
@@ -246,6 +246,14 @@ def number_of(text: str) -> Union[float, Decimal]:
 def no_number(text: str) -> NoReturn:
     """Refuses NaN and Infinity, which Python reads, and JSON does not have."""
     raise ValueError(f"{text} is no JSON")
+
+
+def object_of(pairs: List[Tuple[str, Any]]) -> Dict[str, Any]:
+    """An object of JSON, of which Python keeps the last of two values of one name."""
+    found = dict(pairs)
+    if len(found) < len(pairs):
+        raise Wrong(400, "a name stands twice in an object of the body")
+    return found
 
 
 def headers(kind: str) -> List[Tuple[str, str]]:
