@@ -31,6 +31,8 @@ class Format:
 
     def __init__(self, signs: str, what: str, *, has_hours: bool) -> None:
         self.signs, self.what = signs, what
+        # The same with a year of four digits, where it has one of two alone.
+        self._long = signs if "%Y" in signs else signs.replace("%y", "%Y")
         try:
             back = datetime.datetime.strptime(SAMPLE.strftime(signs), signs)
         except (ValueError, re.error) as why:       # the second where a sign stands there twice
@@ -51,13 +53,13 @@ class Format:
 
     def written(self, value: Any) -> str:
         """The value as the format has it, where that says all of it, and else as ISO 8601 has it."""
-        text = written_by(self.signs.replace("%y", "%Y"), value)
+        text = written_by(self._long, value)
         back = self._parsed(text)
         plain = value.replace(tzinfo=None) if isinstance(value, datetime.datetime) else datetime.datetime.combine(value, datetime.time())
         return text if back == plain else str(value)
 
     def _parsed(self, text: str) -> Optional[datetime.datetime]:
-        for signs in dict.fromkeys((self.signs, self.signs.replace("%y", "%Y"))):
+        for signs in dict.fromkeys((self.signs, self._long)):
             try:
                 found = datetime.datetime.strptime(text.strip(), signs)
             except ValueError:
