@@ -207,6 +207,14 @@ class Frames(TestCase):
         self.assertEqual([str(dtype) for dtype in found.dtypes], ["int64", "int64", "object", "Int64", "float64"])
         self.assertEqual((list(found["small"]), list(found["kind"]), found["x"].isna().tolist(), list(found["f"])), ([1, 2, 300], ["a", "b", "c"], [False, False, True], [0.5, 1, 0.1]))
 
+    def test_whole_numbers_that_have_become_decimals(self):
+        for dtype in ("Int64", "UInt8", "int16", "Float32", "object"):
+            with self.subTest(dtype), prefq.Frame.from_dataframe(pandas.DataFrame({"x": pandas.Series([1, 2], dtype=dtype), "y": [1, 2]}), kinds={"x": "decimal(1)"}) as opened:
+                whole = opened.best("best low(y)").to_dataframe()
+                opened.insert({"x": "2.5", "y": 3})
+                found = opened.best("top_level 9 low(y)").to_dataframe()
+                self.assertEqual((str(whole.x.dtype), list(whole.x), list(found.x)), (dtype, [1], [1, 2, 2.5]))
+
     def test_nanoseconds(self):
         stamp = pandas.Timestamp("2026-05-01 10:00:00.123456789")
         with prefq.Frame.from_dataframe(pandas.DataFrame({"time": [stamp]})) as opened:

@@ -191,8 +191,13 @@ def _series(values: List[Any], column: Column, index: Any) -> Any:
                 found = pandas.Series(values, index=index, dtype=dtype)
         except (TypeError, ValueError, OverflowError):
             continue
-        if dtype is not column.dtype or dtype is not None and all(value is None or value == back for value, back in zip(values, found)):
+        if dtype is not column.dtype or dtype is not None and all(value is None or value == _of_python(back) for value, back in zip(values, found)):
             return found
+
+
+def _of_python(value: Any) -> Any:
+    """A scalar of numpy as Python's own: a Decimal is not compared with whole numbers of numpy."""
+    return value.item() if type(value).__module__ == "numpy" else value
 
 
 def _dtype(values: List[Any], column: Column) -> str:
