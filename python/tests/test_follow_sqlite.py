@@ -134,6 +134,45 @@ class Schemas(OfRooms):
         self.db.execute("delete from rooms where id is null")
         self.are(frame, ("b", 2, 20))
 
+    def test_a_key_that_becomes_null_beside_a_row_that_is_replaced(self):
+        """There are as many rows as before, and of the two others nothing is noted."""
+        frame = self.rooms(("a", 1, 10), ("b", 2, 20), ("c", 3, 30), schema="create table rooms (id text primary key, place int unique, price int)")
+        self.db.execute("update or replace rooms set id = null, place = 1 where id = 'b'")
+        with self.refuses(prefq.Refused, "table 'rooms' has a row with the key None", kind="follow"):
+            frame.rows()
+        self.db.execute("update rooms set id = 'd' where id is null")
+        self.are(frame, ("c", 3, 30), ("d", 1, 20))
+
+    def test_keys_that_are_equal_by_the_tables_comparison_alone(self):
+        frame = self.rooms(("a", 1, 10), ("B", 2, 20), schema="create table rooms (id text collate nocase, place int unique, price int, unique (id collate binary))")
+        self.db.execute("replace into rooms values ('b', 1, 5)")
+        self.are(frame, ("B", 2, 20), ("b", 1, 5))
+        for key in ("b", "B"):
+            self.db.execute("update rooms set price = price + 1 where id = ? collate binary", (key,))
+            frame.refresh()
+        self.are(frame, ("B", 2, 21), ("b", 1, 6))
+
+    def test_a_trigger_that_ends_what_notes_a_change(self):
+        frame = self.rooms((1, 10, 3), (2, 20, 4))
+        for event, change in (("insert", "insert into rooms values (3, 5, 0)"), ("update of price", "update rooms set price = 1 where id = 3"),
+                              ("delete", "delete from rooms where id = 3")):
+            with self.subTest(event=event):
+                self.db.execute(f'create trigger "it""s /*" after {event} on rooms begin select raise /* it */ ( IGNORE ); end')
+                self.db.execute(change)
+                with self.refuses(prefq.Refused, "table 'rooms' has the trigger 'it\"s /*', which by raise(ignore) ends", kind="follow"):
+                    frame.rows()
+                with self.refuses(prefq.Refused, "raise(ignore)", kind="follow"):
+                    self.followed("rooms")
+                self.db.execute('drop trigger "it""s /*"')
+                self.assertEqual([(row.id, *row.values()) for row in frame], self.db.execute("select * from rooms order by id").fetchall())
+
+    def test_a_trigger_that_ends_a_change_before_it_is_made(self):
+        frame = self.rooms((1, 10, 3), (2, 20, 4))
+        self.db.execute("create trigger before before update on rooms when new.price < 0 begin select raise(ignore); end")
+        self.db.execute("create trigger notes after update on rooms begin select raise(abort, 'raise(ignore)') where new.price = 0; end")
+        self.db.execute("update rooms set price = price - 15")
+        self.are(frame, (1, 10, 3), (2, 5, 4))
+
     def test_a_key_that_is_unique_no_more(self):
         self.db.execute("create table rooms (id integer, price int)")
         self.db.execute("create unique index by_id on rooms (id)")

@@ -4,10 +4,11 @@ There is one note for each key, with the number of its last change, so the notes
 all that was committed before, since SQLite has one writer at a time; so what is seen up to a number is what was seen at one moment.
 """
 import os
+import re
 import sqlite3
 import weakref
 from contextlib import closing
-from typing import Any, Callable, Dict, Iterator, List, Mapping, Optional, Sequence, Tuple, TypeVar
+from typing import Any, Callable, Dict, List, Mapping, Optional, Sequence, Tuple, TypeVar
 from urllib.parse import quote
 
 from .columns import Column
@@ -29,6 +30,10 @@ NOTES = "create table {notes} (number integer primary key autoincrement, key uni
 NOTE = "delete from {notes} where key = +{row}.{key}; insert into {notes} (key) values ({row}.{key});"
 NEW_KEY = "delete from {notes} where key = +new.{key} and not new.{key} = old.{key} collate binary; " \
           "insert into {notes} (key) select new.{key} where not new.{key} = old.{key} collate binary;"
+# What of a statement is quoted or a comment; and of a trigger whether it ends others, and runs before a change.
+QUOTED = re.compile(r"""'(?:[^']|'')*'|"(?:[^"]|"")*"|`(?:[^`]|``)*`|\[[^\]]*\]|--[^\n]*|/\*.*?(?:\*/|$)""", re.DOTALL)
+ENDS_OTHERS = re.compile(r"\braise\s*\(\s*ignore\b", re.IGNORECASE)
+RUNS_BEFORE = re.compile(r"create\s+trigger\s+[^\s.]+(?:\s*\.\s*[^\s.]+)?\s+before\b", re.IGNORECASE)
 
 
 class SqliteSource(Source):
@@ -90,23 +95,27 @@ class SqliteSource(Source):
             return Changes(place, False, {})
         notes, table, key = map(identifier, (self._notes, self.name, self._key))
         found = self._rows(f"select n.key, {self._names('t.')} from {notes} n left join {table} t on t.{key} = n.key where n.number > ?", since)
-        if any(row[0] is None for row in found):
+        # Of a key that has become null nothing is noted.
+        if any(row[0] is None for row in found) or self._rows(f"select 1 from {table} where {key} is null limit 1"):
             return None
         [(count,)] = self._rows(f"select count(*) from {table}")
-        return Changes(place, False, dict(self._changed(found)), count)
+        return Changes(place, False, self._changed(found), count)
 
     def _place(self) -> Optional[int]:
         """The last number; None where the schema is another one, after which SQLite does not say which values are what they were, nor whether all was noted."""
         return self._last() if self._version() == self._schema else None
 
-    def _changed(self, found: Sequence[Sequence[Any]]) -> Iterator[Tuple[Key, Optional[Cells]]]:
-        """The rows that are changed. By the table's own comparison another key may be equal to the one that is noted: then the noted one has gone."""
+    def _changed(self, found: Sequence[Sequence[Any]]) -> Dict[Key, Optional[Cells]]:
+        """The rows that are changed. By the table's own comparison other keys may be equal to the one that is noted: where it is none of them, it has gone."""
+        changed: Dict[Key, Optional[Cells]] = {}
         for row in found:
             noted, key = row[0], row[1]
             if key is not None:
                 self._checked(key)
             if isinstance(noted, (int, str)):
-                yield noted, row[2:] if type(key) is type(noted) and key == noted else None
+                is_there = type(key) is type(noted) and key == noted
+                changed[noted] = row[2:] if is_there else changed.get(noted)
+        return changed
 
     def _checked(self, key: Any) -> Key:
         if isinstance(key, (int, str)):
@@ -139,6 +148,14 @@ class SqliteSource(Source):
         there = types_of(self._db, table_named(self._db, self.name))
         check_columns(repr(self.name), self._followed, there, repr)
         self._check_key(there)
+        self._check_triggers()
+
+    def _check_triggers(self) -> None:
+        """Refuses a table with a trigger that runs behind a change, and by `raise(ignore)` ends those that have not run yet: what notes the change may be one of them."""
+        of_table = self._rows("select name, sql from sqlite_master where type = 'trigger' and tbl_name = ? collate nocase", self.name)
+        ends = next((name for name, sql in of_table if ENDS_OTHERS.search(plain(sql)) and not RUNS_BEFORE.match(plain(sql))), None)
+        if ends is not None:
+            raise Refused(f"table {self.name!r} has the trigger {ends!r}, which by raise(ignore) ends what notes a change: make it a trigger before the change", "follow")
 
     def _kinds(self) -> Dict[str, Column]:
         """The kinds of columns by their types, for those that have no values."""
@@ -277,6 +294,11 @@ def types_of(db: sqlite3.Connection, table: str) -> Dict[str, str]:
 def folded(name: str) -> bytes:
     """What names of SQLite are compared by: the letters of ASCII in small."""
     return name.encode(errors="surrogatepass").lower()
+
+
+def plain(statement: str) -> str:
+    """A statement without its comments, with a word in place of what is quoted."""
+    return QUOTED.sub(lambda found: " " if found[0].startswith(("--", "/*")) else " quoted ", statement)
 
 
 def as_made(statement: str) -> str:
