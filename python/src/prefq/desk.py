@@ -3,7 +3,10 @@
 A desk keeps the rows of its frame in Python too. Each change is made there and in the frame under one lock, and a query is begun under the same lock, so the rows
 and the answer of a picture are those of one version.
 """
-import threading
+import time
+from contextlib import suppress
+from functools import partial
+from queue import Empty, SimpleQueue
 from typing import Any, Callable, Dict, Iterable, List, Mapping, NamedTuple, Optional, Sequence, Tuple, TypeVar
 
 from .clients import locked
@@ -80,7 +83,7 @@ class Desk:
         self.version = 1
         self._frame: Any = frame        # or one that follows a table
         # The lock of the frame's own changes, so that none waits for a client while it holds that of the desk.
-        self._changed = threading.Condition(frame._changing)
+        self._lock = frame._changing
         self._closed = False
         # The versions in which the cells of a row changed last, by its id; none of a row that is as it came.
         self._since: Dict[int, Tuple[int, ...]] = {}
@@ -98,9 +101,9 @@ class Desk:
 
     def close(self) -> None:
         """Ends the frame, and wakes who waits for a change."""
-        with self._changed:
+        with self._lock:
             self._closed = True
-            self._wake()
+        self._wake()
         self._frame.close()
 
     @property
@@ -159,11 +162,19 @@ class Desk:
 
     def wait(self, seen: Optional[int], seconds: float) -> int:
         """The version, as soon as it is another than `seen`, but after this number of seconds at the latest."""
-        with self._changed:
-            self._changed.wait_for(lambda: self._closed or self.version != seen, seconds)
-            if self._closed:
-                raise Ended("the desk was closed", "closed")
-            return self.version
+        end = time.monotonic() + seconds
+        # It has no lock, which an interruption within a `Condition` would leave locked.
+        woken: "SimpleQueue[None]" = SimpleQueue()
+        stop = self.subscribe(partial(woken.put, None))
+        try:
+            while not self._closed and self.version == seen and time.monotonic() < end:
+                with suppress(Empty):
+                    woken.get(timeout=max(0.0, end - time.monotonic()))
+        finally:
+            stop()
+        if self._closed:
+            raise Ended("the desk was closed", "closed")
+        return self.version
 
     def read(self, text: str, selection: Selection = Selection()) -> Question:
         """The tree of a question, which is refused where it is wrong."""
@@ -177,14 +188,14 @@ class Desk:
             query = self._frame.begun(text, selection, waits=False) if selection.is_answered_by(question, columns) else None
             return question, columns, self.version, dict(self._rows), query
 
-        question, columns, version, rows, query = locked(self._changed, begun)
+        question, columns, version, rows, query = self._waking(lambda: locked(self._lock, begun))
         if query is None:
             return computed_picture(text, selection, version, columns, list(rows.values()))
         with query:
             found = query.answered()
         if not all(id in rows for _, id, _ in found.rows):
             # They were inserted beside the desk.
-            with self._changed:
+            with self._lock:
                 self._is_whole = False
             return self.picture(text, selection)
         return Picture(version, columns, list(rows.values()), [Found(level or 0, id, rows[id].numbers) for level, id, _ in found.rows], columns_in(question), tuple(found.unknown))
@@ -253,10 +264,9 @@ class Desk:
                 raise
             self.version += 1
             self._is_whole = True
-            self._wake()
             return result
 
-        found: Result = self._frame._change(made)
+        found: Result = self._waking(lambda: self._frame._change(made))
         return found
 
     def _look_again(self) -> None:
@@ -269,10 +279,17 @@ class Desk:
         self.version += 1
         self._since = {id: self._versions(id) if before.get(id) == row else (self.version,) * len(self.columns) for id, row in self._rows.items()}
         self._is_whole = True
-        self._wake()
+
+    def _waking(self, call: Callable[[], Result]) -> Result:
+        """A call, behind which those are woken who wait for another version. They may change rows themselves, so this has no lock."""
+        before = self.version
+        try:
+            return call()
+        finally:
+            if self.version != before:
+                self._wake()
 
     def _wake(self) -> None:
-        self._changed.notify_all()
         for call in list(self._subscribed):
             call()
 

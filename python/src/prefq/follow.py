@@ -5,9 +5,9 @@ place. The frame makes these changes at one moment, so that a question sees whol
 """
 import os
 import time
-from contextlib import contextmanager, suppress
+from contextlib import suppress
 from functools import partial
-from typing import Any, Callable, Iterator, List, Mapping, NamedTuple, Optional, Sequence, Tuple
+from typing import Any, Callable, Iterator, List, Mapping, NamedTuple, Optional, Sequence, Tuple, TypeVar
 
 from .answer import Answer
 from .checks import LEAST, MOST, seconds, whole
@@ -29,6 +29,7 @@ from .warned import warn_of
 from .why import explained, number_of
 
 Ask = Callable[[Dealt, str, Selection], Asked]
+Result = TypeVar("Result")
 TRIES = 3           # how often a call reads the table anew where its own were refused memory
 PAUSE = 0.002       # seconds between two looks at a place that is waited for
 INTERRUPTS = 0.05   # seconds between two interruptions of a call that waits for others
@@ -140,11 +141,13 @@ class Followed:
 
     def now(self) -> int:
         """The place behind all that the database has committed: with `at_least=frame.now()` a question sees what was committed before."""
-        with self._talking():
+        def found() -> int:
             place = self._source.now() if self._is_followed else None
             if place is None:
                 self._read_everything()
             return self.at if place is None else place
+
+        return self._talking(found)
 
     def refresh(self) -> int:
         """Takes in what the database has committed, and returns the place."""
@@ -244,26 +247,28 @@ class Followed:
         assert self._dealt is not None
         return self._dealt
 
-    @contextmanager
-    def _alone(self) -> Iterator[None]:
-        """A turn with the tables."""
-        self._check_process()
-        with self._with_tables.taken():
+    def _alone(self, call: Callable[[], Result]) -> Result:
+        """A call in its turn with the tables."""
+        def made() -> Result:
             self._check_open()
-            yield
+            return call()
 
-    @contextmanager
-    def _talking(self, until: Optional[float] = None) -> Iterator[None]:
-        """A turn with the source, which may wait for others until then. What the end of the frame interrupts has ended."""
         self._check_process()
-        with self._with_source.taken(until):
+        return self._with_tables.taken(made)
+
+    def _talking(self, call: Callable[[], Result], until: Optional[float] = None) -> Result:
+        """A call in its turn with the source, which may wait for others until then. What the end of the frame interrupts has ended."""
+        def made() -> Result:
             self._check_open()
             self._source.until = until
             try:
-                yield
+                return call()
             except Exception:
                 self._check_open()
                 raise
+
+        self._check_process()
+        return self._with_source.taken(made, until)
 
     def _check_process(self) -> None:
         if not self._is_ours():
@@ -281,10 +286,10 @@ class Followed:
             try:
                 if not is_there:
                     self._catch_up(until)
-                with self._alone():
-                    if self._is_whole:
-                        return call(self._tables)
-                    is_there = False
+                found = self._alone(lambda: [call(self._tables)] if self._is_whole else [])
+                if found:
+                    return found[0]
+                is_there = False
             except Ended:
                 self._is_whole = False
                 if last or self._is_closed:
@@ -316,9 +321,8 @@ class Followed:
         """Waits until the rows are those of this place or a later one."""
         end = time.monotonic() + seconds
         while True:
-            with self._alone():
-                if self._is_whole and self.at >= place:
-                    return
+            if self._alone(lambda: self._is_whole and self.at >= place):
+                return
             if self._surviving(lambda _: self.at, until=end) >= place:
                 return
             if time.monotonic() >= end:
@@ -327,32 +331,34 @@ class Followed:
 
     def _catch_up(self, until: Optional[float] = None) -> None:
         """Takes in what has changed, or everything. Calls with a place that is there go on while the database is waited for."""
-        with self._talking(until):
+        def caught_up() -> None:
             changes = self._source.changes(self.at) if self._is_whole and self._is_followed and not self._tables.is_outgrown() else None
-            if changes is None or not self._take(changes):
+            if changes is None or not self._alone(partial(self._take, changes)):
                 self._read_everything()
 
+        self._talking(caught_up, until)
+
     def _take(self, changes: Changes) -> bool:
-        """Makes these changes; False where everything has to be read: a kind that was taken from the values has to be another one, or rows have gone unseen."""
-        with self._alone():
-            dealt = self._tables
-            try:
-                rows = numbers_of_rows(dealt, {key: cells for key, cells in changes.rows.items() if cells is not None})
-            except (TypeError, ValueError):
-                return False        # where it is refused, if need be
-            gone = [key for key, cells in changes.rows.items() if cells is None]
-            count = len(rows) if changes.is_cleared else dealt.count_with(rows, gone)
-            if changes.total not in (None, count):
-                return False
-            self._is_whole = False
-            if changes.is_cleared:
-                dealt.clear()
-            if changes.rows:
-                dealt.change(rows, gone)
-            if changes.rows or changes.is_cleared:
-                self.version += 1
-            self.at, self._is_whole = changes.place, True
-            return True
+        """Makes these changes, in a turn with the tables; False where everything has to be read: a kind that was taken from the values has to be another one, or rows
+        have gone unseen."""
+        dealt = self._tables
+        try:
+            rows = numbers_of_rows(dealt, {key: cells for key, cells in changes.rows.items() if cells is not None})
+        except (TypeError, ValueError):
+            return False        # where it is refused, if need be
+        gone = [key for key, cells in changes.rows.items() if cells is None]
+        count = len(rows) if changes.is_cleared else dealt.count_with(rows, gone)
+        if changes.total not in (None, count):
+            return False
+        self._is_whole = False
+        if changes.is_cleared:
+            dealt.clear()
+        if changes.rows:
+            dealt.change(rows, gone)
+        if changes.rows or changes.is_cleared:
+            self.version += 1
+        self.at, self._is_whole = changes.place, True
+        return True
 
     def _read_everything(self) -> None:
         """Reads the table, and opens tables with its rows in place of those before. Until then these stay as they are."""
@@ -362,12 +368,15 @@ class Followed:
         values = list(zip(*(found.rows[key] for key in keys))) or [()] * len(self._source.columns)
         columns = [self._column(name, values[place], found.kinds.get(name), keys) for place, name in enumerate(self._source.columns)]
         dealt = Dealt([column for column, _ in columns], keys, Zipped([numbers for _, numbers in columns]), self._options)
+
+        def takes() -> None:
+            self._is_whole = False
+            self._dealt, self.at = dealt, found.place
+            self.version += 1
+            self._is_whole = self._is_followed = True
+
         try:
-            with self._alone():
-                self._is_whole = False
-                self._dealt, self.at = dealt, found.place
-                self.version += 1
-                self._is_whole = self._is_followed = True
+            self._alone(takes)
         finally:
             if self._dealt is not dealt:
                 dealt.close()

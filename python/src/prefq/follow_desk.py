@@ -1,5 +1,6 @@
 """The rows of a table of a database on a page: what `prefq.server` and `prefq.asgi` show, while other programs change the rows there."""
 import threading
+import time
 from typing import Any, Callable, Dict, List, Mapping, Optional, Sequence
 
 from .columns import Column
@@ -30,10 +31,9 @@ class FollowedDesk(Desk):
         if frame.clients < QUESTIONS_OF_A_PICTURE:
             raise Refused(f"a picture asks {QUESTIONS_OF_A_PICTURE} questions at once: follow the table with clients={QUESTIONS_OF_A_PICTURE} or more", "arguments")
         self._frame = frame
-        self._changed = threading.Condition()
+        self._lock = threading.RLock()
         self._closed = False
         self._subscribed: List[Callable[[], None]] = []
-        self._end = threading.Event()
         self._is_readable = True
         self._turns = 0         # how often the table could be read no more, or again
         self._show(frame.version, frame.columns)
@@ -41,10 +41,9 @@ class FollowedDesk(Desk):
 
     def close(self) -> None:
         """Ends the frame, and wakes who waits for a change."""
-        with self._changed:
+        with self._lock:
             self._closed = True
-            self._wake()
-        self._end.set()
+        self._wake()
         self._frame.close()
 
     def __len__(self) -> int:
@@ -73,7 +72,10 @@ class FollowedDesk(Desk):
 
     def _follow(self) -> None:
         """Wakes those who watch where the rows have changed, cannot be read any more, or can be read again. Why they cannot is said to who asks for a picture."""
-        while not self._end.wait(PAUSE):
+        while True:
+            time.sleep(PAUSE)
+            if self._closed:
+                return
             try:
                 self._frame.refresh()
             except Exception as why:
@@ -85,7 +87,7 @@ class FollowedDesk(Desk):
                 self._see(self._frame.version, self._frame.columns)
 
     def _turn(self, is_readable: bool) -> None:
-        with self._changed:
+        with self._lock:
             if is_readable != self._is_readable:
                 self._is_readable = is_readable
                 self._turns += 1
@@ -93,7 +95,7 @@ class FollowedDesk(Desk):
                 self._wake()
 
     def _see(self, version: int, columns: Sequence[Column]) -> None:
-        with self._changed:
+        with self._lock:
             if version + self._turns > self.version:
                 self._show(version, columns)
                 self._wake()

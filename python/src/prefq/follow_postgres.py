@@ -6,9 +6,9 @@ another frame reads the table anew.
 import sys
 import time
 from concurrent.futures import ThreadPoolExecutor, wait
-from contextlib import contextmanager, suppress
+from contextlib import suppress
 from datetime import timezone
-from typing import Any, Collection, Dict, Iterator, List, Optional, Sequence, Tuple
+from typing import Any, Callable, Collection, Dict, List, Optional, Sequence, Tuple, TypeVar
 from uuid import uuid4
 
 from .checks import MOST, whole
@@ -23,6 +23,7 @@ from .kinds import Booleans, Clock, Dates, Decimals, Floats, Kind, Texts, Times,
 from .kinds.at_once import MOST_DECIMALS
 from .loading import chosen
 
+Result = TypeVar("Result")
 OLDEST = 130_000
 TRIES = 3
 SETTINGS = {"datestyle": "ISO, YMD", "timezone": "UTC", "extra_float_digits": "1", "synchronous_commit": "on"}
@@ -73,34 +74,24 @@ class PostgresSource(Source):
             raise
 
     def everything(self) -> Everything:
-        with self._talking():
-            self._connect_if_closed()
-            for _ in range(TRIES):
-                schema = self._checked()
-                self._begin_slot()
-                rows = self._snapshot()
-                log = self._log(self._brought_to_disk())
-                found = with_log(rows, log)
-                if found is not None and self._checked() == schema:
-                    self._given, self._schema = log.place, schema
-                    return Everything(log.place, self._kinds(list(found.values())), found)
-        raise Refused(f"table {self.name} was changed {TRIES} times while it was read: ask again", "follow")
+        return self._talking(self._everything)
 
     def changes(self, since: int) -> Optional[Changes]:
         if since != self._given or not self._slot or self._db.closed:
             return None
         self._given = -1        # What is read from the slot is not there again.
-        with self._talking():
-            log = self._log(self._place("pg_current_wal_flush_lsn()"))
-            if not log.is_clear or not self._is_as_it_was():
-                return None
+        log = self._talking(lambda: self._log(self._place("pg_current_wal_flush_lsn()")))
+        if not log.is_clear or not self._talking(self._is_as_it_was):
+            return None
         self._given = log.place
         return Changes(log.place, log.is_cleared, log.rows)
 
     def now(self) -> int:
-        with self._talking():
+        def found() -> int:
             self._connect_if_closed()
             return self._brought_to_disk()
+
+        return self._talking(found)
 
     def place(self, given: Any) -> int:
         return place_of(given) if isinstance(given, str) else whole(given, "at_least", 0, MOST)
@@ -112,13 +103,25 @@ class PostgresSource(Source):
     def close(self) -> None:
         self._db.close()
 
+    def _everything(self) -> Everything:
+        self._connect_if_closed()
+        for _ in range(TRIES):
+            schema = self._checked()
+            self._begin_slot()
+            rows = self._snapshot()
+            log = self._log(self._brought_to_disk())
+            found = with_log(rows, log)
+            if found is not None and self._checked() == schema:
+                self._given, self._schema = log.place, schema
+                return Everything(log.place, self._kinds(list(found.values())), found)
+        raise Refused(f"table {self.name} was changed {TRIES} times while it was read: ask again", "follow")
+
     # ---- the connection ----
 
-    @contextmanager
-    def _talking(self) -> Iterator[None]:
-        """A connection on which something went wrong, or that was interrupted, is not used again."""
+    def _talking(self, call: Callable[[], Result]) -> Result:
+        """A call of the connection, which is not used again where something went wrong, or was interrupted."""
         try:
-            yield
+            return call()
         except Refused:
             raise
         except BaseException:

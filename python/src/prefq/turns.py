@@ -1,11 +1,11 @@
 """Calls that any thread makes, and that have to be made one after the other."""
 import threading
 import time
-from contextlib import contextmanager
-from typing import Iterator, Optional
+from typing import Callable, Optional, TypeVar
 
 from .errors import Refused
 
+Result = TypeVar("Result")
 LOOK = 0.002        # seconds between two looks whether another call has ended
 
 
@@ -16,9 +16,9 @@ class Turns:
         self.lock = threading.RLock()
         self._thread: Optional[int] = None      # whose turn it is
 
-    @contextmanager
-    def taken(self, until: Optional[float] = None) -> Iterator[None]:
-        """A turn, or a refusal where another call has not ended by then. The lock itself is taken by `with`, in whose middle no signal handler runs."""
+    def taken(self, call: Callable[[], Result], until: Optional[float] = None) -> Result:
+        """Makes a call in its turn, or refuses it where another one has not ended by then. The lock is taken by `with` itself: one that a context manager written in
+        Python takes stays locked where a signal handler raises at its begin or its end."""
         while until is not None and self.is_of_another():
             if time.monotonic() >= until:
                 raise Refused("another call, which reads the table, has not ended meanwhile", "follow")
@@ -26,9 +26,9 @@ class Turns:
         with self.lock:
             if self._thread is not None:
                 raise Refused("a call is under way in this thread", "client")
-            self._thread = threading.get_ident()
             try:
-                yield
+                self._thread = threading.get_ident()
+                return call()
             finally:
                 self._thread = None
 

@@ -1,0 +1,100 @@
+"""Interruptions whose exception is kept, as `sys.last_traceback` keeps that of Ctrl-C: no lock stays locked as long as its traceback is there."""
+import contextlib
+import os
+import sqlite3
+import sys
+import tempfile
+import threading
+import unittest
+from pathlib import Path
+
+import prefq
+from prefq.desk import Desk
+from prefq.follow_desk import FollowedDesk
+from support import TestCase
+from test_interruptions import PACKAGE, Interrupter, Interruption, places_of
+
+SOON = 10
+QUESTION = "best low(x)"
+OF_PYTHON = {contextlib.__file__, threading.__file__}
+SINCE_3_11 = unittest.skipIf(sys.version_info < (3, 11), "where Python calls signal handlers is known of 3.11 and later")
+
+
+class InterrupterOfPython(Interrupter):
+    """Raises at the n-th place of what Python itself has of locks and of context managers, where the package calls it."""
+
+    def __call__(self, frame, event, _):
+        file = frame.f_code.co_filename
+        if os.path.dirname(file) != PACKAGE and file not in OF_PYTHON:
+            return None
+        frame.f_trace_opcodes = file in OF_PYTHON
+        if event == "opcode" and frame.f_lasti in places_of(frame.f_code):
+            self.left -= 1
+            if self.left == 0:
+                self.where = f"{os.path.basename(file)}, line {frame.f_lineno}"
+                self.interrupts()
+        return self
+
+
+def frame():
+    return prefq.Frame.from_records([{"x": 1, "y": 1}, {"x": 2, "y": 2}])
+
+
+class GoesOn(TestCase):
+    """Wherever a call is interrupted, another thread goes on, while the exception is kept."""
+
+    def goes_on(self, make, call, other):
+        counted = InterrupterOfPython(-1)
+        counted.runs(lambda: call(make()))
+        for place in range(1, -counted.left):
+            thing, interrupter, kept = make(), InterrupterOfPython(place), []
+            try:
+                interrupter.runs(lambda: call(thing))
+            except Interruption as why:
+                kept.append(why)
+            thread = threading.Thread(target=other, args=[thing], daemon=True)
+            thread.start()
+            thread.join(SOON)
+            with self.subTest(interrupter.where):
+                self.assertFalse(thread.is_alive(), "a lock is lost")
+            if thread.is_alive():
+                return
+            thing.close()
+
+
+@SINCE_3_11
+class Kept(GoesOn):
+    def test_a_picture_of_a_desk(self):
+        self.goes_on(lambda: Desk(frame()), lambda desk: desk.picture(QUESTION), lambda desk: desk.insert({"x": 0}))
+
+    def test_a_desk_that_is_closed(self):
+        self.goes_on(lambda: Desk(frame()), Desk.close, Desk.close)
+
+    def test_a_version_of_a_desk_that_is_waited_for(self):
+        self.goes_on(lambda: Desk(frame()), lambda desk: desk.wait(1, 0.01), lambda desk: desk.insert({"x": 0}))
+
+
+class OfTables(TestCase):
+    def setUp(self):
+        folder = tempfile.TemporaryDirectory()
+        self.addCleanup(folder.cleanup)
+        self.db = sqlite3.connect(Path(folder.name, "rows.db"), isolation_level=None)
+        self.addCleanup(self.db.close)
+        self.db.execute("create table t (id integer primary key, x int)")
+        self.db.execute("insert into t values (1, 1), (2, 2)")
+
+    def followed(self):
+        return prefq.Frame.follow(self.db, "t")
+
+
+@SINCE_3_11
+class KeptOfTables(GoesOn, OfTables):
+    def test_a_question(self):
+        self.goes_on(self.followed, lambda followed: followed.best(QUESTION), lambda followed: followed.best("best high(x)"))
+
+    def test_a_page_that_is_closed(self):
+        self.goes_on(lambda: FollowedDesk(self.followed()), FollowedDesk.close, FollowedDesk.close)
+
+
+if __name__ == "__main__":
+    unittest.main()
