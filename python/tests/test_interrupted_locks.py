@@ -12,7 +12,7 @@ import prefq
 from prefq.desk import Desk
 from prefq.follow_desk import FollowedDesk
 from support import TestCase
-from test_interruptions import PACKAGE, Interrupter, Interruption, places_of
+from test_interruptions import PACKAGE, Handler, Interrupter, Interruption, places_of
 
 SOON = 10
 QUESTION = "best low(x)"
@@ -94,6 +94,39 @@ class KeptOfTables(GoesOn, OfTables):
 
     def test_a_page_that_is_closed(self):
         self.goes_on(lambda: FollowedDesk(self.followed()), FollowedDesk.close, FollowedDesk.close)
+
+
+class Raising(Interrupter):
+    """A signal handler that raises what a refused call raises."""
+
+    def interrupts(self):
+        raise prefq.Refused("by a handler", "client")
+
+
+@SINCE_3_11
+class RefusedByAHandler(TestCase):
+    def test_the_number_of_rows_is_right(self):
+        for change in (lambda table: table.insert([3]), lambda table: table.delete(2), lambda table: table.insert_many([[3], [4]]),
+                       lambda table: table.commit(("insert", [3]), ("delete", 1))):
+            counted = Raising(-1)
+            counted.runs(lambda: change(prefq.Table(["x"], [[1], [2]])))
+            for place in range(1, -counted.left):
+                interrupter = Raising(place)
+                with self.subTest(interrupter.where), prefq.Table(["x"], [[1], [2]]) as table:
+                    with contextlib.suppress(prefq.Refused):
+                        interrupter.runs(lambda: change(table))
+                    self.assertEqual(len(table), len(table.rows()))
+
+    def test_the_rows_of_a_desk_are_those_of_its_frame(self):
+        counted = Raising(-1)
+        counted.runs(lambda: Desk(frame()).insert({"x": 9}))
+        for place in range(1, -counted.left):
+            interrupter = Raising(place)
+            with Desk(frame()) as desk:
+                with contextlib.suppress(prefq.Refused):
+                    interrupter.runs(lambda: desk.insert({"x": 9}))
+                with self.subTest(interrupter.where):
+                    self.assertEqual([row.id for row in desk.picture(QUESTION).rows], [id for id, _ in desk.table.rows()])
 
 
 if __name__ == "__main__":

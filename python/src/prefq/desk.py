@@ -256,11 +256,13 @@ class Desk:
                 if name not in self._named:
                     raise ValueError(unknown_column(name, list(self._named)))
             self._look_again()
+            before = self._changes()
             self._is_whole = False
             try:
                 result = change()
-            except (Error, TypeError, ValueError):      # so nothing was changed
-                self._is_whole = True
+            except (Error, TypeError, ValueError):
+                # Of a handler, it may come behind the change.
+                self._is_whole = self._changes() == before
                 raise
             self.version += 1
             self._is_whole = True
@@ -268,6 +270,11 @@ class Desk:
 
         found: Result = self._waking(lambda: self._frame._change(made))
         return found
+
+    def _changes(self) -> Tuple[Any, int]:
+        """The table below, and how many changes of it were begun."""
+        engine = self.table._engine
+        return engine, engine.changes
 
     def _look_again(self) -> None:
         """Takes the rows as they are in the frame where they may be others than those here: a change that was interrupted may have been made there."""

@@ -129,8 +129,14 @@ class Engine:
         if result:
             self._fail(result, call, words)
 
-    def _fail(self, result: int, call: Any, words: Tuple[Any, ...], question: Optional[str] = None) -> None:
-        """Raises why a call with these words has done nothing.
+    def _fail(self, result: int, call: Any, words: Tuple[Any, ...]) -> None:
+        """Raises why a call with these words has done nothing, unless it is done by now."""
+        why = self._failure(result, call, words)
+        if why is not None:
+            raise why
+
+    def _failure(self, result: int, call: Any, words: Tuple[Any, ...], question: Optional[str] = None) -> Optional[Error]:
+        """Why a call with these words has done nothing; None where it is done by now. It is returned, since a handler may raise an `Error` too, behind a call that is done.
 
         The library tells that of the last one of a thread alone, which may be that of a signal handler. So a call that is refused is made once more, until no
         handler's comes before the refusal is read; where it is done then, that counts.
@@ -139,16 +145,16 @@ class Engine:
             _last.words = words
             result = call(*words)
             if result == OK:
-                return
+                return None
             refused = self._refused(question)
             if result == REFUSED and _last.words is words:
-                raise refused
+                return refused
         if result == OUT_OF_MEMORY:
             # What it has done is not known.
             self._ended = self._ended or OUT_OF_MEMORY_SAID
             self._calls.prefq_end(self._pointer)
-        self.check()
-        raise Ended(self._refused(question).args[0], "closed")
+        self.ours()
+        return Ended(*self._ended) if self._ended is not None else Ended(self._refused(question).args[0], "closed")
 
     def _refused(self, question: Optional[str]) -> Refused:
         """Why the last call of this thread was refused."""
@@ -238,16 +244,15 @@ class Engine:
                 self.settle()
             try:
                 result = call(*words)
-                if result:
-                    self._fail(result, call, words)
-                if more and self.rows is not None:
+                why = self._failure(result, call, words) if result else None
+                if why is None and more and self.rows is not None:
                     self.rows += more
-            except Error:
-                raise
             except BaseException:
                 if more:
                     self.rows = None
                 raise
+            if why is not None:
+                raise why
 
     # ---- queries; each is of a client ----
 
@@ -322,11 +327,10 @@ class Engine:
         words = (self._pointer, asker.client, text, len(text), *results)
         result = call(*words)
         if result:
-            try:
-                self._fail(result, call, words, question)
-            except Error:
+            why = self._failure(result, call, words, question)
+            if why is not None:
                 del self.queries[asker.client]
-                raise
+                raise why
 
     def _scan(self, asker: Asker, blocks: int, left: c_uint32) -> None:
         self._call(self._calls.prefq_scan, self._pointer, asker.client, blocks, left)
