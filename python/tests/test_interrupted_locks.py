@@ -1,5 +1,6 @@
 """Interruptions whose exception is kept, as `sys.last_traceback` keeps that of Ctrl-C: no lock stays locked as long as its traceback is there."""
 import contextlib
+import copy
 import os
 import sqlite3
 import sys
@@ -127,6 +128,15 @@ class RefusedByAHandler(TestCase):
                     interrupter.runs(lambda: desk.insert({"x": 9}))
                 with self.subTest(interrupter.where):
                     self.assertEqual([row.id for row in desk.picture(QUESTION).rows], [id for id, _ in desk.table.rows()])
+
+
+class Copies(OfTables):
+    def test_what_is_live_is_not_copied(self):
+        with Desk(frame()) as desk, self.followed() as followed:
+            for thing in (desk, desk.table, followed):
+                for copies in (copy.copy, copy.deepcopy):
+                    with self.refuses(TypeError, "cannot be copied"):
+                        copies(thing)
 
 
 if __name__ == "__main__":

@@ -106,6 +106,9 @@ class Desk:
         self._wake()
         self._frame.close()
 
+    def __reduce__(self) -> Any:
+        raise TypeError("a desk cannot be copied or pickled")
+
     @property
     def table(self) -> Table:
         """The table that is asked now."""

@@ -105,6 +105,9 @@ class Followed:
     def __repr__(self) -> str:
         return f"<prefq.Followed {self._source.name}: {'closed' if self._is_closed else f'{len(self._tables)} rows at {self.at}'}>"
 
+    def __reduce__(self) -> Any:
+        raise TypeError("a frame that follows a table cannot be copied or pickled: follow the table again")
+
     def close(self) -> None:
         """Ends the frame and its connection, and calls that wait; the same again does nothing. What the database has for it there stays (docs/PYTHON.md)."""
         if not self._is_ours():
