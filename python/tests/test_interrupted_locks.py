@@ -1,4 +1,5 @@
-"""Interruptions whose exception is kept, as `sys.last_traceback` keeps that of Ctrl-C: no lock stays locked as long as its traceback is there."""
+"""Interruptions whose exception is kept, as `sys.last_traceback` keeps that of Ctrl-C: no lock stays locked as long as its traceback is there. Further what signal
+handlers do in the middle of a change, and forks that come while another thread has a lock."""
 import contextlib
 import copy
 import os
@@ -12,8 +13,8 @@ from pathlib import Path
 import prefq
 from prefq.desk import Desk
 from prefq.follow_desk import FollowedDesk
-from support import TestCase
-from test_interruptions import PACKAGE, Handler, Interrupter, Interruption, places_of
+from support import TestCase, in_a_fork
+from test_interruptions import NEVER, PACKAGE, Handler, Interrupter, Interruption, places_of
 
 SOON = 10
 QUESTION = "best low(x)"
@@ -137,6 +138,45 @@ class Copies(OfTables):
                 for copies in (copy.copy, copy.deepcopy):
                     with self.refuses(TypeError, "cannot be copied"):
                         copies(thing)
+
+
+@contextlib.contextmanager
+def held(lock):
+    """Another thread has this lock."""
+    has_it, ends = threading.Event(), threading.Event()
+
+    def holds():
+        with lock:
+            has_it.set()
+            ends.wait(NEVER)
+
+    thread = threading.Thread(target=holds)
+    thread.start()
+    has_it.wait(NEVER)
+    try:
+        yield
+    finally:
+        ends.set()
+        thread.join()
+
+
+class Forks(OfTables):
+    """A fork that comes while another thread has a lock gets a copy of it that stays locked."""
+
+    def test_a_desk(self):
+        with Desk(frame()) as desk:
+            with held(desk._lock):
+                for call in (lambda: desk.insert({"x": 3}), lambda: desk.picture(QUESTION)):
+                    self.assertEqual(in_a_fork(call)[0], "process")
+                self.assertIsNone(in_a_fork(desk.close))
+            self.assertEqual(desk.insert({"x": 3}), 3)
+
+    def test_a_desk_of_a_followed_table(self):
+        with FollowedDesk(self.followed()) as desk:
+            with held(desk._lock):
+                self.assertEqual(in_a_fork(lambda: desk.picture(QUESTION))[0], "process")
+                self.assertIsNone(in_a_fork(desk.close))
+            self.assertEqual([row.id for row in desk.picture(QUESTION).best], [1])
 
 
 if __name__ == "__main__":

@@ -101,10 +101,16 @@ class Desk:
 
     def close(self) -> None:
         """Ends the frame, and wakes who waits for a change."""
+        if not self._is_ours():
+            return
         with self._lock:
             self._closed = True
         self._wake()
         self._frame.close()
+
+    def _is_ours(self) -> bool:
+        """Whether this is the process of the frame, and the lock no copy, which a fork may have made while it was held."""
+        return self.table._engine.is_ours()
 
     def __reduce__(self) -> Any:
         raise TypeError("a desk cannot be copied or pickled")
@@ -191,6 +197,7 @@ class Desk:
             query = self._frame.begun(text, selection, waits=False) if selection.is_answered_by(question, columns) else None
             return question, columns, self.version, dict(self._rows), query
 
+        self.table._engine.ours()
         question, columns, version, rows, query = self._waking(lambda: locked(self._lock, begun))
         if query is None:
             return computed_picture(text, selection, version, columns, list(rows.values()))
@@ -271,8 +278,12 @@ class Desk:
             self._is_whole = True
             return result
 
-        found: Result = self._waking(lambda: self._frame._change(made))
-        return found
+        def changed() -> Result:
+            result: Result = self._frame._change(made)
+            return result
+
+        self.table._engine.ours()
+        return self._waking(changed)
 
     def _changes(self) -> Tuple[Any, int]:
         """The table below, and how many changes of it were begun."""

@@ -41,10 +41,15 @@ class FollowedDesk(Desk):
 
     def close(self) -> None:
         """Ends the frame, and wakes who waits for a change."""
+        if not self._is_ours():
+            return
         with self._lock:
             self._closed = True
         self._wake()
         self._frame.close()
+
+    def _is_ours(self) -> bool:
+        return bool(self._frame._is_ours())
 
     def __len__(self) -> int:
         return len(self._frame)
