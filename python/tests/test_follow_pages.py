@@ -7,6 +7,7 @@ import sys
 import threading
 import time
 import urllib.request
+import weakref
 from contextlib import closing
 from pathlib import Path
 
@@ -70,6 +71,17 @@ class Pages(test_follow.OfSqlite):
         with self.refuses(prefq.Ended, "the desk was closed", kind="closed"):
             desk.wait(desk.version, 60)
         self.assertTrue(desk.is_closed)
+
+    def test_a_desk_that_nobody_has_any_more_looks_no_further(self):
+        before = threading.active_count()
+        desk = FollowedDesk(self.offers((1, "x", 1, 1)))
+        gone = weakref.ref(desk)
+        del desk
+        end = time.monotonic() + 30
+        while (gone() is not None or threading.active_count() > before) and time.monotonic() < end:
+            time.sleep(0.05)
+        self.assertIsNone(gone())
+        self.assertEqual(threading.active_count(), before)
 
     def test_a_frame_of_one_client_is_no_page(self):
         with self.refuses(prefq.Refused, "a picture asks 2 questions at once: follow the table with clients=2 or more", kind="arguments"):

@@ -1,6 +1,7 @@
 """The rows of a table of a database on a page: what `prefq.server` and `prefq.asgi` show, while other programs change the rows there."""
 import threading
 import time
+import weakref
 from typing import Any, Callable, Dict, List, Mapping, Optional, Sequence
 
 from .columns import Column
@@ -37,7 +38,8 @@ class FollowedDesk(Desk):
         self._is_readable = True
         self._turns = 0         # how often the table could be read no more, or again
         self._show(frame.version, frame.columns)
-        threading.Thread(target=self._follow, daemon=True).start()
+        # The thread keeps no desk that nobody has any more.
+        threading.Thread(target=follows, args=[weakref.ref(self)], daemon=True).start()
 
     def close(self) -> None:
         """Ends the frame, and wakes who waits for a change."""
@@ -75,21 +77,17 @@ class FollowedDesk(Desk):
         best = [Found(row.level, int(row.key), tuple(row.numbers)) for row in found.best]
         return Picture(found.version + turns, list(found.columns), rows, best, list(found.asked), tuple(found.unknown))
 
-    def _follow(self) -> None:
+    def _look(self) -> None:
         """Wakes those who watch where the rows have changed, cannot be read any more, or can be read again. Why they cannot is said to who asks for a picture."""
-        while True:
-            time.sleep(PAUSE)
-            if self._closed:
-                return
-            try:
-                self._frame.refresh()
-            except Exception as why:
-                if isinstance(why, Ended) and why.kind == "closed":
-                    return self.close()
-                self._turn(False)
-            else:
-                self._turn(True)
-                self._see(self._frame.version, self._frame.columns)
+        try:
+            self._frame.refresh()
+        except Exception as why:
+            if isinstance(why, Ended) and why.kind == "closed":
+                return self.close()
+            self._turn(False)
+        else:
+            self._turn(True)
+            self._see(self._frame.version, self._frame.columns)
 
     def _turn(self, is_readable: bool) -> None:
         with self._lock:
@@ -108,6 +106,17 @@ class FollowedDesk(Desk):
     def _show(self, version: int, columns: Sequence[Column]) -> None:
         self.version = version + self._turns
         self._show_columns(columns)
+
+
+def follows(held: "weakref.ref[FollowedDesk]") -> None:
+    """Has a desk look at its table now and then, as long as it is there and not closed."""
+    while True:
+        time.sleep(PAUSE)
+        desk = held()
+        if desk is None or desk.is_closed:
+            return
+        desk._look()
+        del desk
 
 
 def changed_elsewhere() -> Refused:
