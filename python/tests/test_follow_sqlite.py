@@ -3,6 +3,8 @@ import os
 import random
 import signal
 import sqlite3
+import threading
+import time
 import unittest
 import unittest.mock
 from contextlib import closing
@@ -185,6 +187,22 @@ class Schemas(OfRooms):
         self.db.execute("delete from rooms where price = 5")
         self.db.execute("create unique index by_id on rooms (id)")
         self.are(frame, (1, 10), (2, 20))
+
+
+class Waits(OfRooms):
+    def test_a_place_is_waited_for_no_longer_than_asked_while_the_file_is_locked(self):
+        frame = self.rooms((1, 10, 3), (2, 20, 4))
+        self.db.execute("begin exclusive")
+        with self.within(4), self.assertRaises(sqlite3.OperationalError):
+            frame.best(QUESTION, at_least=frame.at + 1, wait=0.1)
+        self.assertEqual(frame.best(QUESTION, at_least=frame.at, wait=0).ids, [1])
+        said = []
+        asks = threading.Thread(target=lambda: said.append(frame.best(QUESTION).ids))
+        asks.start()
+        time.sleep(0.3)
+        self.db.execute("rollback")
+        asks.join()
+        self.assertEqual(said, [[1]])
 
 
 class Writes(OfRooms):

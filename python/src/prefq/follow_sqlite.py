@@ -6,6 +6,7 @@ all that was committed before, since SQLite has one writer at a time; so what is
 import os
 import re
 import sqlite3
+import time
 import weakref
 from contextlib import closing
 from typing import Any, Callable, Dict, List, Mapping, Optional, Sequence, Tuple, TypeVar
@@ -22,6 +23,7 @@ from .loading import chosen
 Result = TypeVar("Result")
 # What SQLite makes of a declared type, by the first of these words in it, and the kind of such a column where all of its values are missing.
 AFFINITIES: Tuple[Tuple[str, Any], ...] = (("int", Whole), ("char", Texts), ("clob", Texts), ("text", Texts), ("real", Floats), ("floa", Floats), ("doub", Floats))
+SECONDS_TO_WAIT = 5.0       # for another transaction, which keeps the file
 CHANGES = "prefq_changes"
 TRIGGERS = ("prefq_insert", "prefq_update", "prefq_delete")
 OF_NO_USER = ("sqlite_", f"{CHANGES}:")
@@ -58,15 +60,15 @@ class SqliteSource(Source):
             raise
 
     def everything(self) -> Everything:
-        if not at_one_moment(self._db, self._is_installed):
-            at_one_moment(self._db, self._install, "begin immediate")
-        return at_one_moment(self._db, self._everything)
+        if not self._at_one_moment(self._is_installed):
+            self._at_one_moment(self._install, "begin immediate")
+        return self._at_one_moment(self._everything)
 
     def changes(self, since: int) -> Optional[Changes]:
-        return at_one_moment(self._db, lambda: self._changes(since))
+        return self._at_one_moment(lambda: self._changes(since))
 
     def now(self) -> Optional[int]:
-        return at_one_moment(self._db, self._place)
+        return self._at_one_moment(self._place)
 
     def close(self) -> None:
         self._db.close()
@@ -77,6 +79,12 @@ class SqliteSource(Source):
                 at_one_moment(self._db, lambda: remove(self._db, self.name, self._key), "begin immediate")
         finally:
             self.close()
+
+    def _at_one_moment(self, call: Callable[[], Result], begin: str = "begin") -> Result:
+        """What a call finds in a transaction, for which it waits for others no longer than the frame may."""
+        left = SECONDS_TO_WAIT if self.until is None else max(0.0, min(SECONDS_TO_WAIT, self.until - time.monotonic()))
+        self._db.execute(f"pragma busy_timeout = {int(1000 * left)}").close()
+        return at_one_moment(self._db, call, begin)
 
     def _everything(self) -> Everything:
         self._check_table()
