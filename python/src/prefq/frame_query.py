@@ -45,11 +45,13 @@ class FrameQuery:
     @property
     def left(self) -> int:
         """How many blocks are still to be scanned."""
-        return self._query.left
+        left: int = self._query.left
+        return left
 
     def scan(self) -> int:
         """See `Query.scan`."""
-        return self._query.scan()
+        left: int = self._query.scan()
+        return left
 
     def scan_piece(self) -> None:
         """See `Query.scan_piece`."""

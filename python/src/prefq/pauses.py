@@ -1,9 +1,11 @@
 """Room for other threads while one of them computes for long."""
 import threading
 import time
+from array import array
 from itertools import islice
-from typing import Any, Iterator
+from typing import Any, Iterator, List, TypeVar
 
+Some = TypeVar("Some", List[Any], "array[int]", bytearray)
 TOGETHER = 4096
 LONGEST = 0.000_5
 SHORTEST = 0.000_05
@@ -31,7 +33,7 @@ def let_others_run() -> None:
         _computed.seconds = time.thread_time()
 
 
-def extended(some: Any, values: Iterator[Any]) -> Any:
+def extended(some: Some, values: Iterator[Any]) -> Some:
     """A list or an array with further values, which iterators that are written in C make without a moment for others."""
     count = -1
     while count != len(some):
