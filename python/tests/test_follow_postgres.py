@@ -69,6 +69,12 @@ class Lines(TestCase):
             self.assertIsNone(self.rows(f"{line} {cells}"))
         self.assertEqual(self.rows("INSERT: id[integer]:1 hotel[text]:'unchanged-toast-datum' \"a b\"[integer[]]:null"), {1: ["unchanged-toast-datum", None]})
 
+    def test_a_value_that_is_unchanged_of_a_row_that_takes_the_key_of_another_one(self):
+        cells = "hotel[text]:'y' \"a b\"[integer[]]:unchanged-toast-datum"
+        moves = f"UPDATE: old-key: id[integer]:1 new-tuple: id[integer]:2 {cells}"
+        self.assertIsNone(self.rows("DELETE: id[integer]:2", f"UPDATE: id[integer]:1 {cells}", moves))
+        self.assertIsNone(self.rows("DELETE: id[integer]:2", moves))
+
     def test_what_is_not_as_it_is_known(self):
         for line in ("INSERT: id[integer]:1 hotel[text]:'x'", "INSERT: id[bigint]:1 hotel[text]:'x' \"a b\"[integer[]]:null", "DELETE: (no-tuple-data)",
                      "INSERT: id[integer]:null hotel[text]:'x' \"a b\"[integer[]]:null", "INSERT: id[integer]:1 hotel[text]:'x", "INSERT: strange"):
@@ -177,6 +183,10 @@ class Follows(OfPostgres):
             with self.subTest(change=change):
                 self.run_sql(change)
                 self.are_as_in_the_table(frame)
+        self.run_sql("insert into offers values (4, repeat('other ', 5000), 1, 1)")
+        self.are_as_in_the_table(frame)
+        self.run_sql("begin; delete from offers where id = 4; update offers set price = 8; update offers set id = 4; commit")
+        self.are_as_in_the_table(frame)
 
     def test_names_of_any_letters_and_schemas(self):
         self.run_sql('create schema "Other"')

@@ -109,7 +109,8 @@ class Log:
             known = self.rows.get(before)
             if known is not None:
                 values = [old if value is UNCHANGED else value for value, old in zip(values, known)]
-            elif before != key or before in self.rows or self.is_cleared:
+            is_of_this_row = before == key and (known is not None or not (before in self.rows or self.is_cleared))
+            if UNCHANGED in values and not is_of_this_row:
                 raise NotUnderstood("a value is unchanged, and was that of another row")
         if before != key:
             self.rows[before] = None
