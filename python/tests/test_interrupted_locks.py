@@ -98,6 +98,62 @@ class KeptOfTables(GoesOn, OfTables):
         self.goes_on(lambda: FollowedDesk(self.followed()), FollowedDesk.close, FollowedDesk.close)
 
 
+@SINCE_3_11
+class Nested(TestCase):
+    """A signal handler in the middle of a change makes one before it or behind it, or is refused."""
+
+    def at_each_place(self, change, other, check):
+        counted = Interrupter(-1)
+        counted.runs(lambda: change(frame()))
+        outcomes = set()
+        for place in range(1, -counted.left):
+            with frame() as rows:
+                made = []
+                handler = Handler(place, lambda: made.append(self.is_made(lambda: other(rows))))
+                handler.runs(lambda: change(rows))
+                with self.subTest(handler.where):
+                    check(rows, made == [True])
+                    self.assertEqual(len(rows), len(rows.rows()))
+                outcomes.update(made)
+        self.assertEqual(outcomes, {True, False})
+
+    def is_made(self, change):
+        """Whether a change is made, and not refused."""
+        before = sys.gettrace()
+        sys.settrace(None)
+        try:
+            change()
+        except prefq.Refused as why:
+            self.assertIn("a change is under way in this thread", str(why))
+            return False
+        finally:
+            sys.settrace(before)
+        return True
+
+    def test_a_column_becomes_wider_amid_an_insert(self):
+        def check(rows, is_made):
+            self.assertEqual(sorted(map(float, [row.x for row in rows])), [0.5, 1, 2, 7] if is_made else [1, 2, 7])
+
+        self.at_each_place(lambda rows: rows.insert({"x": 7}), lambda rows: rows.insert({"x": "0.5"}), check)
+
+    def test_another_column_of_a_row_that_is_updated(self):
+        def check(rows, is_made):
+            self.assertEqual(rows.get(1), {"x": 7, "y": 9 if is_made else 1})
+
+        for change in (lambda rows: rows.update(1, {"x": 7}), lambda rows: rows.commit(("update", 1, {"x": 7}))):
+            self.at_each_place(change, lambda rows: rows.update(1, {"y": 9}), check)
+
+    def test_who_is_told_of_a_change_makes_another_one(self):
+        with frame() as rows:
+            ends = [rows.subscribe(lambda: ends.pop()() or rows.insert({"x": "0.5"}))]
+            rows.insert({"x": 7})
+            self.assertEqual([float(row.x) for row in rows], [1, 2, 7, 0.5])
+        with Desk(frame()) as desk:
+            ends.append(desk.subscribe(lambda: ends.pop()() or desk.insert({"x": "0.5"})))
+            desk.insert({"x": 7})
+            self.assertEqual([float(desk.record(row.numbers)["x"]) for row in desk.picture(QUESTION).rows], [1, 2, 7, 0.5])
+
+
 class Raising(Interrupter):
     """A signal handler that raises what a refused call raises."""
 
@@ -131,10 +187,10 @@ class RefusedByAHandler(TestCase):
                     self.assertEqual([row.id for row in desk.picture(QUESTION).rows], [id for id, _ in desk.table.rows()])
 
 
-class Copies(OfTables):
+class Copies(TestCase):
     def test_what_is_live_is_not_copied(self):
-        with Desk(frame()) as desk, self.followed() as followed:
-            for thing in (desk, desk.table, followed):
+        with Desk(frame()) as desk:
+            for thing in (desk, desk._frame, desk.table):
                 for copies in (copy.copy, copy.deepcopy):
                     with self.refuses(TypeError, "cannot be copied"):
                         copies(thing)
@@ -162,6 +218,13 @@ def held(lock):
 
 class Forks(OfTables):
     """A fork that comes while another thread has a lock gets a copy of it that stays locked."""
+
+    def test_a_frame(self):
+        with frame() as rows, tempfile.TemporaryDirectory() as folder, held(rows._changing):
+            for call in (lambda: rows.insert({"x": 3}), lambda: rows.update(1, {"x": 3}), lambda: rows.delete(1), lambda: rows.insert_many([[3, 3]]),
+                         lambda: rows.commit(("delete", 1)), lambda: rows.save(Path(folder, "rows.prefq")), lambda: rows.best(QUESTION)):
+                self.assertEqual(in_a_fork(call)[0], "process")
+            self.assertIsNone(in_a_fork(rows.close))
 
     def test_a_desk(self):
         with Desk(frame()) as desk:

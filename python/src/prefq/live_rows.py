@@ -28,7 +28,7 @@ class LiveRows:
         # Held while the rows change, by the thread that changes them; and the last id that was given.
         self._changing = threading.RLock()
         self._subscribed: List[Callable[[], None]] = []
-        self._is_opening = False
+        self._is_changing = self._is_opening = False
         self._is_closed = False
         self._last = max(len(rows), ids.last)
 
@@ -42,6 +42,9 @@ class LiveRows:
     def __len__(self) -> int:
         """The number of rows."""
         return len(self.table)
+
+    def __reduce__(self) -> Any:
+        raise TypeError("a frame cannot be copied or pickled: save it in a file, or make another one of its rows()")
 
     def __iter__(self) -> Iterator[Record]:
         return iter(self.rows())
@@ -244,18 +247,29 @@ class LiveRows:
         return first
 
     def _change(self, change: Callable[[], Result]) -> Result:
-        """A change, of which those who subscribed are told."""
-        result = self._alone(change)
+        """A change, of which those who subscribed are told. A signal handler or a finalizer in the middle of one makes none: what is read for a change and what is
+        written belong together."""
+        def made() -> Result:
+            if self._is_changing:
+                raise Refused("a change is under way in this thread", "client")
+            try:
+                self._is_changing = True
+                return change()
+            finally:
+                self._is_changing = False
+
+        result = self._alone(made)
         for call in list(self._subscribed):
             hastily(call, is_hasty=False)
         return result
 
     def _alone(self, call: Callable[[], Result]) -> Result:
-        """One call after the other. A signal handler of this thread makes none while the table is opened anew, which would not have it."""
+        """One call after the other. A signal handler of this thread makes none while the table is opened anew, which has no client for it."""
         def made() -> Result:
             if self._is_opening:
                 raise Refused("a change that opens the table anew is under way in this thread", "client")
             return call()
+        self.table._engine.ours()       # A fork may have copied the lock while it was held.
         return locked(self._changing, made)
 
     def _open_anew(self, kinds: Mapping[str, Kind]) -> None:
