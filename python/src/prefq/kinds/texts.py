@@ -1,14 +1,24 @@
 """Columns of texts, and of values in an order that is given."""
+import os
 import threading
 from itertools import filterfalse
 from typing import Any, Dict, List, Optional, Sequence
 
 from .kind import Kind, NotRead, word
 
-# Held while a new text gets its code, in any code book.
-ADDING = threading.Lock()
+# Held while new texts get their codes, in any code book; a signal handler or a finalizer of the same thread may take it once more.
+ADDING = threading.RLock()
 # The memory of a text in a code book, beside its letters.
 BYTES_OF_A_TEXT = 150
+
+
+def _open_in_a_fork() -> None:
+    """A fork may have copied the lock while another thread held it. Codes are given by one step, so a code book is whole there."""
+    global ADDING
+    ADDING = threading.RLock()
+
+
+os.register_at_fork(after_in_child=_open_in_a_fork)
 
 
 class Texts(Kind):
@@ -19,8 +29,10 @@ class Texts(Kind):
     ordered = measured = False
 
     def __init__(self, texts: Sequence[str] = ()) -> None:
+        # The codes are 1, 2, 3 and so on, in this order; and the texts in it, as far as these were looked up.
         self._codes: Dict[str, int] = {}
         self._texts: List[str] = []
+        self._adding = object()         # another one for each call that adds texts
         # About how many bytes the code book takes.
         self.size = 0
         self.read_all(list(texts))
@@ -37,26 +49,35 @@ class Texts(Kind):
         return self.read(value)
 
     def decode(self, number: int) -> str:
+        if number > len(self._texts):
+            self._texts = list(self._codes)
         return self._texts[number - 1]
 
     def find(self, text: str) -> Optional[int]:
         return self._codes.get(text)
 
     def read_all(self, texts: Sequence[str]) -> List[int]:
-        codes = self._codes
+        codes, is_added = self._codes, False
         with ADDING:
-            # Texts of numpy and of enumerations are of types of their own, whose `str` may be another text.
-            new = list(map(str.__str__, filterfalse(codes.__contains__, dict.fromkeys(texts))))
-            begin = len(self._texts) + 1
-            self._texts += new
-            codes.update(zip(new, range(begin, begin + len(new))))
+            while not is_added:
+                self._adding = adding = object()
+                known = len(codes)
+                # Texts of numpy and of enumerations are of types of their own, whose `str` may be another text.
+                new = list(map(str.__str__, filterfalse(codes.__contains__, dict.fromkeys(texts))))
+                numbered = dict(zip(new, range(known + 1, known + len(new) + 1)))
+                # Where a handler or a finalizer has added others meanwhile, these are counted anew.
+                if self._adding is adding:
+                    codes.update(numbered)
+                    is_added = True
+            if len(self._texts) == known:
+                self._texts[known:] = new
             self.size += sum(map(len, new)) + BYTES_OF_A_TEXT * len(new)
         return list(map(codes.__getitem__, texts))
 
     @property
     def texts(self) -> List[str]:
         """The texts of the column, in the order in which they came."""
-        return list(self._texts)
+        return list(self._codes)
 
 
 class Choices(Kind):
