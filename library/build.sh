@@ -15,7 +15,7 @@ wrapped=-Wl,--wrap=malloc,--wrap=realloc # by library/c/memory.c
 mkdir -p library/out
 "${CC:-cc}" "${strict[@]}" -O2 -fPIC -shared -Wl,--version-script=library/prefq.map -Wl,-z,defs "$wrapped" -o library/out/libprefq.so library/c/*.c "${proved[@]}"
 tests() { # name, flags
-    "${CC:-cc}" "${strict[@]}" "${@:2}" "$wrapped",--wrap=calloc -o "library/out/$1" library/tests/calls.c library/c/*.c "${proved[@]}"
+    "${CC:-cc}" "${strict[@]}" "${@:2}" "$wrapped",--wrap=calloc -o "library/out/$1" library/tests/*.c library/c/*.c "${proved[@]}"
 }
 tests calls -O2
 tests calls_watched -O1 -g -DWATCHED -fsanitize=address,undefined -fno-sanitize-recover=undefined
