@@ -10,9 +10,9 @@ import unittest.mock
 from contextlib import closing
 
 import prefq
+from interrupting import Interrupter, Interruption
 from prefq.follow_sqlite import unfollow
 from test_follow import SEED, OfSqlite
-from test_interruptions import Interrupter, Interruption
 
 ROOMS = "create table rooms (id integer primary key, price int, dist int)"
 QUESTION = "best low(price)"

@@ -11,10 +11,10 @@ import unittest
 from pathlib import Path
 
 import prefq
+from interrupting import NEVER, PACKAGE, Handler, Interrupter, Interruption, places_of
 from prefq.desk import Desk
 from prefq.follow_desk import FollowedDesk
 from support import TestCase, in_a_fork
-from test_interruptions import NEVER, PACKAGE, Handler, Interrupter, Interruption, places_of
 
 SOON = 10
 QUESTION = "best low(x)"

@@ -8,10 +8,10 @@ import unittest
 from pathlib import Path
 
 import prefq
+from interrupting import Handler, Interruption, places_of
 from prefq.kinds import texts
 from support import TestCase, in_a_fork, raises
 from test_interrupted_locks import SINCE_3_11, held
-from test_interruptions import Handler, Interruption, places_of
 
 
 def frame(*more):
