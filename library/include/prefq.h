@@ -3,8 +3,8 @@
    A table has 1 to 16 columns and up to 65,536 rows of 64-bit whole numbers. Each row has an id, from 1 on, which no later row gets. The names of columns, the
    questions, the commands and what is refused are those of the program prefq: docs/GUIDE.md has them all. docs/LIBRARY.md, "A table in C", has an example.
 
-   Results.   A call returns PREFQ_OK, which is 0, or why it did nothing. What is refused leaves the table, its rows and its open queries as they were, and the
-              caller's variables and arrays too. prefq_last_refusal says what was wrong.
+   Results.   A call returns PREFQ_OK, which is 0, or why not. What is refused (PREFQ_REFUSED) leaves the table, its rows and its open queries as they were,
+              and the caller's variables and arrays too. prefq_last_refusal says what was wrong.
    Arrays.    Rows are arrays of int64_t, one row after the other, without gaps: `rows` of them with `width` values each, which has to be the table's number of
               columns. Answers are `count` rows of 2 + width numbers: the level, from 1 on, the id, and the values, in order of level and then of id. Texts
               have a length and need no zero at their end.
@@ -72,7 +72,7 @@ typedef struct prefq_setup {
     uint32_t clients;  /* 1 to 8 (8) */
     uint32_t capacity; /* how many versions of rows there is room for, 1 to 65,536 (1,024, or twice the rows or the lines of the opening where that is more) */
     uint32_t block;    /* how many slots one scan reads, 1 to 65,536 (1,024) */
-    uint32_t window;   /* how many rows are compared at a time, 1 to 65,536 (64); no answer depends on it */
+    uint32_t window;   /* rows of a window of block-nested-loops, 1 to 65,536 (64); no question uses one */
 } prefq_setup;
 
 typedef enum prefq_verb { PREFQ_INSERT = 1, PREFQ_UPDATE = 2, PREFQ_DELETE = 3 } prefq_verb;
