@@ -90,6 +90,14 @@ class OfATable(FrameTestCase):
         many = f"stars in ({', '.join(map(str, range(4, 1000, 3)))})"
         self.assertEqual(self.frame.best("best empty()", where=many).ids, [3])
 
+    def test_of_parts_longer_than_a_table_reads_only_the_first_narrow_the_rows(self):
+        long = " and ".join(f"{name} not in ({', '.join(str(number + 10**18) for number in range(99))})" for name in ("stars", "price"))
+        for where in (long, f"{long} and price > 15 * stars"):
+            with self.subTest(where[-20:]):
+                self.assertEqual(sorted(self.frame.best("best empty()", where=where).ids), [1, 2, 3, 5] if where is long else [1, 3, 5])
+        terms = narrowing_terms(long, self.frame._opened)
+        self.assertEqual([term.split("(")[0] for term in terms], ["between", "-pos", "between"])
+
     def test_what_is_wrong_is_refused_as_before(self):
         for where, says in [("stars > 'x'", "this is a number|'x' is a text"), ("city > 'A'", "texts, which have no order"), ("stars", "column 'stars' is a number"),
                             ("pool < true", "< compares numbers"), ("stars > 1e", "unexpected|number"), ("price > 1 / 0", "row 1 has 0 behind the /"),

@@ -8,7 +8,7 @@ Each part of the condition is to be about one column and values that are written
 computed over all rows (`computed`).
 """
 from dataclasses import dataclass
-from itertools import chain
+from itertools import accumulate, chain, islice
 from typing import Dict, Iterable, List, Mapping, Optional, Sequence, Tuple
 
 from .checks import LEAST, MOST
@@ -83,7 +83,13 @@ def narrowing_terms(text: Optional[str], columns: Columns) -> Sequence[str]:
         found = [computer.conjunction(part) or [] for part in nodes if has_ranges(part)]
     except Refused:     # which is said where all of it is computed
         return []
-    return terms_of_places(ranges_by_place(chain.from_iterable(found), columns), columns) or []
+    return first_terms(terms_of_places(ranges_by_place(chain.from_iterable(found), columns), columns) or [])
+
+
+def first_terms(terms: Sequence[str]) -> List[str]:
+    """As many of these terms as a table reads in one question for the rows that are best by them."""
+    lengths = accumulate((len(f" & {term}") for term in terms), initial=len("best ") - len(" & "))
+    return [term for term, length in zip(terms, islice(lengths, 1, None)) if length <= LONGEST_QUESTION]
 
 
 def ranges_by_place(parts: Iterable[Tuple[Column, Ranges]], columns: Columns) -> Dict[int, Ranges]:
