@@ -90,6 +90,19 @@ class OfATable(FrameTestCase):
         many = f"stars in ({', '.join(map(str, range(4, 1000, 3)))})"
         self.assertEqual(self.frame.best("best empty()", where=many).ids, [3])
 
+    def test_a_list_of_many_values_is_read_in_a_time_that_grows_with_them(self):
+        handled, complement = [], ranges.complement
+
+        def counted(some):
+            handled.append(len(some))
+            return complement(some)
+
+        for where in (f"stars in ({', '.join(map(str, range(0, 1000, 2)))})", f"stars not in ({', '.join(map(str, range(0, 1000, 2)))})"):
+            with self.subTest(where[:12]), unittest.mock.patch("prefq.ranges.complement", counted):
+                handled.clear()
+                range_condition(where, self.frame._opened)
+                self.assertLess(sum(handled), 10_000)
+
     def test_of_parts_longer_than_a_table_reads_only_the_first_narrow_the_rows(self):
         long = " and ".join(f"{name} not in ({', '.join(str(number + 10**18) for number in range(99))})" for name in ("stars", "price"))
         for where in (long, f"{long} and price > 15 * stars"):
@@ -152,6 +165,16 @@ class Ranges(TestCase):
                 other = ranges.complement(some)
                 self.assertEqual(ranges.union(some, other), [(checks.LEAST, checks.MOST)])
                 self.assertEqual(ranges.intersection(some, other), [])
+
+    def test_rows_are_told_apart_by_few_ranges_and_by_many(self):
+        for count in (1, 3, 4, 5, 50):
+            some = [(100 * number, 100 * number + 60) for number in range(-count // 2, count // 2 + 1)]
+            for far in (some, ranges.complement(some), [*some, (10**9, checks.MOST)], [(checks.LEAST, -10**9), *some]):
+                numbers = [checks.LEAST, *range(-300, 300, 7), -40, 60, 61, 100, 10**9 - 1, 10**9, checks.MOST]
+                found = [any(first <= number <= last for first, last in far) for number in numbers]
+                for most in (0, 1000):
+                    with self.subTest(count, far=far[-1], most=most), unittest.mock.patch("prefq.ranges.MOST_IN_A_SET", most):
+                        self.assertEqual(list(ranges.within(far, numbers)), found)
 
     def test_a_number_lies_among_floats_as_python_shows_them(self):
         for text, is_above, is_below in [("0.1", 0.1, 0.1), ("0.10000000000000001", 0.1, 0.10000000000000002), ("1e400", 1.7976931348623157e308, float("inf")),

@@ -7,6 +7,7 @@ All of it goes column by column, by the numbers that stand in the table. What co
 """
 import math
 import operator
+from collections import defaultdict
 from dataclasses import replace
 from fractions import Fraction
 from functools import reduce
@@ -209,17 +210,17 @@ class Computer:
         if node.name == "not":
             return parts[0].inverse()
         is_and = node.name == "and"
-        ranges: Dict[int, Within] = {}      # of what is said of one column, by its identity
+        said: Dict[int, List[Within]] = defaultdict(list)       # of one column, by its identity
         others: List[Truths] = []
         for part in parts:
             if isinstance(part, Truths):
                 others.append(part)
             else:
-                before = ranges.get(id(part.column))
-                ranges[id(part.column)] = part if before is None else before.both(part) if is_and else before.either(part)
+                said[id(part.column)].append(part)
+        ranges = list(map(Within.all_of if is_and else Within.any_of, said.values()))
         if not others and len(ranges) == 1:
-            return next(iter(ranges.values()))
-        return reduce(Truths.both if is_and else Truths.either, [*map(self._masks, ranges.values()), *others])
+            return ranges[0]
+        return reduce(Truths.both if is_and else Truths.either, [*map(self._masks, ranges), *others])
 
     def _missing(self, node: Node) -> Union[Truths, Within]:
         found = self._values(node)

@@ -12,7 +12,7 @@ from .columns import Column
 from .expressions import Literal
 from .kinds.exact import Number
 from .pauses import extended
-from .ranges import VALUES, Ranges, complement, intersection, union, within
+from .ranges import MISSING, VALUES, Ranges, complement, intersection, union, within
 
 INVERTED = bytes.maketrans(b"\0\1", b"\1\0")
 
@@ -100,19 +100,21 @@ class Within:
     @staticmethod
     def of(column: Column, holds: Ranges) -> "Within":
         """What is true for the values in some ranges, and false for all others."""
-        return Within(column, holds, intersection(complement(holds), VALUES))
+        return Within(column, holds, complement(union(holds, MISSING)))
 
     def inverse(self) -> "Within":
         """The truth values of `not`."""
         return Within(self.column, self.fails, self.holds)
 
-    def both(self, other: "Within") -> "Within":
-        """The truth values of `and` with others of the same column."""
-        return Within(self.column, intersection(self.holds, other.holds), union(self.fails, other.fails))
+    @staticmethod
+    def all_of(some: Sequence["Within"]) -> "Within":
+        """The truth values of `and` of some of the same column."""
+        return Within(some[0].column, intersection(*(each.holds for each in some)), union(*(each.fails for each in some)))
 
-    def either(self, other: "Within") -> "Within":
+    @staticmethod
+    def any_of(some: Sequence["Within"]) -> "Within":
         """The truth values of `or`."""
-        return self.inverse().both(other.inverse()).inverse()
+        return Within.all_of([each.inverse() for each in some]).inverse()
 
     @property
     def known(self) -> Ranges:

@@ -7,6 +7,7 @@ the others are left out of the answer.
 Each part of the condition is to be about one column and values that are written, so that it says in which ranges of numbers that column is. Another condition is
 computed over all rows (`computed`).
 """
+from collections import defaultdict
 from dataclasses import dataclass
 from itertools import accumulate, chain, islice
 from typing import Dict, Iterable, List, Mapping, Optional, Sequence, Tuple
@@ -24,7 +25,6 @@ from .ranges import Ranges, complement, intersection, numbers_in, size
 from .translate import Plan, plan, unknown_value
 
 ARITHMETIC = ("+", "-", "*", *FUNCTIONS)       # without the /, behind which a row may have 0
-EVERY_NUMBER: Ranges = [(LEAST, MOST)]
 MOST_VALUES_WRITTEN = 100
 LONGEST_QUESTION = 4096     # bytes that a table reads
 
@@ -94,11 +94,11 @@ def first_terms(terms: Sequence[str]) -> List[str]:
 
 def ranges_by_place(parts: Iterable[Tuple[Column, Ranges]], columns: Columns) -> Dict[int, Ranges]:
     """The ranges in all of which the numbers of columns are, by the places of these."""
-    found: Dict[int, Ranges] = {}
+    found: Dict[int, List[Ranges]] = defaultdict(list)
+    places = {id(column): place for place, column in enumerate(columns.columns)}
     for column, ranges in parts:
-        place = columns.columns.index(column)
-        found[place] = intersection(ranges, found.get(place, EVERY_NUMBER))
-    return found
+        found[places[id(column)]].append(ranges)
+    return {place: intersection(*some) for place, some in found.items()}
 
 
 def terms_of_places(ranges: Mapping[int, Ranges], columns: Columns) -> Optional[List[str]]:

@@ -1,8 +1,9 @@
 """Ranges of the numbers that a column of a table has: where those lie that a comparison with a value takes."""
 import math
+from bisect import bisect_right
 from fractions import Fraction
 from itertools import chain
-from typing import Dict, Iterator, Sequence, Tuple
+from typing import Iterator, List, Sequence, Tuple
 
 from .checks import LEAST, MOST
 from .kinds.numbers import number_of_float
@@ -12,6 +13,7 @@ Ranges = Sequence[Tuple[int, int]]
 VALUES: Ranges = [(LEAST + 1, MOST)]        # all but the one of a missing value
 MISSING: Ranges = [(LEAST, LEAST)]
 MOST_IN_A_SET = 1000
+MOST_ONE_BY_ONE = 4      # ranges with which all numbers are compared one after the other
 
 
 def complement(ranges: Ranges) -> Ranges:
@@ -21,23 +23,28 @@ def complement(ranges: Ranges) -> Ranges:
     return [(begin, end) for begin, end in zip(begins, ends) if begin <= end]
 
 
-def intersection(some: Ranges, others: Ranges) -> Ranges:
-    """The numbers in both."""
-    pairs = [(max(first, begin), min(last, end)) for first, last in some for begin, end in others]
-    return [(first, last) for first, last in pairs if first <= last]
+def union(*some: Ranges) -> Ranges:
+    """The numbers in any of them."""
+    found: List[Tuple[int, int]] = []
+    for first, last in sorted(chain.from_iterable(some)):
+        if found and first <= found[-1][1] + 1:
+            found[-1] = (found[-1][0], max(found[-1][1], last))
+        else:
+            found.append((first, last))
+    return found
 
 
-def union(some: Ranges, others: Ranges) -> Ranges:
-    """The numbers in one of them or both."""
-    return complement(intersection(complement(some), complement(others)))
+def intersection(*some: Ranges) -> Ranges:
+    """The numbers in all of them."""
+    return complement(union(*map(complement, some)))
 
 
 def beside(sign: str, position: Fraction) -> Ranges:
     """The numbers of values of which this comparison with a position, perhaps between two numbers, is true."""
     low, high = math.floor(position), math.ceil(position)
-    holds: Dict[str, Ranges] = {"=": [(high, low)], "<>": [(LEAST, high - 1), (low + 1, MOST)], "<": [(LEAST, high - 1)], "<=": [(LEAST, low)],
-                                ">": [(low + 1, MOST)], ">=": [(high, MOST)]}
-    return intersection(holds[sign], VALUES)
+    holds = {"=": [(high, low)], "<>": [(LEAST, high - 1), (low + 1, MOST)], "<": [(LEAST, high - 1)], "<=": [(LEAST, low)], ">": [(low + 1, MOST)], ">=": [(high, MOST)]}
+    values = [(max(first, LEAST + 1), min(last, MOST)) for first, last in holds[sign]]
+    return union([(first, last) for first, last in values if first <= last])
 
 
 def float_position(value: Fraction) -> Fraction:
@@ -65,6 +72,9 @@ def within(ranges: Ranges, numbers: Sequence[int]) -> bytes:
     if size(ranges) <= MOST_IN_A_SET:
         some = frozenset(numbers_in(ranges))
         return bytes([number in some for number in numbers])
+    if len(ranges) > MOST_ONE_BY_ONE:
+        begins, ends = [LEAST, *(first for first, _ in ranges)], [LEAST - 1, *(last for _, last in ranges)]
+        return bytes([number <= ends[bisect_right(begins, number) - 1] for number in numbers])
     found = 0
     for first, last in ranges:
         mask = bytes([number >= first for number in numbers] if last == MOST else [first <= number <= last for number in numbers])
