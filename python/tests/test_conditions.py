@@ -10,7 +10,7 @@ import plain_expressions
 import prefq
 import random_frames
 from prefq import checks, ranges
-from prefq.condition_terms import narrowing_terms, range_condition
+from prefq.condition_terms import condition_of
 from prefq.dealt import Dealt
 from prefq.dealt_questions import asked_of
 from prefq.kinds.numbers import number_of_float
@@ -46,14 +46,14 @@ class OfATable(FrameTestCase):
     def test_another_one_is_computed_over_all_rows(self):
         for where, ids in OF_ALL_ROWS:
             with self.subTest(where):
-                self.assertIsNone(range_condition(where, self.frame._opened))
+                self.assertIsNone(condition_of(where, self.frame._opened).whole)
                 self.assertEqual(sorted(self.frame.best("top_level 9 low(stars)", where=where).ids), ids)
 
     def test_only_rows_that_meet_the_parts_about_single_columns_are_read_for_another_one(self):
         for where, count in [("price > 55 and price > 15 * stars", 2), ("city = 'Lyon' and (pool or stars = 4) and stars < 4", 2), ("price > 55 or price > 15 * stars", 5),
                              ("stars > 4 and price / stars > 1", 5), ("city in ('Bern', 'Ulm') and price >= stars", 1), ("stars > 100 and price > stars", 1)]:
             with self.subTest(where):
-                terms = narrowing_terms(where, self.frame._opened)
+                terms = condition_of(where, self.frame._opened).narrowing
                 self.assertEqual(len(self.frame._opened.table.columnar_rows(terms)), count)
 
     def test_a_row_that_is_refused_is_so_whatever_else_the_condition_says(self):
@@ -100,16 +100,18 @@ class OfATable(FrameTestCase):
         for where in (f"stars in ({', '.join(map(str, range(0, 1000, 2)))})", f"stars not in ({', '.join(map(str, range(0, 1000, 2)))})"):
             with self.subTest(where[:12]), unittest.mock.patch("prefq.ranges.complement", counted):
                 handled.clear()
-                range_condition(where, self.frame._opened)
+                condition_of(where, self.frame._opened)
                 self.assertLess(sum(handled), 10_000)
 
     def test_of_parts_longer_than_a_table_reads_only_the_first_narrow_the_rows(self):
-        long = " and ".join(f"{name} not in ({', '.join(str(number + 10**18) for number in range(99))})" for name in ("stars", "price"))
-        for where in (long, f"{long} and price > 15 * stars"):
-            with self.subTest(where[-20:]):
-                self.assertEqual(sorted(self.frame.best("best empty()", where=where).ids), [1, 2, 3, 5] if where is long else [1, 3, 5])
-        terms = narrowing_terms(long, self.frame._opened)
-        self.assertEqual([term.split("(")[0] for term in terms], ["between", "-pos", "between"])
+        values = ", ".join(f"0.{number:02}" for number in range(1, 100))
+        long = " and ".join(f"{name} not in ({values})" for name in "xyz")
+        with prefq.Frame.from_records([{"x": 1, "y": 2, "z": 3}, {"x": 1, "y": "0.5", "z": 3}, {"x": 3, "y": 2, "z": "0.07"}], kinds=dict.fromkeys("xyz", "decimal(18)")) as frame:
+            for where, ids in ((long, [1]), (f"{long} and x > 5 * y", [])):
+                with self.subTest(where[-9:]):
+                    self.assertEqual(frame.best("best empty()", where=where).ids, ids)
+            terms = condition_of(long, frame._opened).narrowing
+            self.assertEqual([term.split("(")[0] for term in terms], ["between", "-pos", "between", "-pos"])
 
     def test_what_is_wrong_is_refused_as_before(self):
         for where, says in [("stars > 'x'", "this is a number|'x' is a text"), ("city > 'A'", "texts, which have no order"), ("stars", "column 'stars' is a number"),
@@ -201,7 +203,7 @@ class AtRandom(TestCase):
     def check(self, opened, where, parts, rows, asked, chance):
         """A condition as a table is asked it, as it is computed, and as it is evaluated in each row; and a question with it, of one table and of several."""
         try:
-            condition = range_condition(where, opened)
+            condition = condition_of(where, opened).whole
         except prefq.Refused:
             return
         numbers = dict(opened.table.rows())

@@ -43,47 +43,49 @@ class RangeCondition:
         return all(any(first <= numbers[place] <= last for first, last in ranges) for place, ranges in self.ranges.items())
 
 
-EVERY_ROW = RangeCondition({})
+@dataclass(frozen=True)
+class ReadCondition:
+    """A condition that was read for the columns of a table: as ranges, which is None where it has other parts; the terms by which the rows that meet some parts of it are
+    better than all others, of which none meets it; and whether it has a value that no row of a column has, so that its terms are others once such a row came."""
+
+    whole: Optional[RangeCondition] = None
+    narrowing: Sequence[str] = ()
+    may_change: bool = False
 
 
-def planned(text: str, question: Question, where: Optional[str], columns: Columns) -> Optional[Tuple[Plan, RangeCondition]]:
-    """What a table of these columns is asked about the rows that meet a condition, and the condition, which the rows of its answer are to meet; None where the table
-    cannot be asked so."""
-    condition = EVERY_ROW if where is None else range_condition(where, columns)
-    if condition is None:
+EVERY_ROW = ReadCondition(RangeCondition({}))
+
+
+def planned(text: str, question: Question, condition: ReadCondition, columns: Columns) -> Optional[Plan]:
+    """What a table of these columns is asked about the rows that meet a condition, which the rows of its answer are to meet; None where the table cannot be asked so."""
+    if condition.whole is None:
         return None
-    asked = plan(text, question, columns.below, condition.terms)
-    return None if condition.terms and len(asked.text) > LONGEST_QUESTION else (asked, condition)
+    asked = plan(text, question, columns.below, condition.whole.terms)
+    return None if condition.whole.terms and len(asked.text) > LONGEST_QUESTION else asked
 
 
-def range_condition(text: str, columns: Columns) -> Optional[RangeCondition]:
-    """The condition of this text, which is refused where it means nothing; None where it has other parts."""
+def condition_of(text: Optional[str], columns: Columns) -> ReadCondition:
+    """The condition of this text, which is refused where it means nothing. What is longer than any question of a table is not tried: to read it twice takes long."""
+    if text is None:
+        return EVERY_ROW
+    if isinstance(text, str) and len(text) > LONGEST_QUESTION:
+        return ReadCondition()
     no_rows = moment_of(columns.columns, [], lambda number: number)
     node = read_condition(text, no_rows.column, no_rows.names)
     computer = Computer(text, no_rows)
-    parts = computer.conjunction(node) if has_ranges(node) else None
-    if parts is None:
-        return None
-    ranges = ranges_by_place(parts, columns)
-    terms = terms_of_places(ranges, columns)
-    return None if terms is None else RangeCondition(ranges, terms, [unknown_value(column, text) for column, text in computer.absent])
-
-
-def narrowing_terms(text: Optional[str], columns: Columns) -> Sequence[str]:
-    """Terms by which the rows that meet some parts of a condition are better than all others: of these none meets it. There are none where the others might be refused."""
-    if text is None:
-        return []
-    no_rows = moment_of(columns.columns, [], lambda number: number)
+    nodes = node.parts if isinstance(node, Operation) and node.name == "and" else [node]
     try:
-        node = read_condition(text, no_rows.column, no_rows.names)
-        if may_refuse_rows(node):
-            return []
-        computer = Computer(text, no_rows)
-        nodes = node.parts if isinstance(node, Operation) and node.name == "and" else (node,)
-        found = [computer.conjunction(part) or [] for part in nodes if has_ranges(part)]
-    except Refused:     # which is said where all of it is computed
-        return []
-    return first_terms(terms_of_places(ranges_by_place(chain.from_iterable(found), columns), columns) or [])
+        parts = [computer.conjunction(part) if has_ranges(part) else None for part in nodes]
+    except Refused:
+        if has_ranges(node):
+            raise
+        return ReadCondition()      # It is said where all of it is computed.
+    ranges = ranges_by_place(chain.from_iterable(part for part in parts if part is not None), columns)
+    terms = terms_of_places(ranges, columns)
+    whole = None
+    if terms is not None and None not in parts:
+        whole = RangeCondition(ranges, terms, [unknown_value(column, text) for column, text in computer.absent])
+    return ReadCondition(whole, [] if terms is None or may_refuse_rows(node) else first_terms(terms), bool(computer.absent))
 
 
 def first_terms(terms: Sequence[str]) -> List[str]:

@@ -8,7 +8,7 @@ from itertools import chain
 from typing import Iterator, List, Sequence, Tuple
 
 from .columns import Column
-from .condition_terms import RangeCondition, narrowing_terms, planned
+from .condition_terms import RangeCondition, ReadCondition, condition_of, planned
 from .dealt import Begun, Dealt, Found, ordered
 from .moment import Moment, moment_of, moment_of_columnar
 from .once import ask_once
@@ -84,10 +84,10 @@ class AskedOfTables(Asked):
 class AskedOfRows(Asked):
     """A question that is computed over all rows as they were at its begin."""
 
-    def __init__(self, dealt: Dealt, text: str, selection: Selection) -> None:
+    def __init__(self, dealt: Dealt, text: str, selection: Selection, condition: ReadCondition) -> None:
         self.columns = dealt.columns
         self._text, self._selection = text, selection
-        self._begun = dealt.begin_all(narrowing_terms(selection.where, dealt))
+        self._begun = dealt.begin_all(condition.narrowing)
 
     def answer(self) -> List[Found]:
         pairs = self._begun.rows()
@@ -102,19 +102,19 @@ def asked_of(dealt: Dealt, text: str, selection: Selection) -> Asked:
     """Begins a question, with what is asked beside it. No row may change meanwhile. Where tables are asked with a condition, more rows may be left of them than one holds
     (`RowsLeft`), though it could be answered by `asked_of_rows`."""
     question = selection.read(text, dealt.by_name.get, dealt.names)
-    asked = of_tables(question, len(dealt.tables))
+    condition, asked = condition_of(selection.where, dealt), of_tables(question, len(dealt.tables))
     # What decides between equally good rows is asked of the answer.
     if replace(selection, where=None, ties=None).is_answered_by(question, dealt.columns) and (selection.where is None or is_of_few_levels(question, asked)):
-        plans = planned(text, asked, selection.where, dealt)
-        if plans is not None:
-            return AskedOfTables(dealt, text, question, plans, selection)
-    return AskedOfRows(dealt, text, selection)
+        of_table = planned(text, asked, condition, dealt)
+        if of_table is not None and condition.whole is not None:
+            return AskedOfTables(dealt, text, question, (of_table, condition.whole), selection)
+    return AskedOfRows(dealt, text, selection, condition)
 
 
 def asked_of_rows(dealt: Dealt, text: str, selection: Selection) -> Asked:
     """The same, computed over the rows whatever the tables could be asked."""
     selection.read(text, dealt.by_name.get, dealt.names)
-    return AskedOfRows(dealt, text, selection)
+    return AskedOfRows(dealt, text, selection, condition_of(selection.where, dealt))
 
 
 def is_of_few_levels(question: Question, asked: Question) -> bool:

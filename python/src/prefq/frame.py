@@ -7,7 +7,7 @@ from typing import Any, Dict, Iterable, Iterator, List, Mapping, Optional, Seque
 from .answer import Answer
 from .checks import MOST_ROWS
 from .columns import Column, listed
-from .condition_terms import narrowing_terms, planned
+from .condition_terms import ReadCondition, condition_of, planned
 from .errors import Refused
 from .follow import Followed
 from .follow_source import source_of
@@ -270,40 +270,42 @@ class Frame(LiveRows):
 
     def _query(self, opened: Opened, question: str, selection: Selection) -> FrameQuery:
         read = selection.read(question, opened.by_name.get, opened.names)
-        query = None
+        condition, query = condition_of(selection.where, opened), None
         if replace(selection, where=None).is_answered_by(read, opened.columns):
-            query = self._of_table(opened, question, read, selection)
-        return self._of_moment(opened, question, selection) if query is None else query
+            query = self._of_table(opened, question, read, selection, condition)
+        return self._of_moment(opened, question, selection, condition) if query is None else query
 
-    def _of_table(self, opened: Opened, question: str, read: Question, selection: Selection) -> Optional[FrameQuery]:
+    def _of_table(self, opened: Opened, question: str, read: Question, selection: Selection, condition: ReadCondition) -> Optional[FrameQuery]:
         """A query of the table below; None where it cannot be asked with this condition."""
         while True:
-            plans = planned(question, read, selection.where, opened)
-            if plans is None:
+            asked, whole = planned(question, read, condition, opened), condition.whole
+            if asked is None or whole is None:
                 return None
-            asked, condition = plans
             with asked.refusing():
                 query = opened.table.query(asked.text)
             # A row that came in the meantime may have a new text, or the first gap of a column.
-            again = planned(question, read, selection.where, opened)
-            if again is not None and again[0].text == asked.text:
+            if condition.may_change:
+                condition = condition_of(selection.where, opened)
+            again = planned(question, read, condition, opened)
+            if again is not None and again.text == asked.text:
                 break
             query.abandon()         # It may have the only client.
 
         def found(rows: List[Row]) -> Answered:
-            there = [row for row in rows if condition.is_met(row.values)] if condition.ranges else rows
+            there = [row for row in rows if whole.is_met(row.values)] if whole.ranges else rows
             some = first_rows(without_twins(there, asked), asked, selection.top)
-            return answered(opened, [(row.level, row.id, row.values) for row in some], [*condition.unknown, *asked.unknown])
+            return answered(opened, [(row.level, row.id, row.values) for row in some], [*whole.unknown, *asked.unknown])
 
         return FrameQuery(query, found, partial(self._answer, question))
 
-    def _of_moment(self, opened: Opened, question: str, selection: Selection) -> FrameQuery:
+    def _of_moment(self, opened: Opened, question: str, selection: Selection, condition: ReadCondition) -> FrameQuery:
         """A query of a table of what is computed over the rows as they are now."""
         while True:
-            terms = narrowing_terms(selection.where, opened)
-            pairs = opened.table.columnar_rows(terms)
+            pairs, terms = opened.table.columnar_rows(condition.narrowing), condition.narrowing
             # A row that came in the meantime may have a new text.
-            if narrowing_terms(selection.where, opened) == terms:
+            if condition.may_change:
+                condition = condition_of(selection.where, opened)
+            if condition.narrowing == terms:
                 break
         moment = opened.moment(pairs)
         read = reading(question, selection, moment)
