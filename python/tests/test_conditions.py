@@ -103,6 +103,15 @@ class OfATable(FrameTestCase):
                 condition_of(where, self.frame._opened)
                 self.assertLess(sum(handled), 10_000)
 
+    def test_of_a_condition_that_no_row_can_meet_one_level_is_asked(self):
+        asked, query = [], prefq.table.Table.query
+        with unittest.mock.patch("prefq.table.Table.query", lambda table, text: asked.append(text) or query(table, text)), warnings.catch_warnings():
+            warnings.simplefilter("ignore", prefq.UnknownValue)
+            for question in ("top_level 1000 low(price)", "at_least 900 low(price) by city"):
+                for where in ("city = 'Ulm'", "stars > 2 and stars < 2"):
+                    self.assertEqual(self.frame.best(question, where=where).ids, [])
+        self.assertEqual({text.split()[0] for text in asked}, {"best"})
+
     def test_of_parts_longer_than_a_table_reads_only_the_first_narrow_the_rows(self):
         values = ", ".join(f"0.{number:02}" for number in range(1, 100))
         long = " and ".join(f"{name} not in ({values})" for name in "xyz")

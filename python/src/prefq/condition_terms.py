@@ -8,7 +8,7 @@ Each part of the condition is to be about one column and values that are written
 computed over all rows (`computed`).
 """
 from collections import defaultdict
-from dataclasses import dataclass
+from dataclasses import dataclass, replace
 from itertools import accumulate, chain, islice
 from typing import Dict, Iterable, List, Mapping, Optional, Sequence, Tuple
 
@@ -60,6 +60,8 @@ def planned(text: str, question: Question, condition: ReadCondition, columns: Co
     """What a table of these columns is asked about the rows that meet a condition, which the rows of its answer are to meet; None where the table cannot be asked so."""
     if condition.whole is None:
         return None
+    if not all(condition.whole.ranges.values()):
+        question = replace(question, mode="best")       # No row meets it: further levels would be left out as well.
     asked = plan(text, question, columns.below, condition.whole.terms)
     return None if condition.whole.terms and len(asked.text) > LONGEST_QUESTION else asked
 
