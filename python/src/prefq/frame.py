@@ -290,11 +290,12 @@ class Frame(LiveRows):
             if again is not None and again.text == asked.text:
                 break
             query.abandon()         # It may have the only client.
+        of_table, met = asked, whole
 
         def found(rows: List[Row]) -> Answered:
-            there = [row for row in rows if whole.is_met(row.values)] if whole.ranges else rows
-            some = first_rows(without_twins(there, asked), asked, selection.top)
-            return answered(opened, [(row.level, row.id, row.values) for row in some], [*whole.unknown, *asked.unknown])
+            there = [row for row in rows if met.is_met(row.values)] if met.ranges else rows
+            some = first_rows(without_twins(there, of_table), of_table, selection.top)
+            return answered(opened, [(row.level, row.id, row.values) for row in some], [*met.unknown, *of_table.unknown])
 
         return FrameQuery(query, found, partial(self._answer, question))
 
