@@ -4,6 +4,7 @@ import signal
 import threading
 import time
 from contextlib import closing, contextmanager
+from unittest import mock
 
 import postgres
 import prefq
@@ -334,6 +335,21 @@ class Transactions(OfTables):
                 frame.close()
             waiting.join()
         self.assertEqual(seen, ["the frame was closed"])
+
+    def test_a_wait_that_ends_before_the_statement_has_begun(self):
+        self.two("offers")
+        frame = self.followed()
+        ask = frame._source._rows
+
+        def asks_late(sql, *values):
+            if "pg_create_logical_replication_slot" in sql:
+                time.sleep(0.5)
+            return ask(sql, *values)
+
+        with self.stranger(), mock.patch.object(frame._source, "_rows", asks_late):
+            self.read_anew()
+            with self.within(5), self.refuses(prefq.Refused, "table public.offers has to be read anew", kind="follow"):
+                frame.best(QUESTION, at_least=frame.at + 1, wait=0.2)
 
     def test_a_place_that_is_not_there_in_time(self):
         self.two("offers")

@@ -26,6 +26,7 @@ from .loading import chosen
 Result = TypeVar("Result")
 OLDEST = 130_000
 TRIES = 3
+PAUSE = 0.05    # seconds between two cancels of a statement
 SETTINGS = {"datestyle": "ISO, YMD", "timezone": "UTC", "extra_float_digits": "1", "synchronous_commit": "on"}
 KINDS: Dict[str, Any] = {"real": Floats, "double precision": Floats, "boolean": Booleans, "date": Dates, "timestamp without time zone": Times,
                          "time without time zone": Clock, "text": Texts, "character varying": Texts, "character": Texts, "uuid": Texts, "name": Texts,
@@ -170,8 +171,10 @@ class PostgresSource(Source):
             try:
                 is_late = not wait([running], None if self.until is None else max(0.0, self.until - time.monotonic())).done
             finally:
-                if not running.done():
+                # The server passes over a cancel that comes before the statement has begun there.
+                while not running.done():
                     self._db.cancel()
+                    wait([running], PAUSE)
         if is_late:
             self._db.close()
             raise Refused(f"table {self.name} has to be read anew, and transactions that write, for whose end this waits, have not ended meanwhile",
