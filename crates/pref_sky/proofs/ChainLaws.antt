@@ -1,5 +1,5 @@
 -- Chains: weak orders; keys and columns are such, and lists that are sorted by one.
-use Rattle.pref_sky.proofs.Common.{◌≡◌, ℤ, ℕ, Bool, true, false, not, ◌&&◌, ◌||◌, List, [], ◌∷◌, refl, sym, subst, arith, int_lt, nat_lt, int_eq, cell, in_same_group, suc, length, get_or, filter}
+use Rattle.pref_sky.proofs.Common.{◌≡◌, ℤ, ℕ, Bool, true, false, not, ◌&&◌, ◌||◌, List, [], ◌∷◌, refl, sym, subst, arith, int_lt, nat_lt, int_eq, cell, in_same_group, suc, length, get_or, filter, map, ◌∙◌}
 use Rattle.pref_sky.proofs.Common.{by_chain, is_better, is_same, is_worse, IsChain, are_level, better_in, earlier_in, in_turn, Entry, Bor, Ordering, ◌<◌, ◌≤◌, IsInOrder, ap}
 use Rattle.pref_sky.proofs.Common.{Called, IsSortedByClosure, is_lt, always_returns_same, sorted_far, Mut}
 use Rattle.std.proofs.lemmas.Int.{ints}
@@ -8,7 +8,7 @@ use Rattle.pref_term.specs.Keys.{keyed}
 use Rattle.pref_term.specs.Walk.{by_scores, by_sides, in_priority}
 use Rattle.pref_term.specs.declared.key.Key.{Key}
 use Rattle.pref_term.specs.declared.relation.Relation.{Relation}
-use Rattle.pref_sky.proofs.ListLaws.{from_filter, place_of}
+use Rattle.pref_sky.proofs.ListLaws.{from_filter, from_map, place_of}
 
 -- one chain, and where that sees no difference another one
 pub chain_in_turn : {E : Type 0} (f g : E → E → Bool) → IsChain f → IsChain g → IsChain (in_turn f g)
@@ -93,6 +93,11 @@ pub in_order_from_sort_by : {E : Type 0} (before : E → E → Bool) → IsChain
 in_order_from_sort_by before chain {g = g} {f = f} xs by called =
     let weak = chain_is_weak before chain in
     in_order_if_far before xs (sorted_far before weak xs (by before weak (always_returns_same g (λ a r. is_lt r ≡ before a.0.now a.1.0.now) f called)))
+
+-- a list in order by what it is mapped to
+pub mapped_in_order : {E F : Type 0} (f : E → F) (before : F → F → Bool) (xs : List E) → IsInOrder (λ a b. before (f a) (f b)) xs → IsInOrder before (map f xs)
+mapped_in_order f before [] ordered = ordered
+mapped_in_order f before (x ∷ xs) ordered = ((λ y m. let w = from_map f xs y m in ap (before (f x)) w.2 ∙ ordered.0 w.0 w.1), mapped_in_order f before xs ordered.1)
 
 pub in_weaker_order : {E : Type 0} (before weaker : E → E → Bool) → ((a b : E) → before a b ≡ true → weaker a b ≡ true) → (xs : List E) → IsInOrder before xs → IsInOrder weaker xs
 in_weaker_order before weaker then [] h = h

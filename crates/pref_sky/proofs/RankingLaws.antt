@@ -2,6 +2,7 @@
 use Rattle.pref_sky.proofs.Common.{◌≡◌, ℕ, ◌<◌, ◌≤◌, ◌+◌, Bool, true, false, List, [], ◌∷◌, ◌++◌, refl, sym, ◌∙◌, ap, subst, arith, nat_lt, nat_cmp, nat_tests, length, length-map, get_or, get_or-map, map, filter, take}
 use Rattle.pref_sky.proofs.Common.{Entry, Ranked, FiltersInPlace, FiltersInPlace-all, FiltersInPlace-more_no, FiltersInPlace-more_set, IsSortedBy, at_level, entry_at, is_lt, map-append, ordering_then, set}
 use Rattle.pref_sky.proofs.ListLaws.{leaves, same_there, stays}
+use Rattle.std.proofs.lemmas.List.{set-get_or}
 use Rattle.pref_sky.specs.Ranking.{AreRanks, leveled, ranked_at, ranks_before}
 use Rattle.pref_sky.specs.declared.ranking.Rank.{Rank}
 
@@ -30,6 +31,13 @@ module _ (level : Entry → ℕ) (xs ys : List Entry) (ns ms : List ℕ) (k i : 
   pub one_stays : 0 < n → (x : Entry) → x ≡ get_or ys i x → AreDropped level xs (set ys k x) ns (set ms k n) (k + 1) (i + 1)
   one_stays some x here =
       (FiltersInPlace-more_set so_far.0 inside (ap (nat_lt 0) (level_there x here) ∙ grind (arith, nat_tests, some)) here, FiltersInPlace-more_set so_far.1 inside_levels (grind (arith, nat_tests, some)) is)
+
+  -- where it stands there already
+  pub one_stays_there : k ≡ i → 0 < n → (x : Entry) → x ≡ get_or ys i x → AreDropped level xs ys ns ms (k + 1) (i + 1)
+  one_stays_there there some x here =
+      let same : set ys k x ≡ ys = ap (set ys k) (here ∙ ap (λ p. get_or ys p x) (sym there)) ∙ set-get_or ys k x in
+      let same_level : set ms k n ≡ ms = ap (set ms k) (is ∙ ap (λ p. get_or ms p n) (sym there)) ∙ set-get_or ms k n in
+      subst (λ l. AreDropped level xs l ns ms (k + 1) (i + 1)) same (subst (λ l. AreDropped level xs (set ys k x) ns l (k + 1) (i + 1)) same_level (one_stays some x here))
 
   pub one_goes : n ≡ 0 → (x : Entry) → x ≡ get_or ys i x → AreDropped level xs ys ns ms k (i + 1)
   one_goes zero x here =

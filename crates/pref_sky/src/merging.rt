@@ -1,12 +1,12 @@
 //! Entries in the order of a question's keys: new ones are merged into those that are in order.
 
-ghost use Rattle.std.specs.Prelude.{◌≡◌, ◌<◌, ◌≤◌, ◌+◌, ◌++◌, ◌^◌, true, false, length, take, drop, IfOk, OnOk};
+ghost use Rattle.std.specs.Prelude.{◌≡◌, ◌<◌, ◌≤◌, ◌+◌, ◌++◌, ◌^◌, true, false, length, map, take, drop, IfOk, OnOk};
 ghost use Rattle.pref_sky.specs.Held.{AreLevelsBehind, AreTakenOver};
 ghost use Rattle.pref_sky.specs.OwnOrders.{AreInOrder, AreSorted, comes_before};
 ghost use Rattle.pref_sky.specs.Members.{Among};
 ghost use Rattle.pref_sky.specs.declared.entry.Entry.{Entry};
 
-use crate::entry::Entry;
+use crate::entry::{Entry, copy_of};
 use crate::own_order::OwnOrder;
 use std::alloc::{AllocError, Global};
 
@@ -47,7 +47,7 @@ fn push_all(all: &mut Vec<Entry>, entries: &[Entry]) -> Result<(), AllocError>
     ensures { OnOk result (all.new.items ≡ all.old.items ++ entries.now) }
 {
     for entry in entries {
-        all.push(*entry)?;
+        all.push(copy_of(entry))?;
     }
     Ok(())
 }
@@ -86,11 +86,11 @@ fn merge(
     order: &OwnOrder,
     sorted: &[Entry],
     levels: &[u32],
-    coming: &[Entry],
+    coming: &[&Entry],
 ) -> Result<Merged, AllocError>
     requires sorted { AreInOrder order.now sorted.now }
-    requires coming { AreInOrder order.now coming.now }
-    ensures sorted { IfOk result (λ merged. AreSorted order.now (sorted.now ++ coming.now) merged.entries.items) }
+    requires coming { AreInOrder order.now (map (λ e. e.now) coming.now) }
+    ensures sorted { IfOk result (λ merged. AreSorted order.now (sorted.now ++ map (λ e. e.now) coming.now) merged.entries.items) }
     ensures held { IfOk result (λ merged. AreTakenOver sorted.now levels.now merged.entries.items merged.held.items) }
 {
     let size = sorted.len().saturating_add(coming.len());
@@ -102,7 +102,7 @@ fn merge(
         let (front, back) = rest.split_at(count_before(order, rest, entry));
         push_all(&mut all, front)?;
         push_levels(&mut held, levels, next, front.len())?;
-        all.push(*entry)?;
+        all.push(copy_of(entry))?;
         held.push(0)?;
         next += front.len();
         rest = back;
@@ -112,10 +112,26 @@ fn merge(
     Ok(Merged { entries: all, held })
 }
 
+/// These entries in order. They are sorted where they are, since they are long.
+fn in_order<'a>(
+    alloc: Global,
+    order: &OwnOrder,
+    entries: &'a [Entry],
+) -> Result<Vec<&'a Entry>, AllocError>
+    ensures { IfOk result (λ sorted. AreSorted order.now entries.now (map (λ e. e.now) sorted.items)) }
+{
+    let mut sorted = Vec::with_capacity(alloc, entries.len())?;
+    for entry in entries {
+        sorted.push(entry)?;
+    }
+    sorted.sort_unstable_by(|a, b| order.compare(*a, *b));
+    Ok(sorted)
+}
+
 /// The entries of a list in order, which were held and have these levels, and those of one in any order, in order.
 ///
-/// Cost: a copy of all, and for each of the others what a sort of them takes and a search among the first list. Memory: the copy, one of
-/// the others, and four bytes for each.
+/// Cost: a copy of all, and for each of the others what a sort of them takes and a search among the first list. Memory: the copy, four
+/// bytes for each, and eight for each of the others.
 pub(crate) fn merge_all(
     alloc: Global,
     order: &OwnOrder,
@@ -127,7 +143,6 @@ pub(crate) fn merge_all(
     ensures sorted { IfOk result (λ merged. AreSorted order.now (sorted.now ++ recent.now) merged.entries.items) }
     ensures held { IfOk result (λ merged. AreTakenOver sorted.now levels.now merged.entries.items merged.held.items) }
 {
-    let mut coming = Vec::from_slice(alloc, recent)?;
-    order.sort(&mut coming);
+    let coming = in_order(alloc, order, recent)?;
     merge(alloc, order, sorted, levels, &coming)
 }

@@ -67,11 +67,4 @@ impl OwnOrder {
     {
         is_over(&self.ask, a, b)
     }
-
-    /// Puts entries in order. Takes no memory.
-    pub(crate) fn sort(&self, entries: &mut Vec<Entry>)
-        ensures { AreSorted self.now entries.old.items entries.new.items }
-    {
-        entries.sort_unstable_by(|a, b| self.compare(a, b));
-    }
 }

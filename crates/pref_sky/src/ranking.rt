@@ -4,10 +4,11 @@ ghost use Rattle.std.specs.Prelude.{◌≡◌, ℕ, filter, map, nat_lt, IfOk};
 ghost use Rattle.pref_sky.specs.Ranking.{AreInRanks, AreRanks, leveled, ranked_at};
 ghost use Rattle.pref_sky.specs.declared.entry.Entry.{Entry};
 
-use crate::entry::{Entry, Ranked};
+use crate::entry::{Entry, Ranked, copy_of};
 use std::alloc::{AllocError, Global};
 
-/// Drops each entry whose level is 0, each with its zero. Takes no memory, and gives none back.
+/// Drops each entry whose level is 0, each with its zero. Those in front of the first one stay where they are. Takes no memory, and gives none
+/// back.
 pub(crate) fn drop_below(entries: &mut Vec<Entry>, levels: &mut Vec<u32>)
     ensures { (level : Entry → ℕ) → levels.old.items ≡ map level entries.old.items
         → (entries.new.items ≡ filter (λ e. nat_lt 0 (level e)) entries.old.items) × (levels.new.items ≡ map level entries.new.items) }
@@ -16,8 +17,10 @@ pub(crate) fn drop_below(entries: &mut Vec<Entry>, levels: &mut Vec<u32>)
     for place in 0..entries.len().min(levels.len()) {
         let level = levels[place];
         if level > 0 {
-            entries[count] = entries[place];
-            levels[count] = level;
+            if count < place {
+                entries[count] = copy_of(&entries[place]);
+                levels[count] = level;
+            }
             count += 1;
         }
     }

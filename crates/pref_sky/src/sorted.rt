@@ -8,7 +8,7 @@ ghost use Rattle.pref_sky.specs.Levels.{HaveDifferentIds, entry_of};
 ghost use Rattle.pref_sky.specs.declared.entry.Entry.{Entry};
 ghost use Rattle.pref_sky.specs.declared.item.Item.{Item};
 
-use crate::entry::{Entry, Ranked};
+use crate::entry::{Entry, Ranked, copy_of};
 use crate::grouped::compare_groups;
 use crate::item::Item;
 use crate::lately::Lately;
@@ -178,7 +178,7 @@ impl Pruned {
     {
         for entry in entries {
             if !self.is_seen_below(entry) {
-                recent.push(*entry)?;
+                recent.push(copy_of(entry))?;
             }
         }
         Ok(())

@@ -1,15 +1,10 @@
-use Rattle.pref_sky.proofs.Common.{◌≡◌, ◌<◌, ◌∙◌, get_or, All-permutation, Among, Bool, IsChain, IsInOrder, IsPermutation, IsPermutation-map, List, [], ◌∷◌, ap, arith, length, length-map, map, not, rules, subst, take_all, ℕ}
-use Rattle.pref_sky.proofs.ChainLaws.{in_order_from_sort_by}
+use Rattle.pref_sky.proofs.Common.{◌≡◌, ◌<◌, get_or, All-permutation, Among, Bool, IsChain, IsPermutation, IsPermutation-map, List, ap, arith, length, length-map, map, not, rules, subst, take_all, ℕ}
+use Rattle.pref_sky.proofs.ChainLaws.{in_order_from_sort_by, mapped_in_order}
 use Rattle.pref_sky.proofs.GroupedLaws.{order_chain}
-use Rattle.pref_sky.proofs.ListLaws.{among_place, from_map, same_if_permuted}
+use Rattle.pref_sky.proofs.ListLaws.{among_place, same_if_permuted}
 use Rattle.pref_sky.specs.Grouped.{stands_before, entries}
 use Rattle.pref_sky.specs.declared.grouped.Placed.{Placed}
 use Rattle.pref_sky.proofs.grouped.by_group.Goals as goal
-
--- a list in order by what it is mapped to
-mapped_in_order : {E F : Type 0} (f : E → F) (before : F → F → Bool) (xs : List E) → IsInOrder (λ a b. before (f a) (f b)) xs → IsInOrder before (map f xs)
-mapped_in_order f before [] ordered = ordered
-mapped_in_order f before (x ∷ xs) ordered = ((λ y m. let w = from_map f xs y m in ap (before (f x)) w.2 ∙ ordered.0 w.0 w.1), mapped_in_order f before xs ordered.1)
 
 placed_chain : (columns : List ℕ) → IsChain {E = Placed} (λ a b. stands_before columns a.entry.now b.entry.now)
 placed_chain columns = grind (arith, order_chain columns)

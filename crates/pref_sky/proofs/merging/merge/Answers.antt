@@ -1,4 +1,4 @@
-use Rattle.pref_sky.proofs.Common.{◌≡◌, ◌∙◌, ◌++◌, ◌+◌, [], ◌∷◌, length, length_push, true, false, not, take, drop, sym, ap, subst, append-nil, append_assoc, arith, take_all, IsPermutation-refl, take-append-drop, IsPermutation, drop_more, Entry, AreInOrder}
+use Rattle.pref_sky.proofs.Common.{◌≡◌, ◌∙◌, ◌++◌, ◌+◌, [], ◌∷◌, length, length_push, true, false, not, take, drop, sym, ap, subst, append-nil, append_assoc, arith, take_all, IsPermutation-refl, take-append-drop, IsPermutation, drop_more, map, get_or, get_or-map, length-map, ◌<◌, Bor, Entry, AreInOrder}
 use Rattle.pref_sky.proofs.Common.{comes_before, Among}
 use Rattle.pref_sky.proofs.OwnOrders.{before_is_chain}
 use Rattle.pref_sky.proofs.HeldLaws.{stretch_is, taken_new, taken_on}
@@ -15,17 +15,20 @@ pub loop-entry-preserved : goal.loop-entry-preserved
 loop-entry-preserved c =
     let order = c.args.order.now in
     let chain = before_is_chain order in
-    let coming = c.args.coming.now in
+    let lent = c.args.coming.now in
+    let coming = map (λ (e : Bor Entry). e.now) lent in
     let place = c.loop-entry.entry-index in
     let all = c.loop-entry.all.items in
     let front = c.split_at.result.0.now in
     let back = c.split_at.result.1.now in
-    let e = c.entry-item.result in
+    let e : Entry = c.entry-item.result.now in
+    let inside : place < length coming = omega (arith, c.loop-entry-test.true, length-map lent (λ (e : Bor Entry). e.now)) in
+    let there : e ≡ get_or coming place e = ap (λ (x : Bor Entry). x.now) c.entry-item.is ∙ sym (get_or-map (λ (x : Bor Entry). x.now) lent place c.entry-item.result e c.loop-entry-test.true) in
     let later = drop (place + 1) coming in
     let inv = c.loop-entry.invariant in
-    let new : c.push.new.self.items ≡ (all ++ front) ++ e ∷ [] = (c.in_ok-push.ensures {u = tt}).items ∙ ap (λ l. l ++ e ∷ []) (c.in_ok-push_all.ensures {u = tt}) in
+    let new : c.push.new.self.items ≡ (all ++ front) ++ e ∷ [] = (c.in_ok-push.ensures {u = tt}).items ∙ (ap (λ x. c.push_all.new.all.items ++ x ∷ []) c.copy_of.ensures ∙ ap (λ l. l ++ e ∷ []) (c.in_ok-push_all.ensures {u = tt})) in
     let whole : c.push.new.self.items ++ back ≡ (all ++ front) ++ e ∷ back = ap (λ l. l ++ back) new ∙ append_assoc (all ++ front) (e ∷ []) back in
-    let next : drop place coming ≡ e ∷ later = drop_more coming place e c.loop-entry-test.true ∙ ap (λ x. x ∷ later) (sym c.entry-item.is) in
+    let next : drop place coming ≡ e ∷ later = drop_more coming place e inside ∙ ap (λ x. x ∷ later) (sym there) in
     let ordered : AreInOrder order (e ∷ later) =
     subst (AreInOrder order) next (in_order_back (λ a b. not (comes_before order b a)) (take place coming) (drop place coming) (subst (AreInOrder order) (sym (take-append-drop place coming)) c.requires.coming)) in
     let sorted : AreInOrder order (all ++ (front ++ back)) = subst (λ l. AreInOrder order (all ++ l)) c.split_at.ensures.by_index.0 inv.sorted in
@@ -40,7 +43,7 @@ loop-entry-preserved c =
     let passed : (x : Entry) → Among x front → comes_before order x e ≡ true = λ x m. c.count_before.ensures.front x (subst (Among x) c.split_at.ensures.front m) in
     let left : (x : Entry) → Among x back → comes_before order x e ≡ false = λ x m. c.count_before.ensures.back x (subst (Among x) c.split_at.ensures.back m) in
     record {
-      moved = subst (λ l. IsPermutation l (c.push.new.self.items ++ back)) (sym (ap (λ l. c.args.sorted.now ++ l) (front_more coming place e c.loop-entry-test.true c.entry-item.is) ∙ sym (append_assoc c.args.sorted.now (take place coming) (e ∷ []))))
+      moved = subst (λ l. IsPermutation l (c.push.new.self.items ++ back)) (sym (ap (λ l. c.args.sorted.now ++ l) (front_more coming place e inside there) ∙ sym (append_assoc c.args.sorted.now (take place coming) (e ∷ []))))
           (subst (IsPermutation ((c.args.sorted.now ++ take place coming) ++ e ∷ [])) (sym whole)
           (moved_more (c.args.sorted.now ++ take place coming) all front back e (subst (λ l. IsPermutation (c.args.sorted.now ++ take place coming) (all ++ l)) c.split_at.ensures.by_index.0 inv.moved)));
       sorted = subst (AreInOrder order) (sym whole) (merged_more (comes_before order) chain all front back e later sorted ordered below passed left);
@@ -56,10 +59,11 @@ loop-entry-preserved c =
 pub returns-clause-sorted : goal.returns-clause-sorted
 returns-clause-sorted c =
     let inv = c.loop-entry.invariant in
-    let coming = c.args.coming.now in
+    let lent = c.args.coming.now in
+    let coming = map (λ (e : Bor Entry). e.now) lent in
     let all = sym (c.in_ok-push_all-2.ensures {u = tt}) in
     record {
-      moved = subst (λ l. IsPermutation (c.args.sorted.now ++ l) c.push_all-2.new.all.items) (take_all c.loop-entry.entry-index coming (omega arith)) (subst (IsPermutation (c.args.sorted.now ++ take c.loop-entry.entry-index coming)) all inv.moved);
+      moved = subst (λ l. IsPermutation (c.args.sorted.now ++ l) c.push_all-2.new.all.items) (take_all c.loop-entry.entry-index coming (omega (arith, length-map lent (λ (e : Bor Entry). e.now)))) (subst (IsPermutation (c.args.sorted.now ++ take c.loop-entry.entry-index coming)) all inv.moved);
       in_order = subst (AreInOrder c.args.order.now) all inv.sorted;
     }
 

@@ -19,7 +19,7 @@ loop-entry-preserved c =
       kept = elim c.if-not-is_seen_below.branch [
         | then-not-is_seen_below+in_ok-push w ↦ (
           kept.0 ++ e ∷ [],
-          ap (λ (v : Vec Entry Global). v.items) w.recent-is ∙ ((w.in_ok-push.ensures {u = tt}).items ∙ (ap (λ l. l ++ e ∷ []) kept.1 ∙ append_assoc c.args.recent.now.items kept.0 (e ∷ []))),
+          ap (λ (v : Vec Entry Global). v.items) w.recent-is ∙ ((w.in_ok-push.ensures {u = tt}).items ∙ (ap (λ x. c.loop-entry.recent.items ++ x ∷ []) w.copy_of.ensures ∙ ap (λ l. l ++ e ∷ []) kept.1 ∙ append_assoc c.args.recent.now.items kept.0 (e ∷ []))),
           subst (λ l. HoldsUpper order sorted l (kept.0 ++ e ∷ [])) (sym more) (keeps_one (take i entries) kept.0 kept.2 e),
         )
         | else-not-is_seen_below w ↦
