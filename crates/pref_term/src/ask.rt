@@ -98,7 +98,7 @@ impl Ask {
     ghost use Rattle.pref_term.specs.Preference.{preference_of};
     ghost use Rattle.pref_term.specs.Signatures.{Suit};
     ghost use Rattle.pref_term.specs.declared.relation.Relation.TheVariants.{Neither};
-    ghost use Rattle.pref_term.specs.Question.{IsAsk, IsCount, FitsWidth, cut_of};
+    ghost use Rattle.pref_term.specs.Question.{IsAsk, IsCount, FitsWidth, alike, cut_of};
 
     /// An ask of these parts. Takes memory for its keys and for the chains that lead it, once.
     pub(crate) fn new(
@@ -230,6 +230,14 @@ impl Ask {
         }
     }
 
+    /// Whether two rows are of one group and the same by the term. A call of its own, since no more than a skyline clause with `distinct` asks it.
+    #[inline(never)]
+    fn are_alike(&self, a: &Row, b: &Row) -> bool
+        ensures { result ≡ alike self.now a.now b.now }
+    {
+        in_same_group(&self.group, a, b) && self.compare_in_group(a, b).is_same()
+    }
+
     /// Whether the first row is better by the term alone. Inlined as [`Ask::compare_in_group`] is.
     #[inline(always)]
     fn is_better_in_group(&self, a: &Row, b: &Row) -> bool
@@ -286,7 +294,7 @@ impl Dominance for Ask {
     fn twin(&self, a: &Row, b: &Row) -> bool
         ensures { result ≡ twins self.now a.now b.now }
     {
-        self.distinct && self.compare(a, b).is_same()
+        self.distinct && self.are_alike(a, b)
     }
 
     /// Compares the group's columns first. Rows of two groups are `Neither`.

@@ -262,7 +262,7 @@ fn rows_stand_by_the_question(rt: HostRuntime) {
     check_standings(&rt, rt.alloc(), &products::STANDINGS);
 }
 
-static WALKS: [(&str, [i64; 2], [i64; 2], (bool, bool, bool, bool)); 5] = [
+static WALKS: [(&str, [i64; 2], [i64; 2], (bool, bool, bool, bool)); 6] = [
     (
         "best low(x) & high(y)",
         [1, 2],
@@ -280,6 +280,12 @@ static WALKS: [(&str, [i64; 2], [i64; 2], (bool, bool, bool, bool)); 5] = [
         [1, 2],
         [2, 1],
         (false, false, false, false),
+    ),
+    (
+        "best low(x) * low(y)",
+        [1, 2],
+        [2, 2],
+        (true, false, false, true),
     ),
     (
         "best low(x) by y",

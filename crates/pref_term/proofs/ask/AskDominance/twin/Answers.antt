@@ -9,6 +9,4 @@ returns-then-self c =
     let b = c.args.b.now in
     let known : IsAsk q = subst IsAsk c.self.view_is c.self.invariant.0 in
     let on : q.distinct ≡ true = ap (λ (x : Question). x.distinct) (sym c.self.view_is) ∙ c.if-self.true in
-    c.is_same.ensures
-    ∙ (c.compare.ensures.same
-    ∙ (clause_twins q a b (known.clause on).preference ∙ ap (λ d. d && in_same_group (q.group ++ columns_in q.preference) a b) (sym on)))
+    c.are_alike.ensures ∙ (clause_twins q a b (known.clause on).preference ∙ ap (λ d. d && in_same_group (q.group ++ columns_in q.preference) a b) (sym on))
