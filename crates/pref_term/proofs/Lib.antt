@@ -7,6 +7,7 @@ pub mod ChainLaws
 pub mod ExtensionLaws
 pub mod LeadingLaws
 pub mod SignatureWords
+pub mod SignatureMarks
 pub mod SignatureLaws
 pub mod WorkedTerms
 pub mod GrammarSound

@@ -5,7 +5,7 @@ ghost use Rattle.pref_term.specs.Signatures.{IsBy};
 ghost use Rattle.pref_term.specs.declared.key.Key.{Key};
 
 use crate::key::Key;
-use crate::signature::scale::Scale;
+use crate::signature::scale::{MOST_MARKS, Scale};
 use crate::signature::scales::Scales;
 use pref_table::Row;
 use std::alloc::{AllocError, Global};
@@ -72,7 +72,7 @@ fn push_key(
     if numbers.len() > 1 {
         let marks = middles_of(alloc, &numbers, shares)?;
         let key = key.copy(alloc)?;
-        scales.push(Scale { key, marks })?;
+        scales.push(Scale::of(key, marks))?;
     }
     Ok(())
 }
@@ -84,7 +84,7 @@ pub(crate) fn scales_for(alloc: Global, keys: &[Key], sample: &[Row]) -> Result<
     ensures { IfOk result (λ scales. All (IsBy keys.now) scales) }
 {
     let varying = count_varying(alloc, keys, sample)?;
-    let shares = BITS / varying.max(1);
+    let shares = (BITS / varying.max(1)).min(MOST_MARKS);
     let mut scales = Vec::new(alloc);
     for key in keys {
         push_key(alloc, &mut scales, key, sample, shares.max(1))?;

@@ -12,8 +12,8 @@ returns-clause-by c keys there before =
     let items : Vec Scale Global → List Scale = λ v. v.items in
     elim c.if-len-gt1.branch [
       | then-len-gt1+in_ok-marks+in_ok-key+in_ok-push w ↦
-          let scale : Scale = record { key = w.in_ok-key.key; marks = w.in_ok-marks.marks } in
-          let by : IsBy keys scale = record { key = subst (Contains keys) (sym (w.in_ok-key.ensures {u = tt})) there } in
+          let scale : Scale = w.of.result in
+          let by : IsBy keys scale = record { key = subst (Contains keys) (sym (w.of.ensures ∙ w.in_ok-key.ensures {u = tt})) there } in
           All-same (IsBy keys) _ _ (ap items w.scales-is ∙ (w.in_ok-push.ensures {u = tt}).items) (All-push (IsBy keys) c.args.scales.now.items scale before by)
       | else-len-gt1 w ↦ All-same (IsBy keys) _ _ (ap items w.scales-is) before
     ]
