@@ -148,8 +148,8 @@ impl Partial {
     /// one of the last level is seen to dominate. Once they are as many as were held at the last look, and 64, all are put in order of the
     /// question's keys, their levels are found by one sweep, and those below the cut are dropped. Cost of a sweep: for each entry a search by
     /// halves among the levels so far; a level is asked by one comparison where up to three chains lead the question, and else by a look at
-    /// the signatures of its entries. Memory: a copy of all entries, one of those that came,
-    /// eight bytes for each, and what the sweep keeps. Those below the cut are dropped in place: their room is given back at the next sweep.
+    /// the signatures of its entries. Memory: a copy of all entries, eight bytes for each, eight for each of those that came, and what the
+    /// sweep keeps. Those below the cut are dropped in place: their room is given back at the next sweep.
     ///
     /// Where it is no question's, the levels are found anew by the passes of [`best_rows`](crate::best_rows), level by level.
     ///

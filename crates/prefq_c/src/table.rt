@@ -10,6 +10,9 @@ use std::alloc::Global;
 /// The most lines that a table takes.
 const MOST_LINES: u64 = 1 << 62;
 
+/// Of the room that replies took, as many bytes stay for those to the next line.
+const KEPT_BYTES: usize = 4096;
+
 /// A live table, the replies to the line that it took last, and how many more lines it takes.
 #[derive(Drop)]
 pub struct Table {
@@ -43,7 +46,8 @@ impl Table {
         if self.lines_left == 0 {
             return Err(RunFault::Memory);
         }
-        self.text = String::new(alloc);
+        self.text.clear();
+        self.text.shrink_to(KEPT_BYTES);
         self.live.reply_to(alloc, line, &mut self.text)?;
         self.lines_left -= 1;
         Ok(())
