@@ -1,5 +1,11 @@
 -- Lines that are printed one after the other.
 use Rattle.pref_script.proofs.Common.{arith, ◌≡◌, ◌∙◌, ℕ, ◌+◌, ◌<◌, ◌≤◌, List, [], ◌∷◌, ◌++◌, length, drop, get_or, refl, sym, append_assoc, append-nil, drop_more, drop_all, texts}
+use Rattle.std.proofs.lemmas.Fmt.{decimal_digit}
+use Rattle.std.specs.Fmt.{decimal}
+
+-- the text of a number below ten
+pub digit_text : (n : ℕ) → n < 10 → decimal n ≡ (48 + n) ∷ []
+digit_text n small = decimal_digit n small
 
 -- one text more
 pub texts-more : {A : Type 0} (text : A → List ℕ) (out wrote all : List ℕ) (xs : List A) (place : ℕ) (x d : A) → place < length xs → get_or xs place d ≡ x
