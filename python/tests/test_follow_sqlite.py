@@ -1,4 +1,5 @@
 """What may happen to a table of SQLite that is followed beside the changes of its rows: another schema, another follower, an interruption."""
+import gc
 import os
 import random
 import signal
@@ -7,7 +8,7 @@ import threading
 import time
 import unittest
 import unittest.mock
-from contextlib import closing
+from contextlib import closing, suppress
 
 import prefq
 from interrupting import Interrupter, Interruption
@@ -370,6 +371,23 @@ class Interruptions(OfRooms):
                 self.assertEqual(frame.get(2).price, number)
                 unfollow(self.db, "rooms")
         self.assertGreater(number, 5)
+
+    def test_a_question_that_is_interrupted_gives_its_clients_back(self):
+        self.db.execute(ROOMS)
+        self.insert((1, 10, 3), (2, 20, 4), (3, 5, 3))
+        frame, number = self.followed("rooms", clients=2, capacity=2), 0
+        for question in (frame.rows, lambda: frame.snapshot(QUESTION)):
+            for place in range(1, 10_000, 7):
+                number += 1
+                interrupter = Interrupter(place)
+                with suppress(Interruption):
+                    interrupter.runs(question)
+                    break
+                gc.collect()
+                with self.subTest(where=interrupter.where):
+                    self.assertEqual([table._engine.settle() or len(table._engine.queries) for table in frame._tables.tables], [0] * frame.tables)
+        self.assertGreater(number, 50)
+        self.assertEqual(frame._tables._asking, {})
 
 
 @unittest.skipUnless(hasattr(signal, "setitimer"), "no timers here")

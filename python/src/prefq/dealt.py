@@ -11,6 +11,7 @@ from contextlib import ExitStack
 from itertools import chain, islice, starmap
 from struct import Struct
 from typing import Any, Callable, Collection, Deque, Dict, Iterable, List, Mapping, NamedTuple, Optional, Sequence, Tuple, TypeVar, Union
+from weakref import ref
 
 from .checks import MOST_ROWS
 from .columns import Column
@@ -89,8 +90,9 @@ class Dealt(Columns):
         self._options = dict(options)
         self._shards: List[Shard] = []
         self._places: Dict[Key, int] = {}
-        # Questions that are under way, each with the number of changes before its begin; and rows that have gone, with the number of changes before that.
-        self._asking: Dict[object, int] = {}
+        # Questions that are under way, each with the number of changes before its begin; and rows that have gone, with the number of changes before that. One that an
+        # interruption has lost before its answer is kept by nobody, and gives its clients back.
+        self._asking: Dict["ref[Begun]", int] = {}
         self._gone: Deque[Tuple[int, Shard, int]] = deque()
         self._changes = 0
         try:
@@ -154,12 +156,12 @@ class Dealt(Columns):
 
     def began(self, begun: "Begun") -> List[Shard]:
         """The tables that a question begins on; what they have is kept for it."""
-        self._asking[begun] = self._changes
+        self._asking[ref(begun, self._asking.pop)] = self._changes
         return list(self._shards)
 
     def ended(self, begun: "Begun") -> None:
         """A question has its answer, or has none."""
-        self._asking.pop(begun, None)
+        self._asking.pop(ref(begun), None)
 
     def _open(self, keys: Sequence[Key], rows: Zipped) -> None:
         """Opens as many tables as these rows need, of which each has the same number, and one where there is none."""
