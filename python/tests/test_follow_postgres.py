@@ -285,6 +285,20 @@ class Refusals(OfPostgres):
         self.run_sql("update offers set day = '2026-05-03', price = 1 where id = 2")
         self.assertEqual(frame.best("best low(price)").ids, [2])
 
+    def test_a_number_that_no_float_has_among_floats(self):
+        """Numbers of any number of decimals are floats where each of them is one, and texts else: whether the row came before the frame or later."""
+        self.run_sql("create table offers (id int primary key, price numeric, dist numeric)")
+        self.run_sql("insert into offers values (1, 0.1, 0.1), (2, 1e-24, 1e-24)")
+        frame = self.followed(kinds={"dist": "float"})
+        self.assertEqual([str(column.kind) for column in frame.columns], ["float", "float"])
+        self.run_sql("update offers set price = 1e24 where id = 1")
+        self.assertEqual([row.price for row in frame], [1e24, 1e-24])
+        self.run_sql("insert into offers values (3, 12345678901234567890, 12345678901234567890)")
+        self.run_sql("update offers set price = null where id = 2")
+        self.assertEqual(frame.get(3), {"price": "12345678901234567890", "dist": 1.2345678901234567e19})
+        self.run_sql("delete from offers where id = 3")
+        self.assertEqual([row.id for row in frame], [1, 2])
+
     def test_a_schema_that_is_changed(self):
         frame = self.offers((1, "Quay", 50, 8), (2, "Ritz", 90, 2))
         self.run_sql("alter table offers add column stars int default 5; alter table offers alter stars type bigint")

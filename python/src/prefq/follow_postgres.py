@@ -18,7 +18,7 @@ from .dealt import Key
 from .errors import Refused
 from .follow_source import UNCHANGED, Cells, Changes, Everything, Source, check_columns, client_of, identifier
 from .hints import unknown_column
-from .infer import kind_of_texts
+from .infer import first_inexact, kind_of_texts
 from .kinds import Booleans, Clock, Dates, Decimals, Floats, Kind, Texts, Times, Whole
 from .kinds.at_once import MOST_DECIMALS
 from .loading import chosen
@@ -60,6 +60,9 @@ class PostgresSource(Source):
         self._table, self._key = table, key
         self._slot, self._given = "", -1
         self._schema: Schema = []       # of the rows that were given
+        # Columns of kinds that were given, and the places of those that are floats by their values.
+        self._chosen = frozenset(kinds)
+        self._floats: Tuple[int, ...] = ()
         self._db = self._connected()
         try:
             self._check_server()
@@ -82,7 +85,7 @@ class PostgresSource(Source):
             return None
         self._given = -1        # What is read from the slot is not there again.
         log = self._talking(lambda: self._log(self._place("pg_current_wal_flush_lsn()")))
-        if not log.is_clear or not self._talking(self._is_as_it_was):
+        if not log.is_clear or not self._are_floats(log) or not self._talking(self._is_as_it_was):
             return None
         self._given = log.place
         return Changes(log.place, log.is_cleared, log.rows)
@@ -271,7 +274,14 @@ class PostgresSource(Source):
             kind = self._kind(*self._declared[name])
             texts = [] if kind is not None else list(dict.fromkeys(row[place] for row in rows if row[place] is not None))
             found[name] = Column(name, kind or (kind_of_texts(texts) if texts else Whole()))
+        self._floats = tuple(place for place, name in enumerate(self.columns)
+                             if self._declared[name][0] == "numeric" and name not in self._chosen and type(found[name].kind) is Floats)
         return found
+
+    def _are_floats(self, log: Log) -> bool:
+        """Whether numbers of any number of decimals, in columns that are floats since the values before were, are floats too: else such a column has another kind."""
+        texts = (row[place] for row in log.rows.values() if row is not None for place in self._floats)
+        return first_inexact(text for text in texts if isinstance(text, str)) is None
 
     def _check_kinds(self, given: Collection[str]) -> None:
         """Refuses a column whose type has no kind, where none is given."""
