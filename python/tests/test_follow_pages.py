@@ -6,12 +6,14 @@ import subprocess
 import sys
 import threading
 import time
+import unittest.mock
+import urllib.error
 import urllib.request
 import weakref
 from contextlib import closing
 from pathlib import Path
 
-import prefq
+import prefq.server
 import test_follow
 from prefq.follow_desk import FollowedDesk
 
@@ -64,6 +66,23 @@ class Pages(test_follow.OfSqlite):
         self.db.execute("delete from offers where id = 2")
         self.assertGreater(desk.wait(broken, 60), broken)
         self.assertEqual([row.id for row in desk.picture("best low(price)").rows], [1])
+
+    def test_a_file_that_is_locked_is_said_to_browsers(self):
+        desk = self.desk((1, "x", 1, 1))
+        with prefq.server.Server(desk, editable=False) as server, unittest.mock.patch("prefq.follow_sqlite.SECONDS_TO_WAIT", 0.1):
+            threading.Thread(target=server.serve_forever, daemon=True).start()
+            self.db.execute("begin exclusive")
+            said = "offers cannot be read: its database raises OperationalError"
+            with urllib.request.urlopen(f"{server.url}events?question=best%20low(price)", timeout=60) as stream:
+                self.assertIn(f'event: failed\ndata: {{"error": "{said}"', stream.read().decode())
+            with self.assertRaises(urllib.error.HTTPError) as refused:
+                urllib.request.urlopen(f"{server.url}picture?question=best%20low(price)", timeout=60)
+            with refused.exception as reply:
+                self.assertEqual((reply.code, json.load(reply)["error"]), (409, said))
+            self.db.execute("rollback")
+            with urllib.request.urlopen(f"{server.url}picture?question=best%20low(price)", timeout=60) as reply:
+                self.assertEqual(json.load(reply)["count"], 1)
+            server.shutdown()
 
     def test_a_frame_that_is_closed_closes_its_page(self):
         desk = self.desk((1, "x", 1, 1))

@@ -66,9 +66,13 @@ class FollowedDesk(Desk):
         raise changed_elsewhere()
 
     def picture(self, text: str, selection: Selection = Selection()) -> Picture:
-        """The rows and the answer to a question, with what is asked beside it, at one version."""
-        turns = self._turns     # of a version from before, where it changes meanwhile
-        found = self._frame.snapshot(text, selection)
+        """The rows and the answer to a question, with what is asked beside it, at one version. Where the database itself refuses to be read, that is `Refused` too, and
+        does not say what only those may know who run it."""
+        turns, source = self._turns, self._frame._source        # turns of a version from before, where it changes meanwhile
+        try:
+            found = self._frame.snapshot(text, selection)
+        except source.faults as why:
+            raise Refused(f"{source.name} cannot be read: its database raises {type(why).__name__}", "follow") from why
         wrong = next((key for key in found.rows if not isinstance(key, int)), None)
         if wrong is not None:
             raise Refused(f"there is a row with the key {wrong!r}: a page shows rows whose keys are whole numbers", "follow")

@@ -55,6 +55,7 @@ class PostgresSource(Source):
 
     def __init__(self, connection: Any, table: str, key: str, columns: Optional[Sequence[str]], kinds: Collection[str]) -> None:
         self._connect_again = connector(connection)
+        self.faults = (sys.modules[client_of(connection)].Error,)
         # By it the name is that of the same table as for the connection that was given.
         self._settings = {**SETTINGS, "search_path": search_path(connection)}
         self._table, self._key = table, key

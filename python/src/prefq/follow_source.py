@@ -1,5 +1,5 @@
 """Where a followed frame has its rows from: a table of a database, which is read as of a place in the order of the database's commits."""
-from typing import Any, Callable, Collection, Mapping, NamedTuple, Optional, Sequence, Tuple
+from typing import Any, Callable, Collection, Mapping, NamedTuple, Optional, Sequence, Tuple, Type
 
 from .checks import MOST, whole
 from .columns import Column
@@ -39,6 +39,7 @@ class Source:
 
     name = ""
     columns: Tuple[str, ...] = ()
+    faults: Tuple[Type[Exception], ...] = ()    # what the database itself raises
     until: Optional[float] = None       # how long a call may wait for others, as `time.monotonic` has it
 
     def everything(self) -> Everything:

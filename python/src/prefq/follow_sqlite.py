@@ -41,6 +41,8 @@ RUNS_BEFORE = re.compile(r"create\s+trigger\s+[^\s.]+(?:\s*\.\s*[^\s.]+)?\s+befo
 class SqliteSource(Source):
     """A table of a file of SQLite, by a connection of its own."""
 
+    faults = (sqlite3.Error,)
+
     def __init__(self, connection: sqlite3.Connection, table: str, key: str, columns: Optional[Sequence[str]]) -> None:
         self._db = connected_as(connection)
         # A connection and its statements are a cycle, so that where nothing refers to the frame only the collector would close it.
