@@ -218,5 +218,24 @@ class OwnForms(Editing):
         self.assertEqual(self.values(1)[3:], ["2001-05-02", "False"])
 
 
+class NamesOfObjects(Editing):
+    """Columns that are called as what each object of JavaScript has."""
+
+    records = [{"Hotel": "Quay", "Price (EUR)": "49.90", "Distance": 1200, "constructor": "Smith", "__proto__": "first"}]
+
+    def test_what_others_have_not_changed_stays(self):
+        self.edit(1)
+        self.server.desk.update(1, {"Price (EUR)": "20"})
+        self.fill("Price (EUR)", "45")
+        self.fill("constructor", "Jones")
+        self.save()
+        self.until_asked()
+        self.assertEqual((self.shown("constructor"), self.shown("__proto__"), self.said("constructor"), self.said("__proto__")), ("Jones", "first", [], []))
+        self.choose("Price (EUR)", "Save mine")
+        self.save()
+        self.until_closed()
+        self.assertEqual(self.values(1), ["Quay", "45.00", "1200", "Jones", "first"])
+
+
 if __name__ == "__main__":
     unittest.main()

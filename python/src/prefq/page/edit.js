@@ -133,7 +133,7 @@ export async function save() {
 // Shows what somebody else has changed, and asks where both have; returns what to say of it.
 function compare({version, values}) {
   opened.seen = version;
-  for (const field of opened.fields.filter(field => field.column.name in values)) {
+  for (const field of opened.fields.filter(field => Object.hasOwn(values, field.column.name))) {
     const theirs = values[field.column.name] ?? "";
     if (field.isChanged && field.control.value !== theirs) field.ask(theirs);
     else {
