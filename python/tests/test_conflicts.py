@@ -1,9 +1,13 @@
 """Rows that several people change: what one of them has not seen is not overwritten."""
 import pickle
+import sys
 import threading
 import unittest
+import unittest.mock
+from contextlib import nullcontext, suppress
 
 import prefq
+from interrupting import Interrupter, Interruption
 from prefq.desk import Changed, Desk
 from support import TestCase
 from test_serve import KINDS, RECORDS, Served, ask, picture
@@ -57,6 +61,26 @@ class Conflicts(Served):
             for wrong in ("", "-1", "x", "1.5", "9" * 40):
                 self.assertEqual(ask(server, "PUT", f"/rows/1?seen={wrong}", {"Distance": 5})[0], 400, wrong)
             self.assertEqual(server.desk.version, 1)
+
+    @unittest.skipIf(sys.version_info < (3, 11), "where Python calls signal handlers is known of 3.11 and later")
+    def test_what_a_change_that_was_interrupted_has_made_is_not_overwritten(self):
+        """Nor where the look at what it has made is interrupted, too."""
+        for again in (False, True):
+            made = 0
+            for place in range(1, 10_000, 3):
+                interrupter = Interrupter(place)
+                with Desk(prefq.Frame.from_records([{"x": 1, "y": 1}, {"x": 2, "y": 2}])) as desk:
+                    with suppress(Interruption):
+                        if again:
+                            with unittest.mock.patch.object(desk, "_note", side_effect=Interruption), suppress(Interruption):
+                                desk.update(1, {"x": 5})
+                        interrupter.runs(lambda: desk.picture("best low(x)") if again else desk.update(1, {"x": 5}))
+                        break
+                    is_made = desk._frame.get(1).x == 5
+                    with self.subTest(where=interrupter.where, again=again), self.assertRaises(Changed) if is_made else nullcontext():
+                        desk.update(1, {"x": 7}, seen=1)
+                    made += is_made
+            self.assertGreater(made, 5)
 
     def test_what_is_deleted_can_be_sent_again(self):
         text = " a\n\tb\r\n"

@@ -147,9 +147,7 @@ class Desk:
             before = self.record(self._row(id).numbers)
             self._check_unchanged(id, [name in values for name in self._named], seen)
             self._frame._update(id, values)
-            self._note(id)
-            after = self.record(self._row(id).numbers)
-            self._since[id] = tuple(version if after[name] == before[name] else self.version + 1 for name, version in zip(after, self._versions(id)))
+            self._note(id, before)
         self._change(change, values)
 
     def delete(self, id: int, *, seen: Optional[int] = None) -> Dict[str, Any]:
@@ -212,12 +210,16 @@ class Desk:
 
     def _read(self) -> None:
         """Takes the columns and the rows as they are in the frame."""
+        self._rows = self._there()
+
+    def _there(self) -> Dict[int, Held]:
+        """The rows as they are in the frame, whose columns are taken."""
         self._show_opened()
         outside = self._opened.ids.outside
-        self._rows = {id: Held(id, tuple(numbers)) for id, numbers in ((outside(inside), numbers) for inside, numbers in self.table.rows())}
+        return {id: Held(id, tuple(numbers)) for id, numbers in ((outside(inside), numbers) for inside, numbers in self.table.rows())}
 
-    def _note(self, id: int) -> None:
-        """Takes a row as it is in the frame; all of them where that has opened another table for it."""
+    def _note(self, id: int, before: Optional[Mapping[str, Any]] = None) -> None:
+        """Takes a row as it is in the frame, which had these values before; all of them where that has opened another table for it."""
         changed: Iterable[int] = [id]
         if self._opened is not self._frame._opened:
             self._show_opened()
@@ -225,7 +227,12 @@ class Desk:
             self._rows = {other: row for other, row in self._rows.items() if self._opened.ids.inside(other)}
             changed = [*self._rows, id]
         # One by one, which takes no client.
-        self._rows.update({id: Held(id, tuple(self.table.get(self._opened.ids.inside(id)))) for id in changed})
+        rows = {id: Held(id, tuple(self.table.get(self._opened.ids.inside(id)))) for id in changed}
+        if before is not None:
+            after = self.record(rows[id].numbers)
+            self._since[id] = tuple(version if after[name] == before[name] else self.version + 1 for name, version in zip(after, self._versions(id)))
+        # Last: behind an interruption, a row that is here as it is in the frame counts as unchanged.
+        self._rows.update(rows)
 
     def _show_opened(self) -> None:
         self._opened = self._frame._opened
@@ -295,11 +302,10 @@ class Desk:
         if self._is_whole:
             return
         self.table._free.check_at_hand()
-        before = self._rows
-        self._read()
+        rows = self._there()
         self.version += 1
-        self._since = {id: self._versions(id) if before.get(id) == row else (self.version,) * len(self.columns) for id, row in self._rows.items()}
-        self._is_whole = True
+        self._since = {id: self._versions(id) if self._rows.get(id) == row else (self.version,) * len(self.columns) for id, row in rows.items()}
+        self._rows, self._is_whole = rows, True
 
     def _waking(self, call: Callable[[], Result]) -> Result:
         """A call, behind which those are woken who wait for another version. They may change rows themselves, so this has no lock."""
