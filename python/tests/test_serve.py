@@ -20,7 +20,7 @@ from urllib.parse import urlencode
 import prefq
 from prefq import pictures
 from prefq import replies
-from prefq.desk import Desk
+from prefq.desk import Desk, Held
 from prefq.replies import MOST_BODY
 from prefq.server import Server
 from support import TestCase
@@ -342,6 +342,16 @@ class OfADesk(TestCase):
             self.assertEqual((shown["count"], shown["found"], len(shown["best"]), shown["others"]), (3000, 3000, pictures.MOST_BEST, []))
             shown = picture(server, 'best low("Price (EUR)")')[1]
             self.assertEqual((shown["found"], len(shown["others"])), (1, 1500))
+
+    def test_rows_are_sampled_whatever_their_ids_have_in_common(self):
+        for first, step in ((1, 1), (1, 2), (1, 15), (0, 10), (5, 1000), (2**60, 4096), (-10**6, 7)):
+            with self.subTest(first=first, step=step):
+                rows = [Held(first + step * number, ()) for number in range(30_000)]
+                some = pictures.sample(rows)
+                self.assertAlmostEqual(len(some), pictures.MOST_OTHERS, delta=100)
+                self.assertAlmostEqual(sum(row.id < rows[15_000].id for row in some), pictures.MOST_OTHERS / 2, delta=100)
+                fewer = pictures.sample(rows[:-100])
+                self.assertGreater(len(set(some) & set(fewer)), pictures.MOST_OTHERS - 50)
 
     def test_each_picture_is_one_snapshot(self):
         """While rows change, the answer of a picture is that over exactly its rows."""

@@ -23,6 +23,8 @@ MOST_OTHERS = 2000      # other rows that are drawn
 MOST_AT_ONCE = 2        # pictures that are made at a time: more of them would hold up changes, and be made no sooner
 NUMBER = re.compile(r"\d{1,18}")
 ID = re.compile(r"-?\d{1,19}")
+# Products with one are spread over the numbers below the other alike (the golden ratio; Knuth, The Art of Computer Programming 3, 6.4).
+GOLDEN, SPREAD = 0x9E3779B97F4A7C15, 2**64
 DAY = datetime.date(1970, 1, 1).toordinal()
 Result = TypeVar("Result")
 
@@ -203,4 +205,8 @@ def in_order(column: Column) -> Callable[[int], Any]:
 def sample(rows: List[Held]) -> List[Held]:
     """Some of many rows, for the most part the same ones in each picture."""
     step = -(-len(rows) // MOST_OTHERS)
-    return rows if step <= 1 else [row for row in rows if row.id % step == 0]
+    some = rows if step <= 1 else [row for row in rows if row.id % step == 0]
+    if step <= 1 or MOST_OTHERS // 4 <= len(some) <= MOST_OTHERS:
+        return some
+    # The ids of a database may all be odd, or end in zeros.
+    return [row for row in rows if row.id * GOLDEN % SPREAD < SPREAD // step][:MOST_OTHERS]
