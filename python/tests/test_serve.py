@@ -244,7 +244,7 @@ class Changes(Served):
         with self.served() as server:
             for body, said in [({"Hotell": "x"}, "did you mean Hotel"), ({"Price (EUR)": "9.999"}, "decimals"), ({"Price (EUR)": "cheap"}, "no number"), ({"Distance": True}, "Distance"),
                                ({"Distance": 1.5}, "no whole number"), ({"Distance": 10**30}, "does not fit"), ({"Opened": "2001-02-30"}, "no date"), ({"Hotel": ["a"]}, "no text"),
-                               ({"Hotel": {"a": 1}}, "no text"), ({"Distance": "1e400"}, ""), ({"Distance": float("inf")}, ""), ({"Price (EUR)": 10**400}, "")]:
+                               ({"Hotel": {"a": 1}}, "no text"), ({"Hotel": "a\ud800"}, "half of a character"), ({"Distance": "1e400"}, ""), ({"Distance": float("inf")}, ""), ({"Price (EUR)": 10**400}, "")]:
                 for method, path in [("POST", "/rows"), ("PUT", "/rows/1")]:
                     status, shown = ask(server, method, path, body)
                     self.assertEqual(status, 400, (body, shown))

@@ -50,6 +50,7 @@ SECONDS_STALLED = 10.0      # that a browser may take nothing of what is sent
 SECONDS_REQUEST = 10.0      # from the first byte of a request to its last
 SIGN_OF_LIFE = ": nothing has changed\n\n"
 COME_AGAIN = "retry: 1000\n\n"      # milliseconds, where the stream breaks
+HALF = re.compile("[\ud800-\udfff]")
 ROW = re.compile(r"/rows/(\d{1,18})")
 
 
@@ -216,6 +217,9 @@ class Site:
             raise Wrong(400, "the body is no JSON") from None
         if not isinstance(values, dict):
             raise Wrong(400, "the body is no JSON object of values by the names of columns")
+        for column in self.desk.columns:
+            if isinstance(values.get(column.name), str) and HALF.search(values[column.name]):
+                raise ValueError(f"column {column.name!r} ({column.kind}): the text has half of a character (a lone surrogate), which the download could not have")
         texts = {column.name for column in self.desk.columns if column.kind.name == Texts.name}
         return {name: None if value == "" and name not in texts else value for name, value in values.items()}
 
