@@ -180,6 +180,19 @@ class Alone(TestCase):
                 asyncio.run(asgi.application(desk)({"type": kind}, receive, send))
         self.assertEqual(sent, ["lifespan.startup.complete", "lifespan.shutdown.complete", "websocket.close"])
 
+    def test_a_path_that_ends_early_leads_to_the_same_path(self):
+        """Some frameworks mount an application at a path of the browser's own, which may have signs that end a header, or begin a query."""
+        sent = []
+
+        async def send(message):
+            sent.append(message)
+        with Desk(prefq.Frame.from_records(RECORDS, kinds=KINDS)) as desk:
+            for path in ("/hotels", "/what?", "/a b/ö", "/x\r\nSet-Cookie: a=b"):
+                sent.clear()
+                scope = {"type": "http", "method": "GET", "root_path": path, "path": path, "raw_path": quote(path).encode(), "query_string": b"", "headers": []}
+                asyncio.run(asgi.application(desk)(scope, None, send))
+                self.assertEqual((sent[0]["status"], dict(sent[0]["headers"])[b"location"]), (307, f"{quote(path)}/".encode()))
+
 
 if __name__ == "__main__":
     unittest.main()

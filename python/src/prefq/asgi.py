@@ -7,7 +7,7 @@ import asyncio
 import contextlib
 from concurrent.futures import ThreadPoolExecutor
 from typing import Any, Awaitable, Callable, Iterable, List, MutableMapping, Optional, Sequence, Tuple
-from urllib.parse import unquote
+from urllib.parse import quote, unquote
 
 from . import replies
 from .desk import Desk
@@ -48,7 +48,7 @@ class Application:
         path = path_within(scope)
         try:
             if not path:            # the names of the page's files are those beside it
-                return await send_all(send, 307, [("Location", f"{scope['root_path']}/"), ("Content-Length", "0")], b"")
+                return await send_all(send, 307, [("Location", f"{quote(scope['root_path'])}/"), ("Content-Length", "0")], b"")
             headers = replies.joined((name.decode("latin-1"), value.decode("latin-1")) for name, value in scope["headers"])
             asked = self.site.route(Request(scope["method"], path, scope["query_string"].decode("latin-1"), headers))
             if isinstance(asked, Watch):
