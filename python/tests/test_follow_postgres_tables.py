@@ -1,16 +1,20 @@
 """Frames that follow a table of PostgreSQL whose types, keys, schema and rights are of many sorts, or change."""
+import itertools
 import random
 import signal
+import sys
 import threading
 import time
+import unittest
 from contextlib import closing, contextmanager
 from unittest import mock
 
 import postgres
 import prefq
 import test_follow_postgres
+from interrupting import Interrupter, Interruption
 from prefq.checks import MOST_COLUMNS
-from prefq.follow_postgres import KINDS
+from prefq.follow_postgres import KINDS, PostgresSource
 
 setUpModule = test_follow_postgres.setUpModule
 QUESTION = "best low(price)"
@@ -373,6 +377,24 @@ class Transactions(OfTables):
                 signal.setitimer(signal.ITIMER_REAL, 0.5)
                 with self.within(10), self.assertRaises(KeyboardInterrupt):
                     prefq.Frame.follow(db, "offers")
+
+    @unittest.skipIf(sys.version_info < (3, 11), "where Python calls signal handlers is known of 3.11 and later")
+    def test_an_interruption_at_each_place_of_the_begin_of_a_wait(self):
+        """Also where the statement runs by then, and who waits for it does not know of it yet."""
+        for is_early in (False, True):
+            for place in itertools.count(1):
+                source, cancelled, interrupter = object.__new__(PostgresSource), threading.Event(), Interrupter(place)
+                source._rows = lambda sql: time.sleep(0 if is_early else 0.01) or cancelled.wait(6)
+                source._db = mock.Mock(cancel=cancelled.set)
+                source.until = time.monotonic() + 0.1
+                with self.subTest(place=place), self.within(4):
+                    try:
+                        interrupter.runs(lambda: source._wait_for("select"))
+                    except Interruption:
+                        continue
+                    except prefq.Refused:
+                        break
+        self.assertGreater(place, 3)
 
     def waits_for_a_slot(self):
         """Until a call waits for the end of a transaction."""

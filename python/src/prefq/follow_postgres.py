@@ -5,7 +5,7 @@ another frame reads the table anew.
 """
 import sys
 import time
-from concurrent.futures import ThreadPoolExecutor, wait
+from concurrent.futures import Future, ThreadPoolExecutor, wait
 from contextlib import suppress
 from datetime import timezone
 from typing import Any, Callable, Collection, Dict, List, Optional, Sequence, Tuple, TypeVar
@@ -170,20 +170,35 @@ class PostgresSource(Source):
 
     def _wait_for(self, sql: str, *values: Any) -> None:
         """Runs a statement that waits for others by a thread, so that signals get in meanwhile, and an end of the time."""
+        running: "Future[List[Tuple[Any, ...]]]" = Future()     # A signal may come before `submit` has returned its own.
         with ThreadPoolExecutor(1) as pool:
-            running = pool.submit(self._rows, sql, *values)
             try:
-                is_late = not wait([running], None if self.until is None else max(0.0, self.until - time.monotonic())).done
+                try:
+                    pool.submit(self._run, running, sql, *values)
+                    is_late = not wait([running], None if self.until is None else max(0.0, self.until - time.monotonic())).done
+                finally:
+                    self._end(running)
             finally:
-                # The server passes over a cancel that comes before the statement has begun there.
-                while not running.done():
-                    self._db.cancel()
-                    wait([running], PAUSE)
+                self._end(running)      # where the end above was interrupted
         if is_late:
             self._db.close()
             raise Refused(f"table {self.name} has to be read anew, and transactions that write, for whose end this waits, have not ended meanwhile",
                           "follow")
         running.result()
+
+    def _run(self, running: "Future[List[Tuple[Any, ...]]]", sql: str, *values: Any) -> None:
+        """Runs a statement, unless it is cancelled by now."""
+        if running.set_running_or_notify_cancel():
+            try:
+                running.set_result(self._rows(sql, *values))
+            except BaseException as why:
+                running.set_exception(why)
+
+    def _end(self, running: "Future[List[Tuple[Any, ...]]]") -> None:
+        """Ends a statement. The server passes over a cancel that comes before the statement has begun there."""
+        while not (running.done() or running.cancel()):
+            self._db.cancel()
+            wait([running], PAUSE)
 
     def _log(self, flushed: int) -> Log:
         """What is committed and was not read before; its place is at least the one that was flushed before."""
