@@ -326,6 +326,14 @@ class OfADesk(TestCase):
             self.assertEqual((self.rows(desk), desk.version), (before, version))
             self.assertEqual([str(column.kind) for column in desk.columns][0], "whole")
 
+    def test_a_picture_keeps_its_values(self):
+        with Desk(prices(60, 50)) as desk:
+            seen = desk.picture("best high(price)")
+            desk.insert({"price": "48.5"})
+            self.assertEqual([seen.record(row.numbers)["price"] for row in seen.best], [60])
+            now = desk.picture("best high(price)")
+            self.assertEqual([now.record(row.numbers)["price"] for row in now.best], [60])
+
     def test_an_interruption_between_a_change_of_the_frame_and_its_note(self):
         with Desk(prices(60, 50)) as desk:
             for change, price in ((lambda: desk.insert({"price": 40}), 40), (lambda: desk.update(3, {"price": "30.5"}), Decimal("30.5"))):

@@ -66,6 +66,10 @@ class Picture(NamedTuple):
     asked: List[Column]
     notes: Tuple[str, ...]
 
+    def record(self, numbers: Numbers) -> Dict[str, Any]:
+        """The values of one of its rows by the names of their columns, whatever the columns of the desk are by now."""
+        return named_values(self.columns, numbers)
+
 
 class Desk:
     """The rows of a frame, which any thread may change and ask here, and nobody elsewhere. They keep their ids, also where a column becomes wider.
@@ -74,7 +78,8 @@ class Desk:
     >>> hotels = prefq.Frame.from_records([{"Hotel": "Quay", "Price (EUR)": 60}])
     >>> with Desk(hotels) as desk:
     ...     desk.insert({"Hotel": "Alpine", "Price (EUR)": "49"})
-    ...     [desk.record(row.numbers) for row in desk.picture('best low("Price (EUR)")').best]
+    ...     seen = desk.picture('best low("Price (EUR)")')
+    ...     [seen.record(row.numbers) for row in seen.best]
     2
     [{'Hotel': 'Alpine', 'Price (EUR)': 49}]
     """
@@ -129,8 +134,8 @@ class Desk:
         return len(self._rows)
 
     def record(self, numbers: Numbers) -> Dict[str, Any]:
-        """The values of a row by the names of their columns."""
-        return {column.name: column.decode(number) for column, number in zip(self.columns, numbers)}
+        """The values of a row as it stands in the table now, by the names of their columns. Those of a picture, which may be an older one, are its own `record`."""
+        return named_values(self.columns, numbers)
 
     def insert(self, values: Mapping[str, Any]) -> int:
         """Adds a row of these values, by the names of their columns, and returns its id. A value that is not given is missing. Kinds grow as by `Frame.insert`."""
@@ -319,6 +324,11 @@ class Desk:
     def _wake(self) -> None:
         for call in list(self._subscribed):
             call()
+
+
+def named_values(columns: Iterable[Column], numbers: Numbers) -> Dict[str, Any]:
+    """The values of a row by the names of their columns."""
+    return {column.name: column.decode(number) for column, number in zip(columns, numbers)}
 
 
 def computed_picture(text: str, selection: Selection, version: int, columns: List[Column], rows: List[Held]) -> Picture:
