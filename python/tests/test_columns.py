@@ -320,6 +320,30 @@ class ValuesOfOtherTypes(TestCase):
             for value in (numpy.float32(0.25), numpy.int8(7), numpy.array(2.5), Fraction(3, 4), Decimal("1.5")):
                 self.assertEqual(frame.get(frame.insert({"x": value})).x, value)
 
+    def test_whole_numbers_of_numpy_that_no_float_is(self):
+        """numpy compares them with a float as floats, by which each of them is one."""
+        try:
+            import numpy
+        except ImportError:
+            raise unittest.SkipTest("numpy is not installed")
+        for value in (numpy.int64(2**53 + 1), numpy.int64(-2**62 - 1), numpy.uint64(2**63 + 1), numpy.array(2**53 + 1)):
+            with self.subTest(value=repr(value)):
+                for kinds in (None, {"x": "float"}):
+                    with self.refuses(ValueError, "row 2, column 'x' (float)", f"{value} is no 64-bit float"):
+                        prefq.Frame.from_records([{"x": 0.5}, {"x": value if kinds else value[()]}], kinds=kinds)
+        with prefq.Frame.from_records([{"x": numpy.int64(2**53 + 2)}, {"x": 0.5}]) as frame:
+            self.assertEqual(frame.get(1).x, 2**53 + 2)
+
+    def test_what_numpy_writes_as_digits_and_is_no_number(self):
+        try:
+            import numpy
+        except ImportError:
+            raise unittest.SkipTest("numpy is not installed")
+        for kind in ("whole", "decimal(2)"):
+            for value in (numpy.datetime64("2026"), numpy.array("5"), numpy.bool_(True)):
+                with self.subTest(kind=kind, value=repr(value)), self.refuses(TypeError, f"column 'x' ({kind}): {value!r} is no number"):
+                    Column("x", kind).encode(value)
+
 
 class WholeNumbersAtOnce(TestCase):
     """Python's own whole numbers are found without a look at each."""

@@ -167,10 +167,14 @@ class Floats(Number):
     def encode(self, value: Any) -> int:
         if isinstance(value, str):
             return self.read(value)
-        if type(value) is not float and not is_number(value):
-            raise TypeError(f"{value!r} is no number")
+        exactly = value
+        if type(value) is not float:
+            if not is_number(value):
+                raise TypeError(f"{value!r} is no number")
+            if type(value).__module__ == "numpy":
+                exactly = value.item()      # numpy itself compares its whole numbers with a float as floats.
         number = float(value)
-        if not number == value:     # Of numpy's masked value, which is a float that is no number, neither is so.
+        if not number == exactly:   # Of numpy's masked value, which is a float that is no number, neither is so.
             raise NotRead(f"{value} is no 64-bit float; give the column a kind such as 'whole' or 'decimal(2)'")
         return number_of_float(number)
 
@@ -214,7 +218,7 @@ def shown(value: Any) -> str:
 
 def exact(value: Any) -> Fraction:
     """The exact number that a value of Python is. A float is the decimal number that is shown for it."""
-    if isinstance(value, bool) or isinstance(value, str):
+    if isinstance(value, (bool, str)) or type(value).__module__ == "numpy" and not is_number(value):
         raise TypeError(f"{value!r} is no number")
     if isinstance(value, Decimal) and value and abs(value.adjusted()) > MOST_DIGITS:
         raise NotRead(f"{shown(value)} is no number that fits")
