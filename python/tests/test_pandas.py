@@ -207,6 +207,15 @@ class Frames(TestCase):
         self.assertEqual([str(dtype) for dtype in found.dtypes], ["int64", "int64", "object", "Int64", "float64"])
         self.assertEqual((list(found["small"]), list(found["kind"]), found["x"].isna().tolist(), list(found["f"])), ([1, 2, 300], ["a", "b", "c"], [False, False, True], [0.5, 1, 0.1]))
 
+    def test_a_missing_truth_is_not_false(self):
+        truths = pandas.Series([True, False])
+        for values in (truths, truths.astype(pandas.SparseDtype(bool, False))):
+            with self.subTest(values.dtype), prefq.Frame.from_dataframe(pandas.DataFrame({"n": [1, 2], "x": values})) as opened:
+                self.assertEqual(opened.best("top_level 9 low(n)").to_dataframe().x.dtype, values.dtype)
+                opened.insert({"n": 3})
+                found = opened.best("top_level 9 low(n)").to_dataframe().x
+                self.assertEqual((str(found.dtype), found.isna().tolist(), found.tolist()[:2]), ("boolean", [False, False, True], [True, False]))
+
     def test_whole_numbers_that_have_become_decimals(self):
         for dtype in ("Int64", "UInt8", "int16", "Float32", "object"):
             with self.subTest(dtype), prefq.Frame.from_dataframe(pandas.DataFrame({"x": pandas.Series([1, 2], dtype=dtype), "y": [1, 2]}), kinds={"x": "decimal(1)"}) as opened:

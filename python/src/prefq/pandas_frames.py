@@ -6,7 +6,7 @@ from fractions import Fraction
 from typing import Any, Callable, List, Mapping, Optional, Sequence, Tuple
 
 from .checks import LEAST, MOST
-from .columns import Column
+from .columns import Column, is_missing
 from .errors import Refused
 from .infer import kind_of_values
 from .kinds import Booleans, Choices, Dates, Decimals, Floats, Kind, NotRead, Texts, Times, Whole
@@ -191,7 +191,8 @@ def _series(values: List[Any], column: Column, index: Any) -> Any:
                 found = pandas.Series(values, index=index, dtype=dtype)
         except (TypeError, ValueError, OverflowError):
             continue
-        if dtype is not column.dtype or dtype is not None and all(value is None or value == _of_python(back) for value, back in zip(values, found)):
+        # Of None a type of truths makes False.
+        if dtype is not column.dtype or dtype is not None and all(is_missing(back) if value is None else value == _of_python(back) for value, back in zip(values, found)):
             return found
 
 
