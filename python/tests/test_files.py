@@ -178,6 +178,15 @@ class Columns(TestCase):
         with from_text(text) as frame:
             self.assertEqual(frame.best("best low(x)")[0].pi, "2.5")
 
+    def test_codes_that_would_lose_a_zero_are_texts(self):
+        for cells in (["01E5", "02E7"], ["00e1"], ["+01E5", "7"], ["0٣e2", "12"]):
+            with self.subTest(cells), from_text("\n".join(["x", *cells])) as frame:
+                self.assertEqual(values(frame, "x"), cells)
+                with self.refuses(prefq.Refused, f"{cells[0]} begins with a zero"):
+                    frame.best("best low(x)")
+        with from_text("x\n1E5\n0e3\n0.5e1\n") as frame:
+            self.assertEqual(values(frame, "x"), [100_000, 0, 5])
+
     def test_names_that_stand_twice(self):
         text = "a,b,a\n1,2,3\n4,1,6\n"
         self.assertEqual(run("ask", "-", "best low(b)", "--csv", text=text).stdout, "level,id,a,b,a\n1,2,4,1,6\n")

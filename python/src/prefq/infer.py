@@ -95,8 +95,8 @@ def kind_of_numbers(texts: Sequence[str]) -> Kind:
 
 
 def has_zero_in_front(text: str) -> bool:
-    """Whether these are digits of a postal code or an article number, in any script: as a number they would lose their zeros."""
-    digits = text.lstrip("+-")
+    """Whether these are digits of a postal code or an article number, such as 01E5, in any script: as a number they would lose their zeros."""
+    digits = text.lstrip("+-").lower().partition("e")[0]
     return len(digits) > 1 and digits.isdecimal() and int(digits[0]) == 0
 
 
