@@ -279,6 +279,19 @@ class Spellings(TestCase):
             frame.insert({"City": "Lion"})
             self.assertEqual(frame.best("best pos(City, 'Lion')").ids, [4])
 
+    def test_a_number_that_no_float_is_stands_for_none_near_to_it(self):
+        """As in a condition, where such a number equals none."""
+        with prefq.Frame.from_records([{"f": 2.0**53}, {"f": 0.0}, {"f": 0.1}]) as frame:
+            for text in ("9007199254740993", "1e-400", "0.10000000000000000555"):
+                with self.subTest(text), self.assertWarnsRegex(prefq.UnknownValue, f"no row of 'f' has '{text}'"):
+                    self.assertEqual((frame.best(f"best pos(f, {text})").ids, frame.best("best empty()", where=f"f = {text}").ids), ([1, 2, 3], []))
+            for text, id in (("9007199254740992", 1), ("0.0e0", 2), ("-0", 2), ("0.100", 3), ("1e-1", 3)):
+                with self.subTest(text):
+                    self.assertEqual((frame.best(f"best pos(f, {text})").ids, frame.best("best empty()", where=f"f = {text}").ids), ([id], [id]))
+            frame.insert({"f": 2**60})
+            for text in ("1152921504606846976", "1.152921504606847e+18"):       # which it is, and which Python shows for it
+                self.assertEqual(frame.best(f"best pos(f, {text})").ids, [4])
+
     def test_a_value_that_is_like_none_is_not_taken_for_one(self):
         with prefq.Frame.from_records([{"hair": "blonde"}, {"hair": "brown"}]) as frame:
             with self.assertWarnsRegex(prefq.UnknownValue, "no row of 'hair' has 'none'$"):

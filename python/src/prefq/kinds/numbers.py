@@ -182,8 +182,10 @@ class Floats(Number):
         return float(struct.unpack("<d", struct.pack("<q", number if number >= 0 else LEAST - number))[0])
 
     def find(self, text: str) -> Optional[int]:
-        """Numbers of a question are always plain."""
-        return self.in_form(PLAIN).read(text)
+        """Numbers of a question are always plain. A float is found by the number that it is, or that Python shows for it, and by no other near to it."""
+        number = self.in_form(PLAIN).read(text)
+        value = self.decode(number)
+        return number if Decimal(text.strip()) in (Decimal(digits_of(value)), Decimal(value)) else None
 
     def text(self, value: Any) -> str:
         return self.form.written(repr(value))
