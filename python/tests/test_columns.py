@@ -320,6 +320,12 @@ class ValuesOfOtherTypes(TestCase):
             for value in (numpy.float32(0.25), numpy.int8(7), numpy.array(2.5), Fraction(3, 4), Decimal("1.5")):
                 self.assertEqual(frame.get(frame.insert({"x": value})).x, value)
 
+    def test_truths_of_numpy_2(self):
+        """Their type is called bool, and some versions give them an index, as whole numbers have one."""
+        truth = type("bool", (), {"__module__": "numpy", "__index__": lambda self: 1})()
+        with prefq.Frame.from_records([{"x": truth}, {"x": False}]) as frame:
+            self.assertEqual((str(frame.columns[0].kind), [row.x for row in frame.rows()], frame.best(prefq.pos("x", truth)).ids), ("bool", [True, False], [1]))
+
     def test_whole_numbers_of_numpy_that_no_float_is(self):
         """numpy compares them with a float as floats, by which each of them is one."""
         try:

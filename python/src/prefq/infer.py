@@ -11,6 +11,7 @@ from .errors import Refused
 from .kinds import Booleans, Clock, Dates, Decimals, Floats, Kind, Texts, Times, Whole, kind_named
 from .kinds.at_once import MOST_DECIMALS, PlainTexts
 from .kinds.booleans import WORDS as WORDS_OF_TRUTH
+from .kinds.booleans import is_truth
 from .kinds.forms import NUMBER, PLAIN, Form
 from .kinds.moments import DAY, MOMENT, offset_of
 from .kinds.numbers import FLOAT, WIDE, Number, are_in_range, decimals_of, is_number, whole_numbers
@@ -165,7 +166,7 @@ def _type_of(value: Any) -> Any:
     for kind in (bool, int, float, str, Decimal, datetime.datetime, datetime.date, datetime.time):
         if isinstance(value, kind):
             return kind
-    if type(value).__name__ == "bool_":
+    if is_truth(value):
         return bool
     if hasattr(value, "__index__"):
         return int

@@ -7,6 +7,7 @@ from fractions import Fraction
 from typing import Any, Iterable, Tuple, Union
 
 from .columns import quoted, spelled
+from .kinds.booleans import is_truth
 from .kinds.forms import PLAIN
 from .kinds.numbers import decimals_needed
 
@@ -238,7 +239,7 @@ def spelled_value(value: Any) -> str:
     """A value as a question has it."""
     if isinstance(value, str):
         return quoted(value)
-    if isinstance(value, bool) or type(value).__name__ == "bool_":
+    if is_truth(value):
         return "true" if value else "false"
     if isinstance(value, (datetime.date, datetime.time)):
         return quoted(str(value))

@@ -36,8 +36,7 @@ class Booleans(Kind):
     def encode(self, value: Any) -> int:
         if isinstance(value, str):
             return self.read(value)
-        # The truth values of numpy are of a type of their own.
-        if isinstance(value, bool) or type(value).__name__ in ("bool_", "bool"):
+        if is_truth(value):
             return int(value)
         raise TypeError(f"{value!r} is neither True nor False")
 
@@ -47,3 +46,8 @@ class Booleans(Kind):
     def text(self, value: Any) -> str:
         true, false = self._own or ("true", "false")
         return true if value else false
+
+
+def is_truth(value: Any) -> bool:
+    """Whether a value is a truth: one of Python, or one of numpy, whose type is called bool_, and from numpy 2 on bool."""
+    return type(value).__name__ in ("bool", "bool_")
