@@ -50,6 +50,17 @@ class TimesOfZones(TestCase):
         with prefq.Frame.from_records([{"at": value} for value in some]) as frame:
             self.assertEqual([row.at.timestamp() for row in frame.rows()], [value.timestamp() for value in some])
 
+    @skip_without_pandas
+    def test_a_zone_of_pytz_is_one_in_summer_and_in_winter(self):
+        """It has another object for each of its offsets, as of several zones, whose times a question would name in UTC."""
+        import pytz
+        berlin = pytz.timezone("Europe/Berlin")
+        some = [berlin.localize(datetime.datetime(2026, month, 1, 12)) for month in (1, 7)]
+        for values in (some, some[::-1], list(map(pandas.Timestamp, some))):
+            with prefq.Frame.from_records([{"at": value} for value in values]) as frame:
+                self.assertEqual((str(frame.columns[0].kind), [str(row.at) for row in frame.rows()]), ("time(Europe/Berlin)", list(map(str, values))))
+                self.assertEqual(frame.best("best empty()", where="at = '2026-07-01 12:00'").ids, [1 + values.index(some[1])])
+
 
 @skip_without_pandas
 class TimesOfNumpy(TestCase):

@@ -152,6 +152,19 @@ class Together(TestCase):
         with self.refuses(prefq.Refused, "column 'x' is date in partition 2, and time in another part"):
             best([stamps, Partition(["x"], [[datetime.date(1, 1, 1)]])], "best low(x)")
 
+    def test_a_zone_of_pandas_beside_the_same_one_of_python(self):
+        """A text that names no zone is a time of theirs in each part, and where these are brought together."""
+        if pandas is None:
+            self.skipTest("pandas is not installed")
+        from zoneinfo import ZoneInfo
+        stamps = pandas.DataFrame({"x": pandas.to_datetime(["2026-07-01 10:00", "2026-07-01 11:00"]).tz_localize("Europe/Berlin")})
+        noon = datetime.datetime(2026, 7, 1, 12, tzinfo=ZoneInfo("Europe/Berlin"))
+        for sources, id in (([stamps, Partition(["x"], [[noon]])], 3), ([Partition(["x"], [[noon]]), stamps], 1)):
+            for term in ("pos(x, '2026-07-01 12:00')", "true(x >= '2026-07-01 12:00')", "around(x, '2026-07-01 12:30')"):
+                with self.subTest(term=term):
+                    answer = best(sources, f"best {term}")
+                    self.assertEqual((answer.ids, str(answer.columns[0].kind), str(answer[0].x)), ([id], "time(Europe/Berlin)", str(noon)))
+
     def test_code_books_of_their_own(self):
         columns = [["Lyon", "Bern", None], ["Köln", "Lyon"], ["Bern"]]
         self.assertEqual(self.values(*columns, question="top_level 3 layered(x, {'Bern'}, {'Köln', 'Lyon'})")[0], ["Bern", "Bern", "Lyon", "Köln", "Lyon", None])

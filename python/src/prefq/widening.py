@@ -10,7 +10,7 @@ from .checks import LEAST
 from .columns import Column
 from .errors import Refused
 from .kinds import Booleans, Choices, Floats, Kind, NotRead, Texts, Times, Whole
-from .kinds.moments import Dates, name_of
+from .kinds.moments import Dates, are_of_one_name
 from .kinds.numbers import Number
 from .missing import WORDS, folded
 
@@ -132,7 +132,7 @@ def _wider(first: Segment, second: Segment) -> Segment:
     if _have_one_line_of_time(one, other):
         finer = max(first, second, key=lambda segment: _fineness(segment.column.kind))
         kind = finer.column.kind
-        if not isinstance(kind, Times) or _zone(one) == _zone(other):
+        if not isinstance(kind, Times) or are_of_one_name(_zone(one), _zone(other)):
             return finer
         return finer._replace(column=finer.column.of_kind(type(kind)(datetime.timezone.utc)))
     raise Refused(f"column {first.column.name!r} is {one} in {first.source} and {other} in {second.source}: "
@@ -148,12 +148,6 @@ def _fineness(kind: Kind) -> Tuple[int, int]:
 
 def _zone(kind: Kind) -> Optional[datetime.tzinfo]:
     return kind.zone if isinstance(kind, Times) else None
-
-
-def _zone_name(kind: Kind) -> Optional[str]:
-    """The name of a zone, by which that of pandas and that of Python are the same."""
-    zone = _zone(kind)
-    return None if zone is None else name_of(zone)
 
 
 def _have_one_line_of_time(one: Kind, other: Kind) -> bool:
@@ -196,7 +190,7 @@ def check_zones(segments: Sequence[Segment], written: str) -> None:
     """Refuses times of several zones, where this text is written beside them, which names none and so would be another moment in each part."""
     times = [segment for segment in segments if isinstance(segment.column.kind, Times)]
     for first, other in zip(times, times[1:]):
-        if _zone_name(first.column.kind) != _zone_name(other.column.kind):
+        if not are_of_one_name(_zone(first.column.kind), _zone(other.column.kind)):
             raise _two_meanings(first, other, f"{written!r} would be another moment in each: write its offset, as in '2026-05-01 17:30+02:00', or give the column a zone by "
                                 "kinds={..}, such as 'time(UTC)'")
 

@@ -302,6 +302,11 @@ def name_of(zone: datetime.tzinfo) -> str:
     return str(zone if offset is None else datetime.timezone(offset))
 
 
+def are_of_one_name(one: Optional[datetime.tzinfo], other: Optional[datetime.tzinfo]) -> bool:
+    """Whether two zones have one name, or are both none: pytz has a zone of its own for each offset, as in summer and in winter, and Python another one."""
+    return one is other or one is not None and other is not None and name_of(one) == name_of(other)
+
+
 def universal(value: datetime.datetime) -> datetime.datetime:
     """A time with a zone as one of UTC, without its zone; one without a zone as it is. What lies outside Python's years is refused."""
     try:
