@@ -80,6 +80,12 @@ class Asks(TestCase):
         found = json.loads(self.prints(run("ask", HOTELS, QUESTION, "--json"), errors=NOTE), parse_float=Decimal)
         self.assertEqual((len(found), found[0]["Price (EUR)"], found[0]["Opened"], found[0]["Breakfast"]), (15, Decimal("94.77"), "1952-02-14", True))
 
+    def test_words_that_json_has_as_missing_are_said(self):
+        """Also where the question does not name their column, whose cells are printed as they stand in other forms."""
+        text, note = "x,y\n1,n/a\n2,5\n", "prefq: column 'y': 'n/a' (1 row) taken for missing; --missing says otherwise\n"
+        self.assertEqual(json.loads(self.prints(run("ask", "-", "best low(x)", "--json", text=text), errors=note)), [{"level": 1, "id": 1, "x": 1, "y": None}])
+        self.assertEqual(self.prints(run("ask", "-", "best low(x)", "--csv", text=text)), "level,id,x,y\n1,1,1,n/a\n")
+
     def test_html(self):
         page = self.prints(run("ask", HOTELS, QUESTION, "--html"), errors=NOTE)
         self.assertEqual(page.count("<tr>"), 16)

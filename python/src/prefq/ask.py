@@ -154,7 +154,8 @@ def run(options: argparse.Namespace) -> None:
     file.load(named)
     answer = asked(file, options.question, selection, progress)
     progress.end()
-    show(answer, options, [file.notes[name] for name in named if name in file.notes])
+    said = file.cells.names if options.form == "json" else named       # Of the others the cells are printed.
+    show(answer, options, [file.notes[name] for name in said if name in file.notes])
 
 
 def show(answer: Answer, options: argparse.Namespace, notes: Iterable[str]) -> None:
