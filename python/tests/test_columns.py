@@ -340,6 +340,20 @@ class ValuesOfOtherTypes(TestCase):
         with prefq.Frame.from_records([{"x": numpy.int64(2**53 + 2)}, {"x": 0.5}]) as frame:
             self.assertEqual(frame.get(1).x, 2**53 + 2)
 
+    def test_whole_numbers_of_narrow_floats_of_numpy(self):
+        """numpy shows 10010.0 and 123456790.0 for the first two."""
+        try:
+            import numpy
+        except ImportError:
+            raise unittest.SkipTest("numpy is not installed")
+        for value, whole in ((numpy.float16(10_008), 10_008), (numpy.float32(123_456_792), 123_456_792), (numpy.array(-123_456_792, dtype="float32"), -123_456_792), (numpy.longdouble(2**62 + 1), 2**62 + 1)):
+            for kind in ("whole", "decimal(0)"):
+                with self.subTest(value=repr(value), kind=kind), prefq.Frame.empty(["x"], {"x": kind}) as frame:
+                    self.assertEqual(frame.get(frame.insert({"x": value})).x, whole)
+        for value in (numpy.float32("inf"), numpy.longdouble("-inf")):
+            with self.refuses(ValueError, f"{value} is no number that fits"):
+                Column("x", "whole").encode(value)
+
     def test_what_numpy_writes_as_digits_and_is_no_number(self):
         try:
             import numpy

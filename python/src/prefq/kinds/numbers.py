@@ -240,7 +240,8 @@ def digits_of(value: Any) -> str:
         return float.__repr__(value)
     if type(value).__module__ == "numpy" and value.dtype.kind == "f" and not value.shape:
         import numpy
-        return str(numpy.format_float_scientific(value))
+        # Of a whole number of 16 or 32 bits numpy shows only as many digits as its type tells apart, and zeros for others.
+        return str(int(value) if numpy.isfinite(value) and value % 1 == 0 else numpy.format_float_scientific(value))
     return str(value)
 
 
