@@ -191,9 +191,13 @@ def _series(values: List[Any], column: Column, index: Any) -> Any:
                 found = pandas.Series(values, index=index, dtype=dtype)
         except (TypeError, ValueError, OverflowError):
             continue
-        # Of None a type of truths makes False.
-        if dtype is not column.dtype or dtype is not None and all(is_missing(back) if value is None else value == _of_python(back) for value, back in zip(values, found)):
+        if dtype is not column.dtype or dtype is not None and _has_all(found, values):
             return found
+
+
+def _has_all(series: Any, values: List[Any]) -> bool:
+    """Whether a series has these values: of None a type of truths makes False, and a small one cuts a number."""
+    return all(is_missing(back) if value is None else value == _of_python(back) for value, back in zip(values, series))
 
 
 def _of_python(value: Any) -> Any:
