@@ -14,6 +14,10 @@ pub plays_refused : (width : ℕ) (running : Running) (number : ℕ) (why : Refu
 unfolding command_lines accepted_events
 plays_refused width running number why old new added = grind (arith, append_assoc)
 
+-- the same, once its line was pushed
+pub plays_refused_line : {E : Type 0} (width : ℕ) (running : Running) (number : ℕ) (why : Refusal) (old new : List ℕ) (pushed : Result (Unit {0}) E) → OnOk pushed (new ≡ old ++ refused_line number why) → OnOk pushed (Plays width running (refused number why ∷ []) old new running)
+plays_refused_line width running number why old new pushed added = on_ok_weaker pushed (plays_refused width running number why old new) added
+
 -- an event
 pub plays_event : (width : ℕ) (before after : Running) (event : Event) (reply : Reply) (old new : List ℕ) → Replies before event (Ok reply) after → new ≡ old ++ reply_lines width event.client reply
     → Plays width before (runs event ∷ []) old new after

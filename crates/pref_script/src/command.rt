@@ -122,7 +122,7 @@ fn question_event(
 
 /// The event of a client's line that has this form: its values, its pieces or its question are read.
 #[tactic(auto, unfolding(crate::specs::Commands::act_of))]
-fn form_event(alloc: Global, schema: &Schema, client: u8, form: Form<'_>) -> Result<Event, Stop>
+pub fn form_event(alloc: Global, schema: &Schema, client: u8, form: Form<'_>) -> Result<Event, Stop>
     ensures { Reads result (event_said schema.now (Some (client, said form.entry))) }
 {
     let act = match form {

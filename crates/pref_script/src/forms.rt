@@ -126,3 +126,11 @@ pub fn read_form(command: &[u8]) -> Option<Form<'_>>
     let (verb, rest) = cut_verb(command)?;
     verb_form(verb, rest)
 }
+
+/// The client that a line names and the form of its command, where the line has the form of a command line.
+pub fn cut_form(line: &[u8]) -> Option<(u8, Form<'_>)>
+    ensures { option_map (λ cut. (cut.0, said cut.1)) result ≡ said_in line.now }
+{
+    let (client, command) = cut_client(line)?;
+    Some((client, read_form(command)?))
+}

@@ -1,16 +1,21 @@
 //! A command line, played on one table, and the replies to it.
-ghost use Rattle.std.specs.Prelude.{◌≡◌, ◌≤◌, ◌++◌, ◌∷◌, [], length, string_bytes, IfErr, OnOk};
-ghost use Rattle.pref_script.specs.Commands.{commands_in, runs};
+ghost use Rattle.std.specs.Prelude.{ℕ, ◌≡◌, ◌≤◌, ◌++◌, ◌∷◌, [], length, string_bytes, IfErr, OnOk, Some};
+ghost use Rattle.pref_core.specs.declared.event.Act.TheVariants.{Delete, Insert, Update};
 ghost use Rattle.pref_core.specs.declared.event.Reply.{Reply};
+ghost use Rattle.pref_script.specs.Commands.{command_of, commands_in, event_said, runs};
+ghost use Rattle.pref_script.specs.Forms.{changes, said};
+ghost use Rattle.pref_script.specs.Pieces.{change_said};
 ghost use Rattle.pref_script.specs.Playing.{Plays};
 ghost use Rattle.pref_script.specs.Text.{reply_lines};
 
-use crate::command::{Stop, read_event};
+use crate::command::{Refusal, Stop, form_event};
 use crate::fault::RunFault;
+use crate::forms::{Form, cut_form};
+use crate::pieces::ChangeForm;
 use crate::script::is_blank_line;
 use crate::text::{push_line, push_refused, push_refused_act, push_reply};
-use pref_core::{Act, CoreFault, Event, Machine};
-use pref_table::Schema;
+use pref_core::{CoreFault, Event, Machine};
+use pref_table::{Row, Schema, read_row};
 use std::alloc::{AllocError, Global};
 
 /// Appends the lines of the reply to an event of any kind. It stays a call of its own, since whoever holds the room of a
@@ -42,34 +47,102 @@ fn push_failed_change(text: &mut String, client: u8, fault: CoreFault) -> Result
     }
 }
 
-/// Appends the lines of an event's reply. Most events change one row: their line is made of what the change returns, with
-/// no reply between them.
-fn play_event(
+/// Plays an insert, and appends its line.
+fn play_insert(
     alloc: Global,
-    width: usize,
     machine: &mut Machine,
-    event: Event,
+    client: u8,
+    row: &Row,
     text: &mut String,
 ) -> Result<(), AllocError>
-    requires { width ≤ 16 }
-    ensures { OnOk result (Plays width machine.old (runs event ∷ []) (string_bytes text.old) (string_bytes text.new) machine.new) }
+    ensures { (width : ℕ) → OnOk result (Plays width machine.old (runs (record { client = client; act = Insert row.now }) ∷ []) (string_bytes text.old) (string_bytes text.new) machine.new) }
 {
-    let client = event.client;
-    match &event.act {
-        Act::Insert(row) => match machine.insert(alloc, client, row) {
-            Ok(id) => push_line(text, client, " inserted ", id),
-            Err(fault) => push_failed_change(text, client, fault),
-        },
-        Act::Update(id, row) => match machine.update(alloc, client, *id, row) {
-            Ok(()) => push_line(text, client, " updated ", *id),
-            Err(fault) => push_failed_change(text, client, fault),
-        },
-        Act::Delete(id) => match machine.delete(alloc, client, *id) {
-            Ok(()) => push_line(text, client, " deleted ", *id),
-            Err(fault) => push_failed_change(text, client, fault),
-        },
-        _ => play_any_event(alloc, width, machine, event, text),
+    match machine.insert(alloc, client, row) {
+        Ok(id) => push_line(text, client, " inserted ", id),
+        Err(fault) => push_failed_change(text, client, fault),
     }
+}
+
+/// Plays an update, and appends its line.
+fn play_update(
+    alloc: Global,
+    machine: &mut Machine,
+    client: u8,
+    id: u64,
+    row: &Row,
+    text: &mut String,
+) -> Result<(), AllocError>
+    ensures { (width : ℕ) → OnOk result (Plays width machine.old (runs (record { client = client; act = Update id row.now }) ∷ []) (string_bytes text.old) (string_bytes text.new) machine.new) }
+{
+    match machine.update(alloc, client, id, row) {
+        Ok(()) => push_line(text, client, " updated ", id),
+        Err(fault) => push_failed_change(text, client, fault),
+    }
+}
+
+/// Plays a delete, and appends its line.
+fn play_delete(
+    alloc: Global,
+    machine: &mut Machine,
+    client: u8,
+    id: u64,
+    text: &mut String,
+) -> Result<(), AllocError>
+    ensures { (width : ℕ) → OnOk result (Plays width machine.old (runs (record { client = client; act = Delete id }) ∷ []) (string_bytes text.old) (string_bytes text.new) machine.new) }
+{
+    match machine.delete(alloc, client, id) {
+        Ok(()) => push_line(text, client, " deleted ", id),
+        Err(fault) => push_failed_change(text, client, fault),
+    }
+}
+
+/// Plays a client's change, by the number of its line. Most lines are such: their row is lent to the machine from where it
+/// was read, with no event between them.
+#[tactic(auto, unfolding(crate::specs::Commands::act_of, crate::specs::Commands::change_of))]
+fn play_change(
+    alloc: Global,
+    schema: &Schema,
+    machine: &mut Machine,
+    number: u64,
+    client: u8,
+    form: ChangeForm<'_>,
+    text: &mut String,
+) -> Result<(), AllocError>
+    ensures { OnOk result (Plays (length schema.now) machine.old (command_of number (event_said schema.now (Some (client, changes (change_said form.entry)))) ∷ []) (string_bytes text.old) (string_bytes text.new) machine.new) }
+{
+    match form {
+        ChangeForm::Insert(values) => match &read_row(schema, values) {
+            Ok(row) => play_insert(alloc, machine, client, row, text),
+            Err(why) => push_refused(text, number, &Refusal::Values(*why)),
+        },
+        ChangeForm::Update(id, values) => match &read_row(schema, values) {
+            Ok(row) => play_update(alloc, machine, client, id, row, text),
+            Err(why) => push_refused(text, number, &Refusal::Values(*why)),
+        },
+        ChangeForm::Delete(id) => play_delete(alloc, machine, client, id, text),
+    }
+}
+
+/// Plays a client's line of any form, by its number. It stays a call of its own, since whoever holds the room of an event
+/// clears it first.
+#[inline(never)]
+fn play_any_form(
+    alloc: Global,
+    schema: &Schema,
+    machine: &mut Machine,
+    number: u64,
+    client: u8,
+    form: Form<'_>,
+    text: &mut String,
+) -> Result<(), AllocError>
+    ensures { OnOk result (Plays (length schema.now) machine.old (command_of number (event_said schema.now (Some (client, said form.entry))) ∷ []) (string_bytes text.old) (string_bytes text.new) machine.new) }
+{
+    match form_event(alloc, schema, client, form) {
+        Ok(event) => play_any_event(alloc, schema.width(), machine, event, text)?,
+        Err(Stop::Refused(why)) => push_refused(text, number, &why)?,
+        Err(Stop::OutOfMemory) => return Err(AllocError),
+    }
+    Ok(())
 }
 
 /// Appends the replies to a command line, by its number, if it isn't blank.
@@ -87,10 +160,14 @@ pub fn play_line(
     if is_blank_line(line) {
         return Ok(());
     }
-    match read_event(alloc, schema, line) {
-        Ok(event) => play_event(alloc, schema.width(), machine, event, text)?,
-        Err(Stop::Refused(why)) => push_refused(text, number, &why)?,
-        Err(Stop::OutOfMemory) => return Err(RunFault::Memory),
+    match cut_form(line) {
+        Some((client, Form::Change(form))) => {
+            play_change(alloc, schema, machine, number, client, form, text)?
+        }
+        Some((client, form)) => {
+            play_any_form(alloc, schema, machine, number, client, form, text)?
+        }
+        None => push_refused(text, number, &Refusal::NotCommand)?,
     }
     Ok(())
 }
