@@ -1,7 +1,7 @@
 -- A scale's bits of a number: ones for the marks that it reaches, which come first, and then zeros.
 use Rattle.pref_term.proofs.Common.{◌≡◌, ◌<◌, ◌≤◌, ◌+◌, ◌-◌, ◌*◌, ◌^◌, ◌%◌, ℕ, zero, suc, pos, List, [], ◌∷◌, map, length, Bool, true, false, not, int_lt, ap, sym, subst, refl, get_or, ◌∙◌, arith, ints}
 use Rattle.pref_term.proofs.Common.{from_bool, signed_onto, with_bit}
-use lib.Dec.{leb}
+use lib.Dec.{leb, ltb}
 use Rattle.std.specs.Prelude.{bit_or}
 use Rattle.std.specs.List.{AllWithin}
 use Rattle.std.specs.List.Sorted.{IsPartitionPoint, IsPartitionedBy}
@@ -115,6 +115,21 @@ signed_ones test xs word ones small few within parts =
     ∙ or_behind word (length xs) (value (map test xs)) few (omega (arith, ones_value test xs ones within parts, pow_pos (length xs - ones)))
     ∙ ap (λ n. (word * 2 ^ n + value (map test xs)) % 2 ^ 64) (sym long)
     ∙ sym (signed_value (map test xs) word small)
+
+-- a mark is beyond the number or reached by it
+pub beyond_within : (b : Bool) (at beyond : ℕ) → beyond ≤ at → beyond + from_bool b ≤ at + 1
+beyond_within true at beyond within = omega (arith, within)
+beyond_within false at beyond within = omega (arith, within)
+
+beyond_or_reached : (b : Bool) (at beyond : ℕ) → beyond ≤ at → (at - beyond) + from_bool (not b) ≡ at + 1 - (beyond + from_bool b)
+beyond_or_reached true at beyond within = omega (arith, within)
+beyond_or_reached false at beyond within = omega (arith, within)
+
+not_beyond : (number mark : ℕ) → leb mark number ≡ not (ltb number mark)
+not_beyond number mark = grind arith
+
+pub beyond_next : (number mark at beyond : ℕ) → beyond ≤ at → (at - beyond) + from_bool (leb mark number) ≡ at + 1 - (beyond + from_bool (ltb number mark))
+beyond_next number mark at beyond within = ap (λ b. (at - beyond) + from_bool b) (not_beyond number mark) ∙ beyond_or_reached (ltb number mark) at beyond within
 
 -- a test of marks, as `<=` and as `bits_by` have it
 pub reached_alike : (number mark : ℕ) → leb mark number ≡ not (int_lt (pos number) (pos mark))

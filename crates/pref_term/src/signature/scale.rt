@@ -31,18 +31,18 @@ impl Scale {
     }
 
     /// Puts a bit for each mark behind a word's: whether this number is no less. These are ones for the marks that it reaches, which
-    /// come first, and then zeros. Counting them takes no branch, unlike a search by halves, whose branches no processor foresees.
+    /// come first, and then zeros for those beyond it. Counting these takes no branch, unlike a search by halves, whose branches no
+    /// processor foresees, and fewer instructions than counting the others.
     fn reached_onto(word: u64, number: u64, marks: &[u64]) -> u64
         requires in_order { IsNonDecreasing marks.now }
         requires few { length marks.now < 64 }
         ensures { result ≡ signed_onto word (map (λ mark. not (int_lt (pos number) (pos mark))) marks.now) }
     {
-        let mut reached = 0;
+        let mut beyond = 0;
         for mark in marks {
-            reached += usize::from(*mark <= number);
+            beyond += usize::from(*mark > number);
         }
-        let zeros = marks.len() - reached;
-        (word << marks.len()) | ((1 << marks.len()) - (1 << zeros))
+        (word << marks.len()) | ((1 << marks.len()) - (1 << beyond))
     }
 
     /// Puts its bits of a row behind a word's.
