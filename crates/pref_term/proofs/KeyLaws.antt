@@ -3,13 +3,18 @@ use Rattle.pref_term.proofs.Common.{◌≡◌, ◌<◌, ℤ, pos, Bool, true, fa
 use Rattle.pref_term.proofs.Common.{All, false≢true, ints, All-append, All-cons, All-nil, missed, int_lt, outside, score, sets_before, ReadsBelow, column, by_key, by_keys, is_number}
 use Rattle.pref_term.proofs.Common.{is_product, key_for, leading, opposed, and_parts, Base, Preference, scored, pareto, prior, reverse, by_scores}
 use Rattle.pref_term.proofs.Common.{by_sides, in_priority, in_product, is_better, Key, Relation, Neither, Same}
+use Rattle.pref_term.proofs.Common.{find, int_eq, list_any}
 use Rattle.std.specs.Prelude.{◌||◌}
+use Rattle.std.specs.Option.{option_map_or}
+use Rattle.pref_term.specs.Keys.{from_zero}
+use Rattle.pref_term.specs.Better.{cell}
+use Rattle.pref_term.specs.declared.key.Score.TheVariants.{Sets}
 use Rattle.pref_term.specs.Walk.{directed}
 
 raised : (x y : ℤ) → by_scores (x +ℤ pos (2 ^ 63)) (y +ℤ pos (2 ^ 63)) ≡ by_scores x y
 raised x y = grind (arith, ints)
 
-turned : (x y : ℤ) → by_scores (opposed true x) (opposed true y) ≡ by_scores y x
+pub turned : (x y : ℤ) → by_scores (opposed true x) (opposed true y) ≡ by_scores y x
 turned x y = grind (arith, ints)
 
 negated : (x y : ℤ) → by_scores (neg_ℤ x) (neg_ℤ y) ≡ by_scores y x
@@ -98,3 +103,29 @@ leading_law (pareto p q) s a b h =
     ∙ ((λ i. in_product (leading_law p s a b both.0 i) (leading_law q s a b both.1 i)) ∙ sym (directed_product s p q a b))
 leading_law (reverse p) s a b h = leading_law p (not s) a b h ∙ directed_reverse s p a b
 leading_law p s a b h = grind (arith, product_same, key_law, keys-append, directed_product, false≢true, directed_reverse)
+
+-- ---- sets, each before those behind it
+
+-- whether a set holds one of two values
+abbrev pub holds_one : ℤ → ℤ → List ℤ → Bool
+holds_one a b set = list_any (int_eq a) set || list_any (int_eq b) set
+
+first_or_later : (set : List ℤ) (sets : List (List ℤ)) (a b : ℤ) (x y : Bool) → list_any (int_eq a) set ≡ x → list_any (int_eq b) set ≡ y
+    → by_scores (pos (sets_before sets a)) (pos (sets_before sets b)) ≡ option_map_or (λ s. by_scores (missed s a) (missed s b)) (find (holds_one a b) sets) Same
+    → by_scores (pos (sets_before (set ∷ sets) a)) (pos (sets_before (set ∷ sets) b))
+    ≡ option_map_or (λ s. by_scores (missed s a) (missed s b)) (find (holds_one a b) (set ∷ sets)) Same
+first_or_later set sets a b true y first second rest = grind (arith, ints)
+first_or_later set sets a b false true first second rest = grind (arith, ints)
+first_or_later set sets a b false false first second rest = grind (arith, ints)
+
+-- the first set that holds one of two values decides
+pub first_decides : (sets : List (List ℤ)) (a b : ℤ)
+    → by_scores (pos (sets_before sets a)) (pos (sets_before sets b)) ≡ option_map_or (λ s. by_scores (missed s a) (missed s b)) (find (holds_one a b) sets) Same
+first_decides [] a b = refl
+first_decides (set ∷ sets) a b = first_or_later set sets a b (list_any (int_eq a) set) (list_any (int_eq b) set) refl refl (first_decides sets a b)
+
+-- a key whose values are scored by sets compares rows as these do, or the other way round
+pub by_sets_of : (k : Key) (sets : List (List ℤ)) (t : Bool) (a b : List ℤ) → k.score ≡ Sets sets → k.turned ≡ t
+    → by_scores (opposed t (pos (sets_before sets (cell a k.col)))) (opposed t (pos (sets_before sets (cell b k.col)))) ≡ by_key k a b
+by_sets_of k sets t a b score is i =
+    by_scores (opposed (sym is i) (from_zero (sym score i) (cell a k.col))) (opposed (sym is i) (from_zero (sym score i) (cell b k.col)))

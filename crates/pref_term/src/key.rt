@@ -2,11 +2,11 @@
 ghost use Rattle.std.specs.Prelude.{◌≡◌, ◌<◌, ◌+ℤ◌, ◌-ℤ◌, ◌^◌, IfOk, List, ℤ, false, pos, true};
 ghost use Rattle.std.specs.List.{list_any};
 ghost use Rattle.std.specs.Ordering.{int_eq};
-ghost use Rattle.pref_term.specs.Better.{outside, sets_before};
+ghost use Rattle.pref_term.specs.Better.{missed, outside, sets_before};
 ghost use Rattle.pref_term.specs.Keys.{by_key, from_zero, is_number, key_for, keyed};
 ghost use Rattle.pref_term.specs.Order.{is_same};
 ghost use Rattle.pref_term.specs.Preference.{low};
-ghost use Rattle.pref_term.specs.Walk.{by_sides};
+ghost use Rattle.pref_term.specs.Walk.{by_scores, by_sides};
 
 use crate::relation::Relation;
 use crate::term::{NumberSets, Numbers};
@@ -63,6 +63,32 @@ pub(crate) fn sets_before(sets: &[Numbers], value: i64) -> usize
     sets.iter()
         .position(|set| is_member(set, value))
         .unwrap_or(sets.len())
+}
+
+/// A value in the set is better than one outside it.
+#[inline(never)]
+pub(crate) fn by_member(a: i64, b: i64, set: &Numbers) -> Relation
+    ensures { result ≡ by_scores (missed set.now a) (missed set.now b) }
+{
+    match (is_member(set, a), is_member(set, b)) {
+        (true, false) => Relation::Better,
+        (false, true) => Relation::Worse,
+        _ => Relation::Same,
+    }
+}
+
+/// A value in an earlier set is better than one in a later set, or in none: the first set that holds one of them decides.
+#[inline(never)]
+pub(crate) fn by_sets(sets: &[Numbers], a: i64, b: i64) -> Relation
+    ensures { result ≡ by_scores (pos (sets_before sets.now a)) (pos (sets_before sets.now b)) }
+{
+    let first = sets
+        .iter()
+        .find(|set| is_member(set, a) || is_member(set, b));
+    match first {
+        Some(set) => by_member(a, b, set),
+        None => Relation::Same,
+    }
 }
 
 pub(crate) fn is_member(set: &Numbers, value: i64) -> bool
@@ -179,26 +205,33 @@ impl Key {
         (first < second, second < first)
     }
 
-    /// Whether the first row is better and whether the second is.
-    #[inline(always)]
-    fn sides(&self, a: &Row, b: &Row) -> (bool, bool)
-        requires { self.now.col < 16 }
-        ensures { by_sides result.0 result.1 ≡ by_key self.now a.now b.now }
-    {
-        match self.score {
-            Score::Value => self.sides_by_value(a, b),
-            _ => self.sides_by_key(a, b),
-        }
-    }
-
     /// How the first row compares with the second one.
     #[inline(always)]
     pub(crate) fn compare(&self, a: &Row, b: &Row) -> Relation
         requires { self.now.col < 16 }
         ensures { result ≡ by_key self.now a.now b.now }
     {
-        let (better, worse) = self.sides(a, b);
+        let (better, worse) = match &self.score {
+            Score::Value => self.sides_by_value(a, b),
+            Score::Distance { .. } => self.sides_by_key(a, b),
+            Score::Sets(sets) => return self.by_sets(sets, a, b),
+        };
         Relation::by_sides(better, worse)
+    }
+
+    /// How the first row compares with the second one, where values are scored by these sets.
+    #[inline(always)]
+    fn by_sets(&self, sets: &NumberSets, a: &Row, b: &Row) -> Relation
+        requires column { self.now.col < 16 }
+        requires sets { self.now.score ≡ Score.Sets sets.now }
+        ensures { result ≡ by_key self.now a.now b.now }
+    {
+        let (first, second) = (a.cell(self.col), b.cell(self.col));
+        if self.turned {
+            by_sets(sets.as_slice(), second, first)
+        } else {
+            by_sets(sets.as_slice(), first, second)
+        }
     }
 
     /// Whether both score the same column alike, in either direction.

@@ -6,9 +6,9 @@ ghost use Rattle.pref_term.specs.Order.{is_better, is_same, is_worse};
 ghost use Rattle.pref_term.specs.Preference.{preference_of};
 ghost use Rattle.pref_term.specs.Walk.{by_scores, in_priority, in_product, walked};
 
-use crate::key::{is_member, outside, sets_before};
+use crate::key::{by_member, by_sets, outside};
 use crate::relation::Relation;
-use crate::term::{NumberSets, Numbers, Term};
+use crate::term::Term;
 use pref_table::Row;
 
 /// How the first row compares with the second one by a term.
@@ -74,7 +74,7 @@ fn walk(term: &Term, a: &Row, b: &Row) -> Relation
             outside(b.cell(*col), *left, *right),
         ),
         Term::Pos { col, set } => by_member(a.cell(*col), b.cell(*col), set),
-        Term::Layered { col, sets } => by_layer(a.cell(*col), b.cell(*col), sets),
+        Term::Layered { col, sets } => by_sets(sets.as_slice(), a.cell(*col), b.cell(*col)),
         Term::Pareto(p, q) => product(Relation::Same, p, q, a, b),
         Term::Prior(p, q) => priority(p, q, a, b),
         Term::Reverse(p) => converse(p, a, b),
@@ -130,28 +130,6 @@ fn by_values(a: i64, b: i64) -> Relation
     ensures { result ≡ by_scores a b }
 {
     Relation::by_sides(a < b, b < a)
-}
-
-/// A value in the set is better than one outside it.
-#[inline(never)]
-fn by_member(a: i64, b: i64, set: &Numbers) -> Relation
-    ensures { result ≡ by_scores (better.missed set.now a) (better.missed set.now b) }
-{
-    match (is_member(set, a), is_member(set, b)) {
-        (true, false) => Relation::Better,
-        (false, true) => Relation::Worse,
-        _ => Relation::Same,
-    }
-}
-
-/// A value in an earlier set is better than one in a later set, or in none.
-#[inline(never)]
-fn by_layer(a: i64, b: i64, sets: &NumberSets) -> Relation
-    ensures { result ≡ by_scores (pos (better.sets_before sets.now a)) (pos (better.sets_before sets.now b)) }
-{
-    let first = sets_before(sets.as_slice(), a);
-    let second = sets_before(sets.as_slice(), b);
-    by_keys(first as u64, second as u64)
 }
 
 /// The smaller key is better.

@@ -15,8 +15,7 @@ walk-returns-in-Around t c =
 
 pub walk-returns-in-Layered : goal.walk-returns-in-Layered
 walk-returns-in-Layered t c =
-    let sets = c.in-Layered.sets in
     let a : to_z w64 (of_z w64 c.cell-in-Layered.result) ≡ cell c.args.a.now c.in-Layered.col = to_z-of_z w64 c.cell-in-Layered.result (search rules) ∙ c.cell-in-Layered.ensures.value in
     let b : to_z w64 (of_z w64 c.cell-in-Layered-2.result) ≡ cell c.args.b.now c.in-Layered.col = to_z-of_z w64 c.cell-in-Layered-2.result (search rules) ∙ c.cell-in-Layered-2.ensures.value in
-    subst (λ (term : Term). c.by_layer.result ≡ walked (preference_of term) c.args.a.now c.args.b.now) (sym c.in-Layered.is)
-    (c.by_layer.ensures ∙ (λ i. by_scores (pos (sets_before sets (a i))) (pos (sets_before sets (b i)))))
+    subst (λ (term : Term). c.by_sets.result ≡ walked (preference_of term) c.args.a.now c.args.b.now) (sym c.in-Layered.is)
+    (c.by_sets.ensures ∙ (λ i. by_scores (pos (sets_before (c.as_slice.ensures i) (a i))) (pos (sets_before (c.as_slice.ensures i) (b i)))))
