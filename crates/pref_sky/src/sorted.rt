@@ -23,6 +23,9 @@ use std::alloc::{AllocError, Global};
 /// The fewest entries that come before the lists are merged.
 const MANY: usize = 64;
 
+/// Where most are kept when the lists are merged, so many times as many entries come before they are merged again.
+const PATIENT: usize = 3;
+
 /// How many entries a piece of the first addition has, at most.
 const PIECE: usize = 64;
 
@@ -46,6 +49,13 @@ fn items_of_level(
     Ok(items)
 }
 
+/// How many entries come before the lists are merged again: as many as were kept, and more where these are most of those that were merged, since
+/// then hardly any will be dropped.
+fn wait_for(merged: usize, kept: usize) -> usize {
+    let times = if kept > merged / 2 { PATIENT } else { 1 };
+    kept.saturating_mul(times).saturating_add(MANY)
+}
+
 /// Entries in order, their levels, 0 of one that is below the cut, and scales that suit their order.
 #[derive(Drop)]
 struct Leveled {
@@ -65,6 +75,8 @@ pub(crate) struct Pruned {
     lowest: Vec<Item>,
     /// By which these are signed. Any scales are right.
     scales: Scales,
+    /// How many entries come before the lists are merged again. Any number is right.
+    wait: usize,
     /// How new entries were compared with them.
     lately: Lately,
     ghost in_order: { AreInOrder order entries.items } by { AreInOrder-prop order entries.items },
@@ -214,12 +226,9 @@ impl Pruned {
         })
     }
 
-    /// Whether as many entries came as these are, so that it is worth while to look which are below the cut. Where there are no more than the
-    /// cut, none is.
+    /// Whether so many entries came that it is worth while to look which are below the cut. Where there are no more than the cut, none is.
     fn is_outgrown(&self, recent: usize) -> bool {
-        let pruned = self.entries.len();
-        pruned.saturating_add(recent) > self.order.cut as usize
-            && recent >= pruned.saturating_add(MANY)
+        self.entries.len().saturating_add(recent) > self.order.cut as usize && recent >= self.wait
     }
 
     /// Where many entries came, merges them into these, and drops what is below the cut. The levels of both stay, and where it is out of
@@ -237,9 +246,12 @@ impl Pruned {
             mut levels,
             scales,
         } = self.with_levels(alloc, recent)?;
+        let merged = entries.len();
         drop_below(&mut entries, &mut levels);
+        let wait = wait_for(merged, entries.len());
         let lowest = items_of_level(alloc, &scales, &entries, &levels, self.order.cut)?;
         self.lowest = lowest;
+        self.wait = wait;
         self.scales = scales;
         self.entries = entries;
         self.levels = levels;
@@ -316,6 +328,7 @@ impl SortedEntries {
                 levels: Vec::new(alloc),
                 lowest: Vec::new(alloc),
                 scales: Scales::none(),
+                wait: MANY,
                 lately,
             },
             recent: Vec::new(alloc),
