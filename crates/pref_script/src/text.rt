@@ -141,10 +141,14 @@ pub fn push_refused(out: &mut String, number: u64, why: &Refusal) -> Result<(), 
     write!(out, "\n")
 }
 
-/// Appends a cell.
+/// Appends a cell. Many have one digit, as a rating has: it is appended without a call.
+#[tactic(auto, using(crate::proofs::TextLaws::digit_text))]
 fn push_cell(out: &mut String, cell: i64) -> Result<(), AllocError>
     ensures { OnOk result (string_bytes out.new ≡ string_bytes out.old ++ signed_decimal cell) }
 {
+    if (0..10).contains(&cell) {
+        return out.push((b'0' + cell as u8) as char);
+    }
     let mut buffer = Buffer::new();
     out.push_str(buffer.format(cell))
 }
