@@ -180,12 +180,22 @@ class Saved(InAFolder):
                 return None if when is None else timedelta(hours=2)
 
             def dst(self, when):
-                return None
+                return timedelta()
+
+        class Winter(tzinfo):
+            """Without a time it has the offset of winter, as classes of Python's documentation have."""
+
+            def utcoffset(self, when):
+                return timedelta(hours=1) + self.dst(when)
+
+            def dst(self, when):
+                return timedelta(hours=when is not None and 3 < when.month < 11)
 
         from datetime import datetime
-        with prefq.Frame.from_records([{"since": datetime(2026, 5, 1, tzinfo=Zone())}]) as frame:
-            with self.refuses(prefq.Refused, "column 'since' cannot be saved", kind="saved"):
-                frame.save(self.path)
+        for zone in (Zone(), Winter()):
+            with self.subTest(zone=zone), prefq.Frame.from_records([{"since": datetime(2026, 5, 1, tzinfo=zone)}]) as frame:
+                with self.refuses(prefq.Refused, "column 'since' cannot be saved", kind="saved"):
+                    frame.save(self.path)
         self.assertEqual(list(self.folder.iterdir()), [])
 
 

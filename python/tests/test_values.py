@@ -383,6 +383,61 @@ class Moments(TestCase):
                 found = [frame.get(frame.insert({"at": f"2026-10-25 02:30{offset}"})).at for offset in ("+02:00", "+01:00")]
                 self.assertEqual((str(found[0]), str(found[1])), ("2026-10-25 02:30:00+02:00", "2026-10-25 02:30:00+01:00"))
 
+    def test_moments_that_the_clocks_of_a_column_cannot_show(self):
+        """Taken, they kept each call from its rows."""
+        late, early = datetime.datetime(9999, 12, 31, 23, 30, tzinfo=UTC), datetime.datetime(1, 1, 1, 0, 30, tzinfo=UTC)
+        for kind, value in [("time(Europe/Berlin)", late), ("time(UTC+02:00)", late), ("time(America/New_York)", early), ("time(UTC-00:31)", early)]:
+            with self.subTest(kind=kind), prefq.Frame.empty(["at"], {"at": kind}) as frame:
+                for given in (value, str(value)):
+                    with self.refuses(ValueError, f"column 'at' ({kind}): {value} lies outside the years 1 to 9999 in the time zone of the column"):
+                        frame.insert({"at": given})
+                with self.refuses(ValueError, "line 2, column 'at'", "lies outside the years 1 to 9999 in the time zone of the column"):
+                    prefq.Frame.from_csv(io.StringIO(f"at\n{value}\n"), kinds={"at": kind})
+                near = value + datetime.timedelta(days=1 if value == early else -1)
+                self.assertEqual(frame.get(frame.insert({"at": near})).at, near)
+        with prefq.Frame.from_records([{"at": late}, {"at": early}]) as frame:
+            self.assertEqual([row.at for row in frame.rows()], [late, early])
+
+    def test_the_last_days_of_all_in_a_question(self):
+        for frame in frames_in("Europe/Berlin"):
+            with frame:
+                for question in ("best around(at, '9999-12-31')", "best around(at, '9999-12-31 23:30')", "best between(at, '2026-07-01', '9999-12-31')", "best around(at, '0001-01-02')"):
+                    with self.subTest(question=question):
+                        self.assertTrue(frame.best(question).ids)
+                with self.refuses(prefq.Refused, "lies outside the years 1 to 9999", kind="term"):
+                    frame.best("best around(at, '0001-01-01')")
+
+    def test_zones_of_classes_of_ones_own(self):
+        """Without a time the first fails, and the second has the offset of winter, as those of Python's documentation; the third does not know of summer time."""
+        hour = datetime.timedelta(hours=1)
+
+        class Zone(datetime.tzinfo):
+            def utcoffset(self, when):
+                return hour + self.dst(when)
+
+            def dst(self, when):
+                return hour * (3 < when.month < 11)
+
+        class Winter(Zone):
+            def dst(self, when):
+                return 0 * hour if when is None else super().dst(when)
+
+        class Unknowing(datetime.tzinfo):
+            def utcoffset(self, when):
+                return hour
+
+            def dst(self, when):
+                return None
+
+        winter, summer = datetime.datetime(2026, 1, 1), datetime.datetime(2026, 7, 1)
+        for made in (Zone, Winter, Unknowing):
+            zones, fixed = (made(), made()), datetime.timezone(hour)
+            for values in ([winter.replace(tzinfo=zones[0]), summer.replace(tzinfo=zones[0])], [winter.replace(tzinfo=zones[0]), summer.replace(tzinfo=zones[1])],
+                           [winter.replace(tzinfo=fixed), summer.replace(tzinfo=zones[0])]):
+                with self.subTest(zone=made.__name__, values=values), prefq.Frame.from_records([{"at": value} for value in values]) as frame:
+                    self.assertEqual([row.at for row in frame.rows()], values)
+                    self.assertNotEqual((made is Unknowing, str(frame.columns[0].kind)), (False, "time(UTC+01:00)"))
+
     def test_what_a_format_reads_is_no_other_date(self):
         for spelling, text, value in [('date("%Y-%d-%m")', "2026-05-01", datetime.date(2026, 1, 5)), ('time("%Y-%d-%m %H:%M")', "2026-05-01 10:00", datetime.datetime(2026, 1, 5, 10)),
                                       ('time("%Y-%m-%d %H:%M")', "2026-05-01 10:00:05", datetime.datetime(2026, 5, 1, 10, 0, 5)), ('date("%d.%m.%y")', "01.05.2026", datetime.date(2026, 5, 1)),

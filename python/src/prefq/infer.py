@@ -13,7 +13,7 @@ from .kinds.at_once import MOST_DECIMALS, PlainTexts
 from .kinds.booleans import WORDS as WORDS_OF_TRUTH
 from .kinds.booleans import is_truth
 from .kinds.forms import NUMBER, PLAIN, Form
-from .kinds.moments import DAY, MOMENT, are_of_one_name, offset_of
+from .kinds.moments import DAY, MOMENT, are_of_one_name, offset_of, shows_times
 from .kinds.numbers import FLOAT, WIDE, Number, are_in_range, decimals_of, is_number, whole_numbers
 from .missing import WORDS, folded
 
@@ -143,7 +143,8 @@ def kind_of_values(name: str, values: Iterable[Any]) -> Kind:
         return Clock()
     if types == {datetime.datetime}:
         zone = present[0].tzinfo        # Those of dateutil have no hash.
-        return Times(zone if all(value.tzinfo == zone or are_of_one_name(value.tzinfo, zone) for value in present) else datetime.timezone.utc)
+        is_of_all = all(value.tzinfo == zone or are_of_one_name(value.tzinfo, zone) for value in present)
+        return Times(zone if is_of_all and (zone is None or shows_times(zone)) else datetime.timezone.utc)
     names = " and ".join(sorted(kind if isinstance(kind, str) else kind.__name__ for kind in types))
     raise Refused(f"column {name!r} has values of {names}: a column has whole numbers, Decimals, floats, bools, dates, times or texts; "
                   "leave it out by columns=[..], or give it a kind by kinds={..}", "table")

@@ -17,6 +17,9 @@ SIGN = re.compile("%.", re.DOTALL)
 WORD = re.compile(r"\d+|[^\W\d]+|[^\w\s]")
 EPOCH = datetime.datetime(1970, 1, 1)
 MICROSECOND = datetime.timedelta(microseconds=1)
+DAY_LONG = datetime.timedelta(days=1)
+# Times by which a zone shows that it has several offsets.
+THROUGH_THE_YEARS = [datetime.datetime(year, month, 1) for year in (1900, 1945, 1980, 2000, 2026, 2100) for month in range(1, 13)]
 # A date and a time that tell apart what a format has; and one whose day may be a month.
 SAMPLE = datetime.datetime(2031, 12, 25, 23, 58, 59)
 TURNED = datetime.datetime(2031, 12, 11, 10, 9, 8, 7)
@@ -159,6 +162,8 @@ class Times(Kind):
     def _whole(self, position: Fraction, value: Any) -> int:
         if position.denominator != 1:
             raise NotRead(f"{value} has parts of a {self.unit}")
+        if self.zone is not None and not is_shown_by(self.zone, position.numerator * self.nanoseconds):
+            raise NotRead(f"{value} lies outside the years 1 to 9999 in the time zone of the column")
         return position.numerator
 
     def decode(self, number: int) -> datetime.datetime:
@@ -268,6 +273,17 @@ def nanoseconds_of(text: str, zone: Optional[datetime.tzinfo]) -> int:
     return since_epoch(value) + nanoseconds_in(part)
 
 
+def is_shown_by(zone: datetime.tzinfo, nanoseconds: int) -> bool:
+    """Whether the clocks of a zone show a moment as a time that Python has. By that of UTC they differ by less than a day."""
+    if nanoseconds in SHOWN_BY_ALL:
+        return True
+    try:
+        (EPOCH + nanoseconds // 1000 * MICROSECOND).replace(tzinfo=datetime.timezone.utc).astimezone(zone)
+    except OverflowError:
+        return False
+    return True
+
+
 def nanoseconds_in(part: Optional[str]) -> int:
     """The nanoseconds of the digits behind a second."""
     return int((part or "").ljust(9, "0"))
@@ -276,6 +292,9 @@ def nanoseconds_in(part: Optional[str]) -> int:
 def since_epoch(value: datetime.datetime) -> int:
     """The nanoseconds since 1970, to a microsecond."""
     return (value - EPOCH) // MICROSECOND * 1000
+
+
+SHOWN_BY_ALL = range(since_epoch(datetime.datetime.min + DAY_LONG), since_epoch(datetime.datetime.max - DAY_LONG))
 
 
 def offset_of(text: str) -> Optional[datetime.tzinfo]:
@@ -298,13 +317,33 @@ def zone_of(offset: str) -> datetime.tzinfo:
 
 def name_of(zone: datetime.tzinfo) -> str:
     """The name of a zone in the spelling of a kind: UTC+02:00, or that of the system."""
-    offset = zone.utcoffset(None)
+    offset = only_offset_of(zone)
     return str(zone if offset is None else datetime.timezone(offset))
+
+
+def only_offset_of(zone: datetime.tzinfo) -> Optional[datetime.timedelta]:
+    """The offset of a zone that has one for good. A class of somebody's own may fail without a time, or have another offset in summer than without one, as those do
+    that Python's documentation shows."""
+    if isinstance(zone, datetime.timezone):
+        return zone.utcoffset(None)
+    try:
+        offset = zone.utcoffset(None)
+        return offset if offset is None or all(zone.utcoffset(time.replace(tzinfo=zone)) == offset for time in THROUGH_THE_YEARS) else None
+    except Exception:       # whatever such a class raises
+        return None
 
 
 def are_of_one_name(one: Optional[datetime.tzinfo], other: Optional[datetime.tzinfo]) -> bool:
     """Whether two zones have one name, or are both none: pytz has a zone of its own for each offset, as in summer and in winter, and Python another one."""
     return one is other or one is not None and other is not None and name_of(one) == name_of(other)
+
+
+def shows_times(zone: datetime.tzinfo) -> bool:
+    """Whether a zone says what its clocks show at a moment. A class of somebody's own may know no more than the offset of a time that is given."""
+    try:
+        return EPOCH.replace(tzinfo=datetime.timezone.utc).astimezone(zone) is not None
+    except Exception:       # whatever such a class raises
+        return False
 
 
 def universal(value: datetime.datetime) -> datetime.datetime:
@@ -323,13 +362,23 @@ def is_shown_otherwise(moment: datetime.datetime, value: datetime.datetime) -> b
         return False        # The zone does not say what its clocks show.
 
 
+def in_zone(local: datetime.datetime, zone: datetime.tzinfo, is_later: bool) -> datetime.datetime:
+    """A time of the clocks of a zone; the later one where they show it twice."""
+    localize = getattr(zone, "localize", None)      # zones of pytz have their offsets only by this
+    if localize is None:
+        return local.replace(tzinfo=zone, fold=int(is_later))
+    try:
+        return localize(local, is_dst=not is_later)  # type: ignore[no-any-return]
+    except OverflowError:       # It looks a day ahead and a day back.
+        near = localize(local + DAY_LONG if local.year == 1 else local - DAY_LONG, is_dst=not is_later)
+        return local.replace(tzinfo=near.tzinfo)
+
+
 def shown_by(local: datetime.datetime, zone: datetime.tzinfo) -> datetime.datetime:
     """The time of UTC at which the clocks of a zone show this time; refused where they show it twice, or skip it."""
-    localize = getattr(zone, "localize", None)      # zones of pytz have their offsets only by this
     found: List[datetime.datetime] = []
     for is_later in (False, True):
-        value = localize(local, is_dst=not is_later) if localize else local.replace(tzinfo=zone, fold=int(is_later))
-        moment = universal(value)
+        moment = universal(in_zone(local, zone, is_later))
         back = moment.replace(tzinfo=datetime.timezone.utc).astimezone(zone).replace(tzinfo=None)
         if back == local and moment not in found:
             found.append(moment)
