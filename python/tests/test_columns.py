@@ -1,4 +1,5 @@
 """Columns: what kind each is taken for, that values come back exactly, and what does not fit."""
+import contextlib
 import csv
 import datetime
 import decimal
@@ -254,6 +255,30 @@ class ValuesOfOtherTypes(TestCase):
                 self.assertEqual([(type(row.city), row.city) for row in frame.rows()], [(str, text) for text in ("Lyon", "Bern", "Bern", "Lyon", "Lyon")])
                 self.assertEqual(frame.best(prefq.pos("city", City.LYON)).ids, [1, 4, 5])
 
+    def test_texts_that_equal_others(self):
+        """Of a class whose texts equal those of other capitals each one stays what it is."""
+        class Word(str):
+            def __eq__(self, other):
+                return self.lower() == str.lower(other)
+
+            def __hash__(self):
+                return hash(self.lower())
+
+        some = [Word("LYON"), "lyon", Word("Lyon"), None, Word("bern"), "Bern"]
+        frames = [lambda: prefq.Frame.from_records([{"city": city} for city in some]),
+                  lambda: prefq.Frame.from_records([{"city": city} for city in some], kinds={"city": "choice(LYON, Lyon, lyon, Bern, bern)"})]
+        with contextlib.suppress(ImportError):
+            import pandas
+            frames.append(lambda: prefq.Frame.from_dataframe(pandas.DataFrame({"city": some})))
+        for made in frames:
+            with made() as frame:
+                frame.insert({"city": Word("LyoN")} if "choice" not in str(frame.columns[0].kind) else {"city": Word("Lyon")})
+                self.assertEqual([str(row.city) for row in frame.rows()][:6], ["LYON", "lyon", "Lyon", "None", "bern", "Bern"])
+                self.assertIn(str(frame.get(7).city), ("LyoN", "Lyon"))
+                self.assertEqual(frame.best("best pos(city, 'lyon')").ids, [2])
+        with self.refuses(ValueError, "'BERN' is none of 'Bern', 'bern'"):
+            Column("city", "choice(Bern, bern)").encode(Word("BERN"))
+
     def test_floats_that_show_fewer_digits_than_they_have(self):
         class Price(float):
             def __str__(self):
@@ -295,6 +320,10 @@ class ValuesOfOtherTypes(TestCase):
             for value in map(Decimal, ["1E+1000000", "-1E+999999999", "1E-1000000", "Infinity"]):
                 for name in "wd":
                     with self.subTest(value=value, column=name), self.refuses(ValueError, f"column '{name}'", f"{value} is no number that fits"):
+                        frame.insert({name: value})
+            for value in (Decimal(f"1.{'3' * 1_000_000}"), Decimal(f"-0.{'0' * 20}{'7' * 1_000_000}")):
+                for name, says in (("w", "is no number that fits"), ("d", "is no number that fits"), ("f", "is no 64-bit float")):
+                    with self.subTest(column=name), self.refuses(ValueError, f"column '{name}'", f"{str(value)[:60]}.. {says}"):
                         frame.insert({name: value})
             frame.insert({"w": Decimal("0E+1000000"), "d": Decimal("1E+4"), "f": Decimal("5E-1")})
             self.assertEqual(tuple(frame.get(2).values()), (0, 10000, 0.5))

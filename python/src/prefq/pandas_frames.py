@@ -143,9 +143,8 @@ def _categories(series: Any, name: str) -> Tuple[Kind, Optional[List[int]]]:
 
 def _codes(values: Sequence[Any], kind: Texts) -> List[int]:
     """The codes of texts, of which some may be missing. (pandas' own codes take texts for the same that differ behind a NUL.)"""
-    texts = [value for value in dict.fromkeys(values) if isinstance(value, str)]
-    codes = dict(zip(texts, kind.read_all(texts)))
-    return [codes.get(value, LEAST) for value in values]
+    codes = iter(kind.read_all([value for value in values if isinstance(value, str)]))
+    return [next(codes) if isinstance(value, str) else LEAST for value in values]
 
 
 def ungrouped(groups: Any) -> Tuple[Any, List[str]]:

@@ -175,7 +175,7 @@ class Floats(Number):
                 exactly = value.item()      # numpy itself compares its whole numbers with a float as floats.
         number = float(value)
         if not number == exactly:   # Of numpy's masked value, which is a float that is no number, neither is so.
-            raise NotRead(f"{value} is no 64-bit float; give the column a kind such as 'whole' or 'decimal(2)'")
+            raise NotRead(f"{shown(value)} is no 64-bit float; give the column a kind such as 'whole' or 'decimal(2)'")
         return number_of_float(number)
 
     def decode(self, number: int) -> float:
@@ -222,7 +222,7 @@ def exact(value: Any) -> Fraction:
     """The exact number that a value of Python is. A float is the decimal number that is shown for it."""
     if isinstance(value, (bool, str)) or type(value).__module__ == "numpy" and not is_number(value):
         raise TypeError(f"{value!r} is no number")
-    if isinstance(value, Decimal) and value and abs(value.adjusted()) > MOST_DIGITS:
+    if isinstance(value, Decimal) and value and has_too_many_digits(value):
         raise NotRead(f"{shown(value)} is no number that fits")
     try:
         if isinstance(value, float) or type(value).__module__ == "numpy":
@@ -232,6 +232,12 @@ def exact(value: Any) -> Fraction:
         raise NotRead(f"{shown(value)} is no number that fits") from None
     except TypeError:
         raise TypeError(f"{value!r} is no number") from None
+
+
+def has_too_many_digits(value: Decimal) -> bool:
+    """Whether a number that is not 0 has more digits before or behind the point than a column has by far."""
+    exponent = value.as_tuple().exponent
+    return abs(value.adjusted()) > MOST_DIGITS or isinstance(exponent, int) and exponent < -MOST_DIGITS
 
 
 def digits_of(value: Any) -> str:

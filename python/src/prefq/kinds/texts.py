@@ -21,6 +21,11 @@ def _open_in_a_fork() -> None:
 os.register_at_fork(after_in_child=_open_in_a_fork)
 
 
+def plain_text(text: str) -> str:
+    """The text itself: those of numpy and of enumerations are of types of their own, whose `str` may be another text, and which may equal others."""
+    return text if type(text) is str else str.__str__(text)
+
+
 class Texts(Kind):
     """Texts by a code book, which grows with each new text. They have no order. Any text is one."""
 
@@ -38,10 +43,8 @@ class Texts(Kind):
         self.read_all(list(texts))
 
     def read(self, text: str) -> int:
-        code = self._codes.get(text)
-        if code is not None:
-            return code
-        return self.read_all([text])[0]
+        code = self.find(text)
+        return self.read_all([text])[0] if code is None else code
 
     def encode(self, value: Any) -> int:
         if not isinstance(value, str):
@@ -54,16 +57,17 @@ class Texts(Kind):
         return self._texts[number - 1]
 
     def find(self, text: str) -> Optional[int]:
-        return self._codes.get(text)
+        return self._codes.get(plain_text(text))
 
     def read_all(self, texts: Sequence[str]) -> List[int]:
         codes, is_added = self._codes, False
+        if not {str}.issuperset(map(type, texts)):
+            texts = list(map(plain_text, texts))
         with ADDING:
             while not is_added:
                 self._adding = adding = object()
                 known = len(codes)
-                # Texts of numpy and of enumerations are of types of their own, whose `str` may be another text.
-                new = list(map(str.__str__, filterfalse(codes.__contains__, dict.fromkeys(texts))))
+                new = list(filterfalse(codes.__contains__, dict.fromkeys(texts)))
                 numbered = dict(zip(new, range(known + 1, known + len(new) + 1)))
                 # Where a handler or a finalizer has added others meanwhile, these are counted anew.
                 if self._adding is adding:
