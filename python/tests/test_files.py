@@ -235,6 +235,16 @@ class Files(TestCase):
             self.assertEqual([dict(row) for row in frame.rows()], [record])
         self.assertEqual(self.reads('x,t\n1,\ufeffa\n'.encode()), [{"x": 1, "t": "\ufeffa"}])
 
+    def test_an_encoding_that_there_is_not(self):
+        """Python has encodings of bytes too."""
+        for encoding in ("utf8x", "hex", "rot13", "a\0b"):
+            with self.subTest(encoding=encoding), self.refuses(ValueError, f"encoding is {encoding!r}: Python knows no encoding of text by this name"):
+                self.reads(b"city,x\nBern,1\n", encoding=encoding)
+        with self.refuses(TypeError, "encoding is 8: not the name of one"):
+            self.reads(b"city,x\nBern,1\n", encoding=8)
+        done = run("ask", "-", "best low(x)", "--encoding", "utf8x", text="city,x\nBern,1\n")
+        self.assertEqual((done.returncode, done.stderr), (2, "prefq: encoding is 'utf8x': Python knows no encoding of text by this name\n"))
+
     def test_packed(self):
         data = gzip.compress(b"city,x\nBern,1\n")
         self.assertEqual(self.reads(data), [{"city": "Bern", "x": 1}])

@@ -177,6 +177,29 @@ class Frames(TestCase):
         for name, labels in (("whole", [1, 2]), ("truth", [1, 2]), ("float", [2])):
             self.assertEqual(list(prefq.psel(dataframe, f"low({name})").index), labels)
 
+    def test_a_dataframe_is_no_list_of_rows(self):
+        """It is gone through by the names of its columns, which may be pairs."""
+        numbers = pandas.DataFrame([[1, 2]], columns=pandas.MultiIndex.from_tuples([(10, 20), (30, 40)]))
+        texts = pandas.DataFrame([["a", "b"]], columns=pandas.MultiIndex.from_tuples([("p", "q"), ("r", "s")]))
+        columns = [prefq.Column("p", "text"), prefq.Column("q", "text")]
+        with prefq.Table(["p", "q"]) as table, prefq.Frame(columns) as frame:
+            for call in (lambda: prefq.Table(["p", "q"], numbers), lambda: table.insert_many(numbers), lambda: prefq.Frame(columns, texts),
+                         lambda: prefq.parts.best([prefq.parts.Partition(["p", "q"], numbers)], "best low(p)")):
+                with self.refuses(TypeError, "rows is of type DataFrame: not a list of rows"):
+                    call()
+            with self.refuses(TypeError, "records is of type DataFrame: not a list of records"):
+                frame.insert_many(texts)
+            self.assertEqual((len(table), len(frame)), (0, 0))
+
+    def test_two_columns_of_one_name(self):
+        """They are refused where one of them is taken."""
+        twice = pandas.DataFrame([[1, 2, 3]], columns=["x", "y", "y"])
+        for columns in (None, ["y"], ["x", "y"]):
+            with self.subTest(columns=columns), self.refuses(prefq.Refused, "two columns are called 'y'", kind="table"):
+                prefq.Frame.from_dataframe(twice, columns=columns)
+        with prefq.Frame.from_dataframe(twice, columns=["x"]) as frame:
+            self.assertEqual([dict(row) for row in frame.rows()], [{"x": 1}])
+
     def test_records_are_no_dataframe(self):
         with self.refuses(TypeError, "records is of type DataFrame: not a list of records (from_dataframe takes a DataFrame)"):
             prefq.Frame.from_records(pandas.DataFrame({"x": [1]}))

@@ -5,6 +5,7 @@ from typing import Any, Callable, Iterable, List, Optional, Sequence, Tuple
 
 from .answer import Answer
 from .asynchronous import Awaited, on_a_thread
+from .checks import check_rows
 from .clients import hastily
 from .columns import Column
 from .follow import Followed
@@ -54,6 +55,7 @@ class AsyncFrame(Awaited):
 
     async def insert_many(self, records: Iterable[Any]) -> Sequence[int]:
         """See `Frame.insert_many`."""
+        check_rows(records, "records")
         listed: List[List[Any]] = []
 
         def insert_many() -> Sequence[int]:

@@ -1,7 +1,7 @@
 """Tests of arguments, with the limits in what is said."""
 import operator
 import re
-from collections.abc import Iterable
+from collections.abc import Iterable, Mapping
 from numbers import Real
 from typing import Any, Tuple
 
@@ -28,6 +28,13 @@ def whole(value: Any, what: str, least: int, most: int) -> int:
     if not least <= number <= most:
         raise ValueError(f"{what} is {number}: not from {least} to {most}")
     return number
+
+
+def check_rows(rows: Any, what: str = "rows") -> None:
+    """Refuses what is gone through by its names or its columns and not by its rows, as a mapping and a DataFrame are."""
+    is_frame = hasattr(rows, "itertuples") or hasattr(rows, "to_dicts")     # of pandas, of Polars
+    if isinstance(rows, (str, bytes, Mapping)) or is_frame or not isinstance(rows, Iterable):
+        raise TypeError(f"{what} is of type {type(rows).__name__}: not a list of {what}")
 
 
 def seconds(value: Any, what: str) -> float:

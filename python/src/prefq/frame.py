@@ -5,7 +5,7 @@ from functools import partial
 from typing import Any, Dict, Iterable, Iterator, List, Mapping, Optional, Sequence, Tuple
 
 from .answer import Answer
-from .checks import MOST_ROWS
+from .checks import MOST_ROWS, check_rows
 from .columns import Column, listed
 from .condition_terms import ReadCondition, condition_of, planned
 from .errors import Refused
@@ -22,7 +22,7 @@ from .opened import Ids, Opened
 from .options import check_options
 from .preferences import Asked, Operand, text_asked, text_preferred
 from .questions import Question
-from .reading import Dialect, Progress, Source, read_csv
+from .reading import Dialect, Progress, Source, check_names, read_csv
 from .records import mapping_of, values_of
 from .rows import Row, WholeRows, Zipped
 from .selection import Names, Selection, first_rows, picked, query_of, reading, without_twins
@@ -48,6 +48,7 @@ class Frame(LiveRows):
 
     def __init__(self, columns: Iterable[Column], rows: Iterable[Sequence[Any]] = (), **options: Any) -> None:
         columns = tuple(columns)
+        check_rows(rows)
         values = zip(*(values_of(row, columns) for row in fitting(rows, "rows")))
         self._open(columns, Zipped([encoded(column, some) for column, some in zip(columns, values)]), options)
 
@@ -129,6 +130,7 @@ class Frame(LiveRows):
         if len(dataframe) > MOST_ROWS:
             raise Refused(f"the DataFrame has {len(dataframe)} rows, and a table holds {MOST_ROWS}: prefq.psel and prefq.parts ask more", "table")
         names = chosen(list(dataframe.columns), columns)
+        check_names(name for name in dataframe.columns if name in names)
         check_known(list(kinds or ()), list(dataframe.columns))
         return cls._of_numbers([encoded_series(dataframe[name], name, kinds) for name in names], options, index_of(dataframe.index))
 

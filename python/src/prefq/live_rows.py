@@ -3,6 +3,7 @@ import os
 import threading
 from typing import Any, Callable, Dict, Iterable, Iterator, List, Mapping, Optional, Sequence, Tuple, TypeVar, Union
 
+from .checks import check_rows
 from .clients import hastily, locked
 from .columns import Column
 from .errors import Refused, no_such_row
@@ -90,6 +91,7 @@ class LiveRows:
         ...     frame.insert_many([{"x": 5}, [6, 7]])
         range(2, 4)
         """
+        check_rows(records, "records")
         some = list(records)
 
         def insert_many() -> range:

@@ -4,6 +4,7 @@ import re
 from dataclasses import dataclass, field
 from typing import Any, Iterable, Iterator, List, Mapping, Optional, Sequence, Tuple, Union
 
+from .checks import check_rows
 from .kinds.forms import PLAIN, Form
 from .missing import Missing
 from .options import check_options
@@ -98,6 +99,7 @@ def called(source: Source) -> str:
 
 def values_of_rows(partition: Partition) -> Iterator[Sequence[Any]]:
     """The rows of a partition in memory, each with a value for each column."""
+    check_rows(partition.rows)
     width = len(partition.columns)
     for number, row in enumerate(partition.rows, 1):
         values = _numbers(number, row) if isinstance(row, (str, bytes)) else row

@@ -53,6 +53,8 @@ class Dialect:
             raise ValueError(f"delimiter is {self.delimiter!r}: it is one sign, and no quote or end of a line")
         if isinstance(self.skip, bool) or not isinstance(self.skip, int) or self.skip < 0:
             raise ValueError(f"skip is {self.skip!r}: not a number of lines")
+        if self.encoding:
+            check_encoding(self.encoding)
 
 
 class Content(NamedTuple):
@@ -328,6 +330,17 @@ def content_of(file: IO[Any], what: str, dialect: Dialect, path: Union[str, "os.
         return Content(b"".join((first, file.read())), encoding)
     except MemoryError:
         raise Refused(f"{what} is larger than the memory that there is", "table") from None
+
+
+def check_encoding(encoding: Any) -> None:
+    """Refuses what is no encoding of text: Python has some of bytes too, such as hex."""
+    if not isinstance(encoding, str):
+        raise TypeError(f"encoding is {encoding!r}: not the name of one")
+    try:
+        with io.TextIOWrapper(io.BytesIO(), encoding) as stream:
+            stream.read()
+    except (LookupError, ValueError):
+        raise ValueError(f"encoding is {encoding!r}: Python knows no encoding of text by this name") from None
 
 
 def state_of(file: IO[bytes]) -> Tuple[int, ...]:

@@ -7,7 +7,7 @@ from collections.abc import Iterable, Mapping, Set
 from itertools import accumulate, chain, islice
 from typing import Any, Callable, Iterator, List, NamedTuple, Optional, Sequence, Tuple, TypeVar
 
-from .checks import LEAST, MOST, MOST_ROWS, whole
+from .checks import LEAST, MOST, MOST_ROWS, check_rows, whole
 from .engine import BYTES, Engine
 from .library import Setup
 from .pauses import extended, let_others_run
@@ -175,8 +175,7 @@ def rows_of(answer: bytes, width: int, make: Callable[[Sequence[int], int], List
 
 def in_pieces(rows: Any) -> Iterator[Any]:
     """The rows, which may come one by one, some at a time."""
-    if isinstance(rows, (str, bytes, Mapping)) or not isinstance(rows, Iterable):
-        raise TypeError(f"rows is of type {type(rows).__name__}: not a list of rows")
+    check_rows(rows)
     count = 0
     for piece in _sliced(rows):
         count += len(piece)
