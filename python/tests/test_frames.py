@@ -1,4 +1,5 @@
 """Frames: a spreadsheet's file in one line, changes of records, missing values, why, pictures and other forms of an answer."""
+import copy
 import csv
 import dataclasses
 import datetime
@@ -301,6 +302,11 @@ class Forms(TestCase):
         answer = self.answer()
         again = pickle.loads(pickle.dumps(answer))
         self.assertEqual((again, again.levels, again.ids, again.to_csv(), again.question), (answer, answer.levels, answer.ids, answer.to_csv(), answer.question))
+
+    def test_a_copy_has_the_notes(self):
+        answer = prefq.Answer("best low(x)", [prefq.Column("x", "whole")], [prefq.Record({"x": 1}, id=1, level=1)], notes=["column 'x': 'n/a' (1 row) taken for missing"])
+        for again in (copy.copy(answer), copy.deepcopy(answer), pickle.loads(pickle.dumps(answer)), answer[:1]):
+            self.assertEqual((again, again.notes), (answer, answer.notes))
 
     def test_pictures(self):
         with prefq.Frame.from_csv(HOTELS) as hotels:

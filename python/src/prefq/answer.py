@@ -58,7 +58,7 @@ class Answer(List[Record]):
 
     def __reduce__(self) -> Any:
         """An answer is copied and pickled without the frame that it came from."""
-        return Answer, (self.question, self.columns, list(self)), {"at": self.at}
+        return Answer, (self.question, self.columns, list(self)), {"at": self.at, "notes": self.notes}
 
     @overload
     def __getitem__(self, place: SupportsIndex) -> Record: ...
