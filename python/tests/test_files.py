@@ -63,6 +63,26 @@ class Missing(TestCase):
         done = run("ask", "-", "best low(mass) by sex", "--csv", "--missing", "none", "--missing", "na", "--missing", "-", text=PEOPLE)
         self.assertEqual([line[:3] for line in done.stdout.splitlines()[1:]], ["1,1", "1,2", "1,5"])
 
+    def test_words_that_are_no_texts(self):
+        for missing, says in [([-999], "missing has -999, which is no text: write the word as it stands in the file, as '-999'"), (["NA", None], "missing has None"), ([b"NA"], "missing has b'NA'"),
+                              (b"NA", "missing is a list of words, not b'NA'")]:
+            with self.subTest(missing=missing):
+                with self.refuses(TypeError, says):
+                    from_text("x,y\n1,-999\n", missing=missing)
+                with self.refuses(TypeError, says):
+                    prefq.parts.best(["prices.csv"], "best low(x)", missing=missing)
+
+    def test_words_and_columns_that_come_once(self):
+        """Parts of which each is read anew forgot the words, so that -999 was the best price."""
+        with tempfile.TemporaryDirectory() as folder:
+            path = Path(folder, "prices.csv")
+            path.write_text("price,x\n-999,1\n5,2\n")
+            self.assertEqual(prefq.parts.best([path, path], "best low(price)", missing=(word for word in ["-999"])).ids, [2, 4])
+        with from_text("price,x\n-999,1\n5,2\n", missing=iter(["-999"]), columns=iter(["x", "price"])) as frame:
+            self.assertEqual([dict(row) for row in frame.rows()], [{"x": 1, "price": None}, {"x": 2, "price": 5}])
+        with prefq.Frame.from_records([{"x": 1, "y": 2}], columns=iter(["y"])) as frame:
+            self.assertEqual(frame.names, ["y"])
+
     def test_words_that_python_inserts_are_texts(self):
         with from_text("name,mass\nLuke,77\n") as frame:
             for word in ["Null", "None", "NA", "n/a", "-", "nan", ""]:
@@ -141,8 +161,9 @@ class WrittenOtherwise(TestCase):
     def test_thousands_do_not_begin_with_a_zero(self):
         with from_text('x\n"0,123"\n"1,250"\n') as frame, self.refuses(prefq.Refused, "the kind decimal(3, decimal=\",\") reads 0.123),"):
             frame.best("best low(x)")
-        with self.refuses(ValueError, "'0,123' is no number"):
-            from_text('x\n"0,123"\n', kinds={"x": 'whole(thousands=",")'})
+        for text in ("0,123", "٠,123", "０,１２３"):
+            with self.refuses(ValueError, f"{text!r} is no number"):
+                from_text(f'x\n"{text}"\n', kinds={"x": 'whole(thousands=",")'})
 
     def test_what_no_kind_reads_by_itself(self):
         for cells, kind, found in [

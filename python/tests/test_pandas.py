@@ -156,6 +156,29 @@ class Frames(TestCase):
         with self.refuses(prefq.Refused, "row 4, column 'x' has", "which is no 64-bit float"):
             prefq.psel(pandas.DataFrame({"x": wide / [1, 1, 1, 7]}), "low(x)")
 
+    def test_narrow_floats_as_decimals(self):
+        """They are the numbers that they show, as they are in a record. That of 64 bits for 0.1 of 32 is shown as 0.10000000149011612."""
+        for dtype in ("float16", "float32", "Float32", "float64"):
+            values = pandas.DataFrame({"x": pandas.Series([0.1, None, 59.5], dtype=dtype)})
+            with self.subTest(dtype=dtype), prefq.Frame.from_dataframe(values, kinds={"x": "decimal(1)"}) as opened:
+                self.assertEqual([row.x for row in opened.rows()], [Decimal("0.1"), None, Decimal("59.5")])
+        with self.refuses(ValueError, "row 1, column 'x' (decimal(1)): 0.15 has more than 1 decimal"):
+            prefq.Frame.from_dataframe(pandas.DataFrame({"x": pandas.Series([0.15], dtype="float32")}), kinds={"x": "decimal(1)"})
+
+    def test_times_that_pandas_has_and_cannot_show_in_their_zone(self):
+        """Taken, they kept each call from its rows."""
+        last = pandas.Timestamp.max.tz_localize("UTC")
+        with prefq.Frame.from_dataframe(pandas.DataFrame({"at": pandas.to_datetime(["2026-05-01"]).tz_localize("Europe/Berlin")})) as opened:
+            for value in (last, str(last)):
+                with self.refuses(ValueError, f"column 'at' (time(Europe/Berlin)): {value} lies outside the years 1677 to 2262 in the time zone of the column"):
+                    opened.insert({"at": value})
+            self.assertEqual(opened.get(opened.insert({"at": last - pandas.Timedelta("1D")})).at, last - pandas.Timedelta("1D"))
+        dataframe = pandas.DataFrame({"at": pandas.DatetimeIndex([last - pandas.Timedelta("9D"), last])})
+        with self.refuses(prefq.Refused, "row 2, column 'at'", "lies outside the years 1677 to 2262 in the time zone of the column", kind="table"):
+            prefq.Frame.from_dataframe(pandas.DataFrame({"at": dataframe["at"].dt.tz_convert("Europe/Berlin")}))
+        with prefq.Frame.from_dataframe(dataframe) as opened:
+            self.assertEqual([row.at for row in opened.rows()], list(dataframe["at"]))
+
     def test_decimals_that_no_float_shows_stay_decimals(self):
         for texts, dtype in ((("1.50", "2.25"), "float64"), (("123456789012345.67", "123456789012345.68"), "object"), (("9007199254740993.01", "1.00"), "object")):
             values = list(map(Decimal, texts))

@@ -4,6 +4,7 @@ PREFQ_TEST_COUNT is how many questions random frames are asked, and PREFQ_TEST_S
 """
 import asyncio
 import contextlib
+import enum
 import os
 import random
 import signal
@@ -105,6 +106,26 @@ class Saved(InAFolder):
         self.saved(*({"na\0me \ud800": text} for text in texts))
         with prefq.Frame.open(self.path) as opened:
             self.assertEqual([row["na\0me \ud800"] for row in opened], texts)
+
+    def test_names_of_an_enumeration(self):
+        """The file was taken for a damaged one: the digest had them as their type shows them."""
+        class Name(str, enum.Enum):
+            CITY = "city"
+            PRICE = "price"
+
+        class Word(str):
+            def __hash__(self):
+                return hash(self.lower())
+
+        self.saved({Name.CITY: "Lyon", Name.PRICE: 5})
+        with prefq.Frame.open(self.path) as opened:
+            opened.insert({Word("city"): "Bern", Name.PRICE: 7})
+            self.assertEqual([dict(row) for row in opened], [{"city": "Lyon", "price": 5}, {"city": "Bern", "price": 7}])
+            self.assertEqual({type(name) for name in opened.names}, {str})
+        self.saved({Word("City"): "Lyon"}, {"City": "Bern"})
+        with prefq.Frame.open(self.path) as opened:
+            opened.insert({Word("City"): "Ulm"})
+            self.assertEqual([row["City"] for row in opened], ["Lyon", "Bern", "Ulm"])
 
     def test_a_save_is_no_change(self):
         told = []

@@ -7,6 +7,7 @@ from typing import Any, List
 from .checks import LEAST
 from .kinds import Kind, kind_named
 from .kinds.forms import PLAIN
+from .kinds.texts import plain_text
 
 PLAIN_NAME = re.compile(r"[^\W\d][\w.]*")
 
@@ -25,7 +26,7 @@ class Column:
     """
 
     def __init__(self, name: str, kind: Any) -> None:
-        self.name = name
+        self.name = plain_text(name) if isinstance(name, str) else name
         self.kind: Kind = kind if isinstance(kind, Kind) else kind_named(kind)
         # Whether the kind was taken from the values, and takes further ones by becoming wider.
         self.grows = False

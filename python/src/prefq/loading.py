@@ -454,5 +454,6 @@ def chosen(names: List[Any], columns: Optional[Sequence[str]]) -> Tuple[str, ...
         return check_names(names)
     if isinstance(columns, str):
         raise TypeError(f"columns is a list of names, not {columns!r}")
-    check_known(columns, names)
-    return check_names(columns)
+    wanted = list(columns)
+    check_known(wanted, names)
+    return check_names(wanted)

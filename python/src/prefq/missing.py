@@ -1,5 +1,5 @@
 """What is missing in a file: an empty cell always; and words such as NA, where the rest of the column is no text, or where it is said that they are."""
-from typing import FrozenSet, Iterable, List, Mapping, Optional
+from typing import FrozenSet, Iterable, List, Mapping, Optional, Tuple
 
 from .columns import quoted
 from .kinds import Choices, Kind, Texts
@@ -13,10 +13,8 @@ class Missing:
     in columns of numbers, dates, times and bools."""
 
     def __init__(self, given: Optional[Iterable[str]]) -> None:
-        if isinstance(given, str):
-            raise TypeError(f"missing is a list of words, not {given!r}")
         self._is_given = given is not None
-        self.words: FrozenSet[str] = WORDS if given is None else frozenset(map(folded, given))
+        self.words: FrozenSet[str] = WORDS if given is None else frozenset(map(folded, words_given(given)))
         self._longest = max(map(len, self.words), default=0)
         # Whether one of the words may be a number, such as 999.
         self.are_numbers = any(any(map(str.isdigit, word)) for word in self.words)
@@ -31,6 +29,17 @@ class Missing:
         if not self._is_given and isinstance(kind, (Texts, Choices)):
             return frozenset()
         return self.words - frozenset(map(folded, kind.words))
+
+
+def words_given(given: Iterable[str]) -> Tuple[str, ...]:
+    """The words that somebody has given, each of which stands in a file as a text does."""
+    if isinstance(given, (str, bytes)):
+        raise TypeError(f"missing is a list of words, not {given!r}")
+    words = tuple(given)
+    for word in words:
+        if not isinstance(word, str):
+            raise TypeError(f"missing has {word!r}, which is no text: write the word as it stands in the file, as '-999'")
+    return words
 
 
 def folded(text: str) -> str:

@@ -13,6 +13,9 @@ from .kinds import Booleans, Choices, Dates, Decimals, Floats, Kind, NotRead, Te
 from .records import Record
 
 
+A_DAY = 24 * 60 * 60 * 10**9        # in nanoseconds
+
+
 class Timestamps(Times):
     """Times of pandas, exact to a nanosecond, of the years 1677 to 2262."""
 
@@ -29,12 +32,21 @@ class Timestamps(Times):
         if isinstance(value, str) or not isinstance(value, datetime.datetime):
             return super().encode(value)
         self.moment(value)      # which refuses some
-        return int(pandas.Timestamp(value).value)
+        return self.shown(int(pandas.Timestamp(value).value), value)
 
     def _whole(self, position: Fraction, value: Any) -> int:
         number = super()._whole(position, value)
         if not LEAST < number <= MOST:
             raise NotRead(f"{value} lies outside the years 1677 to 2262, which a time of pandas can have")
+        return self.shown(number, value)
+
+    def shown(self, number: int, value: Any) -> int:
+        """The number, if the clocks of the zone show it as a time of pandas. By that of UTC they differ by less than a day."""
+        if self.zone is not None and abs(number) > MOST - A_DAY:
+            try:
+                self.decode(number)
+            except (OverflowError, ValueError):
+                raise NotRead(f"{value} lies outside the years 1677 to 2262 in the time zone of the column") from None
         return number
 
     def find(self, text: str) -> Optional[int]:
@@ -60,8 +72,11 @@ def encoded_series(series: Any, name: str, kinds: Optional[Mapping[str, str]] = 
 
 
 def _by_values(series: Any, column: Column, ids: Optional[Sequence[int]]) -> Tuple[Column, List[int]]:
+    import numpy
     from .loading import encoded
-    return column, encoded(column, series.tolist(), ids)
+    # A narrow float shows fewer digits than the one of 64 bits that `tolist` makes of it.
+    is_narrow = isinstance(series.dtype, numpy.dtype) and series.dtype.kind == "f" and series.dtype.itemsize < 8
+    return column, encoded(column, list(series.to_numpy()) if is_narrow else series.tolist(), ids)
 
 
 def _by_type(series: Any, name: str) -> Tuple[Kind, Optional[List[int]]]:
@@ -79,7 +94,9 @@ def _by_type(series: Any, name: str) -> Tuple[Kind, Optional[List[int]]]:
     if types.is_datetime64_any_dtype(series.dtype):
         zone = getattr(series.dtype, "tz", None)
         plain = series if zone is None else series.dt.tz_convert("UTC").dt.tz_localize(None)
-        return Timestamps(zone), _nanoseconds(plain.to_numpy(), name)
+        kind, numbers = Timestamps(zone), _nanoseconds(plain.to_numpy(), name)
+        _check_shown(kind, numbers, name)
+        return kind, numbers
     if isinstance(series.dtype, pandas.CategoricalDtype):
         return _categories(series, name)
     values = series.tolist()
@@ -119,6 +136,16 @@ def _nanoseconds(moments: Any, name: str) -> List[int]:
     found = moments.astype("datetime64[ns]")
     _check_same(found, moments, name, "outside the years 1677 to 2262 of nanoseconds: give it the kind 'time' by kinds={..}")
     return list(found.view("int64").tolist())
+
+
+def _check_shown(kind: Timestamps, numbers: List[int], name: str) -> None:
+    """Refuses times that pandas itself cannot show in their zone."""
+    present = [number for number in numbers if number != LEAST]
+    for number in (min(present), max(present)) if present else ():
+        try:
+            kind.shown(number, f"a time of {number} nanoseconds since 1970")
+        except NotRead as why:
+            raise Refused(f"row {numbers.index(number) + 1}, column {name!r}: {why}", "table") from None
 
 
 def _check_same(found: Any, given: Any, name: str, why: str) -> None:

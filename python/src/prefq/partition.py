@@ -6,7 +6,7 @@ from typing import Any, Iterable, Iterator, List, Mapping, Optional, Sequence, T
 
 from .checks import check_rows
 from .kinds.forms import PLAIN, Form
-from .missing import Missing
+from .missing import words_given
 from .options import check_options
 from .reading import Dialect
 from .rows import listed_array
@@ -42,8 +42,7 @@ class Reading:
         check_options(options, OPTIONS, what)
         given = {name: options[name] for name in ("encoding", "delimiter", "skip", "null_padding") if name in options}
         form = Form(options.get("decimal", "."), options.get("thousands", ""))
-        Missing(options.get("missing"))         # which says what is wrong with it
-        missing = None if options.get("missing") is None else tuple(options["missing"])
+        missing = None if options.get("missing") is None else words_given(options["missing"])
         return Reading(dict(options.get("kinds") or {}), missing, Dialect(**given), form)
 
 

@@ -6,6 +6,7 @@ from typing import Any, Dict, List, Optional, Tuple
 from .columns import Column
 from .errors import Refused
 from .hints import unknown_column
+from .kinds.texts import plain_text
 from .reading import check_names
 
 
@@ -55,7 +56,9 @@ def _record(values: Dict[str, Any], id: Optional[int], level: Optional[int]) -> 
 def mapping_of(record: Any) -> Optional[Dict[str, Any]]:
     """What is a mapping, a named tuple or a data class, as a mapping; None for another thing."""
     if isinstance(record, Mapping):
-        return dict(record)
+        found = dict(record)
+        # Names of an enumeration are of a type of their own.
+        return found if {str}.issuperset(map(type, found)) else {plain_text(name) if isinstance(name, str) else name: value for name, value in found.items()}
     if hasattr(record, "keys") and hasattr(record, "__getitem__"):
         # Such as a row of sqlite3, which gives the first of two values of one name.
         return {name: record[name] for name in check_names(record.keys())}

@@ -49,7 +49,9 @@ class Form:
         if not found or bool(found["open"]) != bool(found["close"]) or found["open"] and found["sign"] or found["before"] and found["behind"]:
             return None
         whole, part = found["whole"] or "", found["part"] or ""
-        if self.thousands:
+        if self.thousands and self.thousands in whole:
+            if int(whole[0]) == 0:
+                return None     # 0,123 has a decimal comma: no thousands begin with a zero.
             whole = whole.replace(self.thousands, "")
         if not whole and not part:
             return None
@@ -80,8 +82,7 @@ class Form:
     @lru_cache(maxsize=None)
     def _pattern(self) -> "re.Pattern[str]":
         unit, decimal, thousands = re.escape(self.unit), re.escape(self.decimal), re.escape(self.thousands)
-        # 0,123 has a decimal comma: no thousands begin with a zero.
-        digits = rf"(?!0)\d{{1,3}}(?:{thousands}\d{{3}})+|\d+" if self.thousands else r"\d+"
+        digits = rf"\d{{1,3}}(?:{thousands}\d{{3}})+|\d+" if self.thousands else r"\d+"
         before, behind = (rf"(?P<before>{unit})?\s*", rf"\s*(?P<behind>{unit})?") if self.unit else ("(?P<before>)", "(?P<behind>)")
         opened, closed = (r"(?P<open>\()?\s*", r"\s*(?P<close>\))?") if self.parentheses else ("(?P<open>)", "(?P<close>)")
         return re.compile(rf"{opened}(?:(?P<sign>[+-])\s*)?{before}(?P<whole>{digits})?(?:{decimal}(?P<part>\d*))?(?P<exponent>[eE][+-]?\d{{1,4}})?{behind}{closed}")
