@@ -62,6 +62,16 @@ class Kinds(TestCase):
                     context.prec, context.rounding = 5, rounding
                     self.assertEqual(str(kind_of_texts(texts)), kind)
 
+    def test_in_a_program_that_traps_each_signal_of_decimals(self):
+        """One of them is that a float becomes a decimal by itself."""
+        with decimal.localcontext() as context:
+            context.traps = dict.fromkeys(context.traps, True)
+            with prefq.Frame.from_records([{"f": 0.5, "d": Decimal("0.25")}, {"f": 0.1, "d": Decimal("12345.5")}]) as frame:
+                for question, ids in [("best pos(f, 0.5)", [1]), ("best layered(f, {0.1}, {0.5})", [2]), (prefq.pos("f", 0.1), [2]), ("best around(d, 0.1)", [1]), ("best low(f * d)", [1])]:
+                    self.assertEqual(frame.best(question).ids, ids)
+                self.assertEqual(frame.best("best low(d)", where="f = 0.1 and d > f").ids, [2])
+                self.assertEqual(frame.get(frame.insert({"d": 0.125})).d, Decimal("0.125"))
+
     def test_named(self):
         for spelling in ("whole", "decimal(2)", "float", "bool", "date", "time", "text"):
             self.assertEqual(str(kind_named(spelling)), spelling)

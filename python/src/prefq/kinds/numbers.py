@@ -185,7 +185,7 @@ class Floats(Number):
         """Numbers of a question are always plain. A float is found by the number that it is, or that Python shows for it, and by no other near to it."""
         number = self.in_form(PLAIN).read(text)
         value = self.decode(number)
-        return number if Decimal(text.strip()) in (Decimal(digits_of(value)), Decimal(value)) else None
+        return number if Decimal(text.strip()) in (Decimal(digits_of(value)), Decimal.from_float(value)) else None
 
     def text(self, value: Any) -> str:
         return self.form.written(repr(value))
