@@ -401,6 +401,31 @@ class ComesBack(TestCase):
             with self.refuses(prefq.Refused, "offers.csv was written to while it was read", kind="table"):
                 cells.rows_at([1])
 
+    def test_a_file_that_is_written_to_behind_its_first_rows(self):
+        """It was a frame of rows of both states. One that another file takes the place of meanwhile is read as it was."""
+        chunk = prefq.reading.Cells._chunk
+
+        def beside(cells, text, *words):
+            if "3,4" in text:
+                with open(path, "r+") as file:
+                    file.write("x,y\n9,9\n3,4\n5,6\n")
+            return chunk(cells, text, *words)
+
+        def in_its_place(cells, *words):
+            Path(folder, "new.csv").write_text("x,y\n7,8\n")
+            Path(folder, "new.csv").replace(path)
+            return chunk(cells, *words)
+
+        with tempfile.TemporaryDirectory() as folder:
+            path = Path(folder, "offers.csv")
+            for call in (lambda: prefq.Frame.from_csv(path), lambda: prefq.parts.best([path], "best low(x)")):
+                path.write_text("x,y\n1,2\n3,4\n")
+                with unittest.mock.patch("prefq.reading.Cells._chunk", beside), self.refuses(prefq.Refused, "offers.csv was written to while it was read", kind="table"):
+                    call()
+            path.write_text("x,y\n1,2\n3,4\n")
+            with unittest.mock.patch("prefq.reading.Cells._chunk", in_its_place), prefq.Frame.from_csv(path) as frame:
+                self.assertEqual([tuple(row.values()) for row in frame.rows()], [(1, 2), (3, 4)])
+
     def test_json_has_dates_as_iso_8601_has_them(self):
         with from_text("day,x\n01.05.2026,1\n", kinds={"day": 'date("%d.%m.%Y")'}) as frame:
             answer = frame.best("best low(x)")

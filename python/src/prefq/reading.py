@@ -71,10 +71,17 @@ class Content(NamedTuple):
         if self.path is None:
             return io.BytesIO(self.data)
         file = open(self.path, "rb")
-        if state_of(file) != self.state:
+        try:
+            self.check_unchanged(file)
+        except Refused:
             file.close()
-            raise Refused(f"{os.fspath(self.path)} was written to while it was read", "table")
+            raise
         return file
+
+    def check_unchanged(self, file: IO[bytes]) -> None:
+        """Refuses a file that was written to since its begin was read. One that another took the place of is as it was."""
+        if self.path is not None and state_of(file) != self.state:
+            raise Refused(f"{os.fspath(self.path)} was written to while it was read", "table")
 
 
 class Chunk:
@@ -190,8 +197,10 @@ class Cells:
 
     @contextmanager
     def _stream(self) -> Iterator[IO[str]]:
-        """The lines behind the mark of the encoding, if there is one, and those that are skipped. Where they are no text of the encoding, the file is refused."""
-        with io.TextIOWrapper(self._content.open(), self._content.encoding, self._content.errors, newline="") as stream:
+        """The lines behind the mark of the encoding, if there is one, and those that are skipped. Where they are no text of the encoding, the file is refused, and so is
+        one that was written to by the end."""
+        file = self._content.open()
+        with io.TextIOWrapper(file, self._content.encoding, self._content.errors, newline="") as stream:
             try:
                 if stream.read(1) != MARK:      # which an encoding that is given, or the text of an open file, may have left
                     stream.seek(0)
@@ -200,6 +209,7 @@ class Cells:
                 yield stream
             except UnicodeError:
                 self.refuse_encoding()
+            self._content.check_unchanged(file)
 
     @contextmanager
     def _reader(self, lines: Iterable[str], passed: int = 0) -> Iterator[Any]:
