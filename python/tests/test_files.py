@@ -288,6 +288,12 @@ class Files(TestCase):
                 self.assertEqual(frame.names, names)
                 self.assertEqual(len(frame), text.count("\n") - 1 - text.count("sep=") - text.count("two"))
 
+    def test_a_line_that_names_no_delimiter(self):
+        """It is the one with the names. The end of the line was taken for the delimiter, and each row for one cell."""
+        for line in ("sep=\r\n", 'sep="\n', "sep=\r"):
+            with self.subTest(line=line), self.refuses(prefq.Refused, "line 2: it has 2 cells, and the first line has 1 names"):
+                self.reads(f"{line}a,b\r\n1,2\r\n".encode())
+
     def test_a_line_that_is_refused_behind_plain_ones(self):
         """It is named by its number in the file, however many rows are read at a time."""
         plain = "\n\nx,y\n" + "1,2\n" * 6 + '"a\nb",2\r\n\n' + "3,4\n" * 6

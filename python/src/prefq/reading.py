@@ -29,7 +29,7 @@ LONGEST_CELL = 2**31 - 1
 MARKS = ((b"\xef\xbb\xbf", "utf-8-sig"), (b"\xff\xfe\x00\x00", "utf-32"), (b"\x00\x00\xfe\xff", "utf-32"), (b"\xff\xfe", "utf-16"), (b"\xfe\xff", "utf-16"))
 MARK = "\ufeff"
 ALL_BYTES = bytes(range(256))
-SEPARATOR_LINE = re.compile(r'"?sep=(?P<sign>.)"?\r?\n?', re.IGNORECASE)
+SEPARATOR_LINE = re.compile(r'"?sep=(?P<sign>[^"\r\n])"?\r?\n?', re.IGNORECASE)
 # What is done, how much of it, and of how much, which is 0 where nobody knows.
 Progress = Callable[[str, int, int], None]
 Source = Union[str, "os.PathLike[str]", IO[Any]]
