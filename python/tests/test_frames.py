@@ -44,6 +44,22 @@ class Records(TestCase):
         with self.refuses(prefq.Refused, "without rows a column has to be given its kind: hotel"):
             prefq.Frame.from_records([], columns=["hotel", "price"], kinds={"price": "decimal(2)"})
 
+    def test_a_field_of_a_data_class_that_is_not_set(self):
+        @dataclasses.dataclass
+        class Offer:
+            price: int
+            dist: int = dataclasses.field(init=False)
+
+        with prefq.Frame.from_records([Offer(60), {"price": 50, "dist": 2}]) as frame:
+            frame.insert(Offer(70))
+            self.assertEqual([tuple(row.values()) for row in frame.rows()], [(60, None), (50, 2), (70, None)])
+
+    def test_bytes_are_no_list_of_values(self):
+        with prefq.Frame.empty(["x", "y"], {"x": "whole", "y": "whole"}) as frame:
+            for record in (b"12", bytearray(b"12")):
+                with self.refuses(TypeError, f"a record is a mapping or a list of values, not {record!r}"):
+                    frame.insert(record)
+
     def test_lists_say_what_takes_them(self):
         for record in ((1, 2), [1, 2]):
             with self.refuses(TypeError, f"row 1 is no mapping, but {record!r}: Frame.from_sql takes the cursor of a query, and Frame(columns, rows) lists of values"):

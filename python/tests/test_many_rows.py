@@ -291,6 +291,24 @@ class Limits(TestCase):
         with self.refuses(prefq.Refused, "two columns are called 'x'"):
             prefq.Frame.from_sql(cursor.execute("SELECT 1 AS x, 2 AS x"))
 
+    def test_a_cursor_whose_rows_are_made_into_other_things(self):
+        """The first value of each is a usual one. Lyon was the city L then, and a value too many was left out."""
+        database = sqlite3.connect(":memory:")
+        for factory, query, error, says in [
+                (lambda _, row: row[0], "SELECT 'Lyon' AS city UNION ALL SELECT 'Bern'", TypeError, "row 1 of the query is 'Lyon': not the values of city"),
+                (lambda _, row: row[0], "SELECT 'ab' AS x, 5 AS y", TypeError, "row 1 of the query is 'ab': not the values of x, y"),
+                (lambda _, row: row[0], "SELECT 5 AS x", TypeError, "row 1 of the query is 5: not the values of x"),
+                (lambda _, row: row[:row[0]], "SELECT 2 AS x, 7 AS y UNION ALL SELECT 1, 7", ValueError, "row 2 of the query has 1 values: not 2, those of x, y"),
+                (lambda _, row: (*row, 9), "SELECT 5 AS x", ValueError, "row 1 of the query has 2 values: not 1, those of x")]:
+            database.row_factory = factory
+            for ask in (prefq.Frame.from_sql, lambda cursor: prefq.psel(cursor, "empty()")):
+                with self.subTest(query=query), self.refuses(error, says):
+                    ask(database.execute(query))
+        database.row_factory = lambda cursor, row: dict(zip([name for name, *_ in cursor.description], row))
+        with prefq.Frame.from_sql(database.execute("SELECT 'Lyon' AS city, 5 AS x")) as frame:
+            self.assertEqual([dict(row) for row in frame.rows()], [{"city": "Lyon", "x": 5}])
+        database.close()
+
 
 class Why(TestCase):
     def test_the_rows_that_dominate_are_those_of_a_frame(self):

@@ -1,6 +1,6 @@
 """Rows of a database, by the cursor of a query that was executed, as Python's DB-API has it."""
-from collections.abc import Mapping
-from typing import Any, Iterable, Iterator, List, Sequence, Tuple
+from collections.abc import Iterable, Mapping
+from typing import Any, Iterator, List, Sequence, Tuple
 
 from .checks import MOST_ROWS
 from .errors import Refused
@@ -23,8 +23,22 @@ def names_of(cursor: Any) -> Tuple[str, ...]:
 
 def fetched(cursor: Any, names: Sequence[str]) -> Iterator[List[Sequence[Any]]]:
     """The rows that were not fetched yet, at most as many at a time as one table holds: a cursor may give fewer."""
+    before = 0
     while rows := cursor.fetchmany(MOST_ROWS):
-        yield [[row[name] for name in names] if isinstance(row, Mapping) else tuple(row) for row in rows]
+        yield [_values_of(row, names, number) for number, row in enumerate(rows, before + 1)]
+        before += len(rows)
+
+
+def _values_of(row: Any, names: Sequence[str], number: int) -> Sequence[Any]:
+    """The values of a row. A connection may have rows made into other things, as into the first value alone, and a text is no list of its letters."""
+    if isinstance(row, Mapping):
+        return [row[name] for name in names]
+    if isinstance(row, (str, bytes)) or not isinstance(row, Iterable):
+        raise TypeError(f"row {number} of the query is {row!r}: not the values of {', '.join(names)}")
+    values = tuple(row)
+    if len(values) != len(names):
+        raise ValueError(f"row {number} of the query has {len(values)} values: not {len(names)}, those of {', '.join(names)}")
+    return values
 
 
 def parts_of_rows(names: Sequence[str], parts: Iterable[Sequence[Any]]) -> Iterator[Numbered]:

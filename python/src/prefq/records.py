@@ -65,7 +65,7 @@ def mapping_of(record: Any) -> Optional[Dict[str, Any]]:
     if isinstance(record, tuple) and hasattr(record, "_asdict"):
         return dict(record._asdict())
     if dataclasses.is_dataclass(record) and not isinstance(record, type):
-        return {field.name: getattr(record, field.name) for field in dataclasses.fields(record)}
+        return {field.name: getattr(record, field.name) for field in dataclasses.fields(record) if hasattr(record, field.name)}
     return None
 
 
@@ -78,7 +78,7 @@ def values_of(record: Any, columns: Tuple[Column, ...]) -> List[Any]:
             if name not in names:
                 raise Refused(unknown_column(str(name), names), "table")
         return [found.get(name) for name in names]
-    if not isinstance(record, Sequence) or isinstance(record, (str, bytes)):
+    if not isinstance(record, Sequence) or isinstance(record, (str, bytes, bytearray)):
         raise TypeError(f"a record is a mapping or a list of values, not {record!r}")
     if len(record) != len(names):
         raise Refused(f"a row of {len(record)} values, where there are {len(names)} columns: {', '.join(names)}", "table")
