@@ -303,6 +303,15 @@ class Files(TestCase):
         with self.refuses(prefq.Refused, "no order", kind="term"):
             best(self.files(words, "price,n\nx,4\n"), "best low(price)")
 
+    def test_a_file_with_nothing_but_words_in_a_column_of_texts_that_is_given(self):
+        """They are texts. A condition of them was refused, and told to give a kind."""
+        files = self.files("x,sex\n1,NA\n2,none\n", "x,sex\n3,male\n4,NA\n")
+        for where, ids in (("sex = 'NA'", [1]), ("sex in ('none')", [2]), ("sex is missing", []), ("sex is not missing", [1])):
+            for some in (files, files[:1]):
+                with self.subTest(where=where, files=len(some)):
+                    self.assertEqual(best(some, "best low(x)", where=where, kinds={"sex": "text"}).ids, ids)
+        self.assertEqual(best(files, "best true(sex = 'NA') & high(x)", kinds={"sex": "text"}).ids, [4])
+
     def test_words_in_a_column_that_no_question_names_beside_values_from_elsewhere(self):
         """They are missing there, too; texts beside numbers are refused, with where they are."""
         files = self.files("x,opened\n1,n/a\n", "x,opened\n1,soon\n")

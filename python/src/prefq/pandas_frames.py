@@ -116,7 +116,7 @@ def _whole(series: Any, name: str) -> List[int]:
     present = series.dropna()
     if len(present) and not (LEAST < int(present.min()) and int(present.max()) <= MOST):
         raise Refused(f"column {name!r} has numbers from {present.min()} to {present.max()}: a column has whole numbers from {LEAST + 1} to {MOST}; "
-                      "leave it out by columns=[..], or give it a kind by kinds={..}, as 'float' or 'text'", "table")
+                      "leave it out by columns=[..], or give it the kind 'float' by kinds={..}", "table")
     return _numbers(series)
 
 

@@ -61,7 +61,7 @@ def mapping_of(record: Any) -> Optional[Dict[str, Any]]:
         return found if {str}.issuperset(map(type, found)) else {plain_text(name) if isinstance(name, str) else name: value for name, value in found.items()}
     if hasattr(record, "keys") and hasattr(record, "__getitem__"):
         # Such as a row of sqlite3, which gives the first of two values of one name.
-        return {name: record[name] for name in check_names(record.keys())}
+        return {plain_text(name): record[name] for name in check_names(record.keys())}
     if isinstance(record, tuple) and hasattr(record, "_asdict"):
         return dict(record._asdict())
     if dataclasses.is_dataclass(record) and not isinstance(record, type):

@@ -49,12 +49,13 @@ class Segment(NamedTuple):
 
     @staticmethod
     def of(column: Column, numbers: Iterable[int], source: str, *, is_given: bool = False, has_words: bool = False) -> "Segment":
-        """The segment of one part, whose kind counts only where it `is_given` or there is a value. Where the part `has_words`, these are perhaps missing."""
+        """The segment of one part, whose kind counts only where it `is_given` or there is a value. Where the part `has_words`, these are perhaps missing in a column of
+        which no kind is given."""
         found = numbers if isinstance(numbers, array) else array("q", numbers)
         kind = column.kind
         if not is_given and found.count(LEAST) == len(found):
             kind = Nothing()
-        elif has_words and isinstance(kind, Texts) and all(folded(text) in WORDS for text in kind.texts):
+        elif has_words and not is_given and isinstance(kind, Texts) and all(folded(text) in WORDS for text in kind.texts):
             kind = Undecided(kind.texts)
         own = column.of_kind(kind)
         own.has_gaps = LEAST in found
