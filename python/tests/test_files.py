@@ -200,13 +200,17 @@ class Columns(TestCase):
             self.assertEqual(frame.best("best low(x)")[0].pi, "2.5")
 
     def test_codes_that_would_lose_a_zero_are_texts(self):
-        for cells in (["01E5", "02E7"], ["00e1"], ["+01E5", "7"], ["0٣e2", "12"]):
+        for cells in (["01E5", "02E7"], ["00e1"], ["+01E5", "7"], ["0٣e2", "12"], ["01.10", "31.12"], ["007.5", "8"], ["-00.5", "1.25"], ["٠١.٥", "2"], ["01.5e1", "2"]):
             with self.subTest(cells), from_text("\n".join(["x", *cells])) as frame:
                 self.assertEqual(values(frame, "x"), cells)
                 with self.refuses(prefq.Refused, f"{cells[0]} begins with a zero"):
                     frame.best("best low(x)")
         with from_text("x\n1E5\n0e3\n0.5e1\n") as frame:
             self.assertEqual(values(frame, "x"), [100_000, 0, 5])
+        with from_text("x,y\n0.05,10.01\n.05,-0.0\n-0.0,100\n") as frame:
+            self.assertEqual([tuple(row.values()) for row in frame.rows()], [(Decimal("0.05"), Decimal("10.01")), (Decimal("0.05"), 0), (0, 100)])
+        with from_text('x;y\n01,10;"0,5"\n31,12;"-0,25"\n', decimal=",") as frame:
+            self.assertEqual([tuple(row.values()) for row in frame.rows()], [("01,10", Decimal("0.5")), ("31,12", Decimal("-0.25"))])
 
     def test_names_that_stand_twice(self):
         text = "a,b,a\n1,2,3\n4,1,6\n"

@@ -37,7 +37,7 @@ def kind_of_texts(texts: Sequence[str], form: Form = PLAIN) -> Kind:
         return Booleans()
     plain = plain_numbers(found, form)
     if plain is not None:
-        return kind_of_numbers(plain) if not any(map(has_zero_in_front, found)) else Texts()
+        return kind_of_numbers(plain) if not any(map(has_zero_in_front, plain)) else Texts()
     if all(map(MOMENT.fullmatch, found)):
         return _kind_of_moments(found)
     return Texts()
@@ -96,8 +96,8 @@ def kind_of_numbers(texts: Sequence[str]) -> Kind:
 
 
 def has_zero_in_front(text: str) -> bool:
-    """Whether these are digits of a postal code or an article number, such as 01E5, in any script: as a number they would lose their zeros."""
-    digits = text.lstrip("+-").lower().partition("e")[0]
+    """Whether these are digits of a postal code, an article number or a day, such as 01E5 and 01.10, in any script: as a number they would lose their zeros."""
+    digits = text.lstrip("+-").lower().partition("e")[0].partition(".")[0]
     return len(digits) > 1 and digits.isdecimal() and int(digits[0]) == 0
 
 

@@ -11,9 +11,8 @@ MOST_DECIMALS = 18
 TOO_LARGE = str(-LEAST)
 # Numbers of less than this come exactly from floats that were multiplied by a power of ten: each of the two roundings is wrong by 2**-53 of them at most.
 EXACT = 2**50
-# Digits behind a zero in front are a code, not a number: in texts without a point, and in others.
-ZERO_IN_FRONT = re.compile(r"0(?<=[^0-9]0)[0-9]")
-ZERO_IN_FRONT_OF_WHOLE = re.compile(r"\n[+-]?0[0-9]+(?=\n)")
+# Digits behind a zero in front are a code, not a number. A zero right behind the point is none in front.
+ZERO_IN_FRONT = re.compile(r"0(?<=[^0-9.]0)[0-9]")
 
 
 class PlainTexts:
@@ -43,9 +42,8 @@ class PlainTexts:
 
     @property
     def have_codes(self) -> bool:
-        """Whether one without a point begins with a zero as numbers do not."""
-        codes = ZERO_IN_FRONT if self.are_whole else ZERO_IN_FRONT_OF_WHOLE
-        return self._points < len(self._texts) and codes.search(f"\n{self._joined}\n") is not None
+        """Whether one begins with a zero as numbers do not."""
+        return ZERO_IN_FRONT.search(f"\n{self._joined}") is not None
 
     def scaled(self, decimals: int) -> Optional[List[int]]:
         """The numbers in units of the last of so many decimals; None where a text is no number, has more decimals, or may stand for a missing value. Those that are
