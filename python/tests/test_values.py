@@ -438,6 +438,19 @@ class Moments(TestCase):
                     self.assertEqual([row.at for row in frame.rows()], values)
                     self.assertNotEqual((made is Unknowing, str(frame.columns[0].kind)), (False, "time(UTC+01:00)"))
 
+    def test_an_interruption_in_a_zone_of_ones_own_is_no_answer_of_it(self):
+        class Zone(datetime.tzinfo):
+            def utcoffset(self, when):
+                if when is None or when.year == 1900:
+                    raise TimeoutError("half a second is over")
+                return datetime.timedelta()
+
+            def dst(self, when):
+                return datetime.timedelta()
+
+        with self.assertRaises(TimeoutError):
+            prefq.Frame.from_records([{"at": datetime.datetime(2026, 5, day, tzinfo=Zone())} for day in (1, 2)])
+
     def test_what_a_format_reads_is_no_other_date(self):
         for spelling, text, value in [('date("%Y-%d-%m")', "2026-05-01", datetime.date(2026, 1, 5)), ('time("%Y-%d-%m %H:%M")', "2026-05-01 10:00", datetime.datetime(2026, 1, 5, 10)),
                                       ('time("%Y-%m-%d %H:%M")', "2026-05-01 10:00:05", datetime.datetime(2026, 5, 1, 10, 0, 5)), ('date("%d.%m.%y")', "01.05.2026", datetime.date(2026, 5, 1)),

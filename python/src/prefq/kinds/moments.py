@@ -20,6 +20,8 @@ MICROSECOND = datetime.timedelta(microseconds=1)
 DAY_LONG = datetime.timedelta(days=1)
 # Times by which a zone shows that it has several offsets.
 THROUGH_THE_YEARS = [datetime.datetime(year, month, 1) for year in (1900, 1945, 1980, 2000, 2026, 2100) for month in range(1, 13)]
+# What a zone's class raises that does not take what it is asked; an interruption is none of these.
+OF_A_ZONE = (ArithmeticError, AttributeError, LookupError, NotImplementedError, TypeError, ValueError)
 # A date and a time that tell apart what a format has; and one whose day may be a month.
 SAMPLE = datetime.datetime(2031, 12, 25, 23, 58, 59)
 TURNED = datetime.datetime(2031, 12, 11, 10, 9, 8, 7)
@@ -329,7 +331,7 @@ def only_offset_of(zone: datetime.tzinfo) -> Optional[datetime.timedelta]:
     try:
         offset = zone.utcoffset(None)
         return offset if offset is None or all(zone.utcoffset(time.replace(tzinfo=zone)) == offset for time in THROUGH_THE_YEARS) else None
-    except Exception:       # whatever such a class raises
+    except OF_A_ZONE:
         return None
 
 
@@ -342,7 +344,7 @@ def shows_times(zone: datetime.tzinfo) -> bool:
     """Whether a zone says what its clocks show at a moment. A class of somebody's own may know no more than the offset of a time that is given."""
     try:
         return EPOCH.replace(tzinfo=datetime.timezone.utc).astimezone(zone) is not None
-    except Exception:       # whatever such a class raises
+    except OF_A_ZONE:
         return False
 
 
