@@ -2,6 +2,7 @@
 
 PREFQ_TEST_COUNT is how many questions are asked (of 6 parts at most), and PREFQ_TEST_SEED begins other ones.
 """
+import datetime
 import importlib.util
 import random
 import tempfile
@@ -149,6 +150,24 @@ class Together(TestCase):
         rows = [[9, 7]] * 4 + [[1, 2**53 + 1], [2, 3], [1, 0.5]]
         with self.refuses(ValueError, "row 5, column 'n' (float): 9007199254740993 is no 64-bit float"):
             best([Partition(["x", "n"], rows)], "best low(x)")
+
+    def test_times_of_two_zones_of_one_name(self):
+        """pytz knows of no summer behind 2037, and Python's zones do. Row 2 was left out of its part, and each other row was the best."""
+        try:
+            import pytz
+        except ImportError:
+            raise unittest.SkipTest("pytz is not installed")
+        from zoneinfo import ZoneInfo
+
+        def parts(year):
+            hours = [datetime.datetime(year, 7, 1, hour, tzinfo=datetime.timezone.utc) for hour in (9, 10, 11)]
+            return [Partition(["at"], [[hours[0].astimezone(pytz.timezone("Europe/Berlin"))]]), Partition(["at"], [[hour.astimezone(ZoneInfo("Europe/Berlin"))] for hour in hours[1:]])]
+
+        for question, where in (("best pos(at, '2050-07-01 12:00', '2026-07-01 12:00')", None), ("best low(at)", "at >= '2050-07-01 12:00'")):
+            with self.subTest(question=question), self.refuses(prefq.Refused, "'2050-07-01 12:00' would be another moment in each: write its offset", kind="table"):
+                best(parts(2050), question, where=where)
+        self.assertEqual(best(parts(2050), "best pos(at, '2050-07-01 12:00+02:00')").ids, [2])
+        self.assertEqual(best(parts(2026), "best pos(at, '2026-07-01 12:00')").ids, [2])
 
     def test_times_of_several_zones(self):
         """A text without a zone would be another moment in each part, so that rows would be left out that are in the answer over all."""

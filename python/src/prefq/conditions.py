@@ -57,8 +57,12 @@ def names_in(nodes: Iterable[Node]) -> List[str]:
     return list(dict.fromkeys(column.name for node in nodes for column in columns_of(node)))
 
 
-def moments_in(nodes: Iterable[Node], term: Term) -> Dict[str, str]:
-    """By column of times with a zone, a text beside it in expressions, or in the term of a question, that names no zone: it is a time of the column's."""
+def moments_in(nodes: Iterable[Node], term: Term) -> Dict[str, Tuple[str, ...]]:
+    """By column of times with a zone, the texts beside it in expressions, or in the term of a question, that name no zone: they are times of the column's."""
     pairs = [(base.column, value.text) for base in bases_of(term) for values in base.sets for value in values]
     pairs += [pair for node in nodes for pair in texts_beside_columns(node)]
-    return {column.name: text for column, text in pairs if isinstance(column.kind, Times) and column.kind.zone is not None and offset_of(text) is None}
+    found: Dict[str, Tuple[str, ...]] = {}
+    for column, text in pairs:
+        if isinstance(column.kind, Times) and column.kind.zone is not None and offset_of(text) is None:
+            found[column.name] = (*found.get(column.name, ()), text)
+    return found

@@ -26,7 +26,7 @@ class Partial:
     absent: Absent = field(default_factory=dict)
     words: Words = field(default_factory=dict)
     computed: Tuple[Segment, ...] = ()      # the columns of the condition and of expressions, without rows
-    moments: Mapping[str, str] = field(default_factory=dict)     # by column of times with a zone, a text beside it that names none
+    moments: Mapping[str, Tuple[str, ...]] = field(default_factory=dict)     # by column of times with a zone, the texts beside it that name none
     source: str = "the rows"        # what the first partition is called
 
     def __len__(self) -> int:
@@ -68,19 +68,19 @@ def together(partials: Sequence[Partial]) -> Partial:
                    _words_of(partials), tuple(_computed(partials, moments)), moments, first.source)
 
 
-def _asked(partials: Sequence[Partial], moments: Mapping[str, str]) -> Iterator[Segment]:
+def _asked(partials: Sequence[Partial], moments: Mapping[str, Tuple[str, ...]]) -> Iterator[Segment]:
     """The columns of the question, each brought together."""
     return (_joined(segments, moments) for segments in zip(*(partial.asked for partial in partials)))
 
 
-def _computed(partials: Sequence[Partial], moments: Mapping[str, str]) -> Iterator[Segment]:
+def _computed(partials: Sequence[Partial], moments: Mapping[str, Tuple[str, ...]]) -> Iterator[Segment]:
     """The columns over which something is computed, each brought together."""
     for segments in zip(*(partial.computed for partial in partials)):
         check_one_line_of_time(segments)
         yield _joined(segments, moments)
 
 
-def _joined(segments: Sequence[Segment], moments: Mapping[str, str]) -> Segment:
+def _joined(segments: Sequence[Segment], moments: Mapping[str, Tuple[str, ...]]) -> Segment:
     name = segments[0].column.name
     if name in moments:
         check_zones(segments, moments[name])

@@ -10,7 +10,7 @@ from .checks import LEAST
 from .columns import Column
 from .errors import Refused
 from .kinds import Booleans, Choices, Floats, Kind, NotRead, Texts, Times, Whole
-from .kinds.moments import Dates, are_of_one_name
+from .kinds.moments import Dates, are_of_one_name, nanoseconds_of
 from .kinds.numbers import Number
 from .missing import WORDS, folded
 
@@ -187,13 +187,25 @@ def _float(value: Decimal) -> float:
     return found
 
 
-def check_zones(segments: Sequence[Segment], written: str) -> None:
-    """Refuses times of several zones, where this text is written beside them, which names none and so would be another moment in each part."""
+def check_zones(segments: Sequence[Segment], texts: Sequence[str]) -> None:
+    """Refuses times of several zones, where these texts are written beside them, which name none, and one would be another moment in each part. Two zones of one name
+    may differ: pytz knows of no summer behind 2037."""
     times = [segment for segment in segments if isinstance(segment.column.kind, Times)]
     for first, other in zip(times, times[1:]):
-        if not are_of_one_name(_zone(first.column.kind), _zone(other.column.kind)):
+        one, second = _zone(first.column.kind), _zone(other.column.kind)
+        are_one = are_of_one_name(one, second)
+        written = next((text for text in reversed(texts) if not are_one or one is not second and _moment(text, one) != _moment(text, second)), None)
+        if written is not None:
             raise _two_meanings(first, other, f"{written!r} would be another moment in each: write its offset, as in '2026-05-01 17:30+02:00', or give the column a zone by "
                                 "kinds={..}, such as 'time(UTC)'")
+
+
+def _moment(text: str, zone: Optional[datetime.tzinfo]) -> Optional[int]:
+    """What a text without a zone means in one; None where it is no time there."""
+    try:
+        return nanoseconds_of(text, zone)
+    except NotRead:
+        return None
 
 
 def check_one_line_of_time(segments: Sequence[Segment]) -> None:
