@@ -176,6 +176,32 @@ class Schemas(OfRooms):
         self.db.execute("update rooms set price = price - 15")
         self.are(frame, (1, 10, 3), (2, 5, 4))
 
+    def test_a_trigger_that_does_not_say_when_it_runs_runs_before_a_change(self):
+        frame = self.rooms((1, 10, 3), (2, 20, 4))
+        self.db.execute("create trigger after insert on rooms when new.price < 0 begin select raise(ignore); end")
+        self.db.execute("insert into rooms values (3, -5, 0), (4, 5, 0)")
+        self.are(frame, (1, 10, 3), (2, 20, 4), (4, 5, 0))
+
+    def test_a_change_that_stays_where_a_trigger_fails_behind_it(self):
+        """What notes the change runs first, also where the trigger came later, and where another frame follows the table by another key."""
+        self.db.execute("create table log (price unique)")
+        frame = self.rooms((1, 10, 3), (2, 20, 4), schema=ROOMS.replace("dist int", "dist int unique"))
+        for place, statement in enumerate(("select raise(fail, 'no')", "insert into log values (new.price)")):
+            other = self.followed("rooms", key="dist")
+            self.db.execute(f"create trigger fails{place} after insert on rooms begin {statement}; end")
+            self.db.execute(f"create trigger fails{place}too after update on rooms begin {statement}; end")
+            frame.refresh()
+            for change in (f"insert or fail into rooms values ({3 + place}, 5, {5 + place})", "update or fail rooms set price = 5 where id = 1", "update or fail rooms set dist = dist + 90 where id = 2"):
+                with self.subTest(trigger=statement, change=change):
+                    with suppress(sqlite3.IntegrityError):
+                        self.db.execute(change)
+                    self.are(frame, *self.db.execute("select * from rooms order by id"))
+                    self.assertEqual([(row.id, row.price) for row in other], self.db.execute("select dist, price from rooms order by dist").fetchall())
+            self.assertEqual(len(Names.added(self)), 8)
+            version = self.db.execute("pragma schema_version").fetchall()
+            frame.refresh(), other.refresh(), frame.refresh()
+            self.assertEqual(self.db.execute("pragma schema_version").fetchall(), version)
+
     def test_a_key_that_is_unique_no_more(self):
         self.db.execute("create table rooms (id integer, price int)")
         self.db.execute("create unique index by_id on rooms (id)")

@@ -32,10 +32,10 @@ NOTES = "create table {notes} (number integer primary key autoincrement, key uni
 NOTE = "delete from {notes} where key = +{row}.{key}; insert into {notes} (key) values ({row}.{key});"
 NEW_KEY = "delete from {notes} where key = +new.{key} and not new.{key} = old.{key} collate binary; " \
           "insert into {notes} (key) select new.{key} where not new.{key} = old.{key} collate binary;"
-# What of a statement is quoted or a comment; and of a trigger whether it ends others, and runs before a change.
+# What of a statement is quoted or a comment; and of a trigger whether it ends others, and runs behind a change: one that does not say so runs before it.
 QUOTED = re.compile(r"""'(?:[^']|'')*'|"(?:[^"]|"")*"|`(?:[^`]|``)*`|\[[^\]]*\]|--[^\n]*|/\*.*?(?:\*/|$)""", re.DOTALL)
 ENDS_OTHERS = re.compile(r"\braise\s*\(\s*ignore\b", re.IGNORECASE)
-RUNS_BEFORE = re.compile(r"create\s+trigger\s+[^\s.]+(?:\s*\.\s*[^\s.]+)?\s+before\b", re.IGNORECASE)
+RUNS_BEHIND = re.compile(r"create\s+trigger\s+[^\s.]+(?:\s*\.\s*[^\s.]+)?\s+after\b", re.IGNORECASE)
 
 
 class SqliteSource(Source):
@@ -162,8 +162,7 @@ class SqliteSource(Source):
 
     def _check_triggers(self) -> None:
         """Refuses a table with a trigger that runs behind a change, and by `raise(ignore)` ends those that have not run yet: what notes the change may be one of them."""
-        of_table = self._rows("select name, sql from sqlite_master where type = 'trigger' and tbl_name = ? collate nocase", self.name)
-        ends = next((name for name, sql in of_table if ENDS_OTHERS.search(plain(sql)) and not RUNS_BEFORE.match(plain(sql))), None)
+        ends = next((name for name, sql in self._triggers() if ENDS_OTHERS.search(plain(sql)) and RUNS_BEHIND.match(plain(sql))), None)
         if ends is not None:
             raise Refused(f"table {self.name!r} has the trigger {ends!r}, which by raise(ignore) ends what notes a change: make it a trigger before the change", "follow")
 
@@ -201,25 +200,36 @@ class SqliteSource(Source):
         return {name: as_made(sql) for name, sql in found if sql}
 
     def _has_objects(self) -> bool:
-        return self._there() == self._objects
+        return self._there() == self._objects and self._run_first()
+
+    def _run_first(self) -> bool:
+        """Whether the triggers that note a change run before those of the user's own, which may end with an error and leave the change there, as by `raise(fail)` or
+        `insert or fail`: SQLite runs the newest ones first."""
+        found = [name for name, sql in self._triggers() if name in self._objects or not is_ours(name, sql)]
+        return set(found[-len(TRIGGERS):]) < set(self._objects)
+
+    def _triggers(self) -> List[Any]:
+        """The names of the table's triggers, with how they were made, the newest ones last."""
+        return self._rows("select name, sql from sqlite_master where type = 'trigger' and tbl_name = ? collate nocase order by rowid", self.name)
 
     def _is_installed(self) -> bool:
         self._check_table()
         return self._has_objects()
 
     def _install(self) -> None:
-        """Adds the table of notes and the triggers, unless they are there; triggers of an earlier version are made anew, since these note the same. What has one of
-        their names and is another thing is refused, and stays."""
+        """Adds the table of notes and the triggers, unless they are there; triggers of an earlier version, and those that do not run first, are made anew, since these
+        note the same. What has one of their names and is another thing is refused, and stays."""
         self._check_table()
-        there = self._there()
+        there, run_first = self._there(), self._run_first()
         for name, sql in self._objects.items():
-            found = there.get(name, sql)
-            if found not in (sql, self._earlier[name]):
+            found = there.get(name)
+            if found not in (None, sql, self._earlier[name]):
                 raise Refused(f"{name!r} is there already, and is not what follows table {self.name!r}: drop it, or give it another name", "follow")
-            if found != sql:
+            if found == sql and (run_first or name == self._notes):
+                continue
+            if found:
                 self._db.execute(f"drop trigger {identifier(name)}")
-            if there.get(name) != sql:
-                self._db.execute(sql)
+            self._db.execute(sql)
         if 0 < len(there) < len(self._objects):     # What was changed while some were missing is noted nowhere: a note without a key stands for any rows.
             self._db.execute(f"insert into {identifier(self._notes)} (key) values (null)")
         self._db.execute("commit")
