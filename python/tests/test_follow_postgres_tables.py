@@ -105,7 +105,7 @@ class Types(OfTables):
         "inet": "10.0.0.1", "cidr": "10.0.0.0/8", "bit(3)": "101", "varbit": "10", "truth": "true", "code": "Lyon", "bytea": "\\x00ff", "json": '{"a": 1}',
         "jsonb": '{"a":1}', "interval": "1 day 02:00", "timetz": "17:30+02", "money": "12.30", "point": "(1,2)", "text[]": '{"a b",null}',
         "character(6)[]": "{Lyon}", "boolean[]": "{t,f}", "bit(3)[]": "{101}", "int4range": "[1,5)", "pair": '(1,"a b")', '"char"': "c", "oid": "12",
-        "xml": "<a>1</a>", "tsvector": "a b", "macaddr": "08:00:2b:01:02:03", "regclass": "pg_class", "years": "3"}
+        "xml": "<a>1</a>", "tsvector": "a b", "macaddr": "08:00:2b:01:02:03", "years": "3"}
 
     def setUp(self):
         super().setUp()
@@ -149,6 +149,16 @@ class Types(OfTables):
                 self.run_sql(f"drop table if exists offers; create table offers (id integer primary key, c {type})")
                 with self.refuses(prefq.Refused, "column 'c' has the type ", "which no kind reads by itself", kind="follow"):
                     self.followed()
+
+    def test_types_whose_texts_are_names_of_other_things_are_refused(self):
+        """Which may get other names, and then the log says nothing of these rows."""
+        self.run_sql("create domain named as regclass; create type owned as (rights aclitem[])")
+        for type in ("regclass", "regrole[]", "aclitem", "named", "owned"):
+            with self.subTest(type=type):
+                self.run_sql(f"drop table if exists offers; create table offers (id integer primary key, c {type}, price integer)")
+                with self.refuses(prefq.Refused, "column 'c' has the type ", "whose texts are names of other things", kind="follow"):
+                    self.followed(kinds={"c": "text"})
+                self.assertEqual(self.followed(columns=["price"]).rows(), [])
 
     def test_a_value_of_blanks_at_its_end_is_found_by_its_letters(self):
         self.run_sql("create table offers (id integer primary key, city character(6), price integer)")
@@ -199,6 +209,24 @@ class Schemas(OfTables):
         frame = self.followed(kinds={"sizes": "text"})
         self.run_sql("alter type size rename value 'S' to 'XS'")
         self.assertEqual(self.rows(frame), [(1, "XS", "{XS}")])
+
+    def test_a_word_of_an_enum_of_which_another_type_is_made(self):
+        self.run_sql("create type size as enum ('S', 'M'); create domain fit as size; create domain fits as size[]; create type pair as (number integer, size fit)")
+        self.run_sql("create type sizes as range (subtype = size)")
+        for type, value in (("fit", "S"), ("fits", "{S}"), ("fit[]", "{S}"), ("pair", "(1,S)"), ("pair[]", '{"(1,S)"}'), ("sizes", "[S,M]")):
+            with self.subTest(type=type):
+                self.run_sql(f"drop table if exists offers; create table offers (id integer primary key, size {type}); insert into offers values (1, '{value}')")
+                frame = self.followed(kinds={"size": "text"})
+                self.run_sql("alter type size rename value 'S' to 'XS'")
+                self.assertEqual(self.rows(frame), [(1, value.replace("S", "XS"))])
+                self.run_sql("alter type size rename value 'XS' to 'S'")
+
+    def test_a_row_of_another_table_that_gets_other_columns(self):
+        self.run_sql("create table places (city text, street text); create table offers (id integer primary key, place places); insert into offers values (1, '(Lyon,\"\")')")
+        frame = self.followed(kinds={"place": "text"})
+        for change in ("add number integer", "drop street"):
+            self.run_sql(f"alter table places {change}")
+            self.assertEqual(self.rows(frame), self.run_sql("select id, place::text from offers"))
 
     def test_what_does_not_change_the_schema_reads_nothing_anew(self):
         self.two("offers")

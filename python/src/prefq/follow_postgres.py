@@ -40,13 +40,24 @@ COLUMNS = """select attname, format_type(atttypid, null), format_type(atttypid, 
     where attrelid = %s and attnum > 0 and not attisdropped order by attnum"""
 INDEXES = """select attname, indisprimary, indisreplident, attnotnull from pg_index join pg_attribute on attrelid = indrelid and attnum = indkey[0]
     where indrelid = %s and indisunique and indimmediate and indisvalid and indnkeyatts = 1 and indpred is null"""
-# Each change of a table, of its schema, its columns, its keys and the words of its enums writes a row of the catalog anew, by a transaction of another number.
-SCHEMA = """select 'table', 0, xmin::text from pg_class where oid = %(oid)s
-    union all select 'schema', n.oid::bigint, n.xmin::text from pg_namespace n join pg_class c on n.oid = c.relnamespace where c.oid = %(oid)s
-    union all select 'column', attnum::bigint, xmin::text from pg_attribute where attrelid = %(oid)s
-    union all select 'word', e.oid::bigint, e.xmin::text from pg_enum e where enumtypid in
-        (select unnest(array[t.oid, t.typelem]) from pg_attribute join pg_type t on t.oid = atttypid where attrelid = %(oid)s)
-    union all select 'key', indexrelid::bigint, xmin::text from pg_index where indrelid = %(oid)s and indisunique order by 1, 2"""
+# The types of some columns, and those that these are made of: of arrays, domains, composite types and ranges. Servers before 14 have no ranges of many.
+TYPES = """with recursive used(oid) as (
+        select atttypid from pg_attribute where attrelid = %s and attname = any(%s::name[])
+        union select part from used, lateral (
+            select unnest(array[typelem, typbasetype]) from pg_type where pg_type.oid = used.oid
+            union all select rngsubtype from pg_range r where used.oid in (rngtypid, (to_jsonb(r) ->> 'rngmultitypid')::oid)
+            union all select atttypid from pg_type join pg_attribute on attrelid = typrelid where pg_type.oid = used.oid) as parts(part))
+    select oid::bigint, typrelid::bigint, case typnamespace when 'pg_catalog'::regnamespace then typname::text end from used join pg_type using (oid)"""
+# Each change of a table, of its schema, its columns, its keys, the words of its enums and the parts of its composite types writes a row of the catalog anew, by a
+# transaction of another number.
+SCHEMA = """select 'table', 0, 0, xmin::text from pg_class where oid = %(oid)s
+    union all select 'schema', 0, n.oid::bigint, n.xmin::text from pg_namespace n join pg_class c on n.oid = c.relnamespace where c.oid = %(oid)s
+    union all select 'column', attrelid::bigint, attnum, xmin::text from pg_attribute where attrelid = any(%(tables)s::oid[])
+    union all select 'word', 0, oid::bigint, xmin::text from pg_enum where enumtypid = any(%(types)s::oid[])
+    union all select 'key', 0, indexrelid::bigint, xmin::text from pg_index where indrelid = %(oid)s and indisunique order by 1, 2, 3"""
+# Types whose output has names of other things, which may get other names.
+OF_NAMES = frozenset(["regclass", "regcollation", "regconfig", "regdictionary", "regnamespace", "regoper", "regoperator", "regproc", "regprocedure", "regrole", "regtype",
+                      "aclitem"])
 Schema = List[Tuple[Any, ...]]
 
 
@@ -61,6 +72,7 @@ class PostgresSource(Source):
         self._table, self._key = table, key
         self._slot, self._given = "", -1
         self._schema: Schema = []       # of the rows that were given
+        self._types: List[Tuple[int, int, Optional[str]]] = []      # of the columns, as the schema was when it was checked
         # Columns of kinds that were given, and the places of those that are floats by their values.
         self._chosen = frozenset(kinds)
         self._floats: Tuple[int, ...] = ()
@@ -271,11 +283,16 @@ class PostgresSource(Source):
         there = self._there()
         check_columns(self.name, self._declared, there, lambda declared: str(declared[1]))
         self._check_key(there, replident)
+        self._types = self._used([self._key, *self.columns])
         return self._schema_of(oid)
+
+    def _used(self, names: Sequence[str]) -> List[Tuple[int, int, Optional[str]]]:
+        """The types that columns have, each with the table of its parts, if there is one, and its name where it is one of PostgreSQL's own."""
+        return self._rows(TYPES, self._oid, list(names))
 
     def _schema_of(self, oid: int) -> Schema:
         cursor = self._db.cursor()
-        cursor.execute(SCHEMA, {"oid": oid})
+        cursor.execute(SCHEMA, {"oid": oid, "tables": [oid, *(table for _, table, _ in self._types)], "types": [type for type, _, _ in self._types]})
         return list(cursor.fetchall())
 
     def _is_as_it_was(self) -> bool:
@@ -306,6 +323,9 @@ class PostgresSource(Source):
             if name not in given and plain != "numeric" and self._kind(plain, sized, sort) is None:
                 raise Refused(f"column {name!r} has the type {plain}, which no kind reads by itself: leave it out by columns=[..], or give it one, as "
                               f"kinds={{{name!r}: 'text'}}", "follow")
+            if any(type in OF_NAMES for _, _, type in self._used([name])):
+                raise Refused(f"column {name!r} has the type {plain}, whose texts are names of other things, which may get other names: leave it out by columns=[..]",
+                              "follow")
 
     def _kind(self, plain: str, sized: str, sort: str) -> Optional[Kind]:
         """The kind of a type; None for numbers of any number of decimals, and for what only a kind that is given reads."""
