@@ -206,6 +206,17 @@ class Follows(OfPostgres):
                 self.assertEqual([row.id for row in frame], [7])
             self.assertEqual(int(db.info.transaction_status), 0)
 
+    def test_a_name_by_which_the_connection_means_another_table(self):
+        self.offers((1, "Quay", 50, 8))
+        for sort in ("table offers (id integer primary key)", "view offers as select 7 as id"):
+            with self.subTest(sort=sort):
+                self.run_sql(f"create temp {sort}")
+                with self.refuses(prefq.Refused, "'offers' means another table for this connection than public.offers", kind="follow"):
+                    self.followed()
+                self.assertEqual([row.id for row in self.followed("public.offers")], [1])
+                self.run_sql(f"drop {sort.split()[0]} pg_temp.offers")
+        self.assertEqual([row.id for row in self.followed()], [1])
+
     def test_rows_in_many_tables(self):
         frame = self.offers(*((number, "x", number * 7 % 40, number * 11 % 41) for number in range(40)), capacity=16)
         self.assertEqual(frame.tables, 3)

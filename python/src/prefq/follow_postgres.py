@@ -80,6 +80,7 @@ class PostgresSource(Source):
         try:
             self._check_server()
             self._oid, self.name, replident = self._found()
+            check_meaning(connection, table, self._oid, self.name)
             there = self._there()
             self._check_key(there, replident)
             self.columns = chosen([name for name in there if name != key or columns is not None], columns)
@@ -362,17 +363,29 @@ def connector(connection: Any) -> Any:
 
 
 def search_path(connection: Any) -> str:
-    """In which schemas a connection looks for a table. Where it has no transaction, it has none afterwards; one that has written is refused."""
-    was_idle = connection.info.transaction_status == 0
-    cursor = connection.cursor()
-    cursor.execute("select current_setting('search_path') as path, txid_current_if_assigned() is not null as has_written")
-    row = cursor.fetchone()
-    if was_idle and not connection.autocommit:
-        connection.rollback()
-    path, has_written = row.values() if isinstance(row, dict) else row
+    """In which schemas a connection looks for a table; one that has written is refused."""
+    path, has_written = asked_of(connection, "select current_setting('search_path') as path, txid_current_if_assigned() is not null as has_written")
     if has_written:
         raise Refused("the connection has a transaction that has written, and whose end has to be waited for: commit first", "follow")
     return str(path)
+
+
+def check_meaning(connection: Any, table: str, oid: int, name: str) -> None:
+    """Refuses a name by which a connection means another table than other connections do, as a temporary one."""
+    [meant] = asked_of(connection, "select coalesce(to_regclass(quote_ident(%s)), to_regclass(%s))::oid::bigint as meant", table, table)
+    if meant != oid:
+        raise Refused(f"{table!r} means another table for this connection than {name}, such as a temporary one: give the name with its schema", "follow")
+
+
+def asked_of(connection: Any, sql: str, *values: Any) -> Sequence[Any]:
+    """The one row of a query that is asked by the caller's connection. Where that has no transaction, it has none afterwards."""
+    was_idle = connection.info.transaction_status == 0
+    cursor = connection.cursor()
+    cursor.execute(sql, values or None)
+    row = cursor.fetchone()
+    if was_idle and not connection.autocommit:
+        connection.rollback()
+    return list(row.values() if isinstance(row, dict) else row)
 
 
 def output(name: str) -> str:
