@@ -6,9 +6,11 @@ import os
 import random
 import threading
 import unittest
+from concurrent.futures import ThreadPoolExecutor
 from contextlib import AsyncExitStack
 
 import prefq
+from prefq.asynchronous import FreeClients
 from support import HOTELS, QUESTION, SKYLINE, TestCase, around, in_a_fork
 
 SECONDS = 120
@@ -178,6 +180,36 @@ class Tasks(TestCase):
         self.assertEqual(len(asyncio.run(table.best(QUESTION))), 4)
         asyncio.run(table.close())
 
+    def test_tasks_of_several_loops_wait_for_a_client(self):
+        """One loop after the other, and two at the same time."""
+        async def many(table):
+            return await asyncio.gather(*(table.best(QUESTION) for _ in range(10)))
+
+        async def open_frame():
+            return await prefq.AsyncFrame.open(prefq.Frame.from_records, [{"price": price, "dist": dist} for price, dist in HOTELS], clients=1)
+
+        for opening in (lambda: self.open(clients=1), open_frame):
+            table = asyncio.run(opening())
+            with ThreadPoolExecutor(2) as pool:
+                for answers in (asyncio.run(many(table)), asyncio.run(many(table)), *pool.map(asyncio.run, [many(table), many(table)])):
+                    self.assertEqual([len(answer) for answer in answers], [4] * 10)
+            asyncio.run(table.close())
+
+    def test_a_client_that_a_cancelled_task_was_woken_for_is_anothers(self):
+        async def main():
+            free = FreeClients(1)
+            client, waiting = await free.get(), [asyncio.ensure_future(free.get()) for _ in range(3)]
+            await asyncio.sleep(0)
+            free.put(client)
+            await asyncio.sleep(0)          # The first one is woken, and has not gone on.
+            waiting[0].cancel()
+            self.assertEqual(await asyncio.wait_for(waiting[1], 30), client)
+            waiting[2].cancel()
+            await asyncio.wait(waiting)
+            free.put(client)
+            self.assertEqual((len(free), list(free._waiting)), (1, []))
+        self.run_async(main)
+
     def test_closed_while_a_call_is_under_way(self):
         async def main():
             table, release = await self.open(), threading.Event()
@@ -228,7 +260,7 @@ class OfAFrame(TestCase):
                 await asyncio.sleep(0.05)
                 for query, client in zip(queries, held):
                     answer = await asyncio.wait_for(frame._call(query.answer), 0.8)
-                    frame._free.put_nowait(client)
+                    frame._free.put(client)
                 found = await calling
                 self.assertEqual(answer.ids, [row.id for row in answer])
                 return found, len(frame), await frame.rows()
@@ -310,7 +342,7 @@ class OfAFrame(TestCase):
                 seen = [await rows()]
                 changing = asyncio.ensure_future(changes())
                 await asyncio.gather(changing, *(asks() for _ in range(5)))
-                while frame._free.qsize() < self.CLIENTS or frame._table._engine.queries:
+                while len(frame._free) < self.CLIENTS or frame._table._engine.queries:
                     frame._table._engine.settle()
                     await asyncio.sleep(0.001)
 

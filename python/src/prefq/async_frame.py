@@ -98,7 +98,7 @@ class AsyncFrame(Awaited):
                     await self._call(query.scan_piece)
                 return await self._call(query.answer)
         finally:
-            self._free.put_nowait(client)
+            self._free.put(client)
 
 
 def _made(make: Callable[..., Frame], *words: Any, **options: Any) -> Frame:

@@ -1,9 +1,11 @@
 """The table for asyncio: the same calls, awaited."""
 import asyncio
 import weakref
+from collections import deque
 from concurrent.futures import Future, ThreadPoolExecutor
+from contextlib import suppress
 from functools import partial
-from typing import Any, Callable, Generator, Iterable, List, Optional, Sequence, Tuple, Type, TypeVar, Union
+from typing import Any, Callable, Deque, Generator, Iterable, List, Optional, Sequence, Tuple, Type, TypeVar, Union
 
 from .answer import Answer
 from .clients import SECONDS_TO_COLLECTION, NoClient, hastily
@@ -17,6 +19,63 @@ Opened = TypeVar("Opened", Table, Frame)
 Self = TypeVar("Self", bound="Awaited")
 
 
+class FreeClients:
+    """The clients that no task has. Tasks of any event loop wait for one, also one after the other: a queue of asyncio belongs to the loop in which one has waited.
+
+    It has no lock, which a finalizer that gives a client back in the middle of a step here would wait for: each step of a deque is made whole.
+    """
+
+    def __init__(self, count: int) -> None:
+        self._clients: Deque[int] = deque(range(1, count + 1))
+        self._waiting: Deque["asyncio.Future[None]"] = deque()
+
+    def __len__(self) -> int:
+        return len(self._clients)
+
+    async def get(self) -> int:
+        """A client, once there is one."""
+        while True:
+            with suppress(IndexError):
+                return self._clients.popleft()
+            try:
+                await self._woken()
+            except BaseException:
+                if self._clients:       # for which this task may have been woken
+                    self._wake()
+                raise
+
+    def put(self, client: int) -> None:
+        """Gives a client back, from any thread."""
+        self._clients.append(client)
+        self._wake()
+
+    async def _woken(self) -> None:
+        """Waits until there may be a client."""
+        woken = asyncio.get_running_loop().create_future()
+        self._waiting.append(woken)
+        try:
+            if not self._clients:       # else one came before anybody waited here
+                await woken
+        finally:
+            with suppress(ValueError):
+                self._waiting.remove(woken)
+
+    def _wake(self) -> None:
+        """Wakes the one who waits for longest. A loop that is closed has nobody who waits."""
+        with suppress(IndexError):
+            while True:
+                woken = self._waiting.popleft()
+                with suppress(RuntimeError):
+                    woken.get_loop().call_soon_threadsafe(wake, woken)
+                    return
+
+
+def wake(woken: "asyncio.Future[None]") -> None:
+    """Has who awaits this go on."""
+    if not woken.done():
+        woken.set_result(None)
+
+
 class Awaited:
     """Calls that are awaited: they are made one after the other on a thread of their own, in the order in which they were asked for, but that one which needs a client
     waits where each client scans for another task."""
@@ -24,9 +83,7 @@ class Awaited:
     def __init__(self, executor: ThreadPoolExecutor, called: Union[Table, Frame], clients: int) -> None:
         self._executor, self._called = executor, called
         self._closed = False
-        self._free: "asyncio.Queue[int]" = asyncio.Queue()
-        for client in range(1, clients + 1):
-            self._free.put_nowait(client)
+        self._free = FreeClients(clients)
 
     @property
     def _table(self) -> Table:
@@ -91,7 +148,7 @@ class Awaited:
         try:
             return await self._call(function, *words)
         finally:
-            self._free.put_nowait(client)
+            self._free.put(client)
 
 
 async def on_a_thread(make: Callable[[], Opened]) -> Tuple[ThreadPoolExecutor, Opened]:
@@ -240,8 +297,8 @@ class AsyncQuery:
 
     async def _begin(self) -> "AsyncQuery":
         self._table._usable()
-        free, loop = self._table._free, asyncio.get_running_loop()
-        collection = loop.call_later(SECONDS_TO_COLLECTION, self._table._table._free.collect)
+        free = self._table._free
+        collection = asyncio.get_running_loop().call_later(SECONDS_TO_COLLECTION, self._table._table._free.collect)
         try:
             client = await free.get()
         finally:
@@ -249,31 +306,23 @@ class AsyncQuery:
         try:
             job = self._table._submit(self._table._table.query, self.question, client)
         except BaseException:
-            free.put_nowait(client)
+            free.put(client)
             raise
         try:
             query = await asyncio.wrap_future(job)
         except BaseException:
-            job.add_done_callback(partial(_give_up, loop, free, client))
+            job.add_done_callback(partial(_give_up, free, client))
             raise
         self._query = query
-        self._give_back = weakref.finalize(self, _put_back, loop, free, client)
+        self._give_back = weakref.finalize(self, free.put, client)
         return self
 
 
-def _give_up(loop: asyncio.AbstractEventLoop, free: "asyncio.Queue[int]", client: int, job: "Future[Query]") -> None:
+def _give_up(free: FreeClients, client: int, job: "Future[Query]") -> None:
     """Nobody waits for this query any more: if it has begun, it is abandoned."""
     if not job.cancelled() and job.exception() is None:
         try:
             job.result().abandon()
         except Ended:
             return
-    _put_back(loop, free, client)
-
-
-def _put_back(loop: asyncio.AbstractEventLoop, free: "asyncio.Queue[int]", client: int) -> None:
-    """The client is free again; from whatever thread, and for another loop where this one is closed."""
-    if loop.is_closed():
-        free.put_nowait(client)
-    else:
-        loop.call_soon_threadsafe(free.put_nowait, client)
+    free.put(client)
