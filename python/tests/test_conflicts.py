@@ -62,6 +62,17 @@ class Conflicts(Served):
                 self.assertEqual(ask(server, "PUT", f"/rows/1?seen={wrong}", {"Distance": 5})[0], 400, wrong)
             self.assertEqual(server.desk.version, 1)
 
+    def test_a_page_of_a_server_that_has_ended_changes_nothing(self):
+        """Whose version may be one of this desk too, and whose rows were others."""
+        with self.served() as server:
+            run, seen = ask(server, "GET", "/about")[1]["run"], picture(server)[1]["version"]
+        with self.served() as server:
+            for method, path, values in (("PUT", f"/rows/1?seen={seen}&", {"Distance": 5}), ("DELETE", f"/rows/1?seen={seen}&", None), ("POST", "/rows?", {"Distance": 5})):
+                status, shown = ask(server, method, f"{path}run={run}", values)
+                self.assertEqual((status, shown), (409, {"error": "the page shows rows of a server that has ended: load it again"}))
+            self.assertEqual((server.desk.version, len(server.desk)), (1, 4))
+            self.assertEqual(ask(server, "PUT", f"/rows/1?seen={seen}&run={ask(server, 'GET', '/about')[1]['run']}", {"Distance": 5})[0], 200)
+
     @unittest.skipIf(sys.version_info < (3, 11), "where Python calls signal handlers is known of 3.11 and later")
     def test_what_a_change_that_was_interrupted_has_made_is_not_overwritten(self):
         """Nor where the look at what it has made is interrupted, too."""

@@ -12,7 +12,7 @@
     DELETE /rows/7               replies the values that it had
 
 With `?seen=12` a row is changed as it was seen in the picture of version 12: what others have changed since is neither overwritten nor deleted, but replied, with
-409. In the values null is missing, and so is an empty text but in a column of texts.
+409. With `&run=..`, which `/about` has, nothing is changed by a page of a server that has ended, whose rows were others. In the values null is missing, and so is an empty text but in a column of texts.
 
 What is wrong is replied as JSON with an `error`, and of a question with its `place`, a character: 400 for what cannot be read, 403 for a page of another site, 404 for
 rows that are not there, 409 for what the table refuses, 413 for what is too large, 503 where the table has ended.
@@ -191,17 +191,19 @@ class Site:
         found, seen = ROW.fullmatch(request.path), request.given("seen")
         if not found:
             raise Wrong(404, "a row is /rows/ID")
-        self._check_editable()
+        self._check_change(request)
         if seen is not None and not NUMBER.fullmatch(seen):
             raise Wrong(400, "seen is the version of a picture, a whole number")
         return int(found[1]), None if seen is None else int(seen)
 
-    def _check_editable(self) -> None:
+    def _check_change(self, request: Request) -> None:
         if not self.about["editable"]:
             raise Wrong(403, "the rows here cannot be changed")
+        if request.given("run") not in (None, self.about["run"]):
+            raise Wrong(409, "the page shows rows of a server that has ended: load it again")
 
     def _check_body(self, request: Request) -> None:
-        self._check_editable()
+        self._check_change(request)
         # Browsers send this kind from another site only after a question to this server, which it does not answer.
         if request.headers.get("content-type", "").partition(";")[0].strip().lower() != "application/json":
             raise Wrong(415, "values are sent as application/json")

@@ -1,6 +1,7 @@
 // Changes rows. Only what is changed is sent, with the version that was seen, and what somebody else has changed since is shown and asked for.
 import {$, element, isNumber, said} from "./parts.js";
 
+let run;        // which server has the rows that are shown: one that was started anew may have others
 let opened;     // what the dialog shows: the row's id, none of a new one, the version that was seen, and the fields
 
 class Refusal extends Error {
@@ -10,8 +11,12 @@ class Refusal extends Error {
   }
 }
 
-async function send(method, path, values) {
-  const reply = await fetch(path, {method, headers: {"Content-Type": "application/json"}, body: values && JSON.stringify(values)});
+export function edits(about) {
+  run = about.run;
+}
+
+async function send(method, path, values, seen) {
+  const reply = await fetch(`${path}?${new URLSearchParams({run, ...(seen === undefined ? {} : {seen})})}`, {method, headers: {"Content-Type": "application/json"}, body: values && JSON.stringify(values)});
   const received = await reply.json().catch(() => ({error: `the server replies ${reply.status}`}));
   if (!reply.ok) throw new Refusal(reply.status, received);
   return received;
@@ -118,7 +123,7 @@ export async function save() {
   const values = Object.fromEntries(changed.map(field => [field.column.name, field.value]));
   try {
     if (opened.id === undefined) await send("POST", "rows", values);
-    else if (changed.length) await send("PUT", `rows/${opened.id}?seen=${opened.seen}`, values);
+    else if (changed.length) await send("PUT", `rows/${opened.id}`, values, opened.seen);
     $("editor").close();
     said(opened.id === undefined ? "Added." : changed.length ? "Changed." : "Nothing was changed.");
   } catch (why) {
@@ -149,7 +154,7 @@ function compare({version, values}) {
 // Removes a row of the picture of this version.
 export async function remove(row, version) {
   try {
-    const {values} = await send("DELETE", `rows/${row.id}?seen=${version}`);
+    const {values} = await send("DELETE", `rows/${row.id}`, undefined, version);
     said(`${row.cells[0]} is removed. `, button("Undo", () => send("POST", "rows", values).then(() => said("Added again."), why => said(why.message))));
   } catch (why) {
     if (why.reply?.kind !== "changed") return said(why.message);

@@ -1,6 +1,6 @@
 // The page: asks a question, and shows each picture that the server sends.
 import {showBuilder} from "./builder.js";
-import {edit, remove, save} from "./edit.js";
+import {edit, edits, remove, save} from "./edit.js";
 import {showLegend} from "./legend.js";
 import {$, counted, element} from "./parts.js";
 import {draw, rowAt, VIEWS} from "./plot.js";
@@ -28,6 +28,7 @@ async function begin() {
   }
   $("view").append(...Object.entries(VIEWS).map(([value, textContent]) => element("option", {value, textContent})));
   $("add").hidden = !about.editable;
+  edits(about);
   showBuilder(about.columns);
   addEventListener("popstate", restore);
   restore();
