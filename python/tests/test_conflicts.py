@@ -5,6 +5,8 @@ import threading
 import unittest
 import unittest.mock
 from contextlib import nullcontext, suppress
+from datetime import datetime
+from zoneinfo import ZoneInfo
 
 import prefq
 from interrupting import Interrupter, Interruption
@@ -72,6 +74,15 @@ class Conflicts(Served):
                 self.assertEqual((status, shown), (409, {"error": "the page shows rows of a server that has ended: load it again"}))
             self.assertEqual((server.desk.version, len(server.desk)), (1, 4))
             self.assertEqual(ask(server, "PUT", f"/rows/1?seen={seen}&run={ask(server, 'GET', '/about')[1]['run']}", {"Distance": 5})[0], 200)
+
+    def test_a_time_that_clocks_show_twice_has_changed(self):
+        """Python finds both equal."""
+        first = datetime(2026, 10, 25, 2, 30, tzinfo=ZoneInfo("Europe/Paris"))
+        with Desk(prefq.Frame.from_records([{"at": first}])) as desk:
+            desk.update(1, {"at": first.replace(fold=1)})
+            with self.assertRaises(Changed) as caught:
+                desk.update(1, {"at": first.replace(hour=9)}, seen=1)
+            self.assertEqual(caught.exception.values["at"].fold, 1)
 
     @unittest.skipIf(sys.version_info < (3, 11), "where Python calls signal handlers is known of 3.11 and later")
     def test_what_a_change_that_was_interrupted_has_made_is_not_overwritten(self):

@@ -235,7 +235,7 @@ class Desk:
         rows = {id: Held(id, tuple(self.table.get(self._opened.ids.inside(id)))) for id in changed}
         if before is not None:
             after = self.record(rows[id].numbers)
-            self._since[id] = tuple(version if after[name] == before[name] else self.version + 1 for name, version in zip(after, self._versions(id)))
+            self._since[id] = tuple(version if is_same(after[name], before[name]) else self.version + 1 for name, version in zip(after, self._versions(id)))
         # Last: behind an interruption, a row that is here as it is in the frame counts as unchanged.
         self._rows.update(rows)
 
@@ -329,6 +329,11 @@ class Desk:
 def named_values(columns: Iterable[Column], numbers: Numbers) -> Dict[str, Any]:
     """The values of a row by the names of their columns."""
     return {column.name: column.decode(number) for column, number in zip(columns, numbers)}
+
+
+def is_same(value: Any, before: Any) -> bool:
+    """Whether a value is that of before. Python says so of both times that clocks which are put back show alike."""
+    return bool(value == before) and getattr(value, "fold", 0) == getattr(before, "fold", 0)
 
 
 def computed_picture(text: str, selection: Selection, version: int, columns: List[Column], rows: List[Held]) -> Picture:
