@@ -406,6 +406,15 @@ class Transactions(OfTables):
                 with self.within(10), self.assertRaises(KeyboardInterrupt):
                     prefq.Frame.follow(db, "offers")
 
+    def test_a_connection_whose_settings_are_refused_or_interrupted_is_closed(self):
+        for why in (KeyboardInterrupt, ValueError):
+            with self.subTest(why=why):
+                source, opened = object.__new__(PostgresSource), mock.Mock()
+                opened.cursor().execute.side_effect = why
+                source._connect_again, source._settings = lambda: opened, {"timezone": "UTC"}
+                self.assertRaises(why, source._connected)
+                opened.close.assert_called_once_with()
+
     @unittest.skipIf(sys.version_info < (3, 11), "where Python calls signal handlers is known of 3.11 and later")
     def test_an_interruption_at_each_place_of_the_begin_of_a_wait(self):
         """Also where the statement runs by then, and who waits for it does not know of it yet."""

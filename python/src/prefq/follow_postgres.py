@@ -148,12 +148,16 @@ class PostgresSource(Source):
 
     def _connected(self) -> Any:
         db = self._connect_again()
-        db.autocommit = True
-        cursor = db.cursor()
-        for name, value in self._settings.items():
-            cursor.execute("select set_config(%s, %s, false)", (name, value))
-        self._slot = ""
-        return db
+        try:
+            db.autocommit = True
+            cursor = db.cursor()
+            for name, value in self._settings.items():
+                cursor.execute("select set_config(%s, %s, false)", (name, value))
+            self._slot = ""
+            return db
+        except BaseException:
+            db.close()
+            raise
 
     def _connect_if_closed(self) -> None:
         if self._db.closed:
