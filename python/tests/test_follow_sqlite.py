@@ -2,6 +2,7 @@
 import gc
 import os
 import random
+import shutil
 import signal
 import sqlite3
 import threading
@@ -214,6 +215,25 @@ class Schemas(OfRooms):
         self.db.execute("delete from rooms where price = 5")
         self.db.execute("create unique index by_id on rooms (id)")
         self.are(frame, (1, 10), (2, 20))
+
+
+class Files(OfRooms):
+    def test_a_file_that_has_gone_and_another_one_in_its_place(self):
+        """The connection would go on with the file from before, where nobody changes the rows any more."""
+        frame, moved = self.rooms((1, 10, 3), (2, 20, 4)), f"{self.path} moved"
+        for move in (lambda: os.rename(self.path, moved), lambda: shutil.copy(moved, self.path)):
+            move()
+            for call in (frame.rows, frame.now, lambda: frame.best(QUESTION)):
+                with self.refuses(prefq.Refused, "the file of table 'rooms' is not there any more, or is another one: follow the table again", kind="follow"):
+                    call()
+            self.assertEqual(frame.best(QUESTION, at_least=frame.at).ids, [1])
+        with closing(self.connection()) as other:
+            other.execute("update rooms set price = 5 where id = 2")
+            with prefq.Frame.follow(other, "rooms") as again:
+                self.assertEqual(again.best(QUESTION).ids, [2])
+        os.rename(moved, self.path)
+        self.insert((3, 7, 0))
+        self.are(frame, (1, 10, 3), (2, 20, 4), (3, 7, 0))
 
 
 class Waits(OfRooms):

@@ -44,7 +44,9 @@ class SqliteSource(Source):
     faults = (sqlite3.Error,)
 
     def __init__(self, connection: sqlite3.Connection, table: str, key: str, columns: Optional[Sequence[str]]) -> None:
-        self._db = connected_as(connection)
+        self._path = path_of(connection)
+        self._file = file_at(self._path)        # as it was before it was opened: what is opened may be another one by then, and is refused
+        self._db = connected_to(self._path)
         # A connection and its statements are a cycle, so that where nothing refers to the frame only the collector would close it.
         weakref.finalize(self, close_in, os.getpid(), self._db).atexit = False
         try:
@@ -84,6 +86,8 @@ class SqliteSource(Source):
 
     def _at_one_moment(self, call: Callable[[], Result], begin: str = "begin") -> Result:
         """What a call finds in a transaction, for which it waits for others no longer than the frame may."""
+        if file_at(self._path) != self._file:
+            raise Refused(f"the file of table {self.name!r} is not there any more, or is another one: follow the table again", "follow")
         left = SECONDS_TO_WAIT if self.until is None else max(0.0, min(SECONDS_TO_WAIT, self.until - time.monotonic()))
         self._db.execute(f"pragma busy_timeout = {int(1000 * left)}").close()
         return at_one_moment(self._db, call, begin)
@@ -274,11 +278,25 @@ def end_transaction(db: sqlite3.Connection) -> None:
         db.execute("rollback")
 
 
-def connected_as(connection: sqlite3.Connection) -> sqlite3.Connection:
-    """Another connection to the file of this one, whatever the caller makes of rows and texts there."""
+def path_of(connection: sqlite3.Connection) -> bytes:
+    """Where the file of a connection is, whatever the caller makes of rows and texts there."""
     [(path,)] = rows_of(connection, "select cast(file as blob) from pragma_database_list where name = 'main'")
     if not path:
         raise Refused("a database in memory has no file that another connection reads", "follow")
+    return bytes(path)
+
+
+def file_at(path: bytes) -> Optional[Tuple[int, int]]:
+    """Which file is at a path, None where there is none: a connection goes on with the one that it has opened, also where that was moved or removed."""
+    try:
+        found = os.stat(path)
+    except OSError:
+        return None
+    return found.st_dev, found.st_ino
+
+
+def connected_to(path: bytes) -> sqlite3.Connection:
+    """Another connection to this file."""
     return sqlite3.connect(f"file:{quote(path)}?mode=rw", uri=True, isolation_level=None, check_same_thread=False)
 
 
@@ -329,7 +347,7 @@ def as_made(statement: str) -> str:
 def unfollow(connection: sqlite3.Connection, table: str, key: str = "id") -> None:
     """Removes from a file of SQLite what `Frame.follow` has added there for this table, also what was added under a name that it had before, and where there is
     no table by this name any more."""
-    with closing(connected_as(connection)) as db:
+    with closing(connected_to(path_of(connection))) as db:
         at_one_moment(db, lambda: remove(db, table, key), "begin immediate")
 
 
