@@ -1,6 +1,8 @@
 """The page in a headless Chromium: what it must contain, numbers of points and texts. With SCREENSHOTS=FOLDER each test writes a picture for the eye."""
+import contextlib
 import json
 import os
+import socket
 import unittest
 from pathlib import Path
 from urllib.parse import urlencode
@@ -208,6 +210,22 @@ class Page(Paged):
             self.browser.until("document.querySelectorAll('#rows tbody tr').length === 5")
         other = [{"Hotel": "Other", "Price (EUR)": 1, "Distance": 2, "Opened": None}]
         with served(other, port=port, title="Others"):
+            self.browser.until("document.title === 'Others' && document.querySelectorAll('#rows tbody tr').length === 1")
+            self.browser.faults.clear()         # that the server was away
+
+    def test_the_server_is_started_anew_while_a_question_is_refused(self):
+        """Nothing is watched meanwhile, so that no stream breaks."""
+        with served(self.records) as server:
+            port = server.server_address[1]
+            self.browser.open(server.url)
+            self.browser.until("document.querySelectorAll('#rows tbody tr').length === 5")
+            self.ask("best low(nothing)")
+            self.browser.until("!document.getElementById('refusal').hidden")
+        for connection in list(server._open):       # as the end of its process does
+            with contextlib.suppress(OSError):
+                connection.shutdown(socket.SHUT_RDWR)
+        with served([{"Place": "Other", "Distance": 2, "Price": 1}], port=port, title="Others"):
+            self.ask("best low(Distance)")
             self.browser.until("document.title === 'Others' && document.querySelectorAll('#rows tbody tr').length === 1")
             self.browser.faults.clear()         # that the server was away
 

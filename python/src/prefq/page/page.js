@@ -67,14 +67,13 @@ function listen() {
     event.target.close();
     refuse(JSON.parse(event.data), query);
   });
-  let failure = "", broken = false;
-  // Where the server was started anew, its columns and rows may be others.
-  stream.addEventListener("open", async () => { if (broken && (await read()).run !== about.run) location.reload(); });
+  let failure = "";
+  // Where the server was started anew, its columns and rows may be others. Where it does not reply, the stream breaks too, and is opened again.
+  stream.addEventListener("open", () => read().then(({run}) => { if (run !== about.run) location.reload(); }, () => {}));
   stream.addEventListener("failed", event => { failure = JSON.parse(event.data).error; });
   stream.addEventListener("error", event => {
     state(`${failure || "The server does not answer"}. Trying again …`);
     failure = "";
-    broken = true;
     // The browser tries again by itself, but not where it was replied that it may not watch.
     if (event.target.readyState === EventSource.CLOSED) setTimeout(() => { if (stream === event.target) listen(); }, AGAIN);
   });
