@@ -185,6 +185,28 @@ class Edits(Editing):
         self.until_closed()
         self.assertEqual(self.values(2)[0], "Alpine Inn")
 
+    def test_each_of_two_clicks_is_no_change_of_its_own(self):
+        """A row is removed once, and there is a way back, by which it is added once."""
+        twice = "for (const button of [{0}, {0}]) button.click()"
+        self.browser.js(twice.format("document.querySelector('[data-key=\"2 Remove\"]')"))
+        self.browser.until("document.getElementById('state').textContent === 'Live, version 2'")
+        self.browser.until("document.getElementById('done').textContent === 'Alpine is removed. Undo'")
+        self.browser.js(twice.format("document.querySelector('#done button')"))
+        self.browser.until("document.getElementById('done').textContent === 'Added again.'")
+        self.browser.until("document.getElementById('state').textContent === 'Live, version 3'")
+        self.assertEqual((len(self.server.desk), self.values(3)), (2, ["Alpine", "99.00", "540", "None"]))
+
+    def test_a_row_that_cannot_be_added_again_keeps_its_way_back(self):
+        self.browser.click('[data-key="2 Remove"]')
+        self.browser.until("document.getElementById('done').textContent === 'Alpine is removed. Undo'")
+        self.browser.js("window.before = window.fetch; window.fetch = () => Promise.reject(new TypeError('no network'))")
+        self.browser.click("#done button")
+        self.browser.until("document.getElementById('done').textContent === 'Not added again: no network. Undo'")
+        self.browser.js("window.fetch = window.before")
+        self.browser.click("#done button")
+        self.browser.until("document.getElementById('done').textContent === 'Added again.'")
+        self.assertEqual(len(self.server.desk), 2)
+
     def test_a_row_that_somebody_else_has_changed_is_removed_where_that_is_wanted(self):
         self.browser.js("window.before = document.querySelector('tr[data-id=\"2\"] button:nth-child(2)')")
         self.price(2, "20")

@@ -2,6 +2,7 @@
 import {$, element, isNumber, said} from "./parts.js";
 
 let run;        // which server has the rows that are shown: one that was started anew may have others
+const removed = new Set();      // the ids of rows whose removal was asked for here
 let opened;     // what the dialog shows: the row's id, none of a new one, the version that was seen, and the fields
 
 class Refusal extends Error {
@@ -151,20 +152,32 @@ function compare({version, values}) {
   return `Somebody else has changed this row. ${first ? "Choose what counts, then save" : "Save again if it is right now"}.`;
 }
 
-// Removes a row of the picture of this version.
+// Removes a row of the picture of this version. A second click would be told that it is not there, in place of the way back.
 export async function remove(row, version) {
+  if (removed.has(row.id)) return;
+  removed.add(row.id);
   try {
     const {values} = await send("DELETE", `rows/${row.id}`, undefined, version);
-    said(`${row.cells[0]} is removed. `, button("Undo", () => send("POST", "rows", values).then(() => said("Added again."), why => said(why.message))));
+    said(`${row.cells[0]} is removed. `, undo(values));
   } catch (why) {
+    removed.delete(row.id);
     if (why.reply?.kind !== "changed") return said(why.message);
     const news = Object.entries(why.reply.values).flatMap(([name, value], at) => [`${at ? ", " : ""}${name} is `, quote(value ?? ""), " now"]);
     said(`Somebody else has changed ${row.cells[0]}: `, ...news, ". ", button("Remove it all the same", () => remove(row, why.reply.version)));
   }
 }
 
+// Adds a row again; where that fails, as where the server does not answer, the way back stays.
+function undo(values) {
+  return button("Undo", () => send("POST", "rows", values).then(() => said("Added again."), why => said(`Not added again: ${why.message}. `, undo(values))));
+}
+
+// A second click would be another change.
 function button(textContent, act) {
   const made = element("button", {type: "button", textContent});
-  made.addEventListener("click", act);
+  made.addEventListener("click", () => {
+    made.disabled = true;
+    act();
+  });
   return made;
 }
