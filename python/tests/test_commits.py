@@ -6,7 +6,8 @@ import unittest
 from decimal import Decimal
 
 import prefq
-from support import TestCase
+from prefq.desk import Desk
+from support import TestCase, raises
 
 COUNT = int(os.environ.get("PREFQ_TEST_COUNT", "40"))
 SECONDS = 120
@@ -139,6 +140,21 @@ class Notices(TestCase):
             end()
             frame.insert({"price": 1})
             self.assertEqual(seen, [3, 5, 5, 3, 2])
+
+    def test_who_is_told_behind_one_that_raises(self):
+        """Of a change of a frame and of a desk, which is made."""
+        frame = prices(60, 50)
+        with Desk(frame) as desk:
+            for rows in (frame, desk):
+                with self.subTest(rows=type(rows)):
+                    seen = []
+                    ends = [rows.subscribe(raises(ValueError("a subscriber"))), rows.subscribe(lambda: seen.append(len(frame)))]
+                    with self.refuses(ValueError, "a subscriber"):
+                        desk.insert({"price": 1})
+                    self.assertEqual(seen, [len(frame)])
+                    for end in ends:
+                        end()
+            self.assertEqual((len(frame), len(desk.picture("best low(price)").rows)), (4, 4))
 
 
 class Asyncio(TestCase):

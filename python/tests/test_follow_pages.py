@@ -16,6 +16,7 @@ from pathlib import Path
 import prefq.server
 import test_follow
 from prefq.follow_desk import FollowedDesk
+from support import raises
 
 EXAMPLES = Path(__file__).resolve().parent.parent.parent / "examples/booking"
 
@@ -101,6 +102,22 @@ class Pages(test_follow.OfSqlite):
             time.sleep(0.05)
         self.assertIsNone(gone())
         self.assertEqual(threading.active_count(), before)
+
+    def test_who_subscribed_and_raises_keeps_nobody_from_hearing_of_changes(self):
+        desk, told, woken = self.desk((1, "x", 1, 1)), [], threading.Event()
+        with unittest.mock.patch("threading.excepthook", lambda why: told.append(str(why.exc_value))):
+            end = desk.subscribe(raises(ValueError("a subscriber")))
+            desk.subscribe(woken.set)
+            for price in (2, 3):
+                woken.clear()
+                self.db.execute("update offers set price = ?", (price,))
+                self.assertTrue(woken.wait(30))
+                self.assertEqual(desk.picture("best low(price)").best[0].numbers[1], price)
+            with self.refuses(ValueError, "a subscriber"):
+                desk.close()
+            end()
+        self.assertTrue(desk._frame._is_closed)
+        self.assertEqual(told[:2], ["a subscriber"] * 2)
 
     def test_a_frame_of_one_client_is_no_page(self):
         with self.refuses(prefq.Refused, "a picture asks 2 questions at once: follow the table with clients=2 or more", kind="arguments"):

@@ -15,6 +15,7 @@ from .errors import Ended, Error, Refused, no_such_row
 from .frame import Frame
 from .frame_query import FrameQuery
 from .hints import unknown_column
+from .live_rows import call_all
 from .moment import Moment, moment_of
 from .questions import Question
 from .selection import Selection, picked, query_of, reading
@@ -110,8 +111,10 @@ class Desk:
             return
         with self._lock:
             self._closed = True
-        self._wake()
-        self._frame.close()
+        try:
+            self._wake()
+        finally:
+            self._frame.close()
 
     def _is_ours(self) -> bool:
         """Whether this is the process of the frame, and the lock no copy, which a fork may have made while it was held."""
@@ -322,8 +325,7 @@ class Desk:
                 self._wake()
 
     def _wake(self) -> None:
-        for call in list(self._subscribed):
-            call()
+        call_all(list(self._subscribed))
 
 
 def named_values(columns: Iterable[Column], numbers: Numbers) -> Dict[str, Any]:

@@ -1,4 +1,5 @@
 """The rows of a table of a database on a page: what `prefq.server` and `prefq.asgi` show, while other programs change the rows there."""
+import sys
 import threading
 import time
 import weakref
@@ -47,8 +48,10 @@ class FollowedDesk(Desk):
             return
         with self._lock:
             self._closed = True
-        self._wake()
-        self._frame.close()
+        try:
+            self._wake()
+        finally:
+            self._frame.close()
 
     def _is_ours(self) -> bool:
         return bool(self._frame._is_ours())
@@ -119,7 +122,10 @@ def follows(held: "weakref.ref[FollowedDesk]") -> None:
         desk = held()
         if desk is None or desk.is_closed:
             return
-        desk._look()
+        try:
+            desk._look()
+        except Exception:       # of one who subscribed: the others are told of later changes too
+            threading.excepthook(threading.ExceptHookArgs([*sys.exc_info(), threading.current_thread()]))
         del desk
 
 

@@ -1,6 +1,8 @@
 """The rows of a frame: records that go in and come out, each change at one moment; and columns that become wider where a value needs it."""
 import os
 import threading
+from contextlib import ExitStack
+from functools import partial
 from typing import Any, Callable, Dict, Iterable, Iterator, List, Mapping, Optional, Sequence, Tuple, TypeVar, Union
 
 from .checks import check_rows
@@ -261,8 +263,8 @@ class LiveRows:
                 self._is_changing = False
 
         result = self._alone(made)
-        for call in list(self._subscribed):
-            hastily(call, is_hasty=False)
+        if self._subscribed:
+            call_all([partial(hastily, call, is_hasty=False) for call in self._subscribed])
         return result
 
     def _alone(self, call: Callable[[], Result]) -> Result:
@@ -291,3 +293,10 @@ class LiveRows:
             return call(inside)
         except Refused as why:
             raise (no_such_row(id) if why.kind == "client" and why.number == 7 else why) from None
+
+
+def call_all(calls: Sequence[Callable[[], None]]) -> None:
+    """Makes these calls in their order, also those behind one that raises; what it has raised is raised at the end."""
+    with ExitStack() as left:
+        for call in reversed(calls):
+            left.callback(call)
