@@ -4,6 +4,7 @@ import os
 import random
 import unittest
 import warnings
+import zoneinfo
 from decimal import Decimal
 from fractions import Fraction
 
@@ -12,6 +13,11 @@ import prefq
 import random_frames
 from prefq import around, between, empty, expr, high, layered, low, pos, reverse, true
 from support import TestCase
+
+try:
+    import pandas
+except ImportError:
+    pandas = None
 
 COUNT = int(os.environ.get("PREFQ_TEST_COUNT", 1000)) // 10
 SEED = int(os.environ.get("PREFQ_TEST_SEED", 20260501))
@@ -69,6 +75,27 @@ class Values(TestCase):
                            (lambda: around("x", Fraction(1, 3)), "1/3 has more than 18 decimals")]:
             with self.subTest(says), self.refuses(ValueError, says):
                 make()
+
+    def test_a_time_that_the_clocks_of_its_zone_skip_is_refused(self):
+        """It would be asked for as another one, an hour later."""
+        skipped = datetime.datetime(2026, 3, 29, 2, 30, tzinfo=zoneinfo.ZoneInfo("Europe/Berlin"))
+        for make in (lambda: around("at", skipped), lambda: pos("at", skipped), lambda: layered("at", [skipped])):
+            with self.refuses(ValueError, "is no moment: the clocks of Europe/Berlin skip this time"):
+                make()
+        self.assertEqual(str(pos("at", skipped.replace(hour=3))), "pos(at, '2026-03-29 03:30:00+02:00')")
+        self.assertEqual(str(pos("at", skipped.replace(tzinfo=None))), "pos(at, '2026-03-29 02:30:00')")
+
+    @unittest.skipIf(pandas is None, "pandas is not installed")
+    def test_a_missing_time_is_refused(self):
+        """A column of texts would have been asked for the text NaT."""
+        with self.refuses(ValueError, "NaT is no value: a missing value cannot be preferred"):
+            pos("x", pandas.NaT)
+
+    def test_a_number_of_more_digits_than_can_be_read_is_refused(self):
+        """Its text would take all memory."""
+        for text in ("1e999999999", "-1e999999999", "1e-999999999"):
+            with self.refuses(ValueError, "is no number of a question"):
+                around("x", Decimal(text))
 
     def test_asked(self):
         records = [{"c": "a", "x": 1, "y": 1}, {"c": "a", "x": 2, "y": 3}, {"c": "b", "x": 3, "y": 2}, {"c": "b", "x": 3, "y": 1}]

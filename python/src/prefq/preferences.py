@@ -6,10 +6,11 @@ from decimal import Decimal
 from fractions import Fraction
 from typing import Any, Iterable, Tuple, Union
 
-from .columns import quoted, spelled
+from .columns import is_missing, quoted, spelled
 from .kinds.booleans import is_truth
 from .kinds.forms import PLAIN
-from .kinds.numbers import decimals_needed
+from .kinds.moments import checked_moment
+from .kinds.numbers import MOST_DIGITS, decimals_needed
 
 # How tightly what a preference is made of holds together; what holds less stands in parentheses.
 INTERSECTION, PRIORITISATION, PARETO, TIGHTEST = range(4)
@@ -242,15 +243,23 @@ def spelled_value(value: Any) -> str:
     if is_truth(value):
         return "true" if value else "false"
     if isinstance(value, (datetime.date, datetime.time)):
-        return quoted(str(value))
+        return _moment(value)
     if isinstance(value, float):
         return _float(value)
     if isinstance(value, (Decimal, Fraction)):
         return _decimal(value)
     try:
-        return str(operator.index(value))
+        return str(int(operator.index(value)))      # Before Python 3.10 an enumeration has itself as its index.
     except TypeError:
         raise TypeError(f"{value!r}, of type {type(value).__name__}, is no value of a question: there are numbers, texts, dates, times, True and False") from None
+
+
+def _moment(value: Union[datetime.date, datetime.time]) -> str:
+    if is_missing(value):
+        raise ValueError(f"{value} is no value: a missing value cannot be preferred")
+    if isinstance(value, datetime.datetime):
+        checked_moment(value)
+    return quoted(str(value))
 
 
 def _float(value: float) -> str:
@@ -261,7 +270,7 @@ def _float(value: float) -> str:
 
 def _decimal(value: Union[Decimal, Fraction]) -> str:
     if isinstance(value, Decimal):
-        if not value.is_finite():
+        if not value.is_finite() or value and abs(value.adjusted()) > MOST_DIGITS:
             raise ValueError(f"{value} is no number of a question")
         return format(value, "f")
     decimals = decimals_needed(value, PLAIN)

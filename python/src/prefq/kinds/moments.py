@@ -152,14 +152,10 @@ class Times(Kind):
         return self._whole(Fraction(since_epoch(self.moment(value)) + getattr(value, "nanosecond", 0), self.nanoseconds), value)
 
     def moment(self, value: datetime.datetime) -> datetime.datetime:
-        """A time as one of UTC, without its zone. One that has a zone where the column has none is refused, or the other way round, and one that the clocks of its zone
-        skip, which would come back as another."""
+        """A time as one of UTC, without its zone. One that has a zone where the column has none is refused, or the other way round."""
         if (value.tzinfo is None) != (self.zone is None):
             raise NotRead(f"{value} has {'a' if value.tzinfo else 'no'} time zone, other than the rest of the column")
-        found = universal(value)
-        if value.tzinfo is not None and not isinstance(value.tzinfo, datetime.timezone) and is_shown_otherwise(found, value):
-            raise NotRead(f"{value} is no moment: the clocks of {value.tzinfo} skip this time")
-        return found
+        return checked_moment(value)
 
     def _whole(self, position: Fraction, value: Any) -> int:
         if position.denominator != 1:
@@ -354,6 +350,14 @@ def universal(value: datetime.datetime) -> datetime.datetime:
         return value if value.tzinfo is None else value.astimezone(datetime.timezone.utc).replace(tzinfo=None)
     except OverflowError:
         raise NotRead(f"{value} lies outside the years 1 to 9999") from None
+
+
+def checked_moment(value: datetime.datetime) -> datetime.datetime:
+    """A time as one of UTC, without its zone. One that the clocks of its zone skip, which would come back as another, is refused."""
+    found = universal(value)
+    if value.tzinfo is not None and not isinstance(value.tzinfo, datetime.timezone) and is_shown_otherwise(found, value):
+        raise NotRead(f"{value} is no moment: the clocks of {value.tzinfo} skip this time")
+    return found
 
 
 def is_shown_otherwise(moment: datetime.datetime, value: datetime.datetime) -> bool:
