@@ -73,6 +73,14 @@ class Expressions(FrameTestCase):
             with self.refuses(prefq.Refused, "numbers too fine for 64 bits"):
                 frame.best("best around(x * x / y, 0)")
 
+    def test_a_value_beside_such_numbers_is_a_plain_one(self):
+        """Python reads 1/3 and 1_000 as well, which are none beside other numbers."""
+        with prefq.Frame.from_records([{"x": 2**62, "y": 7}, {"x": 1, "y": 3}, {"x": 7000, "y": 7}]) as frame:
+            for text in ("1/3", "1_000", "abc"):
+                with self.subTest(text), self.refuses(prefq.Refused, f"column 'x * x / y' (numbers too fine for 64 bits): '{text}' is no number", kind="term"):
+                    frame.best(f"best pos(x * x / y, '{text}')")
+            self.assertEqual(frame.best("best pos(x * x / y, '7e6')").ids, [3])
+
     def test_numbers_that_no_float_tells_apart(self):
         with prefq.Frame.from_records([{"x": 10**17, "y": 3}, {"x": 10**17 + 1, "y": 3}, {"x": 10**17 - 1, "y": 3}, {"x": 0, "y": 1}]) as frame:
             self.assertEqual(pairs(frame.best("top_level 3 high(x * x / y)")), [(1, 2), (2, 1), (3, 3)])

@@ -1,5 +1,6 @@
 """Questions in a file's own names and values: how they are read, and how a wrong one is refused at its place."""
 import datetime
+import decimal
 import random
 import re
 import unittest.mock
@@ -291,6 +292,11 @@ class Spellings(TestCase):
             frame.insert({"f": 2**60})
             for text in ("1152921504606846976", "1.152921504606847e+18"):       # which it is, and which Python shows for it
                 self.assertEqual(frame.best(f"best pos(f, {text})").ids, [4])
+
+    def test_a_number_beside_floats_where_decimals_may_not_be_made_of_floats(self):
+        with prefq.Frame.from_records([{"f": 0.5}, {"f": 0.1}]) as frame, decimal.localcontext() as context:
+            context.traps[decimal.FloatOperation] = True
+            self.assertEqual(frame.best("best pos(f, 0.1)").ids, [2])
 
     def test_a_value_that_is_like_none_is_not_taken_for_one(self):
         with prefq.Frame.from_records([{"hair": "blonde"}, {"hair": "brown"}]) as frame:

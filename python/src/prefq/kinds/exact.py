@@ -4,7 +4,7 @@ from fractions import Fraction
 from typing import Optional, Sequence, Union
 
 from .kind import Kind
-from .numbers import Whole, fraction_of
+from .numbers import Whole, number_of
 
 Number = Union[int, float, Fraction]        # a float is infinite
 
@@ -41,6 +41,6 @@ class Ranked(Kind):
         return found if isinstance(found, float) else Fraction(found) / self._scale
 
     def find(self, text: str) -> Optional[int]:
-        wanted = fraction_of(text) * self._scale
+        wanted = number_of(text) * self._scale
         place = bisect_left(self._numbers, wanted)
         return place if place < len(self._numbers) and self._numbers[place] == wanted else None

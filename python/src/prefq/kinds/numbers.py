@@ -90,10 +90,7 @@ class Whole(Number):
         return position.numerator if position.denominator == 1 and LEAST < position <= MOST else None
 
     def position(self, text: str) -> Fraction:
-        """Numbers of a question are always plain."""
-        if not NUMBER.fullmatch(text.strip()):
-            raise NotRead(f"{text!r} is no number")
-        return fraction_of(text.strip()) * self.scale
+        return number_of(text) * self.scale
 
     def text(self, value: Any) -> str:
         return self.form.written(format(value, "f") if isinstance(value, Decimal) else str(value))
@@ -257,6 +254,13 @@ def fraction_of(plain: str) -> Fraction:
         return Fraction(plain)
     except ValueError:
         raise NotRead("a number of thousands of digits does not fit") from None     # Python reads no such whole number.
+
+
+def number_of(text: str) -> Fraction:
+    """The exact number of a text in a question, which is always a plain one."""
+    if not NUMBER.fullmatch(text.strip()):
+        raise NotRead(f"{text!r} is no number")
+    return fraction_of(text.strip())
 
 
 def decimals_needed(value: Any, form: Form) -> int:
