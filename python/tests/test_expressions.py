@@ -11,6 +11,7 @@ import plain
 import plain_expressions
 import prefq
 import random_frames
+from prefq import parts
 from support import FrameTestCase, TestCase, pairs
 
 try:
@@ -80,6 +81,16 @@ class Expressions(FrameTestCase):
                 with self.subTest(text), self.refuses(prefq.Refused, f"column 'x * x / y' (numbers too fine for 64 bits): '{text}' is no number", kind="term"):
                     frame.best(f"best pos(x * x / y, '{text}')")
             self.assertEqual(frame.best("best pos(x * x / y, '7e6')").ids, [3])
+
+    def test_more_columns_and_expressions_than_a_table_has(self):
+        terms = " * ".join(f"low(x + {number})" for number in range(17))
+        with prefq.Frame.from_records([{"x": 2}, {"x": 1}]) as frame:
+            says = "17 columns and expressions are asked, and a table has 16"
+            for ask in (lambda: frame.best(f"best {terms}"), lambda: frame.why(1, f"best {terms}"), lambda: prefq.psel(frame, terms), lambda: prefq.psel([{"x": 2}, {"x": 1}], terms),
+                        lambda: frame.best("best low(x)", top=1, ties=terms), lambda: parts.best([parts.Partition(["x"], [[2], [1]])], f"best {terms}")):
+                with self.refuses(prefq.Refused, says, kind="term"):
+                    ask()
+            self.assertEqual(frame.hasse(terms), [(2, 1)])
 
     def test_numbers_that_no_float_tells_apart(self):
         with prefq.Frame.from_records([{"x": 10**17, "y": 3}, {"x": 10**17 + 1, "y": 3}, {"x": 10**17 - 1, "y": 3}, {"x": 0, "y": 1}]) as frame:

@@ -393,7 +393,7 @@ def _ask(read: QuestionRead) -> List[Tuple[int, int]]:
     rows = Zipped(read.lists)
     if not rows:
         return []
-    with read.plan.refusing():
+    with read.refusing():
         found = ask_once(read.names, rows, read.plan.text)
     return [(row.level, row.id - 1) for row in without_twins(found, read.plan)]
 

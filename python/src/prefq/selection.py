@@ -1,11 +1,12 @@
 """What is asked beside a question: exactly so many rows, which ones of those that are equally good, and groups; and the answer over the rows of a moment."""
 from array import array
 from collections import defaultdict
+from contextlib import contextmanager
 from dataclasses import dataclass, replace
 from functools import partial
-from typing import Any, Callable, Dict, Hashable, Iterable, List, Mapping, NamedTuple, Optional, Sequence, Tuple, TypeVar, Union
+from typing import Any, Callable, Dict, Hashable, Iterable, Iterator, List, Mapping, NamedTuple, Optional, Sequence, Tuple, TypeVar, Union
 
-from .checks import MOST_ROWS, whole
+from .checks import MOST_COLUMNS, MOST_ROWS, whole
 from .columns import Column
 from .computed import Computer
 from .errors import Refused
@@ -20,7 +21,7 @@ from .questions import Mode, Question, names_asked_for, refuse, tokens_of
 from .reading import Progress
 from .rows import Row, Zipped
 from .table import Table
-from .translate import Plan, columns_in, plan, term_below, unknown_value
+from .translate import Plan, bases_of, columns_in, plan, term_below, unknown_value
 from .warned import warn_of
 
 MOST_ROWS_ASKED = 1000
@@ -197,6 +198,13 @@ class Reading(NamedTuple):
             return self._replace(lists=[numbers[places.start:places.stop:places.step] for numbers in self.lists])
         return self._replace(lists=[array("q", map(numbers.__getitem__, places)) for numbers in self.lists])
 
+    @contextmanager
+    def refusing(self) -> Iterator[None]:
+        """Has what a table of these columns refuses refused at its place in the question; so are more columns than it has."""
+        check_width(self.text, self.question, self.columns)
+        with self.plan.refusing():
+            yield
+
     @property
     def names(self) -> List[str]:
         """The names of the columns in the table."""
@@ -210,6 +218,14 @@ class Reading(NamedTuple):
     def lists_of(self, names: Iterable[str]) -> List[Sequence[int]]:
         """The numbers of the columns of these names."""
         return [self.lists[int(name[1:])] for name in names]
+
+
+def check_width(text: str, question: Question, columns: Sequence[Column]) -> None:
+    """Refuses a question of more columns and expressions than a table has, at the first one that it would not have."""
+    if len(columns) > MOST_COLUMNS:
+        further = set(map(id, columns[MOST_COLUMNS:]))
+        place = next((base.place for base in bases_of(question.term) if id(base.column) in further), len(text))
+        refuse(text, place, f"{len(columns)} columns and expressions are asked, and a table has {MOST_COLUMNS}")
 
 
 def below(columns: Sequence[Column]) -> Dict[int, str]:
@@ -239,15 +255,16 @@ def answered(read: Reading, progress: Optional[Progress], options: Mapping[str, 
     """The answer to a question that was read. More rows than one table holds are asked in parts, whose tables are as they need to be."""
     rows = Zipped(read.lists)
     if len(rows) > MOST_ROWS:
+        check_width(read.text, read.question, read.columns)
         from .many import answered_in_parts
         return answered_in_parts(read, progress)
-    with read.plan.refusing():
+    with read.refusing():
         return ask_once(read.names, rows, read.plan.text, progress=progress, **options)
 
 
 def query_of(read: Reading) -> Query:
     """Begins the query of a question over the rows of a moment, in a table of their own. There are no more of them than it holds."""
-    with read.plan.refusing():
+    with read.refusing():
         return Table(read.names, Zipped(read.lists), clients=1, capacity=max(1, len(read.lists[0]))).query(read.plan.text)
 
 
@@ -281,7 +298,9 @@ def read_ties(ties: str, column: Callable[[str], Optional[Column]], names: Seque
 def plan_of_ties(ties: str, column: Callable[[str], Optional[Column]], names: Sequence[str]) -> Plan:
     """Refuses what is no preference over these columns, also where no rows are equally good, so that it is not asked."""
     question = read_ties(ties, column, names)
-    return plan(ties, question, below(columns_in(question)))
+    columns = columns_in(question)
+    check_width(ties, question, columns)
+    return plan(ties, question, below(columns))
 
 
 def with_ties(cut: Cut, ties: str, by: Sequence[str], moment: Moment, options: Mapping[str, Any]) -> Tuple[List[Row], List[str]]:

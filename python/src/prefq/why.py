@@ -8,7 +8,7 @@ from .loading import Found
 from .moment import Moment
 from .once import ask_once
 from .rows import Zipped
-from .selection import Reading, Selection, below, reading
+from .selection import Reading, Selection, below, check_width, reading
 from .translate import clause_of, term_below, terms_columns
 
 LEVELS = 1000
@@ -69,6 +69,7 @@ def levels_of(read: Reading, found: List[int]) -> Dict[int, int]:
     if not found:
         return {}
     names, lists = terms_lists(read.at(found))
+    check_width(read.text, read.question, read.columns[:len(names)])
     term = read.term
     if read.question.distinct:
         lists = clause_in_turn(read, names, lists)
