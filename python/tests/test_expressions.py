@@ -92,6 +92,17 @@ class Expressions(FrameTestCase):
                     ask()
             self.assertEqual(frame.hasse(terms), [(2, 1)])
 
+    def test_empty_prefers_none(self):
+        """Either way round, and where a column has gaps; with another preference it is that one."""
+        with prefq.Frame.from_records([{"a": None, "b": 1}, {"a": 2, "b": 2}, {"a": 3, "b": 2}]) as frame:
+            for text in ("empty()", "-empty()", "-(empty() & empty())", "reverse(empty()) by b", "-empty() by a", "empty() | empty()"):
+                with self.subTest(text):
+                    self.assertEqual(frame.best(f"best {text}").ids, [1, 2, 3])
+                    self.assertEqual((frame.why(1, f"best {text}"), frame.hasse(text)), ([], []))
+            for text in ("empty() * low(b)", "low(b) & -empty()", "empty() & low(b)", "empty() | low(b)", "-(-empty() * -low(b))", "-(high(b) | (empty() * empty()))"):
+                with self.subTest(text):
+                    self.assertEqual((frame.best(f"best {text}").ids, frame.hasse(text)), ([1], frame.hasse("low(b)")))
+
     def test_numbers_that_no_float_tells_apart(self):
         with prefq.Frame.from_records([{"x": 10**17, "y": 3}, {"x": 10**17 + 1, "y": 3}, {"x": 10**17 - 1, "y": 3}, {"x": 0, "y": 1}]) as frame:
             self.assertEqual(pairs(frame.best("top_level 3 high(x * x / y)")), [(1, 2), (2, 1), (3, 3)])
@@ -139,6 +150,14 @@ class Expressions(FrameTestCase):
         self.assertEqual(list(prefq.psel(frame, "low(hp)", where="wt > 100").index), [])
         with self.refuses(prefq.Refused, "row 2 has 0 behind the /"):
             prefq.psel(frame, "low(wt / (hp - 93))")
+
+    @unittest.skipIf(pandas is None, "pandas is not installed")
+    def test_empty_looks_at_no_column_beside_those_that_are_named(self):
+        lists = pandas.DataFrame({"a": [[1], [2], [3]], "b": [3, 1, 2]})
+        twice = pandas.DataFrame([[1, 2, 3], [3, 2, 1], [0, 0, 2]], columns=["a", "a", "b"])
+        for frame, best in ((lists, [1]), (twice, [1])):
+            self.assertEqual(list(prefq.psel(frame, "empty() * low(b)").index), best)
+            self.assertEqual(list(prefq.psel(frame, "empty() by b").index), [0, 1, 2])
 
 
 class Random(TestCase):

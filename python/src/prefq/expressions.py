@@ -1,18 +1,19 @@
 """Questions of frames, in which an expression may stand in the place of a column: `low(Price / Stars)`, `true(Stars >= 4 and City = 'Lyon')`.
 
 An expression is read by the reader of the question, so that what is wrong in it is refused at its place too. Beside it a question of a frame may have `|`, by which a
-row is better where it is better in both, and `empty()`, by which all rows are equally good. What an expression means is said in `computed`.
+row is better where it is better in both, and `empty()`, by which all rows are equally good: with another term it is that one. What an expression means is said in
+`computed`.
 
     or   and   not   = == <> != < <= > >= in is   + -   * /   -   abs(x) min(x, y) max(x, y)
 """
 from contextlib import contextmanager
-from dataclasses import dataclass
+from dataclasses import dataclass, replace
 from typing import Callable, Dict, Iterator, List, Optional, Sequence, Tuple, Union
 
 from .columns import Column, quoted
 from .hints import nearest, unknown_column
 from .kinds.booleans import WORDS
-from .questions import TOO_DEEP, UNKNOWN_COLUMN, Base, Mode, Question, Reader, Term, Token, Value, product, refuse
+from .questions import TOO_DEEP, UNKNOWN_COLUMN, Base, Converse, Mode, Question, Reader, Term, Token, Value, product, refuse
 
 FUNCTIONS = {"abs": 1, "min": 2, "max": 2}      # with the fewest arguments
 COMPARISONS = ("<=", ">=", "<>", "!=", "==", "<", ">", "=")
@@ -24,6 +25,8 @@ WORDS_OF_MISSING = ("missing", "null", "none")
 DEEPEST_IN_AN_EXPRESSION = 24
 MOST_IN_A_ROW = 64
 AN_OPERAND = "a column, a number, abs(..), min(..), max(..), - or ("
+# What `empty()` is about, as long as it is not known whether anything else is asked.
+NO_COLUMN = Column("", "whole")
 
 
 @dataclass(frozen=True)
@@ -87,6 +90,22 @@ def read_condition(text: str, column: Callable[[str], Optional[Column]], names: 
     return FrameReader(text, column, names, unmade).condition()
 
 
+def is_empty(term: Term) -> bool:
+    """Whether a term is `empty()`."""
+    return isinstance(term, Base) and term.word == "empty"
+
+
+def without_empty(term: Term) -> Term:
+    """A term without any `empty()`, which with another term is that one; where there is nothing else, it is one alone."""
+    if isinstance(term, Converse):
+        part = without_empty(term.part)
+        return part if is_empty(part) else Converse(part)
+    if isinstance(term, Base):
+        return term
+    parts = [without_empty(part) for part in term.parts]
+    return product(term.sign, [part for part in parts if not is_empty(part)] or parts[:1])
+
+
 def columns_of(node: Node) -> Iterator[Column]:
     """The columns that an expression names, in its order."""
     if isinstance(node, Named):
@@ -105,6 +124,11 @@ class FrameReader(Reader):
         # How many operations stand in one another, by the identity of the outermost.
         self._heights: Dict[int, int] = {}
 
+    def question(self, mode: Optional[Mode]) -> Question:
+        found = super().question(mode)
+        term = without_empty(found.term)
+        return replace(found, term=self._of_a_column(term, found.by) if isinstance(term, Base) and is_empty(term) else term)
+
     def condition(self) -> Node:
         """The text as a whole as one condition."""
         node = self._or()
@@ -120,7 +144,11 @@ class FrameReader(Reader):
         token = self._next
         if token.kind == "word" and self._is_called() and token.text in ("true", "empty"):
             self._at += 1
-            return self._true(token) if token.text == "true" else self._empty(token)
+            if token.text == "true":
+                return self._true(token)
+            self._need("(")
+            self._need(")")
+            return Base("empty", NO_COLUMN, (), token.place)
         return super()._base()
 
     def _true(self, token: Token) -> Base:
@@ -129,14 +157,13 @@ class FrameReader(Reader):
         self._need(")")
         return Base("pos", column, ((Value("true", token.place),),), token.place)
 
-    def _empty(self, token: Token) -> Base:
-        """By a set without values all rows are the same, whatever the column is: the first by name, in whatever order a part has them."""
-        self._need("(")
-        self._need(")")
-        column = self._column(min(self._names)) if self._names else None
+    def _of_a_column(self, empty: Base, by: Sequence[Column]) -> Base:
+        """What is asked where there is nothing but `empty()`. By a set without values all rows are the same, whatever the column is: one of the groups, or the first by
+        name, in whatever order a part has them."""
+        column = by[0] if by else self._column(min(self._names)) if self._names else None
         if column is None:
-            refuse(self._question, token.place, "empty() needs a frame with a column")
-        return Base("pos", column, ((),), token.place)
+            refuse(self._question, empty.place, "empty() needs a frame with a column")
+        return Base("pos", column, ((),), empty.place)
 
     def _operand(self) -> Column:
         return self._expression() if self._is_expression() else self._name()
