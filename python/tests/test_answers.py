@@ -1,5 +1,6 @@
 """What an answer writes: files that come back as they were, valid XML, and text that does not steer a terminal."""
 import csv
+import datetime
 import io
 import json
 import pickle
@@ -11,6 +12,7 @@ from xml.etree import ElementTree
 import prefq
 from prefq.answer import Answer
 from prefq.columns import Column
+from prefq.plot import ticks_of
 from prefq.records import Record
 from prefq.visible import visible, width
 from support import QUESTION, SKYLINE, TestCase, hotels
@@ -73,6 +75,18 @@ class Answers(TestCase):
             picture = ElementTree.fromstring(frame.best("best low(x / y) * high(y)").to_svg())
         texts = ["".join(element.itertext()) for element in picture.iter("{http://www.w3.org/2000/svg}text")]
         self.assertIn("y (more is better)", texts)
+
+    def test_pictures_of_values_at_their_limits(self):
+        """The last date stands for an open end; beside a large number the next one is the same float, and no float has the distance of the largest ones."""
+        day, at = datetime.date, datetime.datetime
+        for values in ([day(9999, 12, 31)] * 2, [day(1, 1, 1)], [day(1, 1, 1), day(9999, 12, 31)], [at(9999, 12, 31, 23, 59)], [10**17] * 2, [10**17, 10**17 + 1], [2**63 - 1, 1 - 2**63],
+                       [1e300] * 2, [1.7e308, -1.7e308], [1.797e308] * 2, [5e-324, 0.0], [1e-15, 5e-15]):
+            with self.subTest(values), prefq.Frame.from_records([{"x": value, "y": -number} for number, value in enumerate(values)]) as frame:
+                picture = frame.best("best low(x) * high(y)").to_svg()
+                for circle in ElementTree.fromstring(picture).iter("{http://www.w3.org/2000/svg}circle"):
+                    self.assertTrue(96 <= float(circle.get("cx")) <= 570 and 44 <= float(circle.get("cy")) <= 424, picture)
+        self.assertEqual([text for _, text in ticks_of(Column("x", "float"), [1e-15, 5e-15])], ["1e-15", "2e-15", "3e-15", "4e-15", "5e-15"])
+        self.assertEqual([place for place, _ in ticks_of(Column("x", "float"), [-1.5e308, 1.5e308])], [-1e308, 0, 1e308])
 
     def test_csv_comes_back_as_it_was(self):
         answer = self.answer(TEXTS)

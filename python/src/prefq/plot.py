@@ -3,6 +3,7 @@ import datetime
 import html
 import math
 import os
+import sys
 from typing import Any, Dict, Iterable, List, NamedTuple, Optional, Sequence, Tuple, Union
 
 from .answer import Answer, given
@@ -22,6 +23,9 @@ GREY = "#b8bec6"
 MOST_OTHERS = 2000
 MICROSECONDS_OF_AN_HOUR = 3_600_000_000
 EPOCH = datetime.datetime(1970, 1, 1)
+# In days since 1970, the first and the last day that Python has.
+FIRST_DAY, LAST_DAY = ((day - EPOCH).days for day in (datetime.datetime.min, datetime.datetime.max))
+LARGEST = sys.float_info.max
 
 
 class Axis(NamedTuple):
@@ -220,11 +224,16 @@ class Scale:
     def __init__(self, places: Sequence[float], begin: float, end: float) -> None:
         self.low, self.high = (min(places), max(places)) if places else (0.0, 1.0)
         if self.low == self.high:
-            self.low, self.high = self.low - 1, self.high + 1
+            # Beside a large number the next one is the same float.
+            beside = max(1.0, abs(self.low) / 1000)
+            self.low, self.high = max(self.low - beside, -LARGEST), min(self.high + beside, LARGEST)
         self._begin, self._end = begin, end
+        # No float has the distance of the largest ones, and half of it is one.
+        self._unit = 1.0 if math.isfinite(self.high - self.low) else 0.5
 
     def at(self, place: float) -> float:
-        part = (place - self.low) / (self.high - self.low)
+        low = self.low * self._unit
+        part = (place * self._unit - low) / (self.high * self._unit - low)
         return self._begin + (0.02 + 0.96 * part) * (self._end - self._begin)
 
 
@@ -307,6 +316,7 @@ def marks_of_days(low: float, high: float) -> List[Tuple[float, str]]:
         found = [((date - EPOCH) / datetime.timedelta(days=1), date.strftime(form)) for date in dates]
         return [mark for mark in found if low <= mark[0] <= high]
 
+    low, high = (min(max(end, FIRST_DAY), LAST_DAY) for end in (low, high))
     if high - low > 4 * 366:
         return marks((datetime.datetime(int(year), 1, 1) for year in round_marks(date(low).year, date(high).year) if year == int(year)), "%Y")
     if high - low > 120:
@@ -317,9 +327,13 @@ def marks_of_days(low: float, high: float) -> List[Tuple[float, str]]:
 
 def round_marks(low: float, high: float) -> List[float]:
     """Some five round numbers between two."""
-    if not high > low:
+    if not math.isfinite(high - low):
+        return [2 * mark for mark in round_marks(low / 2, high / 2)]
+    part = (high - low) / 5
+    if not part >= sys.float_info.min:
         return [low]
-    step = 10 ** math.floor(math.log10((high - low) / 5))
+    exponent = math.floor(math.log10(part))
+    step = 10.0 ** exponent
     step *= next(times for times in (1, 2, 5, 10) if (high - low) / (step * times) <= 6)
     first = math.ceil(low / step)
-    return [round(step * number, 12) for number in range(first, math.floor(high / step) + 1)]
+    return [round(step * number, max(12, 1 - exponent)) for number in range(first, math.floor(high / step) + 1)]
