@@ -300,9 +300,11 @@ def reason(why: Exception) -> Dict[str, Any]:
 
 
 def first_question(desk: Desk) -> str:
-    """A question to begin with: the first two columns that are no texts, the smaller the better; or a first text."""
+    """A question to begin with: the first two columns that are no texts, the smaller the better; or a first text, or a first time of day."""
     columns = [spelled(column.name) for column in desk.columns if pictures.is_axis(column)][:2]
     if columns:
         return f"top_level 2 {' * '.join(f'low({name})' for name in columns)}"
-    kind = desk.columns[0].kind
-    return f"best pos({spelled(desk.columns[0].name)}, {quoted(next(iter(kind.texts), '') if isinstance(kind, (Texts, Choices)) else '')})"
+    first = desk.columns[0]
+    if not isinstance(first.kind, (Texts, Choices)):
+        return f"best low({spelled(first.name)})"
+    return f"best pos({spelled(first.name)}, {quoted(next(iter(first.kind.texts), ''))})"
