@@ -345,6 +345,15 @@ class Forms(TestCase):
                     self.assertEqual(len(circles), len(shown))
                     self.assertEqual(circles.count("4.5"), len({row.id for row in shown} & set(answer.ids)))
 
+    def test_a_staircase_is_drawn_where_the_points_are_a_front(self):
+        """Of groups that are asked for beside the question, one of which lies behind another, there is none."""
+        records = [{"City": "Lyon", "x": 1, "y": 2}, {"City": "Lyon", "x": 2, "y": 1}, {"City": "Bern", "x": 3, "y": 4}, {"City": "Bern", "x": 4, "y": 3}]
+        with prefq.Frame.from_records(records) as frame:
+            for question, by, fronts in [("best low(x) * low(y)", None, 1), ("best low(x) * low(y) by City", None, 2), ("best low(x) * low(y)", "City", 0), ("best low(x) * high(y)", None, 1),
+                                         ("best -(low(x) * high(y))", None, 1), ("best low(x) * low(y)", ["City", "x"], 0)]:
+                with self.subTest(question=question, by=by):
+                    self.assertEqual(frame.best(question, by=by).to_svg().count('class="front"'), fronts)
+
     def test_picture_of_other_columns(self):
         with prefq.Frame.from_csv(HOTELS) as hotels:
             answer = hotels.best(QUESTION)

@@ -88,7 +88,7 @@ def drawing(answer: Answer, x: Optional[str], y: Optional[str]) -> Drawing:
     points = _points(answer, across, along, groups)
     ids = {record.id for record in answer}
     others = _points([record for record in answer.all_records() if record.id not in ids], across, along, groups)
-    fronts = _fronts(points, across) if question and is_of_two(question.term, across, along) else []
+    fronts = _fronts(points, across, along) if question and is_of_two(question.term, across, along) else []
     return Drawing(answer.question, across, along, others[::max(1, -(-len(others) // MOST_OTHERS))], len(others), points, fronts)
 
 
@@ -155,13 +155,20 @@ def place_of(column: Column, value: Any) -> Optional[float]:
     return place if math.isfinite(place) else None
 
 
-def _fronts(points: List[Point], across: Axis) -> List[List[Tuple[float, float]]]:
-    """The staircase of the first level, in each group."""
+def _fronts(points: List[Point], across: Axis, along: Axis) -> List[List[Tuple[float, float]]]:
+    """The staircase of the first level, in each group. The answer does not know groups that were asked for beside the question: where points of several of them are
+    no front together, there is none."""
     groups: Dict[Tuple[Any, ...], List[Tuple[float, float]]] = {}
     for point in points:
         if point.level == 1:
             groups.setdefault(point.group, []).append((point.x, point.y))
-    return [staircase(sorted(set(found)), bool(across.high)) for found in groups.values()]
+    falls = bool(across.high) == bool(along.high)
+    return [staircase(some, bool(across.high)) for some in map(sorted, map(set, groups.values())) if is_front(some, falls)]
+
+
+def is_front(points: List[Tuple[float, float]], falls: bool) -> bool:
+    """Whether of these points, which come from the left, none lies behind another one: the line through them falls, or it rises."""
+    return all(before[0] < after[0] and (after[1] < before[1] if falls else before[1] < after[1]) for before, after in zip(points, points[1:]))
 
 
 def staircase(points: List[Tuple[float, float]], high: bool) -> List[Tuple[float, float]]:
