@@ -92,6 +92,30 @@ class Expressions(FrameTestCase):
                     ask()
             self.assertEqual(frame.hasse(terms), [(2, 1)])
 
+    def test_true_of_what_is_neither_true_nor_false_is_refused(self):
+        """A column of texts was asked for the text true, which some row may have."""
+        with prefq.Frame.from_records([{"c": "true", "x": 1, "b": None}, {"c": "a", "x": 2, "b": True}], kinds={"b": "bool"}) as frame:
+            for text, says in [("true(c)", "column 'c' has the kind text, and a condition is true or false"), ("true(x)", "column 'x' has the kind whole, and a condition is true or false"),
+                               ("true(x + 1)", "column 'x + 1' has the kind number, and a condition is true or false")]:
+                with self.subTest(text), self.refuses(prefq.Refused, says, f"\n    best low(x) & {text}\n                  ^", kind="term"):
+                    frame.best(f"best low(x) & {text}")
+            self.assertEqual((frame.best("best true(b)").ids, frame.best("best -true(b)").ids, frame.best("best true(not b)").ids), ([2], [1, 2], [1, 2]))
+        some = [parts.Partition(["b", "x"], [[None, 1]]), parts.Partition(["b", "x"], [[True, 1], [False, 2]])]
+        self.assertEqual(parts.best(some, "best true(b) & low(x)").ids, [2])
+
+    def test_words_of_a_column_mean_in_a_condition_what_they_mean_in_pos(self):
+        with prefq.Frame.from_records([{"smoking": "no"}, {"smoking": "yes"}, {"smoking": None}], kinds={"smoking": "bool(no, yes)"}) as frame:
+            for where, ids in [("smoking = no", [1]), ("no = smoking", [1]), ("smoking <> no", [2]), ("smoking in (yes)", [2]), ("smoking", [1]), ("(not smoking) = no", [1])]:
+                with self.subTest(where):
+                    self.assertEqual(frame.best("best empty()", where=where).ids, ids)
+            self.assertEqual((frame.best("best pos(smoking, no)").ids, frame.best("best true(smoking = no)").ids, frame.best("best high(smoking)").ids), ([1], [1], [1]))
+
+    def test_a_negation_in_the_place_of_a_column(self):
+        with prefq.Frame.from_records([{"b": True, "not": 2}, {"b": False, "not": 1}, {"b": None, "not": 3}]) as frame:
+            for text, ids in [("high(not b)", [2]), ("pos(not b, false)", [1]), ("low(not b and `not` > 1)", [1, 2]), ("low(not)", [2]), ("around(not, 3)", [3])]:
+                with self.subTest(text):
+                    self.assertEqual(frame.best(f"best {text}").ids, ids)
+
     def test_empty_prefers_none(self):
         """Either way round, and where a column has gaps; with another preference it is that one."""
         with prefq.Frame.from_records([{"a": None, "b": 1}, {"a": 2, "b": 2}, {"a": 3, "b": 2}]) as frame:

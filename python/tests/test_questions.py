@@ -117,7 +117,7 @@ REFUSED_IN_EXPRESSIONS = [
     ("best true(x is)", "Here could stand missing or not missing", 1, ")"),
     ("best true(not Stars)", "column 'Stars' is a number, and a condition is true or false", 1, "Stars)"),
     ("best true(x in 5)", "Here could stand a (", 1, "5)"),
-    ("best true(Stars)", "column 'Stars' (decimal(1)): 'true' is no number", 1, "true"),
+    ("best true(Stars)", "column 'Stars' has the kind decimal(1), and a condition is true or false: write a comparison, such as x > 5 or City = 'Lyon'", 1, "true"),
     ("best empty(x)", "Here could stand a )", 1, "x)"),
     ("best (low(Stars) * low(x)) | high(Stars)", "| stands between terms by which any two rows can be compared", 1, "low(Stars)"),
     ("best low(Stars) |", "the question breaks off. Here could stand low(..)", 1, ""),

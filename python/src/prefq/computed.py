@@ -270,9 +270,9 @@ class Computer:
         if node.sign not in ("=", "<>"):
             refuse(self._text, node.place, f"{node.sign} compares numbers, dates and so on: of true and false write = or <>")
         first, second = self._as_truths(node.left, left), self._as_truths(node.right, right)
-        for truths, written in ((first, right), (second, left)):
+        for truths, beside, written in ((first, node.left, right), (second, node.right, left)):
             if isinstance(written, Literal):
-                return truths if WORDS[written.text.lower()] == (node.sign == "=") else truths.inverse()
+                return truths if truth_of(written, beside) == (node.sign == "=") else truths.inverse()
         alike = self._masks(first).alike(self._masks(second))
         return alike if node.sign == "=" else alike.inverse()
 
@@ -322,6 +322,12 @@ class Computer:
             return f"{found.text!r} is a {'truth value' if found.kind == 'truth' else found.kind}"
         what = "true or false" if isinstance(found, (Truths, Within)) else "a number"
         return f"column {node.column.name!r} is {what}" if isinstance(node, Named) else f"this is {what}"
+
+
+def truth_of(written: Literal, beside: Node) -> bool:
+    """What a word says, true or false. Beside a column it says what the column's own words do, as in pos(..): of the kind bool(no, yes), `no` is true."""
+    kind = beside.column.kind if isinstance(beside, Named) else None
+    return bool(kind.read(written.text)) if isinstance(kind, Booleans) else WORDS[written.text.lower()]
 
 
 def is_time(found: Values) -> bool:

@@ -13,7 +13,7 @@ from typing import Callable, Dict, Iterator, List, Optional, Sequence, Tuple, Un
 from .columns import Column, quoted
 from .hints import nearest, unknown_column
 from .kinds.booleans import WORDS
-from .questions import TOO_DEEP, UNKNOWN_COLUMN, Base, Converse, Mode, Question, Reader, Term, Token, Value, product, refuse
+from .questions import TOO_DEEP, UNKNOWN_COLUMN, Base, Converse, Mode, Question, Reader, Term, Token, product, refuse
 
 FUNCTIONS = {"abs": 1, "min": 2, "max": 2}      # with the fewest arguments
 COMPARISONS = ("<=", ">=", "<>", "!=", "==", "<", ">", "=")
@@ -155,7 +155,7 @@ class FrameReader(Reader):
         self._need("(")
         column = self._expression()
         self._need(")")
-        return Base("pos", column, ((Value("true", token.place),),), token.place)
+        return Base("true", column, (), token.place)
 
     def _of_a_column(self, empty: Base, by: Sequence[Column]) -> Base:
         """What is asked where there is nothing but `empty()`. By a set without values all rows are the same, whatever the column is: one of the groups, or the first by
@@ -171,6 +171,8 @@ class FrameReader(Reader):
     def _is_expression(self) -> bool:
         """Whether more than the name of a column stands here."""
         token, after = self._next, self._ahead(1)
+        if (token.kind, token.text.lower()) == ("word", "not") and after.is_name():
+            return True
         if token.is_name():
             is_operator = after.kind in ("sign", "strange") and after.text in BEHIND_A_COLUMN
             return is_operator or after.kind == "word" and after.text.lower() in WORDS_BEHIND_A_COLUMN or (after.kind, after.text) == ("sign", "(")

@@ -21,8 +21,9 @@ from .columns import Column, quoted
 from .errors import Refused
 from .hints import nearest
 from .infer import oddity
-from .kinds import Floats, Texts
+from .kinds import Booleans, Floats, Texts
 from .questions import EMPTY_RANGE, UNEXPECTED, Base, Converse, Product, Question, Term, Value, refuse
+from .widening import Nothing
 
 
 # To compare a text with so many others takes some ten milliseconds.
@@ -187,7 +188,16 @@ class Translator:
         if base.word in ("around", "between"):
             parts = distances(name, *self._range(base))
             return [*self._present(base.column), *(f"-{part}" if turned else part for part in parts)]
+        if base.word == "true":
+            self._truths(base)
         return [self._sets(base, turned)]
+
+    def _truths(self, base: Base) -> None:
+        """Refuses `true(..)` of what is neither true nor false, as a column of texts of which some is "true"."""
+        column = base.column
+        if not isinstance(column.kind, (Booleans, Nothing)):
+            check_kind_is_known(self._text, column, base.place)
+            refuse(self._text, base.place, f"column {column.name!r} has the kind {column.kind}, and a condition is true or false: write a comparison, such as x > 5 or City = 'Lyon'")
 
     def _present(self, column: Column) -> List[str]:
         """The term by which rows that have a value are better."""
@@ -216,9 +226,9 @@ class Translator:
             refuse(self._text, value.place, f"column {column.name!r} ({column.kind}): {why}", UNEXPECTED)
 
     def _sets(self, base: Base, turned: bool) -> str:
-        """pos, layered, or the converse. Values that no row can have are left out."""
+        """pos, layered, true, or the converse. Values that no row can have are left out."""
         name = self._name(base.column)
-        sets = [self._found(base.column, values) for values in base.sets]
+        sets = [[int(True)]] if base.word == "true" else [self._found(base.column, values) for values in base.sets]
         if turned and base.column.has_gaps:
             sets[0].append(LEAST)
         sets = [numbers for numbers in sets if numbers]

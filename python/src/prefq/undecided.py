@@ -48,6 +48,6 @@ def ways_of(segment: Segment, question: Question, computed: Collection[str]) -> 
     if segment.column.name in computed:
         return [texts, missing]
     words = {base.word for base in bases_of(question.term) if base.column.name == segment.column.name}
-    if words - {"pos", "layered"}:
+    if words - {"pos", "layered", "true"}:
         return [missing]
     return [texts, missing] if words else [texts]
