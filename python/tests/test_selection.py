@@ -80,6 +80,14 @@ class Top(FrameTestCase):
             self.assertEqual(prefq.psel(self.frame, "low(price)", where=where).ids, [4])
         self.assertEqual(prefq.psel(HOTELS, "low(price) * low(dist)", top_level=1, top=4).ids, [1, 2, 3])
 
+    def test_how_many_levels_beside_a_question_that_says_it(self):
+        """A mode of the question was taken, and the argument left out of account."""
+        for question in ("best low(price)", "top_level 2 low(price)", "at_least 2 low(price)", "skyline of price min", "Skyline of price min"):
+            for levels in ({"top_level": 2}, {"at_least": 2}):
+                with self.subTest(question, **levels), self.refuses(prefq.Refused, "the question says itself how many levels are wanted", kind="arguments"):
+                    prefq.psel(self.frame, question, **levels)
+        self.assertEqual(pairs(prefq.psel(self.frame, "low(price)", top_level=2)), pairs(prefq.psel(self.frame, "top_level 2 low(price)")))
+
     def test_what_is_refused(self):
         for top in (0, -1, 1001):
             with self.refuses(ValueError, f"top is {top}: not from 1 to 1000"):

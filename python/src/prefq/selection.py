@@ -289,10 +289,15 @@ def kept(selection: Selection, moment: Moment) -> List[Tuple[Column, str]]:
 def read_ties(ties: str, column: Callable[[str], Optional[Column]], names: Sequence[str]) -> Question:
     """The tree of what decides between rows that are equally good. What is no preference is refused."""
     question = OF_TIES.read(ties, column, names)
-    first = tokens_of(ties)[0]
-    if first.kind == "word" and first.text.lower() in MODES:
-        refuse(ties, first.place, "what decides between rows that are equally good is a preference, as low(x), without best, top_level and so on")
+    if has_mode(ties):
+        refuse(ties, tokens_of(ties)[0].place, "what decides between rows that are equally good is a preference, as low(x), without best, top_level and so on")
     return question
+
+
+def has_mode(text: str) -> bool:
+    """Whether a text begins with a mode, as best, and so is a question and no preference."""
+    first = tokens_of(text)[0]
+    return first.kind == "word" and first.text.lower() in MODES
 
 
 def plan_of_ties(ties: str, column: Callable[[str], Optional[Column]], names: Sequence[str]) -> Plan:
