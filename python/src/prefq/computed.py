@@ -27,7 +27,7 @@ from .moment import Moment
 from .pauses import extended
 from .questions import refuse
 from .ranges import MISSING, VALUES, Ranges, beside, complement
-from .translate import check_kind_is_known, check_order
+from .translate import OF_CONDITIONS, check_kind_is_known, check_order
 from .widening import Nothing
 
 COMPARE: Dict[str, Callable[[Any, Any], bool]] = {"=": operator.eq, "<>": operator.ne, "<": operator.lt, "<=": operator.le, ">": operator.gt, ">=": operator.ge}
@@ -202,7 +202,7 @@ class Computer:
         if isinstance(found, NoValues):
             return self._gaps()
         if not isinstance(found, (Truths, Within)):
-            refuse(self._text, node.place, f"{self._shown(node, found)}, and a condition is true or false: write a comparison, such as x > 5 or City = 'Lyon'")
+            refuse(self._text, node.place, f"{self._shown(node, found)}, and {OF_CONDITIONS}")
         return found
 
     def _logic(self, node: Operation) -> Union[Truths, Within]:

@@ -32,9 +32,10 @@ def psel(frame: Any, preference: Asked, *, where: Optional[Operand] = None, top:
     DataFrame by names of columns has its groups itself.
 
     The preference is one that `prefq.low` and so on make, or its text, that of rPref, without a mode, as in "low(`price eur`) * low(dist)"; it may end in `by city`.
-    A question with a mode is taken too. Of a DataFrame of pandas or of Dask the rows come back as they are, in a DataFrame of pandas with the column `.level` in
-    front, where that is not left out by `show_level=False`; only the columns that are named are looked at, and it may have any number of rows: Dask's own scheduler
-    asks each partition where it is. Of a Frame, of records, or of a cursor, of which there may be any number too, the rows come back as an Answer.
+    A question with a mode is taken too, without `top_level` and `at_least`. Of a DataFrame of pandas or of Dask the rows come back as they are, in a DataFrame of pandas
+    with the column `.level` in front, where that is not left out by `show_level=False`; only the columns that are named are looked at, and it may have any number of
+    rows: Dask's own scheduler asks each partition where it is. Of a Frame, of records, or of a cursor, of which there may be any number too, the rows come back as an
+    Answer.
 
     >>> import prefq
     >>> prefq.psel([{"price": 60, "dist": 2.5}, {"price": 50, "dist": 3.5}, {"price": 70, "dist": 2.5}], "low(price) * low(dist)")

@@ -26,6 +26,7 @@ from .questions import EMPTY_RANGE, UNEXPECTED, Base, Converse, Product, Questio
 from .widening import Nothing
 
 
+OF_CONDITIONS = "a condition is true or false: write a comparison, such as x > 5 or City = 'Lyon'"
 # To compare a text with so many others takes some ten milliseconds.
 TEXTS_COMPARED = 500
 
@@ -197,7 +198,7 @@ class Translator:
         column = base.column
         if not isinstance(column.kind, (Booleans, Nothing)):
             check_kind_is_known(self._text, column, base.place)
-            refuse(self._text, base.place, f"column {column.name!r} has the kind {column.kind}, and a condition is true or false: write a comparison, such as x > 5 or City = 'Lyon'")
+            refuse(self._text, base.place, f"column {column.name!r} has the kind {column.kind}, and {OF_CONDITIONS}")
 
     def _present(self, column: Column) -> List[str]:
         """The term by which rows that have a value are better."""
