@@ -293,6 +293,19 @@ class Spellings(TestCase):
             for text in ("1152921504606846976", "1.152921504606847e+18"):       # which it is, and which Python shows for it
                 self.assertEqual(frame.best(f"best pos(f, {text})").ids, [4])
 
+    def test_nestings_of_a_term_and_of_an_expression_in_it_count_together(self):
+        """Python itself gave up, by a RecursionError."""
+        with prefq.Frame.from_records([{"x": 1}, {"x": 2}]) as frame:
+            for expression in ("(" * 24 + "x" + " + 1)" * 24, "min(" * 24 + "x" + ", x)" * 24, "x + 1 > 1 and (" * 24 + "x > 1" + ")" * 24):
+                for count, is_refused in [(40, False), (41, True), (64, True)]:
+                    question = f"best {'(' * count}high({expression}){')' * count}"
+                    with self.subTest(expression, count=count):
+                        if is_refused:
+                            with self.refuses(prefq.Refused, "more than 64 nestings", kind="term", number=4):
+                                frame.best(question)
+                        else:
+                            self.assertEqual(frame.best(question).ids, [2])
+
     def test_a_number_beside_floats_where_decimals_may_not_be_made_of_floats(self):
         with prefq.Frame.from_records([{"f": 0.5}, {"f": 0.1}]) as frame, decimal.localcontext() as context:
             context.traps[decimal.FloatOperation] = True

@@ -13,7 +13,7 @@ from typing import Callable, Dict, Iterator, List, Optional, Sequence, Tuple, Un
 from .columns import Column, quoted
 from .hints import nearest, unknown_column
 from .kinds.booleans import WORDS
-from .questions import TOO_DEEP, UNKNOWN_COLUMN, Base, Converse, Mode, Question, Reader, Term, Token, product, refuse
+from .questions import DEEPEST, TOO_DEEP, UNKNOWN_COLUMN, Base, Converse, Mode, Question, Reader, Term, Token, product, refuse
 
 FUNCTIONS = {"abs": 1, "min": 2, "max": 2}      # with the fewest arguments
 COMPARISONS = ("<=", ">=", "<>", "!=", "==", "<", ">", "=")
@@ -320,6 +320,8 @@ class FrameReader(Reader):
         self._nested += 1
         if self._nested > DEEPEST_IN_AN_EXPRESSION:
             refuse(self._question, token.place, f"more than {DEEPEST_IN_AN_EXPRESSION} nestings in an expression", TOO_DEEP)
+        if self._depth + self._nested > DEEPEST:    # with those of the term around it
+            refuse(self._question, token.place, f"more than {DEEPEST} nestings", TOO_DEEP)
         yield
         self._nested -= 1
 
