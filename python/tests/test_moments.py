@@ -1,6 +1,8 @@
 """Moments: times of zones, of numpy, and texts of formats, each of which comes back as it was given or is refused."""
 import datetime
+import io
 import unittest
+import warnings
 
 import prefq
 from prefq.kinds import kind_named
@@ -13,6 +15,17 @@ except ImportError:
     pandas = None
 
 skip_without_pandas = unittest.skipIf(pandas is None, "pandas is not installed")
+UTC = datetime.timezone.utc
+
+
+def frames_in(zone):
+    """A frame of three times of a zone in each way that there is for zones."""
+    from zoneinfo import ZoneInfo
+    times = [datetime.datetime(2026, 7, 1, hour) for hour in (8, 9, 10)]
+    yield prefq.Frame.from_records([{"at": time.replace(tzinfo=ZoneInfo(zone)), "v": v} for v, time in enumerate(times, 1)])
+    if pandas is not None:
+        yield prefq.Frame.from_dataframe(pandas.DataFrame({"at": pandas.to_datetime(times).tz_localize(zone), "v": [1, 2, 3]}))
+    yield prefq.Frame.from_csv(io.StringIO("at,v\n2026-07-01 08:00,1\n2026-07-01 09:00,2\n2026-07-01 10:00,3\n"), kinds={"at": f"time({zone})"})
 
 
 class TimesOfZones(TestCase):
@@ -104,3 +117,120 @@ class TextsOfFormats(TestCase):
     def test_a_sign_that_stands_twice(self):
         with self.refuses(prefq.Refused, "the format '%d.%m.%Y %Y' cannot be read: redefinition of group name", kind="table"):
             kind_named('date("%d.%m.%Y %Y")')
+
+
+class Moments(TestCase):
+    def test_times_without_a_zone_are_those_that_the_clocks_show(self):
+        """The clocks of Berlin, Kolkata and New York, by zones of pytz and of the system."""
+        for zone, offset in [("Europe/Berlin", "+02:00"), ("Asia/Kolkata", "+05:30"), ("America/New_York", "-04:00"), ("Asia/Tokyo", "+09:00")]:
+            for frame in frames_in(zone):
+                with self.subTest(zone=zone), frame:
+                    self.assertEqual(frame.best("best pos(at, '2026-07-01 09:00')").ids, [2])
+                    self.assertEqual(frame.best("best between(at, '2026-07-01 08:00', '2026-07-01 09:00')").ids, [1, 2])
+                    self.assertEqual(frame.best("best around(at, '2026-07-01 09:20')").ids, [2])
+                    row = frame.get(frame.insert({"at": "2026-07-01 09:00", "v": 4}))
+                    self.assertEqual((str(row.at), row.at == frame.get(2).at), (f"2026-07-01 09:00:00{offset}", True))
+
+    def test_times_that_clocks_show_twice_or_skip(self):
+        for frame in frames_in("Europe/Berlin"):
+            with frame:
+                for text, says in [("2026-10-25 02:30", "show this time twice: give its offset"), ("2026-03-29 02:30", "skip this time")]:
+                    with self.refuses(ValueError, f"column 'at' (time(Europe/Berlin)): {text}:00 is no one moment", says):
+                        frame.insert({"at": text})
+                    with self.refuses(prefq.Refused, says, kind="term"):
+                        frame.best(f"best around(at, '{text}')")
+                found = [frame.get(frame.insert({"at": f"2026-10-25 02:30{offset}"})).at for offset in ("+02:00", "+01:00")]
+                self.assertEqual((str(found[0]), str(found[1])), ("2026-10-25 02:30:00+02:00", "2026-10-25 02:30:00+01:00"))
+
+    def test_moments_that_the_clocks_of_a_column_cannot_show(self):
+        """Taken, they kept each call from its rows."""
+        late, early = datetime.datetime(9999, 12, 31, 23, 30, tzinfo=UTC), datetime.datetime(1, 1, 1, 0, 30, tzinfo=UTC)
+        for kind, value in [("time(Europe/Berlin)", late), ("time(UTC+02:00)", late), ("time(America/New_York)", early), ("time(UTC-00:31)", early)]:
+            with self.subTest(kind=kind), prefq.Frame.empty(["at"], {"at": kind}) as frame:
+                for given in (value, str(value)):
+                    with self.refuses(ValueError, f"column 'at' ({kind}): {value} lies outside the years 1 to 9999 in the time zone of the column"):
+                        frame.insert({"at": given})
+                with self.refuses(ValueError, "line 2, column 'at'", "lies outside the years 1 to 9999 in the time zone of the column"):
+                    prefq.Frame.from_csv(io.StringIO(f"at\n{value}\n"), kinds={"at": kind})
+                near = value + datetime.timedelta(days=1 if value == early else -1)
+                self.assertEqual(frame.get(frame.insert({"at": near})).at, near)
+        with prefq.Frame.from_records([{"at": late}, {"at": early}]) as frame:
+            self.assertEqual([row.at for row in frame.rows()], [late, early])
+
+    def test_the_last_days_of_all_in_a_question(self):
+        for frame in frames_in("Europe/Berlin"):
+            with frame:
+                for question in ("best around(at, '9999-12-31')", "best around(at, '9999-12-31 23:30')", "best between(at, '2026-07-01', '9999-12-31')", "best around(at, '0001-01-02')"):
+                    with self.subTest(question=question):
+                        self.assertTrue(frame.best(question).ids)
+                with self.refuses(prefq.Refused, "lies outside the years 1 to 9999", kind="term"):
+                    frame.best("best around(at, '0001-01-01')")
+
+    def test_zones_of_classes_of_ones_own(self):
+        """Without a time the first fails, and the second has the offset of winter, as those of Python's documentation; the third does not know of summer time."""
+        hour = datetime.timedelta(hours=1)
+
+        class Zone(datetime.tzinfo):
+            def utcoffset(self, when):
+                return hour + self.dst(when)
+
+            def dst(self, when):
+                return hour * (3 < when.month < 11)
+
+        class Winter(Zone):
+            def dst(self, when):
+                return 0 * hour if when is None else super().dst(when)
+
+        class Unknowing(datetime.tzinfo):
+            def utcoffset(self, when):
+                return hour
+
+            def dst(self, when):
+                return None
+
+        winter, summer = datetime.datetime(2026, 1, 1), datetime.datetime(2026, 7, 1)
+        for made in (Zone, Winter, Unknowing):
+            zones, fixed = (made(), made()), datetime.timezone(hour)
+            for values in ([winter.replace(tzinfo=zones[0]), summer.replace(tzinfo=zones[0])], [winter.replace(tzinfo=zones[0]), summer.replace(tzinfo=zones[1])],
+                           [winter.replace(tzinfo=fixed), summer.replace(tzinfo=zones[0])]):
+                with self.subTest(zone=made.__name__, values=values), prefq.Frame.from_records([{"at": value} for value in values]) as frame:
+                    self.assertEqual([row.at for row in frame.rows()], values)
+                    self.assertNotEqual((made is Unknowing, str(frame.columns[0].kind)), (False, "time(UTC+01:00)"))
+
+    def test_an_interruption_in_a_zone_of_ones_own_is_no_answer_of_it(self):
+        class Zone(datetime.tzinfo):
+            def utcoffset(self, when):
+                if when is None or when.year == 1900:
+                    raise TimeoutError("half a second is over")
+                return datetime.timedelta()
+
+            def dst(self, when):
+                return datetime.timedelta()
+
+        with self.assertRaises(TimeoutError):
+            prefq.Frame.from_records([{"at": datetime.datetime(2026, 5, day, tzinfo=Zone())} for day in (1, 2)])
+
+    def test_what_a_format_reads_is_no_other_date(self):
+        for spelling, text, value in [('date("%Y-%d-%m")', "2026-05-01", datetime.date(2026, 1, 5)), ('time("%Y-%d-%m %H:%M")', "2026-05-01 10:00", datetime.datetime(2026, 1, 5, 10)),
+                                      ('time("%Y-%m-%d %H:%M")', "2026-05-01 10:00:05", datetime.datetime(2026, 5, 1, 10, 0, 5)), ('date("%d.%m.%y")', "01.05.2026", datetime.date(2026, 5, 1)),
+                                      ('date("%d.%m.%Y %H:%M")', "01.05.2026 00:00", datetime.date(2026, 5, 1))]:
+            with self.subTest(spelling=spelling):
+                kind = kind_named(spelling)
+                self.assertEqual(kind.decode(kind.read(text)), value)
+        for spelling, text, says in [('time("%Y-%d-%m %H:%M")', "2026-05-13 10:00", "is no date with a time such as"), ('date("%d.%m.%Y %H:%M")', "01.05.2026 17:30", "has a time of day beside its date"),
+                                     ("clock", "17:30.5", "is no time of day"), ("time", "2026-05-01 17:30.5", "is no date with a time")]:
+            with self.subTest(spelling=spelling), self.refuses(ValueError, says):
+                kind_named(spelling).read(text)
+
+    def test_years_beyond_those_of_pandas_in_a_question(self):
+        if pandas is None:
+            self.skipTest("pandas is not installed")
+        dataframe = pandas.DataFrame({"end": pandas.to_datetime(["2026-05-01", "2026-07-01", None]), "x": [1, 2, 3]})
+        with prefq.Frame.from_dataframe(dataframe) as frame, warnings.catch_warnings():
+            warnings.simplefilter("ignore", prefq.UnknownValue)
+            for question, ids in [("best around(end, '9999-12-31')", [2]), ("best around(end, '0001-01-01')", [1]), ("best pos(end, '9999-12-31')", [1, 2, 3]),
+                                  ("best between(end, '0001-01-01', '9999-12-31')", [1, 2]), ("best layered(end, {'9999-12-31'}, {'2026-07-01'})", [2])]:
+                with self.subTest(question=question):
+                    self.assertEqual((frame.best(question).ids, [label + 1 for label in prefq.psel(dataframe, question).index]), (ids, ids))
+            with self.refuses(ValueError, "lies outside the years 1677 to 2262"):
+                frame.insert({"end": "9999-12-31"})

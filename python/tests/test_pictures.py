@@ -2,6 +2,7 @@
 
 PREFQ_TEST_COUNT is how many questions are asked, and PREFQ_TEST_SEED begins other ones.
 """
+import datetime
 import json
 import os
 import random
@@ -16,6 +17,7 @@ from plain import first
 from prefq import pictures
 from prefq.desk import Desk
 from prefq.follow_desk import FollowedDesk
+from prefq.server import Server
 from support import TestCase
 
 QUESTIONS = int(os.environ.get("PREFQ_TEST_COUNT", 200))
@@ -103,3 +105,11 @@ class Pictures(TestCase):
 
 if __name__ == "__main__":
     unittest.main()
+
+
+class FirstQuestions(TestCase):
+    def test_times_of_day_alone(self):
+        """They are no axis, and have an order."""
+        with Desk(prefq.Frame.from_records([{"at": datetime.time(17, 30), "x": "a"}, {"at": datetime.time(8), "x": "b"}])) as desk, Server(desk) as server:
+            self.assertEqual(server.site.about["questions"], ["best low(at)"])
+            self.assertEqual([row["cells"] for row in pictures.picture(desk, pictures.Asked(server.site.about["questions"][0]))["best"]], [["08:00:00", "b"]])

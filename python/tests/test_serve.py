@@ -1,6 +1,5 @@
 """The server behind the page: pictures, changes, events, a program that ends, and requests that are wrong."""
 import contextlib
-import datetime
 import http.client
 import json
 import os
@@ -335,12 +334,6 @@ class OfADesk(TestCase):
             self.assertEqual(server.site.about["questions"], ["best pos(Hotel, 'b''')"])
             shown = pictures.picture(desk, pictures.Asked(server.site.about["questions"][0]))
             self.assertEqual(([row["cells"] for row in shown["best"]], shown["axes"]), ([["b'"]], [None, None]))
-
-    def test_times_of_day_alone(self):
-        """They are no axis, and have an order."""
-        with Desk(prefq.Frame.from_records([{"at": datetime.time(17, 30), "x": "a"}, {"at": datetime.time(8), "x": "b"}])) as desk, Server(desk) as server:
-            self.assertEqual(server.site.about["questions"], ["best low(at)"])
-            self.assertEqual([row["cells"] for row in pictures.picture(desk, pictures.Asked(server.site.about["questions"][0]))["best"]], [["08:00:00", "b"]])
 
     def test_a_large_table_is_sampled(self):
         records = [{"Hotel": str(number), "Price (EUR)": number, "Distance": 5} for number in range(3000)]
