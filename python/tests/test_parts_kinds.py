@@ -347,9 +347,9 @@ class Files(TestCase):
 
     def test_files_of_a_pattern_by_the_command(self):
         """The cells are as they stand in the files; a name with the signs of a pattern is that of a file, if it is there."""
-        self.files("name,price\nRitz,57.40\n", "price,name\n057.4,Anna\n,x\n")
+        self.files("name,price\nRitz,57.40\n", "price,name\n57.400,Anna\n,x\n")
         for words, status, printed in [
-            (["?.csv", "best low(price)", "--csv"], 0, "level,id,name,price\n1,1,Ritz,57.40\n1,2,Anna,057.4\n"), (["x*.csv", "best low(price)"], 2, "there is no such file"),
+            (["?.csv", "best low(price)", "--csv"], 0, "level,id,name,price\n1,1,Ritz,57.40\n1,2,Anna,57.400\n"), (["x*.csv", "best low(price)"], 2, "there is no such file"),
             (["*.csv"], 2, "2 files are asked a question"), (["*.csv", "best low(prise)"], 2, "did you mean price?"), (["?.csv", "best pos(name, 'Rits')"], 0, "did you mean 'Ritz'?"),
             (["[0].csv", "best low(price)", "--csv"], 0, "level,id,price\n1,1,7\n"),
         ]:
