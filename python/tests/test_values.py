@@ -378,6 +378,17 @@ class DataFrames(TestCase):
                 with self.assertRaises(ValueError):
                     frame.insert({"x": "other"})
 
+    def test_a_number_that_is_no_category_stands_for_none_near_to_it(self):
+        """As beside floats: 1e-400 was taken for 0."""
+        dataframe = pandas.DataFrame({"x": pandas.Categorical([0.1, 0.0, 0.3], [0.3, 0.1, 0.0], ordered=True)})
+        for text in ("1e-400", "0.10000000000000000555"):
+            for question in (f"pos(x, {text})", f"true(x = '{text}')"):
+                with self.subTest(question), self.refuses(prefq.Refused, f"'{text}' is none of '0.3', '0.1', '0.0'", kind="term"):
+                    prefq.psel(dataframe, question)
+            with prefq.Frame.from_dataframe(dataframe) as frame, self.refuses(ValueError, f"'{text}' is none of"):
+                frame.insert({"x": text})
+        self.assertEqual([list(prefq.psel(dataframe, question).index) for question in ("pos(x, 1e-1)", "true(x <= '0.10')")], [[0], [0, 2]])
+
     def test_an_ordered_categorical_without_categories(self):
         dataframe = pandas.DataFrame({"x": pandas.Categorical([None, None], [], ordered=True), "y": [1, 2]})
         with prefq.Frame.from_dataframe(dataframe) as frame:

@@ -1,8 +1,9 @@
 """Columns of texts, and of values in an order that is given."""
 import os
 import threading
+from contextlib import suppress
 from itertools import filterfalse
-from typing import Any, Dict, List, Optional, Sequence
+from typing import Any, Callable, Dict, List, Optional, Sequence
 
 from .kind import Kind, NotRead, word
 
@@ -93,7 +94,7 @@ class Choices(Kind):
     def __init__(self, choices: Sequence[Any], of: Optional[Kind] = None) -> None:
         self.of = Texts() if of is None else of
         self._numbers = [self.of.encode(choice) for choice in choices]
-        self._places = {number: place for place, number in enumerate(self._numbers, 1)}
+        self._places: Dict[Optional[int], int] = {number: place for place, number in enumerate(self._numbers, 1)}
         if len(self._places) != len(self._numbers):
             raise ValueError(f"a choice stands twice among {', '.join(map(str, choices))}")
 
@@ -114,30 +115,23 @@ class Choices(Kind):
         return "'" + self.texts[0].replace("'", "''") + "'" if self._numbers else "'first'"
 
     def read(self, text: str) -> int:
-        return self._place(self.of.find(text) if isinstance(self.of, Texts) else self._of(text), text)
+        """By the choice that it spells, and of floats by none near to it."""
+        return self._place(self.of.find, text)
 
     def encode(self, value: Any) -> int:
-        if isinstance(value, str):
-            return self.read(value)
-        return self._place(None if isinstance(self.of, Texts) else self._of(value), value)
+        return self.read(value) if isinstance(value, str) else self._place(self.of.encode, value)
 
     def decode(self, number: int) -> Any:
         return self.of.decode(self._numbers[number - 1])
 
-    def find(self, text: str) -> Optional[int]:
-        return self.read(text)
-
     def text(self, value: Any) -> str:
         return self.of.text(value)
 
-    def _of(self, value: Any) -> Optional[int]:
-        try:
-            return self.of.encode(value)
-        except (TypeError, ValueError):
-            return None
-
-    def _place(self, number: Optional[int], value: Any) -> int:
-        place = self._places.get(number) if number is not None else None
+    def _place(self, number_of: Callable[[Any], Optional[int]], value: Any) -> int:
+        """The place of the choice whose number this finds for a value, if it finds one."""
+        place = None
+        with suppress(TypeError, ValueError):
+            place = self._places.get(number_of(value))
         if place is None:
             raise NotRead(f"{value!r} is none of {', '.join(map(repr, self.texts))}" if self.texts else f"{value!r} is no choice, and there is none")
         return place
