@@ -103,6 +103,10 @@ class Top(FrameTestCase):
                            ("at_least 2 low(price)", "without best, top_level and so on"), ("low(price) by city by", "Here could stand")]:
             with self.refuses(prefq.Refused, says, kind="term"):
                 self.frame.best("best low(price)", top=1, ties=ties)      # of which there is one alone
+        for by in (None, "city"):       # whether rows have to be told apart by it or not
+            for ties in ("low(dist) by city", prefq.low("dist").by("city")):
+                with self.refuses(prefq.Refused, "is a preference, as low(x), without best, top_level and so on, and without groups", kind="term"):
+                    self.frame.best("best low(price)", top=1, ties=ties, by=by)
         with self.refuses(TypeError, "a question is a text, not 5"):
             self.frame.best("best low(dist)", top=1, ties=5)
         with self.refuses(TypeError, "a condition is a text, not 5"):

@@ -289,8 +289,8 @@ def kept(selection: Selection, moment: Moment) -> List[Tuple[Column, str]]:
 def read_ties(ties: str, column: Callable[[str], Optional[Column]], names: Sequence[str]) -> Question:
     """The tree of what decides between rows that are equally good. What is no preference is refused."""
     question = OF_TIES.read(ties, column, names)
-    if has_mode(ties):
-        refuse(ties, tokens_of(ties)[0].place, "what decides between rows that are equally good is a preference, as low(x), without best, top_level and so on")
+    if has_mode(ties) or question.by:
+        refuse(ties, tokens_of(ties)[0].place, "what decides between rows that are equally good is a preference, as low(x), without best, top_level and so on, and without groups")
     return question
 
 
