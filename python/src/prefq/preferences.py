@@ -2,9 +2,10 @@
 import datetime
 import math
 import operator
+from collections.abc import Iterable
 from decimal import Decimal
 from fractions import Fraction
-from typing import Any, Iterable, Tuple, Union
+from typing import Any, Tuple, Union
 
 from .columns import is_missing, quoted, spelled
 from .kinds.booleans import is_truth
@@ -204,14 +205,14 @@ def pos(column: Operand, *values: Any) -> Preference:
     return _base("pos", column, _listed(values, "pos"))
 
 
-def layered(column: Operand, *layers: Iterable[Any]) -> Preference:
+def layered(column: Operand, *layers: "Iterable[Any]") -> Preference:
     """The values of the first layer are preferred, then those of the second, and so on, and then all others.
 
     >>> from prefq import layered
     >>> layered("City", ["Lyon", "Bern"], ["Köln"])
     layered(City, {'Lyon', 'Bern'}, {'Köln'})
     """
-    if not layers or any(isinstance(layer, str) for layer in layers):
+    if not layers or any(isinstance(layer, (str, bytes)) or not isinstance(layer, Iterable) for layer in layers):
         raise TypeError("layered(..) takes a list of values for each layer, as layered('City', ['Lyon', 'Bern'], ['Köln'])")
     return _base("layered", column, *(f"{{{_listed(tuple(layer), 'a layer')}}}" for layer in layers))
 
