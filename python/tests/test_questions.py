@@ -323,6 +323,17 @@ class Spellings(TestCase):
                 with self.refuses(prefq.Refused, f"Here could stand a value of '{name}', {says}\n"):
                     frame.best(f"best pos({name}, )")
 
+    def test_an_empty_text_of_a_column_is_no_hint(self):
+        """It stands in each text, and shows nobody what could stand there."""
+        self.assertIsNone(nearest("Zug", ["", " ", "Bern"]))
+        with prefq.Frame.from_records([{"City": ""}, {"City": " "}, {"City": "Bern"}]) as frame:
+            with self.assertWarnsRegex(prefq.UnknownValue, "no row of 'City' has 'Zug'$"):
+                frame.best("best pos(City, 'Zug')")
+            with self.refuses(prefq.Refused, "Here could stand a value of 'City', such as 'Bern'\n"):
+                frame.best("best pos(City, )")
+        with prefq.Frame.from_records([{"City": ""}]) as frame, self.refuses(prefq.Refused, "written like 'Lyon'\n"):
+            frame.best("best pos(City, )")
+
     def test_long_names_and_texts_are_not_compared(self):
         chance = random.Random(5)
 

@@ -50,11 +50,11 @@ SIGNS_COMPARED = 40_000
 
 def nearest(name: str, names: Sequence[str]) -> Optional[str]:
     """The name that is most like another one: the same in other capitals, or a similar one or one with a similar word, or one that contains it. Only short
-    names are compared."""
+    names that are not blank are compared."""
     if len(name) > LONGEST_COMPARED:
         return None
     wanted = name.casefold()
-    short = [other for other in reversed(names) if len(other) <= LONGEST_COMPARED]
+    short = [other for other in reversed(names) if other.strip() and len(other) <= LONGEST_COMPARED]
     folded = {other.casefold(): other for other in short}
     words = {word: other for other in short for word in re.findall(r"\w{3,}", other.casefold())}
     if wanted in folded:

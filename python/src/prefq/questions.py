@@ -148,7 +148,7 @@ def explained(why: Refused, columns: Sequence[str]) -> Refused:
 def value_of(column: Column) -> str:
     """What could stand in the place of a value: one of the column's own, where these are texts, else how one is written."""
     texts = column.kind.texts if isinstance(column.kind, (Choices, Texts)) else []
-    short = next((text for text in texts if len(text) <= LONGEST_EXAMPLE), None)
+    short = next((text for text in texts if text.strip() and len(text) <= LONGEST_EXAMPLE), None)
     return f"a value of {column.name!r}, " + (f"written like {column.kind.example}" if short is None else f"such as {quoted(short)}")
 
 
