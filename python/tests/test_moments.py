@@ -53,6 +53,17 @@ class TimesOfZones(TestCase):
             self.assertEqual(len(frame), 1)
 
     @skip_without_pandas
+    def test_times_of_pandas_beside_those_of_python(self):
+        """The first have nanoseconds and the others microseconds: of both it is said that they are times."""
+        for zone in (None, "UTC"):
+            given = pandas.to_datetime(["2026-05-01 12:00:00.000000001", "2026-05-01 11:00", "2026-05-01 12:00", None]).tz_localize(zone)
+            frame = pandas.DataFrame({"given": given, "noon": pandas.Series([datetime.datetime(2026, 5, 1, 12, tzinfo=zone and UTC)] * 4, dtype=object)})
+            for condition, labels in [("given = noon", [2]), ("noon < given", [0]), ("noon <> given", [0, 1]), ("noon - given = 3600", [1]), ("given - noon = 1e-9", [0])]:
+                with self.subTest(condition, zone=zone):
+                    self.assertEqual(list(prefq.psel(frame, "empty()", where=condition).index), labels)
+            self.assertEqual(list(prefq.psel(frame, "low(abs(given - noon))", top_level=3).index), [2, 0, 1])
+
+    @skip_without_pandas
     def test_times_of_pytz_and_of_dateutil(self):
         """A zone of pytz that was not localised has an offset of its own, by which it is a moment."""
         import dateutil.tz

@@ -24,7 +24,6 @@ from .kinds.booleans import WORDS
 from .kinds.exact import Number as Rational
 from .kinds.numbers import Number
 from .moment import Moment
-from .pauses import extended
 from .questions import refuse
 from .ranges import MISSING, VALUES, Ranges, beside, complement
 from .translate import OF_CONDITIONS, check_kind_is_known, check_order
@@ -113,7 +112,7 @@ class Computer:
         if isinstance(found, Literal) and found.kind == "number":
             return self._constant(found)
         if isinstance(found, NoValues):
-            return Numbers([0], known=bytes(self._moment.count), is_constant=True)
+            return self._no_numbers()
         if not isinstance(found, (Numbers, NumberColumn)):
             refuse(self._text, node.place, f"{self._shown(node, found)}, and numbers are computed with")
         return self._read(found)
@@ -126,8 +125,10 @@ class Computer:
         return Numbers(found.numbers, kind.scale, known) if isinstance(kind, Whole) else numbers_of_floats(found.numbers, known)
 
     def _as_they_stand(self, found: Union[NumberColumn, Others]) -> Numbers:
-        """The numbers that the table has for the values of a column."""
-        return Numbers(found.numbers, known=self._known(found.column))
+        """What the table has for the values of a column, to be compared with those of another one: texts themselves, and times in seconds."""
+        kind = found.column.kind
+        values = decoded_texts(found.column, found.numbers) if isinstance(kind, Texts) else found.numbers
+        return Numbers(values, 10**9 // kind.nanoseconds if isinstance(kind, Times) else 1, self._known(found.column))
 
     def _constant(self, literal: Literal) -> Numbers:
         try:
@@ -149,14 +150,9 @@ class Computer:
 
     def _combined(self, node: Operation) -> Numbers:
         """What + - * min, max and abs make of numbers."""
-        if node.name == "-":
-            values = [self._values(part) for part in node.parts]
-            times = self._distance(*values)
-            if times is not None:
-                return times
-            whole, *rest = [self._finite(part, found) for part, found in zip(node.parts, values)]
-        else:
-            whole, *rest = [self._finite(part, self._values(part)) for part in node.parts]
+        values = [self._values(part) for part in node.parts]
+        moments = self._moments(*values) if node.name == "-" else None
+        whole, *rest = moments or [self._finite(part, found) for part, found in zip(node.parts, values)]
         if node.name == "abs":
             return replace(whole, values=[abs(value) for value in whole.values])
         for part in rest:
@@ -165,14 +161,13 @@ class Computer:
             whole = combined(COMBINE[node.name], whole, part, factors, scale)
         return whole
 
-    def _distance(self, left: Values, right: Values) -> Optional[Numbers]:
-        """The days between two dates, or the seconds between two times; None where there are others."""
+    def _moments(self, left: Values, right: Values) -> Optional[List[Numbers]]:
+        """Two dates in days, or two times in seconds; None where there are others."""
         if is_time(left) and isinstance(right, NoValues) or isinstance(left, NoValues) and is_time(right):
-            return Numbers([0], known=bytes(self._moment.count), is_constant=True)
+            return [self._no_numbers(), self._no_numbers()]
         if not isinstance(left, Others) or not isinstance(right, Others) or not self._are_alike(left, right) or not is_time(left):
             return None
-        kind = left.column.kind
-        return combined(operator.sub, self._as_they_stand(left), self._as_they_stand(right), (1, 1), 10**9 // kind.nanoseconds if isinstance(kind, Times) else 1)
+        return [self._as_they_stand(left), self._as_they_stand(right)]
 
     def _quotient(self, node: Operation) -> Numbers:
         left, right = (self._finite(part, self._values(part)) for part in node.parts)
@@ -256,15 +251,18 @@ class Computer:
     def _two_numbers(self, node: Comparison, left: Values, right: Values) -> Union[Truths, Within]:
         if isinstance(left, NumberColumn) and isinstance(right, NumberColumn) and isinstance(left.column.kind, Floats) and isinstance(right.column.kind, Floats):
             # The numbers in the table have the order of the floats.
-            return compared(COMPARE[node.sign], self._as_they_stand(left), self._as_they_stand(right), (1, 1), self._moment.count)
+            return self._holds(node.sign, self._as_they_stand(left), self._as_they_stand(right))
         for sign, side, other, place in ((node.sign, left, right, node.right), (TURNED.get(node.sign, node.sign), right, left, node.left)):
             if isinstance(side, NumberColumn) and not isinstance(other, NumberColumn):
                 constant = self._numbers(place, other)
                 if constant.is_constant and constant.known is None:
                     return Within.of(side.column, beside(sign, position_in(side.column, constant)))
-        first, second = self._numbers(node.left, left), self._numbers(node.right, right)
-        scale = math.lcm(first.scale, second.scale)
-        return compared(COMPARE[node.sign], first, second, (scale // first.scale, scale // second.scale), self._moment.count)
+        return self._holds(node.sign, self._numbers(node.left, left), self._numbers(node.right, right))
+
+    def _holds(self, sign: str, left: Numbers, right: Numbers) -> Truths:
+        """Whether a comparison holds, row by row."""
+        scale = math.lcm(left.scale, right.scale)
+        return compared(COMPARE[sign], left, right, (scale // left.scale, scale // right.scale), self._moment.count)
 
     def _two_truths(self, node: Comparison, left: Values, right: Values) -> Union[Truths, Within]:
         if node.sign not in ("=", "<>"):
@@ -295,8 +293,7 @@ class Computer:
         if not self._are_alike(left, right):
             refuse(self._text, node.place, f"columns {left.column.name!r} ({left.column.kind}) and {right.column.name!r} ({right.column.kind}) are not compared")
         self._check_order(node.sign, left, node.place)
-        values = [decoded_texts(some) if isinstance(some.column.kind, Texts) else some.numbers for some in (left, right)]
-        return Truths.of(bytes(extended(bytearray(), map(COMPARE[node.sign], *values))), both_known(self._known(left.column), self._known(right.column)))
+        return self._holds(node.sign, self._as_they_stand(left), self._as_they_stand(right))
 
     def _check_order(self, sign: str, column: Others, place: int) -> None:
         if sign not in ("=", "<>"):
@@ -306,8 +303,12 @@ class Computer:
         """Whether the numbers of two columns stand for the same values."""
         kinds = left.column.kind, right.column.kind
         if isinstance(kinds[0], Times) and isinstance(kinds[1], Times):
-            return kinds[0].nanoseconds == kinds[1].nanoseconds and (kinds[0].zone is None) == (kinds[1].zone is None)
+            return (kinds[0].zone is None) == (kinds[1].zone is None)
         return type(kinds[0]) is type(kinds[1]) and (not isinstance(kinds[0], Choices) or repr(kinds[0]) == repr(kinds[1]))
+
+    def _no_numbers(self) -> Numbers:
+        """A number for each row, none of which is known."""
+        return Numbers([0], known=bytes(self._moment.count), is_constant=True)
 
     def _gaps(self) -> Truths:
         """A truth value for each row, none of which is known."""

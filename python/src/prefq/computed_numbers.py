@@ -7,7 +7,7 @@ from typing import Any, Callable, Iterable, List, Optional, Sequence, Tuple
 
 from .checks import LEAST, MOST
 from .columns import Column
-from .computed_values import Numbers, Others
+from .computed_values import Numbers
 from .kinds import Whole
 from .kinds.at_once import MOST_DECIMALS, PlainTexts
 from .kinds.exact import Exact, Number, Ranked
@@ -22,9 +22,9 @@ def position_in(column: Column, constant: Numbers) -> Fraction:
     return value * column.kind.scale if isinstance(column.kind, Whole) else float_position(value)
 
 
-def decoded_texts(column: Others) -> Sequence[Any]:
-    """The texts of a column; any one where it is missing."""
-    return by_value(lambda numbers: ["" if number == LEAST else column.column.kind.decode(number) for number in numbers], column.numbers)
+def decoded_texts(column: Column, numbers: Sequence[int]) -> Sequence[Any]:
+    """The texts of a column that has these numbers; any one where it is missing."""
+    return by_value(lambda some: ["" if number == LEAST else column.kind.decode(number) for number in some], numbers)
 
 
 def numbers_of_floats(numbers: Sequence[int], known: Optional[bytes]) -> Numbers:
