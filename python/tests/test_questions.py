@@ -306,6 +306,17 @@ class Spellings(TestCase):
                         else:
                             self.assertEqual(frame.best(question).ids, [2])
 
+    def test_the_deepest_question_is_read_far_from_the_depth_of_python(self):
+        """A caller may stand deep itself: with 64 parentheses and 63 sums some 140 calls were too many."""
+        def beneath(calls, ask):
+            return beneath(calls - 1, ask) if calls else ask()
+
+        sums, nested = " + x" * 63, "min(" * 24 + "x" + ", x)" * 24
+        with prefq.Frame.from_records([{"x": 1}, {"x": 2}]) as frame:
+            for question in (f"best {'(' * 64}high(x{sums}){')' * 64}", f"best {'(' * 40}high({nested}){')' * 40}", f"best {'(high(x) & ' * 63}high(x){')' * 63}"):
+                with self.subTest(question[:40]), frame.query("best low(x)"):      # beside which no answer is kept
+                    self.assertEqual(beneath(400, lambda: frame.best(question).ids), [2])
+
     def test_a_number_beside_floats_where_decimals_may_not_be_made_of_floats(self):
         with prefq.Frame.from_records([{"f": 0.5}, {"f": 0.1}]) as frame, decimal.localcontext() as context:
             context.traps[decimal.FloatOperation] = True

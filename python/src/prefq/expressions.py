@@ -117,6 +117,8 @@ def columns_of(node: Node) -> Iterator[Column]:
 class FrameReader(Reader):
     """Reads a question of a frame from the left."""
 
+    signs = ("|", *Reader.signs)
+
     def __init__(self, question: str, column: Callable[[str], Optional[Column]], names: Sequence[str], make: Make) -> None:
         super().__init__(question, column, names)
         self._make = make
@@ -136,9 +138,6 @@ class FrameReader(Reader):
             self._unexpected("and, or, a comparison or the end")
         self._check_named(node, 0)
         return node
-
-    def _prior(self) -> Term:
-        return product("|", self._several(super()._prior, lambda: self._takes_strange("|")))
 
     def _base(self) -> Base:
         token = self._next

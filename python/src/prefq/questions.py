@@ -155,6 +155,9 @@ def value_of(column: Column) -> str:
 class Reader:
     """Reads a question from the left."""
 
+    # The signs between terms, of which a later one holds more tightly.
+    signs: Tuple[str, ...] = ("&", "*")
+
     def __init__(self, question: str, column: Callable[[str], Optional[Column]], names: Sequence[str]) -> None:
         self._question, self._column, self._names = question, column, names
         self._tokens = tokens_of(question)
@@ -260,10 +263,19 @@ class Reader:
         return column
 
     def _prior(self) -> Term:
-        return self._product("&", lambda: self._product("*", self._unary))
-
-    def _product(self, sign: str, part: Callable[[], Term], kind: str = "sign") -> Term:
-        return product(sign, self._several(part, lambda: self._takes(sign, kind)))
+        """Terms with signs between them. Only what stands in parentheses is read by a further call: the caller may be near to the depth that Python has."""
+        parts: Dict[str, List[Term]] = {sign: [] for sign in self.signs}       # those that were read of the product that has this sign
+        while True:
+            term, token = self._unary(), self._next
+            goes_on = token.kind in ("sign", "strange") and token.text in self.signs
+            self._at += goes_on
+            for sign in reversed(self.signs):
+                parts[sign].append(term)
+                if goes_on and sign == token.text:
+                    break
+                term, parts[sign] = product(sign, parts[sign]), []
+            else:
+                return term
 
     def _unary(self) -> Term:
         token = self._next
