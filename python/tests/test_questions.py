@@ -175,6 +175,16 @@ class Refusals(TestCase):
         with self.refuses(prefq.Refused, "more than 64 nestings", kind="term", number=4, place=deeper.encode().index(b"around")):
             self.frame.best(deeper)
 
+    def test_a_question_that_is_too_long_with_the_numbers_of_its_values_says_so(self):
+        """It has 1,700 bytes itself. What is said instead is answered."""
+        values = ", ".join(f"0.{number:03}" for number in range(1, 240))
+        question = f"best low(y) & pos(x, {values})"
+        with prefq.Frame.from_records([{"x": 5, "y": 1}, {"x": Decimal("0.2"), "y": 1}], kinds={"x": "decimal(18)"}) as frame:
+            with self.refuses(prefq.Refused, "too long, 4,694 bytes with the numbers", "true(x in (..))): a question has at most 4096 bytes", kind="term", number=5,
+                              place=question.index("pos(")):
+                frame.best(question)
+            self.assertEqual(frame.best(f"best low(y) & true(x in ({values}))").ids, [2])
+
     def test_the_caret_below_wide_signs(self):
         """They take two places on a terminal, and signs that stand above others none."""
         for before, blanks in [("best low(x) * ", 14), ("best pos(City, '東京') * ", 25), ("best pos(City, 'e\u0301') * ", 22), ("best\tpos(City, '東') * ", 23)]:

@@ -14,6 +14,7 @@ import math
 from contextlib import contextmanager
 from dataclasses import dataclass
 from fractions import Fraction
+from itertools import accumulate
 from typing import Dict, Iterable, Iterator, List, NamedTuple, Optional, Sequence, Tuple
 
 from .checks import LEAST, MOST
@@ -70,14 +71,14 @@ class Plan:
         """The table's refusal of the text below, at its place in the user's question."""
         if why.kind != "term":
             return why
-        place, length = 0, 0
-        for piece in self.pieces:
-            length += len(piece.text)
-            if why.place is None or length > why.place:
-                place = piece.place
-                break
-        at = None if why.place is None else len(self.question[:place].encode(errors="replace"))
-        return Refused(str(why.args[0]).split(" at ")[0], "term", why.number, at, self.question)
+        if why.place is None:       # It is too long, though the user's question may be short.
+            message = f"too long, {len(self.text):,} bytes with the numbers that its values are in a table (many values are short as true(x in (..)))"
+            piece = max(self.pieces, key=lambda piece: len(piece.text))
+        else:
+            message = str(why.args[0]).split(" at ")[0]
+            ends = accumulate(len(piece.text) for piece in self.pieces)
+            piece = next((piece for piece, end in zip(self.pieces, ends) if end > why.place), self.pieces[0])
+        return Refused(message, "term", why.number, len(self.question[:piece.place].encode(errors="replace")), self.question)
 
 
 def bases_of(term: Term) -> List[Base]:
