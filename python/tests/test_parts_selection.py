@@ -211,6 +211,23 @@ class DataFrames(TestCase):
         some = [pandas.DataFrame({"x": [1], "n": [True]}), pandas.DataFrame({"x": [1], "n": [float("nan")]})]
         self.assertEqual([row.n for row in best(some, "best low(x)")], [True, None])
 
+    def test_a_column_without_a_value_has_the_kind_of_its_type(self):
+        """As in a frame: it was one of texts, whatever the type, so that its order was refused. Beside values it has their kind."""
+        gaps = {"t": pandas.to_datetime([None, None]), "f": [float("nan")] * 2, "b": pandas.array([None, None], dtype="boolean"), "i": pandas.array([None, None], dtype="Int64"),
+                "c": pandas.Categorical([None, None], ["S", "M"], ordered=True)}
+        frame, none = pandas.DataFrame({**gaps, "o": [None, None]}), pandas.DataFrame({name: [None] for name in [*gaps, "o"]})
+        for name in gaps:
+            for parts_of_it in ([frame, frame], [none, frame], [frame.iloc[:0], none, frame]):
+                with self.subTest(name):
+                    self.assertEqual(best(parts_of_it, f"top_level 2 low({name})").ids, list(range(1, sum(map(len, parts_of_it)) + 1)))
+            self.assertEqual(pairs(best([frame, pandas.DataFrame({other: [datetime.date(2026, 5, 1)] for other in none})], f"top_level 2 low({name})")), [(1, 3), (2, 1), (2, 2)])
+        for question in ("best low(o)", "best low(t + 1)"):
+            with self.subTest(question):
+                with self.assertRaises(prefq.Refused) as of_a_frame, prefq.Frame.from_dataframe(frame) as opened:
+                    opened.best(question)
+                with self.refuses(prefq.Refused, str(of_a_frame.exception)):
+                    best([frame, frame], question)
+
     def test_rows_of_several_types_in_one_dataframe(self):
         """As psel of a DataFrame of Dask puts them together."""
         some = [FrameRows(pandas.DataFrame({"x": [1], "n": [2**53 + 1], "f": [0.5]})), FrameRows(pandas.DataFrame({"x": [1], "n": [0.5], "f": [1.5]}))]

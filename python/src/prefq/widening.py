@@ -16,10 +16,14 @@ from .missing import WORDS, folded
 
 
 class Nothing(Kind):
-    """The kind of a column in whose part each value is missing. Any term may be asked of it, and it goes together with each other kind."""
+    """The kind of a column in whose part each value is missing. Any term may be asked of it, and it goes together with each other kind. Where no part has a value, the
+    column has the kind `of` which its type is in a DataFrame, if it has such a type."""
 
     name = "nothing"
     takes_words = True
+
+    def __init__(self, of: Optional[Kind] = None) -> None:
+        self.of = of
 
     def read(self, text: str) -> int:
         raise NotRead(f"{text!r} is in a column without values")
@@ -54,7 +58,7 @@ class Segment(NamedTuple):
         found = numbers if isinstance(numbers, array) else array("q", numbers)
         kind = column.kind
         if not is_given and found.count(LEAST) == len(found):
-            kind = Nothing()
+            kind = Nothing(None if isinstance(kind, Texts) else kind)
         elif has_words and not is_given and isinstance(kind, Texts) and all(folded(text) in WORDS for text in kind.texts):
             kind = Undecided(kind.texts)
         own = column.of_kind(kind)
@@ -88,11 +92,11 @@ class Segment(NamedTuple):
 
 
 def as_in_a_frame(segment: Segment) -> Segment:
-    """A column of whose rows none has a value, or a word that may be one, is one of texts, as in a frame."""
+    """A column of whose rows none has a value, or a word that may be one, is one of texts, as in a frame, where no type says what it is."""
     kind = segment.column.kind
-    if not isinstance(kind, (Nothing, Undecided)):
-        return segment
-    return segment._replace(column=segment.column.of_kind(Texts(kind.texts if isinstance(kind, Undecided) else ())))
+    if isinstance(kind, Nothing):
+        return segment._replace(column=segment.column.of_kind(kind.of or Texts()))
+    return segment._replace(column=segment.column.of_kind(Texts(kind.texts))) if isinstance(kind, Undecided) else segment
 
 
 def joined(segments: Sequence[Segment]) -> Segment:
@@ -105,7 +109,8 @@ def joined(segments: Sequence[Segment]) -> Segment:
     """
     with_values = [segment for segment in segments if not isinstance(segment.column.kind, (Nothing, Undecided))]
     with_words = [segment for segment in segments if isinstance(segment.column.kind, Undecided)]
-    widest = reduce(_wider, with_values or with_words[:1] or segments[:1])
+    with_types = [segment for segment in segments if isinstance(segment.column.kind, Nothing) and segment.column.kind.of]
+    widest = reduce(_wider, with_values or with_words[:1] or with_types[:1] or segments[:1])
     kind = type(widest.column.kind)() if isinstance(widest.column.kind, Texts) else widest.column.kind
     column = widest.column.of_kind(kind)
     numbers = array("q")
