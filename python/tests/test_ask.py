@@ -140,6 +140,8 @@ class Asks(TestCase):
         self.refused(ask("best low(Prise)"), "no column 'Prise'; did you mean Price?", "    best low(Prise)\n             ^")
         self.refused(ask("low(Price)"), "write best low(Price)")
         self.refused(ask("best low(City)"), "has texts")
+        self.refused(ask("best low(Price) limit 5"), "there is --top 5 beside the question for just so many")
+        self.refused(ask("best low(Price) where Price > 5"), "a condition stands beside the question, as --where \"x > 5\", or inside of it as true(x > 5)")
         self.refused(ask("best low(Price)", "--kind", "Prize=text"), "no column 'Prize'")
         self.refused(ask("best low(Price)", "--kind", "Price"), "write COLUMN=KIND")
         self.refused(ask("best low(Price)", "--kind", "Price=number"), "no kind 'number'")

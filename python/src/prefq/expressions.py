@@ -11,7 +11,7 @@ from dataclasses import dataclass, replace
 from typing import Callable, Dict, Iterator, List, Optional, Sequence, Tuple, Union
 
 from .columns import Column, quoted
-from .hints import nearest, unknown_column
+from .hints import IN_EXPRESSIONS, OF_FRAMES, unknown_column
 from .kinds.booleans import WORDS
 from .questions import DEEPEST, TOO_DEEP, UNKNOWN_COLUMN, Base, Converse, Mode, Question, Reader, Term, Token, product, refuse
 
@@ -118,6 +118,7 @@ class FrameReader(Reader):
     """Reads a question of a frame from the left."""
 
     signs = ("|", *Reader.signs)
+    hints = OF_FRAMES
 
     def __init__(self, question: str, column: Callable[[str], Optional[Column]], names: Sequence[str], make: Make) -> None:
         super().__init__(question, column, names)
@@ -133,6 +134,7 @@ class FrameReader(Reader):
 
     def condition(self) -> Node:
         """The text as a whole as one condition."""
+        self.hints = IN_EXPRESSIONS
         node = self._or()
         if self._next.kind != "end":
             self._unexpected("and, or, a comparison or the end")
@@ -148,12 +150,15 @@ class FrameReader(Reader):
             self._need("(")
             self._need(")")
             return Base("empty", NO_COLUMN, (), token.place)
-        return super()._base()
+        found = super()._base()
+        self.hints = OF_FRAMES
+        return found
 
     def _true(self, token: Token) -> Base:
         self._need("(")
         column = self._expression()
         self._need(")")
+        self.hints = OF_FRAMES
         return Base("true", column, (), token.place)
 
     def _of_a_column(self, empty: Base, by: Sequence[Column]) -> Base:
@@ -179,6 +184,7 @@ class FrameReader(Reader):
 
     def _expression(self) -> Column:
         first = self._next
+        self.hints = IN_EXPRESSIONS
         node = self._or()
         last = self._tokens[self._at - 1]
         self._check_named(node, first.place)
@@ -277,9 +283,10 @@ class FrameReader(Reader):
             return Literal("truth", self._take().text, token.place)
         if not token.is_name():
             self._unexpected(AN_OPERAND)
-        if self._column(token.text) is None and nearest(token.text, self._names) is None:
-            instead = "Write is missing" if token.text.lower() in WORDS_OF_MISSING else f"A text stands in single quotes, {quoted(token.text)}"
-            refuse(self._question, token.place, f"{unknown_column(token.text, self._names)}. {instead}", UNKNOWN_COLUMN)
+        if self._column(token.text) is None:
+            instead = "Write is missing" if token.text.lower() in (*WORDS_OF_MISSING, "nan") else f"A text stands in single quotes, {quoted(token.text)}"
+            said = unknown_column(token.text, self._names)
+            refuse(self._question, token.place, f"{said}{'.' * (said[-1] != '?')} {instead}", UNKNOWN_COLUMN)
         return Named(self._name(), token.place)
 
     def _call(self) -> Node:

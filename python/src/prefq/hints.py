@@ -1,7 +1,7 @@
 """What a refusal says beside what is wrong: the nearest name, and how this language writes what another one does."""
 import re
 from difflib import SequenceMatcher
-from typing import Iterable, Optional, Sequence
+from typing import Iterable, Mapping, Optional, Sequence
 
 from .columns import listed, spelled
 
@@ -36,6 +36,28 @@ SIGNS = {
     "/": "a question has no arithmetic: add a column with the quotient",
     "+": "a question has no arithmetic: add a column with the sum",
     ";": "a question is one term: write * or & between two",
+}
+# What a question of a frame has beside the program's language, where it stands in the wrong place.
+OF_FRAMES = {
+    "+": "a sum stands in the place of a column, as in low(x + y)",
+    "/": "a quotient stands in the place of a column, as in low(x / y)",
+    "true": "write true(x > 5)",
+    "empty": "write empty()",
+    "where": "a condition stands beside the question as where=.., or inside of it as true(x > 5)",
+}
+# What other languages write in a condition or an expression.
+IN_EXPRESSIONS = {
+    "&": "write and",
+    "|": "write or",
+    ";": "write and between two conditions",
+    ",": "a number has no commas, and between two conditions stands and",
+    "[": "values stand in parentheses, as in (1, 2)",
+    "+": "a number has no + in front",
+    ".": "a number has digits on both sides of its point",
+    "like": "there are no patterns: write = or in (..)",
+    "between": "write 1 <= x <= 5",
+    "!": "write not",
+    **dict.fromkeys("=<>", "there are =, <>, <, <=, > and >="),
 }
 # In the place of a ) behind the name of a column.
 ARITHMETIC = {
@@ -104,8 +126,10 @@ def hint_for_mode(question: str, kind: str, text: str, names: Sequence[str]) -> 
     return f"; did you mean {near}?" if near else ""
 
 
-def hint_for(kind: str, text: str, could: str, names: Sequence[str]) -> str:
-    """What is said of a token that cannot stand where it stands, beside what could."""
+def hint_for(kind: str, text: str, could: str, names: Sequence[str], further: Mapping[str, str]) -> str:
+    """What is said of a token that cannot stand where it stands, beside what could; `further` hints come first."""
+    if kind in ("word", "sign", "strange") and text.lower() in further and not (text in BETWEEN_TERMS and could.startswith("*")):
+        return further[text.lower()]
     if kind in ("word", "name") and could.startswith("low(..)"):
         return _in_place_of_a_term(text, names)
     if (kind, text) == ("sign", ",") and could.startswith("*"):

@@ -6,7 +6,7 @@ false, or a text in quotes. Whatever is wrong is refused at its place, with what
 import re
 from contextlib import suppress
 from dataclasses import dataclass
-from typing import Callable, Dict, List, NamedTuple, NoReturn, Optional, Sequence, Tuple, TypeVar, Union
+from typing import Callable, Dict, List, Mapping, NamedTuple, NoReturn, Optional, Sequence, Tuple, TypeVar, Union
 
 from .columns import Column, quoted
 from .errors import Refused
@@ -157,6 +157,8 @@ class Reader:
 
     # The signs between terms, of which a later one holds more tightly.
     signs: Tuple[str, ...] = ("&", "*")
+    # Hints beside those of the program's language, by what is written.
+    hints: Mapping[str, str] = {}
 
     def __init__(self, question: str, column: Callable[[str], Optional[Column]], names: Sequence[str]) -> None:
         self._question, self._column, self._names = question, column, names
@@ -210,7 +212,7 @@ class Reader:
         if token.kind == "strange" and token.text in "\"'`":
             refuse(self._question, token.place, f"the quote {token.text} is not closed")
         found = "the question breaks off" if token.kind == "end" else f"unexpected {self._question[token.place:token.place + token.length]}"
-        hint = hint or hint_for(token.kind, token.text, could, self._names)
+        hint = hint or hint_for(token.kind, token.text, could, self._names, self.hints)
         refuse(self._question, token.place, f"{found}{': ' * bool(hint)}{hint}. Here could stand {could}")
 
     def _need(self, sign: str) -> None:
