@@ -94,6 +94,17 @@ class Prior:
         return next((found for found in (part.compare(a, b, turned) for part in self.parts) if found != SAME), SAME)
 
 
+class Both:
+    """`|`: a row is better where it is better by each of the parts."""
+
+    def __init__(self, text, parts):
+        self.text, self.parts = text, parts
+
+    def compare(self, a, b, turned=False):
+        found = {part.compare(a, b, turned) for part in self.parts}
+        return found.pop() if len(found) == 1 else NEITHER
+
+
 class Converse:
     def __init__(self, text, part):
         self.text, self.part = text, part

@@ -167,17 +167,6 @@ class Why(TestCase):
         self.assertEqual(found, [number for number in range(15_000) if number % 7 <= 15_000 % 7 and -number % 5 >= -15_000 % 5])
 
 
-class Both:
-    """A row is better where it is better by each of the parts."""
-
-    def __init__(self, text, parts):
-        self.text, self.parts = text, parts
-
-    def compare(self, a, b, turned=False):
-        found = {part.compare(a, b, turned) for part in self.parts}
-        return found.pop() if len(found) == 1 else plain.NEITHER
-
-
 class Random(TestCase):
     def weak(self, chance, questions):
         """A term by which any two rows can be compared."""
@@ -187,7 +176,7 @@ class Random(TestCase):
 
     def intersection(self, chance, questions):
         parts = [self.weak(chance, questions) for _ in range(chance.randrange(2, 4))]
-        both = Both(" | ".join(f"({part.text})" for part in parts), parts)
+        both = plain.Both(" | ".join(f"({part.text})" for part in parts), parts)
         if chance.random() < 0.3:
             both = plain.Converse(f"-({both.text})", both)
         if chance.random() < 0.5:

@@ -6,9 +6,8 @@ from fractions import Fraction
 from pathlib import Path
 
 import prefq
-from plain import Ask, Between, Converse, High, Layered, Low, Pareto, Prior, first
+from plain import Ask, Between, Both, Converse, High, Layered, Low, Pareto, Prior, first
 from support import TestCase
-from test_hasse import Both
 
 HERE = Path(__file__).resolve().parent
 CARS = HERE / "data/mtcars.csv"
