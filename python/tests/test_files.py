@@ -292,6 +292,13 @@ class Files(TestCase):
                 self.assertEqual(frame.names, names)
                 self.assertEqual(len(frame), text.count("\n") - 1 - text.count("sep=") - text.count("two"))
 
+    def test_the_delimiter_behind_many_lines_that_are_skipped(self):
+        """Only the first 64 KB were looked at, and where the names stood behind them the delimiter was taken for a comma."""
+        before = "# a line of the instrument\n" * 5000
+        for text in ("a;b\n1,5;2\n", "sep=;\na;b\n1,5;2\n"):
+            with self.subTest(text=text), from_text(before + text, skip=5000, decimal=",") as frame:
+                self.assertEqual(frame.rows(), [{"a": Decimal("1.5"), "b": 2}])
+
     def test_a_line_that_names_no_delimiter(self):
         """It is the one with the names. The end of the line was taken for the delimiter, and each row for one cell."""
         for line in ("sep=\r\n", 'sep="\n', "sep=\r"):

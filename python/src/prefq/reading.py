@@ -18,8 +18,8 @@ from .errors import Refused
 DELIMITERS = ",;\t|"
 # Letters that are read at a time, beside the rest of a line: as many as keep their cells near the processor.
 CHUNK = 65_536
-# What is looked at to find the delimiter, and whether a file is text at all.
-SAMPLE_BYTES = 65_536
+# How many letters are looked at to find the delimiter, and how many bytes to see whether a file is text at all.
+SAMPLE = 65_536
 SAMPLE_ROWS = 50
 # A first line with the names of many columns is shorter.
 LONGEST_HEAD = 2**24
@@ -204,8 +204,7 @@ class Cells:
             try:
                 if stream.read(1) != MARK:      # which an encoding that is given, or the text of an open file, may have left
                     stream.seek(0)
-                for _ in range(self._before):
-                    next(stream, None)
+                deque(islice(stream, self._before), maxlen=0)
                 yield stream
             except UnicodeError:
                 self.refuse_encoding()
@@ -252,16 +251,14 @@ class Cells:
             yield row
 
     def _find_delimiter(self) -> str:
-        """Takes the line `sep=;` that Excel reads, and the lines that are skipped; the delimiter that is given, or that the first rows show."""
-        with self._content.open() as file:
-            sample = file.read(SAMPLE_BYTES)
-        text = sample.decode(self._content.encoding, errors="ignore").lstrip(MARK)
-        lines = io.StringIO(text, newline="").readlines()[self._before:]
+        """Takes the line `sep=;` that Excel reads; the delimiter that is given, or that the first rows show behind the lines that are skipped."""
+        with self._stream() as stream:
+            text = stream.read(SAMPLE)
+        lines = io.StringIO(text, newline="").readlines()
         said = SEPARATOR_LINE.fullmatch(lines[0]) if lines else None
         if said:
             self._before += 1
-            lines = lines[1:]
-        return self._dialect.delimiter or (said["sign"] if said else delimiter_of(lines, is_cut=len(sample) == SAMPLE_BYTES))
+        return self._dialect.delimiter or (said["sign"] if said else delimiter_of(lines, is_cut=len(text) == SAMPLE))
 
     def _read_names(self) -> List[str]:
         with self._stream() as stream, self._reader(stream) as reader:
@@ -322,7 +319,7 @@ def rows_of(reader: Any, most: int) -> List[List[str]]:
 def content_of(file: IO[Any], what: str, dialect: Dialect, path: Union[str, "os.PathLike[str]", None] = None) -> Content:
     """What an open file holds, which may be one of text. What is no text is refused before all of it is read. A file that has a path is not kept in memory."""
     try:
-        first = file.read(SAMPLE_BYTES)
+        first = file.read(SAMPLE)
         if isinstance(first, str):
             # A text of Python may have halves of characters, which UTF-8 does not write.
             return Content((first + file.read()).encode("utf-8", "surrogatepass"), "utf-8", "surrogatepass")
@@ -331,7 +328,7 @@ def content_of(file: IO[Any], what: str, dialect: Dialect, path: Union[str, "os.
             first = unpacked(first + file.read(), what)
         encoding = dialect.encoding or encoding_of(first)
         check_text(first, encoding, what)
-        if len(first) == SAMPLE_BYTES and not END_OF_LINE.search(first):
+        if len(first) == SAMPLE and not END_OF_LINE.search(first):
             first += file.read(LONGEST_HEAD)
             if not END_OF_LINE.search(first) and len(first) > LONGEST_HEAD:
                 raise Refused(f"{what} is no table: its first line does not end within {len(first)} bytes", "table")
@@ -361,7 +358,7 @@ def state_of(file: IO[bytes]) -> Tuple[int, ...]:
 
 def check_text(first: bytes, encoding: str, what: str) -> None:
     """Refuses what begins as no text does."""
-    if b"\0" in first[:SAMPLE_BYTES] and "16" not in encoding and "32" not in encoding:
+    if b"\0" in first[:SAMPLE] and "16" not in encoding and "32" not in encoding:
         raise Refused(f"{what} is no text: its byte {first.index(0)} is 0", "table")
 
 
