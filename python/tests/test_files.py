@@ -340,6 +340,15 @@ class Files(TestCase):
                     self.reads(text.encode().replace(b"2", b"no"), kinds={"b": "bool"}, **options)
         self.assertEqual(run("ask", "-", "best low(b)", "--csv", text="\n\na,b\n1,2\n3,1\n").stdout, "level,id,a,b\n1,2,3,1\n")
 
+    def test_a_line_of_blanks_is_no_row_in_a_file_of_one_column(self):
+        """It was a row without a value there, which nobody sees who looks at the file."""
+        for text, values in [("x\n5\n  \n7\n\t", [5, 7]), ("x\n  \n", []), ('x\n5\n""\n7\n', [5, None, 7]), ("x\n \nLyon\n\n  Bern \n", ["Lyon", "  Bern "]),
+                             ("x,\n5,\n ,\n,\n \n", [5, None, None])]:
+            with self.subTest(text=text):
+                self.assertEqual([row["x"] for row in self.reads(text.encode())], values)
+        with self.refuses(ValueError, "line 4, column 'x' (bool): '5'"):
+            self.reads(b"x\n \nyes\n5\n", kinds={"x": "bool"})
+
     def test_long_cells(self):
         long = "a" * 200_000
         self.assertEqual(self.reads(f"{long},x\n{long},1\n".encode()), [{long: long, "x": 1}])

@@ -172,7 +172,7 @@ class Cells:
         lines = list(io.StringIO(text, newline=""))
         with self._reader(chain(lines, further), passed) as reader:
             found = rows_of(reader, len(lines))
-        if set(map(len, found)) != {width}:
+        if set(map(len, found)) != {width} or width == 1:       # where a line of blanks has as many cells
             found = list(self._squared(found, first))
         return Chunk(first, len(found), width, list(chain.from_iterable(found))), reader.line_num
 
@@ -184,7 +184,7 @@ class Cells:
         """The line in which a row ends, for what is said of it."""
         with self._stream() as stream, self._reader(stream) as reader:
             self._names_in(reader)
-            places = (reader.line_num for cells in reader if not self._is_empty(cells))
+            places = (reader.line_num for cells in reader if not is_empty_line(cells))
             return self._before + next(islice(places, row, None), 0)
 
     def check_columns(self, names: Sequence[str]) -> None:
@@ -219,10 +219,6 @@ class Cells:
         except csv.Error as why:
             raise Refused(f"{self.what}, line {self._before + passed + reader.line_num}: {why}", "table") from None
 
-    def _is_empty(self, row: Sequence[str]) -> bool:
-        """Whether a line holds no row: there is nothing in it, or nothing but blanks where there are several columns."""
-        return not row or len(row) == 1 < len(self.names) and row[0].isspace()
-
     def refuse_encoding(self) -> NoReturn:
         encoding = self._content.encoding
         try:
@@ -234,14 +230,14 @@ class Cells:
         raise Refused(f"{self.what} is not {encoding.replace('-sig', '')} (byte {place}): give its encoding, such as encoding='cp1252'", "table") from None
 
     def _squared(self, rows: List[List[str]], first: int) -> Iterator[List[str]]:
-        """The rows with a cell for each name: rows without any text are left out, as are empty cells beyond the names; a short row is filled up or refused."""
+        """The rows with a cell for each name: empty lines are left out, as are empty cells beyond the names; a short row is filled up or refused."""
         width = len(self.names)
         taken = 0
         for row in rows:
+            if is_empty_line(row):
+                continue
             if len(row) > width and all(map(is_blank, row[width:])):
                 row = row[:width]
-            if self._is_empty(row):
-                continue
             if len(row) < width and self._dialect.null_padding:
                 row = row + [""] * (width - len(row))
             if len(row) != width:
