@@ -61,7 +61,7 @@ class Cells(TestCase):
                 table.insert(row)
 
     def test_no_row(self):
-        for row in ({"price": 1, "dist": 2}, "50,8", b"ab", {1, 2}, 7, None):
+        for row in ({"price": 1, "dist": 2}, "50,8", b"ab", bytearray(b"ab"), memoryview(b"ab"), {1, 2}, 7, None):
             with hotels() as table:
                 for call in (lambda: table.insert(row), lambda: table.insert_many([[1, 2], row]), lambda: table.update(1, row), lambda: table.commit(("insert", row))):
                     with self.refuses(TypeError, "not a list of the values of price, dist"):

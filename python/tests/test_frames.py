@@ -56,7 +56,7 @@ class Records(TestCase):
 
     def test_bytes_are_no_list_of_values(self):
         with prefq.Frame.empty(["x", "y"], {"x": "whole", "y": "whole"}) as frame:
-            for record in (b"12", bytearray(b"12")):
+            for record in (b"12", bytearray(b"12"), memoryview(b"12")):
                 with self.refuses(TypeError, f"a record is a mapping or a list of values, not {record!r}"):
                     frame.insert(record)
 

@@ -14,6 +14,7 @@ import subprocess
 import sys
 import tempfile
 import unittest
+from collections import namedtuple
 from concurrent.futures import ProcessPoolExecutor
 from concurrent.futures.process import BrokenProcessPool
 from decimal import Decimal
@@ -299,7 +300,12 @@ class Limits(TestCase):
                 (lambda _, row: row[0], "SELECT 'ab' AS x, 5 AS y", TypeError, "row 1 of the query is 'ab': not the values of x, y"),
                 (lambda _, row: row[0], "SELECT 5 AS x", TypeError, "row 1 of the query is 5: not the values of x"),
                 (lambda _, row: row[:row[0]], "SELECT 2 AS x, 7 AS y UNION ALL SELECT 1, 7", ValueError, "row 2 of the query has 1 values: not 2, those of x, y"),
-                (lambda _, row: (*row, 9), "SELECT 5 AS x", ValueError, "row 1 of the query has 2 values: not 1, those of x")]:
+                (lambda _, row: (*row, 9), "SELECT 5 AS x", ValueError, "row 1 of the query has 2 values: not 1, those of x"),
+                (lambda _, row: bytearray(row[0]), "SELECT x'3830' AS x, 5 AS y", TypeError, "row 1 of the query is bytearray(b'80'): not the values of x, y"),
+                (lambda _, row: memoryview(row[0]), "SELECT x'3830' AS x, 5 AS y", TypeError, "row 1 of the query is <memory"),
+                (lambda _, row: set(row), "SELECT 7 AS x, 5 AS y", TypeError, "not the values of x, y"),
+                (lambda _, row: {"X": row[0]}, "SELECT 7 AS x", TypeError, "row 1 of the query is {'X': 7}: not the values of x"),
+                (lambda _, row: {"x": row[0], "y": 1}, "SELECT 7 AS x", TypeError, "row 1 of the query is {'x': 7, 'y': 1}: not the values of x")]:
             database.row_factory = factory
             for ask in (prefq.Frame.from_sql, lambda cursor: prefq.psel(cursor, "empty()")):
                 with self.subTest(query=query), self.refuses(error, says):
@@ -307,6 +313,17 @@ class Limits(TestCase):
         database.row_factory = lambda cursor, row: dict(zip([name for name, *_ in cursor.description], row))
         with prefq.Frame.from_sql(database.execute("SELECT 'Lyon' AS city, 5 AS x")) as frame:
             self.assertEqual([dict(row) for row in frame.rows()], [{"city": "Lyon", "x": 5}])
+        database.close()
+
+    def test_named_tuples_whose_names_stand_in_another_order(self):
+        """A value of one column stood in the other. By the place are those of other names, as drivers write `price eur` as price_eur."""
+        database = sqlite3.connect(":memory:")
+        turned, renamed = namedtuple("turned", "price city"), namedtuple("renamed", "city price_eur")
+        for factory in (lambda _, row: turned(city=row[0], price=row[1]), lambda _, row: renamed(*row)):
+            database.row_factory = factory
+            for ask in (lambda cursor: prefq.Frame.from_sql(cursor).rows(), lambda cursor: prefq.psel(cursor, "empty()"),
+                        lambda cursor: best([Partition(["city", "price"], cursor.fetchall())], "best empty()")):
+                self.assertEqual([dict(row) for row in ask(database.execute("SELECT 'Lyon' AS city, 60 AS price"))], [{"city": "Lyon", "price": 60}])
         database.close()
 
 

@@ -266,6 +266,13 @@ class Refusals(unittest.TestCase):
             with self.subTest(rows=rows), self.assertRaises(TypeError):
                 best([Partition(["a"], rows)], "best low(a)")
 
+    def test_a_line_in_any_bytes(self):
+        """Those of a bytearray are no numbers."""
+        for row in ("8,0", b"8,0", bytearray(b"8,0"), memoryview(b"8,0")):
+            self.assertEqual([tuple(found.values()) for found in best([Partition(["a", "b"], [row])], "best low(a)")], [(8, 0)])
+        with self.assertRaises(ValueError):
+            best([Partition(["a", "b"], [bytearray(b"80")])], "best low(a)")
+
     def test_rows_that_are_none(self):
         for rows in ([5], [{"a": 1, "b": 2}], [{1, 2}], [None]):
             with self.subTest(rows=rows), self.assertRaises(TypeError):

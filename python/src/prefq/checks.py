@@ -12,6 +12,8 @@ MOST_IDS = 2**64 - 1
 MOST_ROWS = 65_536
 MOST_COLUMNS = 16
 LONGEST_LINE = 1_000_000
+# What is gone through by its letters or its bytes, and is no list of values.
+NO_LISTS = (str, bytes, bytearray, memoryview)
 UNSENDABLE = re.compile("[\r\n\ud800-\udfff]")
 NAME = re.compile(r"[A-Za-z][A-Za-z0-9_.]{0,31}")
 
@@ -33,7 +35,7 @@ def whole(value: Any, what: str, least: int, most: int) -> int:
 def check_rows(rows: Any, what: str = "rows") -> None:
     """Refuses what is gone through by its names or its columns and not by its rows, as a mapping and a DataFrame are."""
     is_frame = hasattr(rows, "itertuples") or hasattr(rows, "to_dicts")     # of pandas, of Polars
-    if isinstance(rows, (str, bytes, Mapping)) or is_frame or not isinstance(rows, Iterable):
+    if isinstance(rows, (*NO_LISTS, Mapping)) or is_frame or not isinstance(rows, Iterable):
         raise TypeError(f"{what} is of type {type(rows).__name__}: not a list of {what}")
 
 

@@ -1,12 +1,13 @@
 """Rows of a database, by the cursor of a query that was executed, as Python's DB-API has it."""
-from collections.abc import Iterable, Mapping
+from collections.abc import Iterable, Mapping, Set
 from typing import Any, Iterator, List, Sequence, Tuple
 
-from .checks import MOST_ROWS
+from .checks import MOST_ROWS, NO_LISTS
 from .errors import Refused
 from .partition import Numbered, Partition
 from .parts import MERGED, Found, Job, merged
 from .reading import check_names
+from .records import in_order
 
 
 def is_cursor(source: Any) -> bool:
@@ -31,11 +32,10 @@ def fetched(cursor: Any, names: Sequence[str]) -> Iterator[List[Sequence[Any]]]:
 
 def _values_of(row: Any, names: Sequence[str], number: int) -> Sequence[Any]:
     """The values of a row. A connection may have rows made into other things, as into the first value alone, and a text is no list of its letters."""
-    if isinstance(row, Mapping):
-        return [row[name] for name in names]
-    if isinstance(row, (str, bytes)) or not isinstance(row, Iterable):
+    found = [row[name] for name in names] if isinstance(row, Mapping) and set(row) == set(names) else in_order(row, names)
+    if isinstance(found, (*NO_LISTS, Mapping, Set)) or not isinstance(found, Iterable):
         raise TypeError(f"row {number} of the query is {row!r}: not the values of {', '.join(names)}")
-    values = tuple(row)
+    values = tuple(found)
     if len(values) != len(names):
         raise ValueError(f"row {number} of the query has {len(values)} values: not {len(names)}, those of {', '.join(names)}")
     return values

@@ -4,11 +4,12 @@ import re
 from dataclasses import dataclass, field
 from typing import Any, Iterable, Iterator, List, Mapping, Optional, Sequence, Tuple, Union
 
-from .checks import check_rows
+from .checks import NO_LISTS, check_rows
 from .kinds.forms import PLAIN, Form
 from .missing import words_given
 from .options import check_options
 from .reading import Dialect
+from .records import in_order
 from .rows import listed_array
 
 CELLS = re.compile(r"[ \t]*[-+]?[0-9]+[ \t]*(?:,[ \t]*[-+]?[0-9]+[ \t]*)*")
@@ -101,7 +102,7 @@ def values_of_rows(partition: Partition) -> Iterator[Sequence[Any]]:
     check_rows(partition.rows)
     width = len(partition.columns)
     for number, row in enumerate(partition.rows, 1):
-        values = _numbers(number, row) if isinstance(row, (str, bytes)) else row
+        values = _numbers(number, row) if isinstance(row, NO_LISTS) else in_order(row, partition.columns)
         if not isinstance(values, Sequence):
             if not hasattr(values, "tolist"):
                 raise TypeError(f"row {number} is {row!r}, of type {type(row).__name__}: not a list of values")
@@ -111,9 +112,9 @@ def values_of_rows(partition: Partition) -> Iterator[Sequence[Any]]:
         yield values
 
 
-def _numbers(number: int, row: Union[str, bytes]) -> List[int]:
+def _numbers(number: int, row: Union[str, bytes, bytearray, memoryview]) -> List[int]:
     """The whole numbers of a line of text."""
-    text = row.decode(errors="replace") if isinstance(row, bytes) else row
+    text = row if isinstance(row, str) else bytes(row).decode(errors="replace")
     if not CELLS.fullmatch(text):
         raise TypeError(f"row {number} is {row!r}: not whole numbers with commas between them")
     return list(map(int, text.split(",")))

@@ -3,6 +3,7 @@ import dataclasses
 from collections.abc import Mapping, Sequence
 from typing import Any, Dict, List, Optional, Tuple
 
+from .checks import NO_LISTS
 from .columns import Column
 from .errors import Refused
 from .hints import unknown_column
@@ -69,6 +70,12 @@ def mapping_of(record: Any) -> Optional[Dict[str, Any]]:
     return None
 
 
+def in_order(row: Any, names: Sequence[str]) -> Any:
+    """The values of a named tuple in the order of these names, where it has just these; another row as it is."""
+    found = row._asdict() if isinstance(row, tuple) and hasattr(row, "_asdict") else {}
+    return [found[name] for name in names] if set(found) == set(names) else row
+
+
 def values_of(record: Any, columns: Tuple[Column, ...]) -> List[Any]:
     """The values of a record in the order of the columns, None where it has none. A plain list has one value for each column."""
     names = [column.name for column in columns]
@@ -78,7 +85,7 @@ def values_of(record: Any, columns: Tuple[Column, ...]) -> List[Any]:
             if name not in names:
                 raise Refused(unknown_column(str(name), names), "table")
         return [found.get(name) for name in names]
-    if not isinstance(record, Sequence) or isinstance(record, (str, bytes, bytearray)):
+    if not isinstance(record, Sequence) or isinstance(record, NO_LISTS):
         raise TypeError(f"a record is a mapping or a list of values, not {record!r}")
     if len(record) != len(names):
         raise Refused(f"a row of {len(record)} values, where there are {len(names)} columns: {', '.join(names)}", "table")

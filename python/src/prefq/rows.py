@@ -7,7 +7,7 @@ from collections.abc import Iterable, Mapping, Set
 from itertools import accumulate, chain, islice
 from typing import Any, Callable, Iterator, List, NamedTuple, Optional, Sequence, Tuple, TypeVar
 
-from .checks import LEAST, MOST, MOST_ROWS, check_rows, whole
+from .checks import LEAST, MOST, MOST_ROWS, NO_LISTS, check_rows, whole
 from .engine import BYTES, Engine
 from .library import Setup
 from .pauses import extended, let_others_run
@@ -269,7 +269,7 @@ class Packing:
 
 def checked(row: Any, columns: Sequence[str], where: str) -> List[int]:
     """The values of a row, if they are whole numbers that a table has."""
-    if isinstance(row, (str, bytes, Mapping, Set)) or not isinstance(row, Iterable):
+    if isinstance(row, (*NO_LISTS, Mapping, Set)) or not isinstance(row, Iterable):
         raise TypeError(f"{where}{row!r} is of type {type(row).__name__}: not a list of the values of {', '.join(columns)}")
     cells = tuple(row)
     if len(cells) != len(columns):
