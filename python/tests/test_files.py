@@ -273,8 +273,11 @@ class Files(TestCase):
     def test_packed(self):
         data = gzip.compress(b"city,x\nBern,1\n")
         self.assertEqual(self.reads(data), [{"city": "Bern", "x": 1}])
-        with self.refuses(prefq.Refused, "cannot be unpacked"):
-            self.reads(data[:20])
+        damaged = bytearray(gzip.compress(bytes(range(256)) * 9))
+        damaged[12:20] = b"\xff" * 8
+        for packed in (data[:20], data[:3], data[:-5], data[:-1] + b"x", data + b"\x1f\x8b", bytes(damaged)):
+            with self.subTest(packed=packed), self.refuses(prefq.Refused, "cannot be unpacked"):
+                self.reads(packed)
         with self.refuses(prefq.Refused, "is no text: its byte 3 is 0"):
             self.reads(b"a,b\0\n1,2\n")
 

@@ -6,6 +6,7 @@ import io
 import os
 import re
 import stat
+import zlib
 from bisect import bisect_left
 from collections import Counter, deque
 from contextlib import contextmanager
@@ -361,7 +362,7 @@ def check_text(first: bytes, encoding: str, what: str) -> None:
 def unpacked(data: bytes, what: str) -> bytes:
     try:
         return gzip.decompress(data)
-    except (OSError, EOFError) as why:
+    except (OSError, EOFError, zlib.error) as why:
         raise Refused(f"{what} begins as a file of gzip, and cannot be unpacked: {why}", "table") from None
 
 
