@@ -191,6 +191,15 @@ class Frames(TestCase):
         with self.refuses(prefq.Refused, "column 'x' has a category that its kind, time, does not have", "has parts of a microsecond", kind="table"):
             prefq.psel(pandas.DataFrame({"x": sizes}), "low(x)")
 
+    def test_numbers_in_another_order_of_bytes(self):
+        """pandas takes no rows of such a DataFrame, as files of other machines give it: psel and parts raised what it raises."""
+        for order in "<>":
+            frame = pandas.DataFrame({"city": list("aab"), **{name: pandas.Series(numpy.array([3, 1, 2], dtype=order + name)) for name in ("i8", "u2", "f4", "f8")}})
+            for found in (prefq.psel(frame, "low(i8) by city"), prefq.psel(frame.groupby("city"), "low(f8)"), prefq.psel(frame, "low(u2) & low(f4) by city"),
+                          prefq.parts.best([frame[:2], frame[2:]], "best low(f8) by city").to_dataframe(), prefq.Frame.from_dataframe(frame).best("best low(f8) by city").to_dataframe()):
+                with self.subTest(order=order):
+                    self.assertEqual(found.drop(columns=".level").values.tolist(), [["a", 1, 1, 1, 1], ["b", 2, 2, 2, 2]])
+
     def test_sparse_columns(self):
         values = {"whole": [1, 0, 0], "truth": [True, False, False], "float": [0.5, float("nan"), 0.0]}
         dataframe = pandas.DataFrame({name: pandas.arrays.SparseArray(some) for name, some in values.items()})

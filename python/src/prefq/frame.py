@@ -123,7 +123,7 @@ class Frame(LiveRows):
     def from_dataframe(cls, dataframe: Any, *, columns: Optional[Sequence[str]] = None, kinds: Optional[Mapping[str, str]] = None,
                        **options: Any) -> "Frame":
         """The frame of a DataFrame of pandas. Answers as DataFrames have its index and its types again."""
-        from .pandas_frames import encoded_series, index_of
+        from .pandas_frames import encoded_series, index_of, native
         if not hasattr(dataframe, "columns") or not hasattr(dataframe, "index"):
             raise TypeError(f"dataframe is of type {type(dataframe).__name__}: not a DataFrame of pandas (from_records takes records)")
         check_options(options, ["columns", "kinds", *TABLE_OPTIONS], "Frame.from_dataframe")
@@ -132,7 +132,8 @@ class Frame(LiveRows):
         names = chosen(list(dataframe.columns), columns)
         check_names(name for name in dataframe.columns if name in names)
         check_known(list(kinds or ()), list(dataframe.columns))
-        return cls._of_numbers([encoded_series(dataframe[name], name, kinds) for name in names], options, index_of(dataframe.index))
+        frame = native(dataframe)
+        return cls._of_numbers([encoded_series(frame[name], name, kinds) for name in names], options, index_of(dataframe.index))
 
     @classmethod
     def empty(cls, columns: Iterable[str], kinds: Mapping[str, str], **options: Any) -> "Frame":

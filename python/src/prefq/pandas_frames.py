@@ -174,13 +174,21 @@ def _codes(values: Sequence[Any], kind: Texts) -> List[int]:
     return [next(codes) if isinstance(value, str) else LEAST for value in values]
 
 
+def native(frame: Any) -> Any:
+    """The same DataFrame with its numbers in the machine's own order of bytes: of one with others pandas takes no rows."""
+    import numpy
+    others = {name: dtype.newbyteorder("=") for name, dtype in frame.dtypes.items() if isinstance(dtype, numpy.dtype) and not dtype.isnative}
+    return frame.astype(others) if others else frame
+
+
 def ungrouped(groups: Any) -> Tuple[Any, List[str]]:
     """The DataFrame of a groupby, and the names of the columns that it is grouped by. Rows without a group are left out, as pandas leaves them out."""
     names = [groups.keys] if isinstance(groups.keys, str) else groups.keys
     there = list(getattr(groups.obj, "columns", ()))
     if not isinstance(names, list) or not all(isinstance(name, str) and name in there for name in names):
         raise TypeError("a groupby is one of a DataFrame by names of columns, as frame.groupby('cyl')")
-    return groups.obj.dropna(subset=names) if groups.dropna else groups.obj, names
+    frame = native(groups.obj)
+    return frame.dropna(subset=names) if groups.dropna else frame, names
 
 
 def index_of(index: Any) -> Callable[[Sequence[Record]], Any]:

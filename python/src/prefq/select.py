@@ -99,8 +99,9 @@ def mode_of(top_level: Optional[int], at_least: Optional[int]) -> Mode:
 
 
 def _of_dataframe(dataframe: Any, text: str, selection: Selection, kinds: Optional[Mapping[str, str]], options: Dict[str, Any]) -> Any:
-    from .pandas_frames import encoded_series
+    from .pandas_frames import encoded_series, native
     check_known(list(kinds or ()), list(dataframe.columns))
+    dataframe = native(dataframe)
     moment = Moment(list(dataframe.columns), lambda name: encoded_series(dataframe[name], name, kinds))
     rows = selected(text, selection, moment, **options)
     found = dataframe.iloc[[row.id - 1 for row in rows]].drop(columns=LEVEL, errors="ignore")

@@ -90,8 +90,9 @@ class OpenedFrame(Opened):
     """A DataFrame of pandas."""
 
     def __init__(self, frame: Any, reading: Reading) -> None:
+        from .pandas_frames import native
         super().__init__(frame.columns)
-        self._frame, self._kinds = frame, reading.kinds
+        self._frame, self._kinds = native(frame), reading.kinds
         check_known(list(self._kinds), self.names)
 
     @property
