@@ -80,6 +80,15 @@ class Kinds(TestCase):
             with self.refuses(prefq.Refused, "there are whole, decimal(2)"):
                 kind_named(spelling)
 
+    def test_python_s_truths_in_a_question_of_words(self):
+        """A question has them as true and false. Of the kind bool(false, true), the word true said of what is false, so that `pos("s", True)` preferred it."""
+        for kind in ("bool", "bool(no, yes)", "bool(true, false)", "bool(0, FALSE)", "bool(TRUE, 0)"):
+            with self.subTest(kind=kind), prefq.Frame.from_records([{"s": True}, {"s": False}], kinds={"s": kind}) as frame:
+                self.assertEqual((frame.best(prefq.pos("s", True)).ids, frame.best(prefq.pos("s", False)).ids, frame.best(prefq.true("s")).ids), ([1], [2], [1]))
+        for kind in ("bool(false, true)", "bool(False, x)", "bool(x, TRUE)"):
+            with self.subTest(kind=kind), self.refuses(prefq.Refused, "the word false is not true"):
+                kind_named(kind)
+
     def test_a_kind_that_is_given(self):
         records = [{"price": 129.99, "size": "M"}, {"price": 59.5, "size": "S"}, {"price": 60, "size": "L"}]
         with prefq.Frame.from_records(records, kinds={"price": "decimal(2)", "size": "choice(S, M, L)"}) as frame:

@@ -18,6 +18,8 @@ class Booleans(Kind):
         self._own = None if true is None or false is None else (true.strip(), false.strip())
         if (true is None) != (false is None) or self._own and (not all(self._own) or len(set(map(str.lower, self._own))) == 1):
             raise ValueError("a bool column has no words of its own, or two: one for true and another one for false")
+        if self._own and (self._own[0].lower() == "false" or self._own[1].lower() == "true"):
+            raise ValueError("the word false is not true, and true is not false: a question has these words for True and False of Python")
         self._words = {**WORDS, **({} if self._own is None else {self._own[0].lower(): True, self._own[1].lower(): False})}
 
     def __repr__(self) -> str:
