@@ -7,7 +7,7 @@ import random
 import threading
 import unittest
 from concurrent.futures import ThreadPoolExecutor
-from contextlib import AsyncExitStack
+from contextlib import AsyncExitStack, closing
 
 import prefq
 from prefq.asynchronous import FreeClients
@@ -161,6 +161,28 @@ class Tasks(TestCase):
                     table._table.close()
         self.run_async(main)
 
+    def test_who_waits_for_a_client_is_told_of_the_end(self):
+        async def main():
+            async with await self.open(clients=1) as table:
+                query = await table.query(QUESTION)
+                waiting = [asyncio.ensure_future(call) for call in (table.best(QUESTION), table.rows(), table.query(QUESTION).__aenter__())]
+                await asyncio.sleep(0.05)
+                await table.close()
+                for call in waiting:
+                    with self.refuses(prefq.Ended, "closed"):
+                        await asyncio.wait_for(call, 20)
+                return query
+        self.run_async(main)
+
+    def test_a_query_that_is_awaited_and_entered_begins_once(self):
+        async def main():
+            async with await self.open(clients=1) as table:
+                async with await asyncio.wait_for(table.query(QUESTION), 20) as query:
+                    self.assertIs(await query, query)
+                    self.assertEqual((await query.answer()).ids, SKYLINE)
+                return len(await table.best(QUESTION))
+        self.assertEqual(self.run_async(main), 4)
+
     def test_a_fork_cannot_use_it(self):
         table = asyncio.run(self.open())
         for call in (lambda: table.get(1), lambda: table.best(QUESTION), lambda: table.query(QUESTION).__aenter__()):
@@ -194,6 +216,23 @@ class Tasks(TestCase):
                 for answers in (asyncio.run(many(table)), asyncio.run(many(table)), *pool.map(asyncio.run, [many(table), many(table)])):
                     self.assertEqual([len(answer) for answer in answers], [4] * 10)
             asyncio.run(table.close())
+
+    def test_a_task_of_a_loop_that_has_stopped_keeps_no_client_from_others(self):
+        async def begins():
+            table = await self.open(clients=1)
+            return table, await table.query(QUESTION), asyncio.ensure_future(table.best(QUESTION)), await asyncio.sleep(0.1)
+
+        async def goes_on(table, query):
+            waiting = asyncio.ensure_future(table.best(QUESTION))
+            await asyncio.sleep(0.1)
+            await query.answer()
+            return len(await asyncio.wait_for(waiting, 20))
+
+        with closing(asyncio.new_event_loop()) as stopped:
+            table, query, waiting, _ = stopped.run_until_complete(begins())
+            self.assertEqual(asyncio.run(goes_on(table, query)), 4)
+            self.assertEqual(len(stopped.run_until_complete(waiting)), 4)
+            stopped.run_until_complete(table.close())
 
     def test_a_client_that_a_cancelled_task_was_woken_for_is_anothers(self):
         async def main():

@@ -28,13 +28,14 @@ class FreeClients:
     def __init__(self, count: int) -> None:
         self._clients: Deque[int] = deque(range(1, count + 1))
         self._waiting: Deque["asyncio.Future[None]"] = deque()
+        self._has_ended = False
 
     def __len__(self) -> int:
         return len(self._clients)
 
     async def get(self) -> int:
-        """A client, once there is one."""
-        while True:
+        """A client, once there is one; 0 behind the end, with which each call raises `Ended`."""
+        while not self._has_ended:
             with suppress(IndexError):
                 return self._clients.popleft()
             try:
@@ -43,31 +44,39 @@ class FreeClients:
                 if self._clients:       # for which this task may have been woken
                     self._wake()
                 raise
+        return 0
 
     def put(self, client: int) -> None:
         """Gives a client back, from any thread."""
         self._clients.append(client)
         self._wake()
 
+    def end(self) -> None:
+        """Has nobody wait any more."""
+        self._has_ended = True
+        while self._waiting:
+            self._wake()
+
     async def _woken(self) -> None:
         """Waits until there may be a client."""
         woken = asyncio.get_running_loop().create_future()
         self._waiting.append(woken)
         try:
-            if not self._clients:       # else one came before anybody waited here
+            if not (self._clients or self._has_ended):      # before anybody waited here
                 await woken
         finally:
             with suppress(ValueError):
                 self._waiting.remove(woken)
 
     def _wake(self) -> None:
-        """Wakes the one who waits for longest. A loop that is closed has nobody who waits."""
+        """Wakes the one who waits for longest, and those before it whose loop has stopped: it may go on later. One that is closed has nobody who waits."""
         with suppress(IndexError):
-            while True:
+            is_awake = False
+            while not is_awake:
                 woken = self._waiting.popleft()
                 with suppress(RuntimeError):
                     woken.get_loop().call_soon_threadsafe(wake, woken)
-                    return
+                    is_awake = woken.get_loop().is_running()
 
 
 def wake(woken: "asyncio.Future[None]") -> None:
@@ -123,8 +132,9 @@ class Awaited:
         self._closed = True
         if not self._table._engine.is_ours():
             return
-        await asyncio.get_running_loop().run_in_executor(None, self._called.close)
+        self._free.end()
         self._executor.shutdown(wait=False)
+        await asyncio.get_running_loop().run_in_executor(None, self._called.close)
 
     def _submit(self, function: Callable[..., Result], *words: Any) -> "Future[Result]":
         self._usable()
@@ -218,7 +228,8 @@ class AsyncTable(Awaited):
             return await query.answer()
 
     def query(self, question: str) -> "AsyncQuery":
-        """A query, which begins where it is awaited, `query = await table.query(question)`, or entered, `async with table.query(question) as query`.
+        """A query, which begins where it is awaited, `query = await table.query(question)`, or entered, `async with table.query(question) as query`; once where
+        it is both.
 
         It waits until one of the clients has no open query.
         """
@@ -296,6 +307,8 @@ class AsyncQuery:
         return self._query
 
     async def _begin(self) -> "AsyncQuery":
+        if self._query is not None:
+            return self
         self._table._usable()
         free = self._table._free
         collection = asyncio.get_running_loop().call_later(SECONDS_TO_COLLECTION, self._table._table._free.collect)
