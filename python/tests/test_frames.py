@@ -60,6 +60,33 @@ class Records(TestCase):
                 with self.refuses(TypeError, f"a record is a mapping or a list of values, not {record!r}"):
                     frame.insert(record)
 
+    def test_the_record_that_is_refused_is_named(self):
+        """Of many, nobody knew which one it was; and the texts of those before it were taken for values of some row."""
+        columns = [prefq.Column("x", "whole"), prefq.Column("city", "text")]
+        for rows, error, says in [([[1, "Lyon"], ["a", "Bern"]], ValueError, ", column 'x' (whole): 'a' is no number"), ([[1, "Lyon"], [2, 5]], TypeError, ", column 'city' (text): 5 is no text"),
+                                  ([[1, "Lyon"], [2]], prefq.Refused, ": a row of 1 values, where there are 2 columns: x, city"), ([[1, "Lyon"], 7], TypeError, ": a record is a mapping or a list of values, not 7"),
+                                  ([[1, "Lyon"], {"X": 1}], prefq.Refused, ": no column 'X'; did you mean x?")]:
+            with self.subTest(rows=rows), prefq.Frame(columns) as frame:
+                with self.refuses(error, f"record 2{says}"):
+                    frame.insert_many(rows)
+                self.assertEqual(len(frame), 0)
+                if says.startswith(", column 'x'"):
+                    with self.assertWarns(prefq.UnknownValue):
+                        frame.best("best pos(city, 'Lyon')")
+                with self.refuses(error, f"row 2{says}"):
+                    prefq.Frame(columns, rows)
+
+    def test_one_record_that_is_another_one_each_time(self):
+        """As some readers of files give it. All rows were the last one by insert_many, though not by from_records."""
+        def records():
+            record = {}
+            for record["x"] in range(3):
+                yield record
+
+        with prefq.Frame.from_records(records()) as frame:
+            frame.insert_many(records())
+            self.assertEqual([row.x for row in frame.rows()], [0, 1, 2, 0, 1, 2])
+
     def test_lists_say_what_takes_them(self):
         for record in ((1, 2), [1, 2]):
             with self.refuses(TypeError, f"row 1 is no mapping, but {record!r}: Frame.from_sql takes the cursor of a query, and Frame(columns, rows) lists of values"):

@@ -106,6 +106,20 @@ class Growth(TestCase):
             frame.insert_many([{"price": 1}, {"price": "0.001"}, {"price": "0.0001"}])
             self.assertEqual(kinds(frame)[0], "decimal(4)")
 
+    def test_a_change_that_is_refused_as_full_leaves_kinds_and_texts(self):
+        """The kind of a column was wider behind it, and of its texts nobody was warned any more."""
+        for full in (lambda frame: frame.insert({"price": "0.5", "name": "n9"}), lambda frame: frame.insert_many([{"price": 1}, {"price": 0.5, "name": "n9"}]),
+                     lambda frame: frame.commit(("delete", 1), ("insert", {"price": "0.5", "name": "n9"}), ("insert", {"price": 2}))):
+            with prices(60, 50, 40, capacity=3) as frame:
+                with self.refuses(prefq.Refused, "full needed", kind="client", number=8):
+                    full(frame)
+                self.assertEqual((kinds(frame), len(frame)), (["whole", "text"], 3))
+                with self.assertWarns(prefq.UnknownValue):
+                    frame.best("best pos(name, 'n9')")
+                frame.update(1, {"price": "0.5"})
+                self.assertEqual(frame.commit(("delete", 2), ("insert", {"price": "0.25", "name": "n9"})), 4)
+                self.assertEqual((kinds(frame)[0], frame.best("best pos(name, 'n9')").ids), ("decimal(2)", [4]))
+
     def test_only_columns_that_need_it(self):
         with prefq.Frame.from_records([{"x": 9 * 10**18, "y": 1}]) as frame:
             frame.insert({"x": "5.0", "y": "1.5"})

@@ -68,6 +68,14 @@ class Refused(Error):
         return message
 
 
+def placed(where: str, why: Exception) -> Exception:
+    """What is wrong, with its place in front."""
+    message = f"{where}{why}"
+    if isinstance(why, Refused):
+        return Refused(message, why.kind, why.number, why.place)
+    return TypeError(message) if isinstance(why, TypeError) else ValueError(message)
+
+
 def no_such_row(id: Any) -> Refused:
     """What is said of a row that is not there."""
     return Refused(f"no such row {called(id)}", "client", 7)

@@ -23,7 +23,7 @@ from .options import check_options
 from .preferences import Asked, Operand, text_asked, text_preferred
 from .questions import Question
 from .reading import Dialect, Progress, Source, check_names, read_csv
-from .records import mapping_of, values_of
+from .records import mapping_of, values_of_each
 from .rows import Row, WholeRows, Zipped
 from .selection import Names, Selection, first_rows, picked, query_of, reading, without_twins
 from .warned import warn_of
@@ -49,7 +49,7 @@ class Frame(LiveRows):
     def __init__(self, columns: Iterable[Column], rows: Iterable[Sequence[Any]] = (), **options: Any) -> None:
         columns = tuple(columns)
         check_rows(rows)
-        values = zip(*(values_of(row, columns) for row in fitting(rows, "rows")))
+        values = zip(*values_of_each(fitting(rows, "rows"), columns, "row"))
         self._open(columns, Zipped([encoded(column, some) for column, some in zip(columns, values)]), options)
 
     def _open(self, columns: Sequence[Column], rows: WholeRows, options: Dict[str, Any], index: Any = None, notes: Iterable[str] = (), ids: Ids = Ids()) -> None:

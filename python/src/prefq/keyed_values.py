@@ -26,7 +26,7 @@ def column_at_keys(name: str, values: Sequence[Any], column: Optional[Column], k
 def numbers_of_rows(dealt: Dealt, rows: Mapping[Key, Cells]) -> Mapping[Key, Numbers]:
     """The numbers of rows by their values. A value that a column does not take, or for which it would have another kind, is a `ValueError` or a `TypeError`."""
     cells = list(zip(*rows.values())) or [()] * len(dealt.columns)
-    found = {place: _numbers_of_column(dealt, place, list(rows), cells[place]) for place in dealt.order}
+    found = {place: _numbers_of_column(dealt, place, list(rows), cells[place]) for places in dealt.order for place in places}
     return dict(zip(rows, zip(*(found[place] for place in range(len(cells))))))
 
 

@@ -8,11 +8,11 @@ from typing import Any, Callable, Dict, Iterable, Iterator, List, Mapping, Optio
 from .checks import check_rows
 from .clients import hastily, locked
 from .columns import Column
-from .errors import Refused, no_such_row
+from .errors import Refused, no_such_row, placed
 from .kinds import Kind
-from .loading import records_of
+from .loading import CellRefused, records_of
 from .opened import Ids, Opened
-from .records import Record, mapping_of
+from .records import Record, mapping_of, values_of, values_of_each
 from .rows import WholeRows
 from .table import Table, check_changes
 
@@ -94,10 +94,10 @@ class LiveRows:
         range(2, 4)
         """
         check_rows(records, "records")
-        some = list(records)
+        some = list(values_of_each(records, self.columns, "record"))
 
         def insert_many() -> range:
-            numbers = self._numbers(some)       # By this the table may become another one.
+            numbers = self._numbers(some, more=len(some), what="record")        # By this the table may become another one.
             self._opened.note_gaps(numbers)
             inside = self.table.insert_many(numbers)
             if not inside:
@@ -190,13 +190,13 @@ class LiveRows:
         return self.table.room()
 
     def _insert(self, record: Any) -> int:
-        [numbers] = self._numbers([record])
+        [numbers] = self._numbers([values_of(record, self.columns)], more=1)
         self._opened.note_gaps([numbers])
         self._last = self._opened.ids.outside(self.table.insert(numbers))
         return self._last
 
     def _update(self, id: int, record: Any) -> None:
-        [numbers] = self._numbers([record], [id])
+        [numbers] = self._numbers([values_of(record, self.columns)], [id])
         whole = self._whole(id, record, numbers)
         self._opened.note_gaps([whole])
         self._of_row(id, lambda row: self.table.update(row, whole))
@@ -204,22 +204,30 @@ class LiveRows:
     def _delete(self, id: int) -> None:
         self._of_row(id, self.table.delete)
 
-    def _numbers(self, records: Sequence[Any], ids: Iterable[int] = ()) -> List[List[int]]:
-        """The numbers of some records, for which columns that are too narrow become wider, if the rows with these ids are there."""
+    def _numbers(self, rows: Sequence[Sequence[Any]], ids: Iterable[int] = (), *, more: int = 0, what: str = "") -> List[List[int]]:
+        """The numbers of some rows of values, for which columns that are too narrow become wider, if the rows with these ids are there, and room for so many `more`.
+        What is refused is said of the row, which is called `what` with its number."""
         if self._opened.is_outgrown():
             self._open_anew({})
+        if more > 0 and (self.table._engine.rows or 0) + more > self.table.capacity:
+            # Before columns become wider for rows that no table holds, or code books have their texts.
+            raise Refused(f"full needed {self.table.capacity - self.table.room() + more}", "client", 8)
+        wider: Mapping[str, Kind] = {}
         while True:
             try:
-                return [self._opened.numbers(record) for record in records]
-            except (TypeError, ValueError):
-                wider = self._opened.wider(records)
+                numbers = self._opened.numbers(rows, wider)
+            except CellRefused as why:
+                # What is refused by wider columns, too, changes nothing.
+                wider = {} if wider else self._opened.wider(rows)
                 if not wider:
-                    raise
-            for record in records:
-                self._opened.numbers(record, wider)     # What is refused then, too, changes nothing.
+                    raise placed(f"{what} {why.row + 1}, ", why.why) if what else why.why from None
+                continue
+            if not wider:
+                return numbers
             for id in ids:
                 self._of_row(id, self.table.get)
             self._open_anew(wider)
+            wider = {}
 
     def _whole(self, id: int, record: Any, numbers: List[int]) -> List[int]:
         """The numbers of a record for a row, with those that the row has where the record is a mapping that does not name them."""
@@ -234,7 +242,8 @@ class LiveRows:
         twice = next((place for place, (verb, id, _) in enumerate(changes) if verb != "insert" and id in [other for _, other, _ in changes[:place]]), None)
         if twice is not None:       # which the table says as well, but only after a column became wider
             raise Refused(f"twice place {twice + 1}", "commit", 12, twice + 1)
-        numbers = iter(self._numbers([record for verb, _, record in changes if verb != "delete"], ids))
+        rows = [values_of(record, self.columns) for verb, _, record in changes if verb != "delete"]
+        numbers = iter(self._numbers(rows, ids, more=sum({"insert": 1, "delete": -1}.get(verb, 0) for verb, _, _ in changes)))
         inside = self._opened.ids.inside
         made: List[Tuple[Any, ...]] = []
         for verb, id, record in changes:

@@ -7,10 +7,9 @@ from .checks import LEAST, MOST_IDS, whole
 from .columns import Column
 from .kept import Answered, Kept
 from .kinds import Decimals, Kind, Texts, Whole
-from .loading import check_width
+from .loading import CellRefused, check_width
 from .moment import Moment, moment_of_columnar
 from .reading import check_names
-from .records import values_of
 from .rows import ColumnarRows, WholeRows, Zipped
 from .table import Table
 
@@ -49,8 +48,8 @@ class Columns:
         self.columns = tuple(columns)
         self.by_name = {column.name: column for column in columns}
         self.below = {id(column): f"c{place}" for place, column in enumerate(columns)}
-        # Texts last, so that a record that another column refuses adds none to a code book.
-        self.order = sorted(range(len(columns)), key=lambda place: isinstance(columns[place].kind, Texts))
+        # The places of columns, and those of texts.
+        self.order = [[place for place, column in enumerate(columns) if isinstance(column.kind, Texts) == is_text] for is_text in (False, True)]
         self._code_books = size_of_code_books(columns)
 
     @property
@@ -78,15 +77,21 @@ class Opened(Columns):
         """Rows of the table as they are at one moment, counted from 1."""
         return moment_of_columnar(self.columns, rows, lambda number: self.ids.outside(rows[number - 1][0]))
 
-    def numbers(self, record: Any, kinds: Mapping[str, Kind] = {}) -> List[int]:
-        """The numbers of a record, where these columns have other kinds. What it does not name is missing, which is not noted yet: a row may have a value there."""
-        values = values_of(record, self.columns)
-        numbers = [LEAST] * len(values)
-        for place in self.order:
-            if values[place] is not None:
-                column = self.columns[place]
-                numbers[place] = (column.of_kind(kinds[column.name]) if column.name in kinds else column).encode(values[place])
-        return numbers
+    def numbers(self, rows: Sequence[Sequence[Any]], kinds: Mapping[str, Kind] = {}) -> List[List[int]]:
+        """The numbers of rows of values, where these columns have other kinds; `CellRefused` says which row has none. What is missing is not noted yet: a row may
+        have a value there. Texts come last, so that rows which another column refuses add none to a code book."""
+        columns = [column.of_kind(kinds[column.name]) if column.name in kinds else column for column in self.columns] if kinds else self.columns
+        found = [[LEAST] * len(values) for values in rows]
+        number = 0
+        try:
+            for places in self.order:
+                for number, values in enumerate(rows):
+                    for place in places:
+                        if values[place] is not None:
+                            found[number][place] = columns[place].encode(values[place])
+        except (TypeError, ValueError) as why:
+            raise CellRefused(number, why) from None
+        return found
 
     def note_gaps(self, rows: Iterable[Sequence[int]]) -> None:
         """Notes which columns have gaps once these rows are there: before they are, so that whoever sees such a row reads its question with them."""
@@ -95,11 +100,14 @@ class Opened(Columns):
                 for column, number in zip(self.columns, numbers):
                     column.has_gaps = column.has_gaps or number == LEAST
 
-    def wider(self, records: Sequence[Any]) -> Dict[str, Kind]:
-        """The kinds of the columns that become wider so that they have the values of these records."""
+    def wider(self, rows: Sequence[Sequence[Any]]) -> Dict[str, Kind]:
+        """The kinds of the columns that become wider so that they have the values of these rows."""
         found: Dict[str, Kind] = {}
-        for record in records:
-            found.update(wider_kinds([column.of_kind(found.get(column.name, column.kind)) for column in self.columns], values_of(record, self.columns)))
+        for values in rows:
+            for column, value in zip(self.columns, values):
+                kind = found.get(column.name, column.kind).widened(value) if column.grows and value is not None else None
+                if kind is not None:
+                    found[column.name] = kind
         return found
 
     def is_outgrown(self) -> bool:
@@ -124,16 +132,6 @@ class Opened(Columns):
 def size_of_code_books(columns: Sequence[Column]) -> int:
     """About how many bytes the code books of columns take."""
     return sum(column.kind.size for column in columns if isinstance(column.kind, Texts))
-
-
-def wider_kinds(columns: Sequence[Column], values: Sequence[Any]) -> Dict[str, Kind]:
-    """The kinds of the columns that become wider so that they have these values."""
-    found: Dict[str, Kind] = {}
-    for column, value in zip(columns, values):
-        kind = column.kind.widened(value) if column.grows and value is not None else None
-        if kind is not None:
-            found[column.name] = kind
-    return found
 
 
 def moved_columns(columns: Sequence[Column], kinds: Mapping[str, Kind], lists: List[List[int]]) -> Tuple[List[Column], List[List[int]]]:

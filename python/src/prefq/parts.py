@@ -33,7 +33,7 @@ from .carried import column_of
 from .checks import MOST_IDS, MOST_ROWS, whole
 from .columns import Column
 from .conditions import absent_in, moments_in, names_in, rows_that_meet
-from .errors import Refused
+from .errors import Refused, placed
 from .expressions import Node, read_condition, unmade
 from .kinds import Texts
 from .loading import records_of
@@ -429,7 +429,4 @@ def in_partition(why: Exception, partition: Source) -> Exception:
     """What is wrong with the rows of a file, with its path, or with those of another partition, with its number."""
     if not isinstance(partition, (str, os.PathLike, Numbered)) or isinstance(why, Refused) and why.kind != "table" or called(partition) in str(why):
         return why
-    message = f"{called(partition)}: {why}"
-    if isinstance(why, Refused):
-        return Refused(message, why.kind, why.number, why.place)
-    return TypeError(message) if isinstance(why, TypeError) else ValueError(message)
+    return placed(f"{called(partition)}: ", why)

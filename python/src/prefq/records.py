@@ -1,11 +1,11 @@
 """Rows as mappings."""
 import dataclasses
 from collections.abc import Mapping, Sequence
-from typing import Any, Dict, List, Optional, Tuple
+from typing import Any, Dict, Iterable, Iterator, List, Optional, Tuple
 
 from .checks import NO_LISTS
 from .columns import Column
-from .errors import Refused
+from .errors import Refused, placed
 from .hints import unknown_column
 from .kinds.texts import plain_text
 from .reading import check_names
@@ -90,3 +90,12 @@ def values_of(record: Any, columns: Tuple[Column, ...]) -> List[Any]:
     if len(record) != len(names):
         raise Refused(f"a row of {len(record)} values, where there are {len(names)} columns: {', '.join(names)}", "table")
     return list(record)
+
+
+def values_of_each(records: Iterable[Any], columns: Tuple[Column, ...], what: str) -> Iterator[List[Any]]:
+    """The values of each of these records, which are called `what` with their number."""
+    for number, record in enumerate(records, 1):
+        try:
+            yield values_of(record, columns)
+        except (Refused, TypeError) as why:
+            raise placed(f"{what} {number}: ", why) from None
