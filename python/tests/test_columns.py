@@ -255,6 +255,9 @@ class Refusals(TestCase):
     def test_the_row_is_named(self):
         with self.refuses(ValueError, "row 3, column 'x' (decimal(1)): 1.25 has more than 1 decimal"):
             prefq.Frame.from_records([{"x": 1}, {"x": None}, {"x": 1.25}], kinds={"x": "decimal(1)"})
+        for value, says in [("Infinity", "(decimal(1)): Infinity is no number that fits"), ("1e-19", "(decimal(18)): 1E-19 has more than 18 decimals")]:
+            with self.refuses(ValueError, f"row 3, column 'x' {says}"):
+                prefq.Frame.from_records([{"x": 1}, {"x": Decimal("0.5")}, {"x": Decimal(value)}])
         with self.refuses(ValueError, "line 4, column 'x' (whole): 'c' is no number"):
             from_text("x\n1\n2\nc\n", kinds={"x": "whole"})
 

@@ -134,7 +134,7 @@ def kind_of_values(name: str, values: Iterable[Any]) -> Kind:
     if types == {int}:
         return Whole()
     if types <= {int, Decimal}:
-        return _kind_of_decimals(name, present)
+        return _kind_of_decimals(present)
     if types <= {int, float}:
         return Floats()
     if types == {datetime.date}:
@@ -150,16 +150,10 @@ def kind_of_values(name: str, values: Iterable[Any]) -> Kind:
                   "leave it out by columns=[..], or give it a kind by kinds={..}", "table")
 
 
-def _kind_of_decimals(name: str, values: Sequence[Any]) -> Kind:
-    decimals = 0
-    for value in values:
-        exponent = value.as_tuple().exponent if isinstance(value, Decimal) else 0
-        if not isinstance(exponent, int):
-            raise Refused(f"column {name!r} has {value!r}, which is no number that fits", "table")
-        decimals = max(decimals, -exponent)
-    if decimals > MOST_DECIMALS:
-        raise Refused(f"column {name!r} has a Decimal with {decimals} decimals, and a column has {MOST_DECIMALS} at most: round it, or give the column the kind 'float'", "table")
-    return Decimals(decimals)
+def _kind_of_decimals(values: Sequence[Any]) -> Kind:
+    """That of the number with most decimals, as far as a column has them: it refuses a number with more, and infinity, with its row."""
+    exponents = [value.as_tuple().exponent for value in values if isinstance(value, Decimal)]
+    return Decimals(min(MOST_DECIMALS, max(-exponent if isinstance(exponent, int) else 0 for exponent in [0, *exponents])))
 
 
 def _type_of(value: Any) -> Any:
