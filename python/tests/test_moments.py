@@ -208,6 +208,18 @@ class Moments(TestCase):
                     self.assertEqual([row.at for row in frame.rows()], values)
                     self.assertNotEqual((made is Unknowing, str(frame.columns[0].kind)), (False, "time(UTC+01:00)"))
 
+    def test_a_zone_without_an_offset(self):
+        """Python takes such a time for one of the computer's own zone, so that it was another moment on each."""
+        class Zone(datetime.tzinfo):
+            def utcoffset(self, when):
+                return None
+
+        noon = datetime.datetime(2026, 5, 1, 12, tzinfo=Zone())
+        with self.refuses(ValueError, "row 2, column 'at' (time(UTC)): 2026-05-01 12:00:00 is no moment", "says no offset"):
+            prefq.Frame.from_records([{"at": noon.replace(tzinfo=UTC)}, {"at": noon}])
+        with self.refuses(ValueError, "says no offset"):
+            prefq.around("at", noon)
+
     def test_an_interruption_in_a_zone_of_ones_own_is_no_answer_of_it(self):
         class Zone(datetime.tzinfo):
             def utcoffset(self, when):

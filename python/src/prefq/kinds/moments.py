@@ -345,9 +345,14 @@ def shows_times(zone: datetime.tzinfo) -> bool:
 
 
 def universal(value: datetime.datetime) -> datetime.datetime:
-    """A time with a zone as one of UTC, without its zone; one without a zone as it is. What lies outside Python's years is refused."""
+    """A time with a zone as one of UTC, without its zone; one without a zone as it is. What lies outside Python's years is refused, and what has a zone without an
+    offset, which Python takes for a time of this computer's."""
+    if value.tzinfo is None:
+        return value
+    if value.utcoffset() is None:
+        raise NotRead(f"{value} is no moment: {value.tzinfo} says no offset")
     try:
-        return value if value.tzinfo is None else value.astimezone(datetime.timezone.utc).replace(tzinfo=None)
+        return value.astimezone(datetime.timezone.utc).replace(tzinfo=None)
     except OverflowError:
         raise NotRead(f"{value} lies outside the years 1 to 9999") from None
 
