@@ -223,6 +223,12 @@ class Together(TestCase):
                 with self.refuses(prefq.Refused, "b.csv: two columns are called 'n', those at places 1 and 3", kind="table"):
                     best([f"{folder}/a.csv", f"{folder}/b.csv"], question)
 
+    @unittest.skipIf(pandas is None, "pandas is not installed")
+    def test_columns_that_pandas_does_not_put_together(self):
+        """Categories with half of a character, of which it has no hash: the answer was pandas' own error, though no question names the column."""
+        frames = [pandas.DataFrame({"x": [number], "city": pandas.Categorical([city], ["Lyon", "\ud800"])}) for number, city in [(2, "Lyon"), (1, "\ud800")]]
+        self.assertEqual([(row.x, row.city) for row in best(frames, "top_level 2 low(x)")], [(1, "\ud800"), (2, "Lyon")])
+
     def test_a_column_that_no_question_names(self):
         """Each partition has it in a kind of its own, too."""
         some = [Partition(["x", "n"], [[1, value]]) for value in (Decimal("0.5"), 0.25, 3)]

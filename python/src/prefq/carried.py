@@ -20,13 +20,8 @@ class Rows:
         """The rows with these numbers, counted from 0."""
         raise NotImplementedError
 
-    def form(self, name: str) -> Any:
-        """What a column of such rows has to be the same in to be read at once."""
-        return None
-
-    @staticmethod
-    def column(some: Sequence[Any], name: str, reading: Reading, ids: Sequence[int]) -> Encoded:
-        """A column of several such rows, and its numbers. A value that is refused is named with the id of its row."""
+    def column(self, name: str, reading: Reading, ids: Sequence[int]) -> Encoded:
+        """A column, and its numbers. A value that is refused is named with the id of its row."""
         raise NotImplementedError
 
 
@@ -54,11 +49,9 @@ class Listed(Rows):
 class CellRows(Listed):
     """Rows of a file, as the texts of their cells."""
 
-    @staticmethod
-    def column(some: Sequence["CellRows"], name: str, reading: Reading, ids: Sequence[int]) -> Encoded:
-        texts = list(chain.from_iterable(rows.values(name) for rows in some))
+    def column(self, name: str, reading: Reading, ids: Sequence[int]) -> Encoded:
         try:
-            return column_of_texts(name, texts, reading.kinds.get(name), Missing(reading.missing), reading.form)
+            return column_of_texts(name, self.values(name), reading.kinds.get(name), Missing(reading.missing), reading.form)
         except CellRefused as why:
             raise type(why.why)(f"row {ids[why.row]}, {why}") from None
 
@@ -66,13 +59,8 @@ class CellRows(Listed):
 class ValueRows(Listed):
     """Rows of Python's values."""
 
-    def form(self, name: str) -> Any:
-        """Each partition has kinds of its own."""
-        return id(self)
-
-    @staticmethod
-    def column(some: Sequence["ValueRows"], name: str, reading: Reading, ids: Sequence[int]) -> Encoded:
-        return column_of_values(name, list(chain.from_iterable(rows.values(name) for rows in some)), reading.kinds, ids)
+    def column(self, name: str, reading: Reading, ids: Sequence[int]) -> Encoded:
+        return column_of_values(name, self.values(name), reading.kinds, ids)
 
 
 class FrameRows(Rows):
@@ -91,32 +79,26 @@ class FrameRows(Rows):
     def at(self, places: Iterable[int]) -> "FrameRows":
         return FrameRows(self.frame.iloc[list(places)])
 
-    def form(self, name: str) -> Any:
-        """Of two types pandas would make a third one, in which not each value is the same; objects may be of any kind."""
-        dtype = self.frame[name].dtype
-        return id(self) if dtype == object else dtype
-
-    @staticmethod
-    def column(some: Sequence["FrameRows"], name: str, reading: Reading, ids: Sequence[int]) -> Encoded:
-        import pandas
+    def column(self, name: str, reading: Reading, ids: Sequence[int]) -> Encoded:
         from .pandas_frames import encoded_series
-        return encoded_series(pandas.concat([rows.frame[name] for rows in some], ignore_index=True), name, reading.kinds, ids)
+        return encoded_series(self.frame[name], name, reading.kinds, ids)
 
 
 def column_of(rows: Sequence[Rows], name: str, reading: Reading, ids: Iterable[int]) -> Segment:
-    """A column of rows of all partitions, in their order, which have these ids: of each kind of source it is read at once, and these are brought together."""
+    """A column of rows of all partitions, in their order, which have these ids: of files that follow each other it is read at once, and all are brought together."""
     numbered = list(enumerate(rows, 1))
     some, left = [pair for pair in numbered if len(pair[1])] or numbered[:1], iter(ids)
-    runs = [list(run) for _, run in groupby(some, lambda pair: (type(pair[1]), pair[1].form(name)))]
+    runs = [list(run) for _, run in groupby(some, lambda pair: 0 if isinstance(pair[1], CellRows) else pair[0])]
     return as_in_a_frame(joined([_segment(run, name, reading, list(islice(left, sum(len(found) for _, found in run)))) for run in runs]))
 
 
 def _segment(run: Sequence[Tuple[int, Rows]], name: str, reading: Reading, ids: Sequence[int]) -> Segment:
-    """The column of rows of one kind of source, by the numbers of their partitions."""
-    first, last = run[0][0], run[-1][0]
-    source, what = type(run[0][1]), f"partition {first}" if first == last else f"the partitions {first} to {last}"
-    has_words = source is CellRows and reading.missing is None
-    return Segment.of(*source.column([found for _, found in run], name, reading, ids), what, is_given=name in reading.kinds, has_words=has_words)
+    """The column of rows of files, or of another partition, by their numbers."""
+    (first, found), (last, _) = run[0], run[-1]
+    what = f"partition {first}" if first == last else f"the partitions {first} to {last}"
+    if isinstance(found, CellRows):
+        found = CellRows([name], [[text] for _, rows in run for text in rows.values(name)])
+    return Segment.of(*found.column(name, reading, ids), what, is_given=name in reading.kinds, has_words=isinstance(found, CellRows) and reading.missing is None)
 
 
 def frame_of(rows: Sequence[Any]) -> Any:
