@@ -6,6 +6,7 @@ import datetime
 import io
 import json
 import pickle
+import sqlite3
 import tempfile
 import threading
 import time
@@ -86,6 +87,18 @@ class Records(TestCase):
         with prefq.Frame.from_records(records()) as frame:
             frame.insert_many(records())
             self.assertEqual([row.x for row in frame.rows()], [0, 1, 2, 0, 1, 2])
+
+    def test_what_is_no_column_or_no_cursor(self):
+        """It was an AttributeError of Python's own, and a text was a list of its letters."""
+        for columns in (["x", "y"], "xy", {"x": "whole"}, [("x", "whole")]):
+            with self.subTest(columns=columns), self.refuses(TypeError, "columns has ", "a frame has Columns, as Column('price', 'whole')"):
+                prefq.Frame(columns)
+        for cursor in ([(1,)], None, sqlite3.connect(":memory:")):
+            with self.subTest(cursor=cursor), self.refuses(TypeError, f"cursor is of type {type(cursor).__name__}: not the cursor of a query"):
+                prefq.Frame.from_sql(cursor)
+        for names in (lambda: prefq.Frame.empty("xy", {"x": "whole", "y": "whole"}), lambda: prefq.parts.best([prefq.parts.Partition("xy", [[1, 2]])], "best low(x)")):
+            with self.refuses(TypeError, "columns is a list of names, not 'xy'"):
+                names()
 
     def test_lists_say_what_takes_them(self):
         for record in ((1, 2), [1, 2]):

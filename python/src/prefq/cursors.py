@@ -17,6 +17,8 @@ def is_cursor(source: Any) -> bool:
 
 def names_of(cursor: Any) -> Tuple[str, ...]:
     """The names of the columns of its query. A cursor without one is `Refused`."""
+    if not is_cursor(cursor):
+        raise TypeError(f"cursor is of type {type(cursor).__name__}: not the cursor of a query, as connection.execute(..) returns one (from_records takes records)")
     if cursor.description is None:
         raise Refused("the cursor has no rows: execute a SELECT first", "table")
     return check_names(column[0] for column in cursor.description)

@@ -48,6 +48,9 @@ class Frame(LiveRows):
 
     def __init__(self, columns: Iterable[Column], rows: Iterable[Sequence[Any]] = (), **options: Any) -> None:
         columns = tuple(columns)
+        wrong = next((column for column in columns if not isinstance(column, Column)), None)
+        if wrong is not None:
+            raise TypeError(f"columns has {wrong!r}: a frame has Columns, as Column('price', 'whole'), and Frame.empty takes names and kinds")
         check_rows(rows)
         values = zip(*values_of_each(fitting(rows, "rows"), columns, "row"))
         self._open(columns, Zipped([encoded(column, some) for column, some in zip(columns, values)]), options)
@@ -146,7 +149,7 @@ class Frame(LiveRows):
         1
         <id 1: {'hotel': 'Ritz', 'price': Decimal('129.99')}>
         """
-        names = chosen(list(columns), None)
+        names = check_names(columns)
         check_known(list(kinds), names)
         without = [name for name in names if name not in kinds]
         if without:

@@ -404,6 +404,8 @@ def is_blank(cell: str) -> bool:
 
 def check_names(names: Iterable[Any]) -> Tuple[str, ...]:
     """The names, if each is a text and no two are the same."""
+    if isinstance(names, str):
+        raise TypeError(f"columns is a list of names, not {names!r}")
     seen: Dict[str, None] = {}
     for name in names:
         if not isinstance(name, str):
