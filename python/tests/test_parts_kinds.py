@@ -309,6 +309,19 @@ class Files(TestCase):
         with self.refuses(prefq.Refused, "no order", kind="term"):
             best(self.files(words, "price,n\nx,4\n"), "best low(price)")
 
+    def test_words_in_a_column_that_no_question_names_are_said(self):
+        """Of the rows of the answer: they were missing there, and nothing was said. In the command only JSON has them so, others have the cells."""
+        files = self.files("x,y,z\n1,5,n/a\n2,n/a,no\n", "x,y,z\n1,n/a,a\n9,-,b\n")
+        answer = best(files, "top_level 2 low(x)")
+        note = "column 'y': 'n/a' (2 rows) taken for missing; missing=[..] says otherwise"
+        self.assertEqual(([row.y for row in answer], answer.notes), ([5, None, None], [note]))
+        self.assertEqual(parts.why(files, 4, "best low(x)").notes, [note])
+        self.assertEqual(sorted(best(files, "best low(x)", missing=["n/a"], where="x < 9").notes), [f"column '{name}': 'n/a' (1 row) taken for missing; missing=[..] says otherwise" for name in "yz"])
+        for form, said in (("--json", "prefq: column 'y': 'n/a' (2 rows) taken for missing; --missing says otherwise\n"), ("--csv", "")):
+            with contextlib.redirect_stdout(io.StringIO()), contextlib.redirect_stderr(io.StringIO()) as errors:
+                self.assertEqual(main(["ask", str(self.folder / "*.csv"), "top_level 2 low(x)", form]), 0)
+            self.assertEqual(errors.getvalue(), said)
+
     def test_a_file_with_nothing_but_words_in_a_column_of_texts_that_is_given(self):
         """They are texts. A condition of them was refused, and told to give a kind."""
         files = self.files("x,sex\n1,NA\n2,none\n", "x,sex\n3,male\n4,NA\n")

@@ -5,7 +5,7 @@ import re
 import sys
 import time
 import warnings
-from typing import Dict, Iterable, List, Optional, Sequence, Tuple
+from typing import Dict, Iterable, List, Mapping, Optional, Sequence, Tuple
 
 from .answer import Answer
 from .ask_files import asked_of_files, files_like
@@ -141,7 +141,7 @@ def run(options: argparse.Namespace) -> None:
     if files:
         found = asked_of_files(files, options.question, selection, reading_of(options), progress)
         progress.end()
-        show(found, options, found.notes)
+        show(found, options, selection, found.notes_of_columns)
         return
     file = file_of(options, progress)
     if options.question is None:
@@ -152,17 +152,16 @@ def run(options: argparse.Namespace) -> None:
         return
     if options.plot or options.form == "json":
         file.load(file.cells.names)         # Their values are wanted, not only their cells.
-    named = selection.names(options.question, file.cells.names)
-    file.load(named)
+    file.load(selection.names(options.question, file.cells.names))
     answer = asked(file, options.question, selection, progress)
     progress.end()
-    said = file.cells.names if options.form == "json" else named       # Of the others the cells are printed.
-    show(answer, options, [file.notes[name] for name in said if name in file.notes])
+    show(answer, options, selection, file.notes)
 
 
-def show(answer: Answer, options: argparse.Namespace, notes: Iterable[str]) -> None:
-    """Says what is to be known of an answer, draws it, and prints it."""
-    say(notes)
+def show(answer: Answer, options: argparse.Namespace, selection: Selection, notes: Mapping[str, str]) -> None:
+    """Says what is to be known of columns of an answer, draws it, and prints it."""
+    said = answer.names if options.form == "json" else selection.names(options.question, answer.names)      # Of the others the cells are printed.
+    say(notes[name] for name in said if name in notes)
     if options.plot:
         draw(answer, options.plot)
     write(written(answer, options.form))

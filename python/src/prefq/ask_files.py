@@ -50,7 +50,8 @@ class FilesAnswer(Answer):
     def __init__(self, job: Job, found: Found) -> None:
         columns, records = records_left(found.rows, found.levels, job.reading)
         self._cells = {record.id: cells for record, cells in zip(records, in_one_order(found, [column.name for column in columns])) if cells is not None}
-        super().__init__(job.question, columns, sorted(records, key=lambda row: (row.level, row.id)), notes=notes_of(found.rows, job.reading))
+        super().__init__(job.question, columns, sorted(records, key=lambda row: (row.level, row.id)))
+        self.notes_of_columns = notes_of(found.rows, columns, job.reading)
 
     def cells(self, record: Record) -> List[str]:
         return [str(record.level), str(record.id), *self._cells[record.id]] if record.id in self._cells else super().cells(record)

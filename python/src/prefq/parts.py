@@ -23,21 +23,22 @@ ids follow the order of the partitions in every part and every merge.
 import builtins
 import csv
 import os
+from collections import Counter
 from dataclasses import dataclass, field, replace
 from functools import partial
+from itertools import chain
 from typing import Any, Callable, Dict, Iterable, Iterator, List, Optional, Sequence, Tuple
 from uuid import uuid4
 
 from .answer import Answer
-from .carried import column_of
+from .carried import CellRows, column_of
 from .checks import MOST_IDS, MOST_ROWS, whole
 from .columns import Column
 from .conditions import absent_in, moments_in, names_in, rows_that_meet
 from .errors import Refused, placed
 from .expressions import Node, read_condition, unmade
-from .kinds import Texts
 from .loading import records_of
-from .missing import note_of
+from .missing import Missing, folded, note_of
 from .once import ask_once
 from .partial import Absent, Partial, together
 from .partition import Numbered, Partition, Reading, Source, called, is_of_dask, numbered, partitions_of
@@ -360,13 +361,19 @@ def answer_of(found: Found, job: Job) -> Answer:
     """The rows of an answer as records, by level and then by id."""
     warn_of(found.rows.absent.values())
     columns, rows = records_left(found.rows, found.levels, job.reading)
-    return Answer(job.question, columns, sorted(rows, key=lambda row: (row.level, row.id)), notes=notes_of(found.rows, job.reading))
+    return Answer(job.question, columns, sorted(rows, key=lambda row: (row.level, row.id)), notes=notes_of(found.rows, columns, job.reading).values())
 
 
-def notes_of(rows: Partial, reading: Reading) -> List[str]:
-    """What is to be known of how these rows were read: words are texts in a column of texts, unless they were given."""
-    texts = [segment.column.name for segment in rows.asked if isinstance(segment.column.kind, Texts)]
-    return [note_of(name, counts) for name, counts in rows.words.items() if name not in texts or reading.missing is not None]
+def notes_of(left: Partial, columns: Sequence[Column], reading: Reading) -> Dict[str, str]:
+    """What is to be known of how each column was read: which words are missing in all rows, or in these where the question does not name it."""
+    missing, found = Missing(reading.missing), {}
+    for column in columns:
+        words = missing.in_a_column_of(column.kind) - {""}
+        cells = chain.from_iterable(rows.values(column.name) for rows in left.rows if isinstance(rows, CellRows))
+        counts = {word: count for word, count in (left.words.get(column.name) or Counter(cells)).items() if folded(word) in words}
+        if counts:
+            found[column.name] = note_of(column.name, counts)
+    return found
 
 
 def records_left(left: Partial, levels: Sequence[Optional[int]], reading: Reading) -> Tuple[List[Column], List[Record]]:

@@ -7,7 +7,7 @@ from typing import Any, Callable, List, NamedTuple, Optional, Sequence, Tuple
 from .answer import Answer
 from .errors import Refused, no_such_row
 from .partial import Partial, together
-from .parts import Job, in_partition, records_left, waited_for
+from .parts import Job, in_partition, notes_of, records_left, waited_for
 from .partition import Source, called
 from .selection import Reading
 from .sources import Opened, opened
@@ -107,4 +107,4 @@ def dominators(job: Rivalry, sources: Sequence[Any], map: Callable[..., Any], id
     levels = dict(rivals.dominators())
     left = left.kept([at for at, place in enumerate(left.places) if place + 1 in levels])
     columns, rows = records_left(left, [levels[place + 1] for place in left.places], job.reading)
-    return Answer(job.question, columns, sorted(rows, key=lambda row: (row.level or LEVELS + 1, row.id)))
+    return Answer(job.question, columns, sorted(rows, key=lambda row: (row.level or LEVELS + 1, row.id)), notes=notes_of(left, columns, job.reading).values())
