@@ -136,7 +136,7 @@ class Requests(Uvicorn):
             events.next()
             server.desk.close()
             with self.within(5):
-                self.assertEqual(events.next()[0], "end")
+                self.assertEqual((events.next(), events.next()[0]), (("failed", {"error": "the desk was closed", "kind": "closed", "number": None, "question": None, "place": None}), "end"))
 
 
 CAN_BE_MOUNTED = unittest.skipUnless(uvicorn and Starlette, "uvicorn or starlette is not installed")

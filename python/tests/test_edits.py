@@ -201,7 +201,7 @@ class Edits(Editing):
         self.browser.until("document.getElementById('done').textContent === 'Alpine is removed. Undo'")
         self.browser.js("window.before = window.fetch; window.fetch = () => Promise.reject(new TypeError('no network'))")
         self.browser.click("#done button")
-        self.browser.until("document.getElementById('done').textContent === 'Not added again: no network. Undo'")
+        self.browser.until("document.getElementById('done').textContent === 'The server does not answer: look whether it was done before you do it again. Undo'")
         self.browser.js("window.fetch = window.before")
         self.browser.click("#done button")
         self.browser.until("document.getElementById('done').textContent === 'Added again.'")

@@ -14,6 +14,7 @@ import prefq
 from interrupting import NEVER, PACKAGE, Handler, Interrupter, Interruption, places_of
 from prefq.desk import Desk
 from prefq.follow_desk import FollowedDesk
+from prefq.pictures import Asked, Shown, answer
 from support import TestCase, in_a_fork
 
 SOON = 10
@@ -228,8 +229,10 @@ class Forks(OfTables):
 
     def test_a_desk(self):
         with Desk(frame()) as desk:
-            with held(desk._lock):
-                for call in (lambda: desk.insert({"x": 3}), lambda: desk.picture(QUESTION)):
+            shown, asked = Shown(desk), Asked(QUESTION)
+            with held(desk._lock), shown._making, shown._making:
+                for call in (lambda: desk.insert({"x": 3}), lambda: desk.picture(QUESTION), lambda: desk.wait(desk.version, NEVER), lambda: shown.get(asked, [None, None]),
+                             lambda: shown.made(answer, asked)):
                     self.assertEqual(in_a_fork(call)[0], "process")
                 self.assertIsNone(in_a_fork(desk.close))
             self.assertEqual(desk.insert({"x": 3}), 3)
@@ -237,7 +240,8 @@ class Forks(OfTables):
     def test_a_desk_of_a_followed_table(self):
         with FollowedDesk(self.followed()) as desk:
             with held(desk._lock):
-                self.assertEqual(in_a_fork(lambda: desk.picture(QUESTION))[0], "process")
+                for call in (lambda: desk.picture(QUESTION), lambda: desk.wait(desk.version, NEVER)):
+                    self.assertEqual(in_a_fork(call)[0], "process")
                 self.assertIsNone(in_a_fork(desk.close))
             self.assertEqual([row.id for row in desk.picture(QUESTION).best], [1])
 

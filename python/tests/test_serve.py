@@ -310,7 +310,7 @@ class Streams(Served):
     def test_a_sign_of_life(self):
         with mock.patch.object(replies, "SECONDS_QUIET", 0.2), self.served() as server, Events(server) as events:
             events.next()
-            self.assertTrue(events.reply.readline().startswith(b": "))
+            self.assertEqual([events.reply.readline() for _ in range(3)], [b"event: alive\n", b"data:\n", b"\n"])
 
     def test_too_many_browsers(self):
         with mock.patch.object(replies, "MOST_STREAMS", 1), mock.patch.object(replies, "SECONDS_QUIET", 0.1), self.served() as server:

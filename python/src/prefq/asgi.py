@@ -79,9 +79,9 @@ class Application:
         try:
             await send(start(200, replies.headers(replies.EVENTS)))
             is_last = is_head
-            while not (is_last or gone.done() or desk.is_closed):
+            while not (is_last or gone.done()):
                 woken.clear()
-                if desk.version != watch.seen:
+                if desk.is_closed or desk.version != watch.seen:
                     text, is_last = await loop.run_in_executor(self._drawing, watch.event)
                 elif await is_set(woken, replies.SECONDS_QUIET):
                     continue

@@ -133,6 +133,13 @@ class Desk:
     def is_closed(self) -> bool:
         return self._closed
 
+    def check(self) -> None:
+        """Raises `Ended` in another process than that of the frame, and where the desk was closed."""
+        if not self._is_ours():
+            raise Ended("this desk belongs to another process: open another one in each process", "process")
+        if self._closed:
+            raise Ended("the desk was closed", "closed")
+
     def __len__(self) -> int:
         return len(self._rows)
 
@@ -177,6 +184,7 @@ class Desk:
 
     def wait(self, seen: Optional[int], seconds: float) -> int:
         """The version, as soon as it is another than `seen`, but after this number of seconds at the latest."""
+        self.check()
         end = time.monotonic() + seconds
         # It has no lock, which an interruption within a `Condition` would leave locked.
         woken: "SimpleQueue[None]" = SimpleQueue()
@@ -187,8 +195,7 @@ class Desk:
                     woken.get(timeout=max(0.0, end - time.monotonic()))
         finally:
             stop()
-        if self._closed:
-            raise Ended("the desk was closed", "closed")
+        self.check()
         return self.version
 
     def read(self, text: str, selection: Selection = Selection()) -> Question:
@@ -203,7 +210,7 @@ class Desk:
             query = self._frame.begun(text, selection, waits=False) if selection.is_answered_by(question, columns) else None
             return question, columns, self.version, dict(self._rows), query
 
-        self.table._engine.ours()
+        self.check()
         question, columns, version, rows, query = self._waking(lambda: locked(self._lock, begun))
         if query is None:
             return computed_picture(text, selection, version, columns, list(rows.values()))
@@ -275,8 +282,7 @@ class Desk:
     def _change(self, change: Callable[[], Result], values: Iterable[str] = ()) -> Result:
         """A change, for which columns of these names have values."""
         def made() -> Result:
-            if self._closed:
-                raise Ended("the desk was closed", "closed")
+            self.check()
             for name in values:
                 if name not in self._named:
                     raise ValueError(unknown_column(name, list(self._named)))
@@ -297,7 +303,7 @@ class Desk:
             result: Result = self._frame._change(made)
             return result
 
-        self.table._engine.ours()
+        self.check()
         return self._waking(changed)
 
     def _changes(self) -> Tuple[Any, int]:

@@ -124,6 +124,8 @@ class Shown:
 
     def get(self, asked: Asked, axes: Sequence[Optional[str]]) -> Tuple[int, str]:
         """The version of the picture as it is now, and the picture as JSON."""
+        self._desk.check()
+
         def made() -> Tuple[int, str]:
             with self._making:
                 found = picture(self._desk, asked, axes)
@@ -133,6 +135,7 @@ class Shown:
 
     def made(self, make: Callable[..., Result], *words: Any) -> Result:
         """What is made of the desk and these beside pictures, and as seldom at a time."""
+        self._desk.check()
         with self._making:
             return make(self._desk, *words)
 

@@ -6,7 +6,7 @@
     GET /answer.csv?question=..  the whole answer as comma-separated values
     GET /why?question=..&id=7    the rows that are better than one, each with its level
     GET /events?question=..      pictures as server-sent events, at once and after each change; the last one is `event: refused` where the question is, and
-                                 `event: failed` where the table has ended
+                                 `event: failed` where the table has ended; `event: alive` where nothing has changed for a while
     POST /rows                   {"Price": 59.9, ..}, a new row; replies its id
     PUT /rows/7                  {"Price": 64.9}, other values for a row
     DELETE /rows/7               replies the values that it had
@@ -48,7 +48,7 @@ SECONDS_BETWEEN = 0.1       # pictures of one browser
 SECONDS_QUIET = 15.0        # until a sign of life is sent
 SECONDS_STALLED = 10.0      # that a browser may take nothing of what is sent
 SECONDS_REQUEST = 10.0      # from the first byte of a request to its last
-SIGN_OF_LIFE = ": nothing has changed\n\n"
+SIGN_OF_LIFE = "event: alive\ndata:\n\n"
 COME_AGAIN = "retry: 1000\n\n"      # milliseconds, where the stream breaks
 HALF = re.compile("[\ud800-\udfff]")
 ROW = re.compile(r"/rows/(\d{1,18})")

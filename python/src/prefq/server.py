@@ -259,10 +259,9 @@ class Handler(BaseHTTPRequestHandler):
         self._write(head(200, replies.headers(replies.EVENTS), self.close_connection))
         is_last = self.command == "HEAD"
         while not is_last and not self.server.closing.is_set():
-            try:
+            is_quiet = False
+            with contextlib.suppress(Ended):        # which the event says
                 is_quiet = self.server.desk.wait(watch.seen, replies.SECONDS_QUIET) == watch.seen
-            except Ended:
-                return
             text, is_last = (replies.SIGN_OF_LIFE, False) if is_quiet else watch.event()
             self._write(text.encode())
             time.sleep(0 if is_quiet or is_last else replies.SECONDS_BETWEEN)

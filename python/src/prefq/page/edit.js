@@ -1,26 +1,21 @@
 // Changes rows. Only what is changed is sent, with the version that was seen, and what somebody else has changed since is shown and asked for.
-import {$, element, isNumber, said} from "./parts.js";
+import {$, element, isNumber, request, said} from "./parts.js";
 
 let run;        // which server has the rows that are shown: one that was started anew may have others
 const removed = new Set();      // the ids of rows whose removal was asked for here
 let opened;     // what the dialog shows: the row's id, none of a new one, the version that was seen, and the fields
 
-class Refusal extends Error {
-  constructor(status, reply) {
-    super(reply.error);
-    Object.assign(this, {status, reply});
-  }
-}
-
 export function edits(about) {
   run = about.run;
 }
 
-async function send(method, path, values, seen) {
-  const reply = await fetch(`${path}?${new URLSearchParams({run, ...(seen === undefined ? {} : {seen})})}`, {method, headers: {"Content-Type": "application/json"}, body: values && JSON.stringify(values)});
-  const received = await reply.json().catch(() => ({error: `the server replies ${reply.status}`}));
-  if (!reply.ok) throw new Refusal(reply.status, received);
-  return received;
+function send(method, path, values, seen) {
+  return request(`${path}?${new URLSearchParams({run, ...(seen === undefined ? {} : {seen})})}`, {method, headers: {"Content-Type": "application/json"}, body: values && JSON.stringify(values)});
+}
+
+// Why a change has failed. Where no reply came, it may have been made.
+function reason(why) {
+  return why.status ? why.message : `${why.message}: look whether it was done before you do it again`;
 }
 
 // A column in the dialog: the text that the row has, and the control, in which it may be another one.
@@ -128,9 +123,9 @@ export async function save() {
     $("editor").close();
     said(opened.id === undefined ? "Added." : changed.length ? "Changed." : "Nothing was changed.");
   } catch (why) {
-    $("wrong").textContent = why.reply?.kind === "changed" ? compare(why.reply) : why.status === 404 ? "Somebody else has removed this row." : why.message;
+    $("wrong").textContent = why.reply.kind === "changed" ? compare(why.reply) : why.status === 404 ? "Somebody else has removed this row." : reason(why);
     $("wrong").hidden = false;
-    for (const field of opened.fields) if (field.column.name === why.reply?.column) field.isRefused = true;
+    for (const field of opened.fields) if (field.column.name === why.reply.column) field.isRefused = true;
   } finally {
     $("save").disabled = false;
   }
@@ -161,7 +156,7 @@ export async function remove(row, version) {
     said(`${row.cells[0]} is removed. `, undo(values));
   } catch (why) {
     removed.delete(row.id);
-    if (why.reply?.kind !== "changed") return said(why.message);
+    if (why.reply.kind !== "changed") return said(reason(why));
     const news = Object.entries(why.reply.values).flatMap(([name, value], at) => [`${at ? ", " : ""}${name} is `, quote(value ?? ""), " now"]);
     said(`Somebody else has changed ${row.cells[0]}: `, ...news, ". ", button("Remove it all the same", () => remove(row, why.reply.version)));
   }
@@ -169,7 +164,7 @@ export async function remove(row, version) {
 
 // Adds a row again; where that fails, as where the server does not answer, the way back stays.
 function undo(values) {
-  return button("Undo", () => send("POST", "rows", values).then(() => said("Added again."), why => said(`Not added again: ${why.message}. `, undo(values))));
+  return button("Undo", () => send("POST", "rows", values).then(() => said("Added again."), why => said(`${reason(why)}. `, undo(values))));
 }
 
 // A second click would be another change.

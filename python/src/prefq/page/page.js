@@ -2,7 +2,7 @@
 import {showBuilder} from "./builder.js";
 import {edit, edits, remove, save} from "./edit.js";
 import {showLegend} from "./legend.js";
-import {$, counted, element} from "./parts.js";
+import {$, counted, element, request} from "./parts.js";
 import {draw, rowAt, VIEWS} from "./plot.js";
 import {speak} from "./speech.js";
 import {fillTable, namePlace} from "./table.js";
@@ -11,15 +11,20 @@ import {showWhy} from "./why.js";
 const EXCERPT = 72;
 const BESIDE = ["where", "top"];       // what is asked beside the question
 const NAMED = 3;        // rows of the answer that are named in a message
-const AGAIN = 3000;     // milliseconds until a server that refused to be watched is asked again
-let about, picture, stream;
+const AGAIN = 3000;     // milliseconds until a server that has refused is asked again
+const SILENCE = 40000;  // milliseconds without a sign of life of the server, which sends one every 15 seconds
+let about, query, picture, stream, silence;
 
-async function read() {
-  return (await fetch("about")).json();
+// Until the server says what it has, it is asked again.
+function connect() {
+  request("about").then(begin, why => {
+    lost(why.message);
+    setTimeout(connect, AGAIN);
+  });
 }
 
-async function begin() {
-  about = await read();
+function begin(received) {
+  about = received;
   document.title = $("title").textContent = about.title;
   $("examples").append(element("option", {textContent: "choose …", value: ""}), ...about.questions.map(text => element("option", {textContent: text, value: text})));
   for (const axis of ["x", "y"]) {
@@ -31,6 +36,7 @@ async function begin() {
   edits(about);
   showBuilder(about.columns);
   addEventListener("popstate", restore);
+  document.addEventListener("visibilitychange", listen);
   restore();
 }
 
@@ -40,12 +46,17 @@ function restore() {
   $("question").value = asked.get("question") || about.questions[0];
   for (const field of BESIDE) $(field).value = asked.get(field) ?? "";
   for (const axis of ["x", "y"]) $(axis).value = about.columns.some(column => column.axis && column.name === asked.get(axis)) ? asked.get(axis) : "";
-  listen();
+  watch();
 }
 
 function ask() {
   const address = `?${asked()}`;
   if (address !== location.search) history.pushState(null, "", address);
+  watch();
+}
+
+function watch() {
+  query = asked();
   listen();
 }
 
@@ -55,28 +66,46 @@ function asked() {
   return found;
 }
 
+// Has the server send pictures, but to a page that nobody sees: a browser has six connections to a server, for all of its windows.
 function listen() {
-  const query = asked();
-  if (stream) stream.close();
+  stream?.close();
+  clearTimeout(silence);
+  if (document.hidden) return;
   stream = new EventSource(`events?${query}`);
+  heard();
+  for (const name of ["open", "message", "alive"]) stream.addEventListener(name, heard);
   stream.addEventListener("message", event => {
     $("download").href = `answer.csv?${query}`;
     show(JSON.parse(event.data));
   });
   stream.addEventListener("refused", event => {
     event.target.close();
-    refuse(JSON.parse(event.data), query);
+    clearTimeout(silence);
+    refuse(JSON.parse(event.data));
   });
   let failure = "";
   // Where the server was started anew, its columns and rows may be others. Where it does not reply, the stream breaks too, and is opened again.
-  stream.addEventListener("open", () => read().then(({run}) => { if (run !== about.run) location.reload(); }, () => {}));
+  stream.addEventListener("open", () => request("about").then(({run}) => { if (run !== about.run) location.reload(); }, () => {}));
   stream.addEventListener("failed", event => { failure = JSON.parse(event.data).error; });
   stream.addEventListener("error", event => {
-    state(`${failure || "The server does not answer"}. Trying again …`);
+    lost(failure || undefined);
     failure = "";
     // The browser tries again by itself, but not where it was replied that it may not watch.
     if (event.target.readyState === EventSource.CLOSED) setTimeout(() => { if (stream === event.target) listen(); }, AGAIN);
   });
+}
+
+// A connection may be broken without an end, as behind a sleep of the machine.
+function heard() {
+  clearTimeout(silence);
+  silence = setTimeout(() => {
+    lost();
+    listen();
+  }, SILENCE);
+}
+
+function lost(why = "The server does not answer") {
+  state(`${why}. Trying again …`);
 }
 
 function state(text) {
@@ -85,7 +114,7 @@ function state(text) {
 }
 
 // What is refused is the question, the condition, which is the text that has the place then, or how many rows are wanted.
-function refuse(reason, query) {
+function refuse(reason) {
   const field = query.has("where") && reason.question === query.get("where") ? "where" : reason.error.startsWith("top is") ? "top" : "question";
   mark(field);
   $("refusal").replaceChildren(element("p", {textContent: reason.error}));
@@ -190,4 +219,4 @@ new ResizeObserver(() => {
   redraw();
   requestAnimationFrame(() => $("plot").classList.remove("still"));
 }).observe($("plot"));
-begin();
+connect();

@@ -1,12 +1,36 @@
 // What the other files build the page of, and what it says of what was done.
 import {speak} from "./speech.js";
 
+const LONGEST = 60000;      // milliseconds that a reply is waited for
+
 export const $ = id => document.getElementById(id);
 
 export function element(tag, properties = {}, ...children) {
   const made = Object.assign(document.createElement(tag), properties);
   made.append(...children);
   return made;
+}
+
+// What the server has refused, with the status of its reply; without one where no reply came.
+class Refusal extends Error {
+  constructor(status, reply) {
+    super(reply.error);
+    Object.assign(this, {status, reply});
+  }
+}
+
+// What the server replies, as JSON. All else is raised.
+export async function request(path, options = {}) {
+  let reply, received;
+  try {
+    reply = await fetch(path, {...options, signal: AbortSignal.timeout(LONGEST)});
+    received = await reply.json();
+  } catch {
+    const isRefused = reply && !reply.ok;
+    throw new Refusal(isRefused ? reply.status : undefined, {error: isRefused ? `the server replies ${reply.status}` : "The server does not answer"});
+  }
+  if (!reply.ok) throw new Refusal(reply.status, received);
+  return received;
 }
 
 export function isNumber(column) {

@@ -1,17 +1,17 @@
 // Why a row is not better placed: the rows that are better, each with its level and the values that the question names.
-import {$, counted, element, isNumber} from "./parts.js";
+import {$, counted, element, isNumber, request} from "./parts.js";
 import {namePlace} from "./table.js";
 
 // Shows the rows that are better than one, in what is asked.
 export async function showWhy(columns, asked, id) {
   const query = new URLSearchParams(asked);
   query.set("id", id);
-  const reply = await fetch(`why?${query}`), received = await reply.json().catch(() => ({error: `the server replies ${reply.status}`}));
+  const received = await request(`why?${query}`).catch(why => why.reply), isReplied = received.error === undefined;
   $("better").tHead.replaceChildren();
   $("better").tBodies[0].replaceChildren();
-  $("reasons").querySelector("h2").textContent = reply.ok ? `Why ${received.row.cells[namePlace(columns)]}, row ${id}, is where it is` : `Row ${id}`;
-  $("reason").textContent = reply.ok ? sentence(received) : received.error;
-  if (reply.ok) fill(columns, received);
+  $("reasons").querySelector("h2").textContent = isReplied ? `Why ${received.row.cells[namePlace(columns)]}, row ${id}, is where it is` : `Row ${id}`;
+  $("reason").textContent = isReplied ? sentence(received) : received.error;
+  if (isReplied) fill(columns, received);
   if (!$("reasons").open) $("reasons").showModal();
 }
 
