@@ -85,6 +85,18 @@ class Pages(test_follow.OfSqlite):
                 self.assertEqual(json.load(reply)["count"], 1)
             server.shutdown()
 
+    def test_a_table_that_is_refused_is_read_once_a_second(self):
+        desk = self.desk((1, "x", 1, 1))
+        everything, count = desk._frame._source.everything, []
+        with unittest.mock.patch.object(desk._frame._source, "everything", lambda: count.append(1) or everything()):
+            self.db.execute("insert into offers values (2, 'y', 'dear', 1)")
+            desk.wait(desk.version, 60)
+            time.sleep(2)
+            self.assertLess(len(count), 5)
+            self.db.execute("delete from offers where id = 2")
+            desk.wait(desk.version, 60)
+        self.assertEqual([row.id for row in desk.picture("best low(price)").rows], [1])
+
     def test_a_frame_that_is_closed_closes_its_page(self):
         desk = self.desk((1, "x", 1, 1))
         desk._frame.close()

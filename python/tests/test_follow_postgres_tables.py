@@ -14,6 +14,7 @@ import prefq
 import test_follow_postgres
 from interrupting import Interrupter, Interruption
 from prefq.checks import MOST_COLUMNS
+from prefq.follow_desk import FollowedDesk
 from prefq.follow_postgres import KINDS, PostgresSource
 
 setUpModule = test_follow_postgres.setUpModule
@@ -392,6 +393,22 @@ class Transactions(OfTables):
                 with self.within(5), self.refuses(prefq.Refused, "table public.offers has to be read anew, and transactions that write", kind="follow"):
                     frame.best(QUESTION, at_least=frame.at + 1, wait=0.3)
         self.assertEqual(frame.best(QUESTION).ids, [5])
+
+    def test_a_page_says_what_is_waited_for(self):
+        """It showed the rows from before, as live ones, and a question that was not asked before had no reply."""
+        self.two("offers")
+        with mock.patch("prefq.follow_desk.SECONDS_TO_WAIT", 0.5), FollowedDesk(self.followed()) as desk:
+            version = desk.version
+            with self.stranger():
+                self.read_anew()
+                with self.within(10):
+                    self.assertGreater(desk.wait(version, 60), version)
+                    for question in (QUESTION, "best high(price)"):
+                        with self.refuses(prefq.Refused, "meanwhile", kind="follow"):
+                            desk.picture(question)
+            with self.within(20):
+                while [row.id for row in desk.picture(QUESTION).rows] != [5]:
+                    time.sleep(0.1)
 
     def test_a_signal_gets_in_while_a_slot_is_waited_for(self):
         self.two("offers")

@@ -217,8 +217,8 @@ class Followed:
         found: Tuple[int, Answered] = self._asked(begun, answered, selection, is_there=True)
         return found
 
-    def snapshot(self, question: str, selection: Selection = Selection()) -> Snapshot:
-        """All rows and the answer to a question, with what is asked beside it, at one moment, as numbers."""
+    def snapshot(self, question: str, selection: Selection = Selection(), until: Optional[float] = None) -> Snapshot:
+        """All rows and the answer to a question, with what is asked beside it, at one moment, as numbers; others are waited for until then."""
         def begun(ask: Ask, dealt: Dealt) -> Tuple[int, Sequence[Column], Asked, Begun]:
             asked = ask(dealt, question, selection)
             return self.version, [dealt.by_name[name] for name in selection.names(question, dealt.names)], asked, dealt.begin_all()
@@ -227,7 +227,7 @@ class Followed:
             version, columns, asked, everything = begun
             return Snapshot(version, asked.columns, dict(everything.rows()), asked.answer(), columns, asked.unknown)
 
-        found: Snapshot = self._asked(begun, answered, selection)
+        found: Snapshot = self._asked(begun, answered, selection, until=until)
         return found
 
     def why(self, id: Key, question: AskedFor, *, where: Optional[Operand] = None, by: Names = None) -> Answer:
@@ -299,19 +299,19 @@ class Followed:
                     raise
         raise Refused(f"{self._source.name} was read {TRIES + 1} times, and other calls of this frame were interrupted each time: ask again", "follow")
 
-    def _asked(self, begin: Any, answer: Any, selection: Selection, is_there: bool = False) -> Any:
+    def _asked(self, begin: Any, answer: Any, selection: Selection, is_there: bool = False, until: Optional[float] = None) -> Any:
         """What a question begins, which is answered while others go on. Where too many rows were left of the tables with a condition, it is begun once more, over the rows
         that meet it."""
         if selection.where is None:
-            return self._answered(partial(begin, asked_of), answer, is_there)
+            return self._answered(partial(begin, asked_of), answer, is_there, until)
         with suppress(RowsLeft):
-            return self._answered(partial(begin, asked_of), answer, is_there)
-        return self._answered(partial(begin, asked_of_rows), answer, is_there)
+            return self._answered(partial(begin, asked_of), answer, is_there, until)
+        return self._answered(partial(begin, asked_of_rows), answer, is_there, until)
 
-    def _answered(self, begin: Any, answer: Any, is_there: bool = False) -> Any:
+    def _answered(self, begin: Any, answer: Any, is_there: bool = False, until: Optional[float] = None) -> Any:
         """What is begun by one call, and answered while others go on."""
         for last in [False] * TRIES + [True]:
-            begun = self._surviving(begin, is_there)
+            begun = self._surviving(begin, is_there, until)
             try:
                 return answer(begun)
             except Ended:

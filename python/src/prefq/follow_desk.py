@@ -11,7 +11,9 @@ from .errors import Ended, Refused
 from .follow import Followed
 from .selection import Selection
 
-PAUSE = 0.1     # seconds between two looks at the database
+PAUSE = 0.1             # seconds between two looks at the database
+PAUSE_REFUSED = 1.0     # where its table was refused, of which each look reads everything
+SECONDS_TO_WAIT = 5.0   # for others, as for transactions that keep the table from being read
 QUESTIONS_OF_A_PICTURE = 2
 
 
@@ -73,7 +75,7 @@ class FollowedDesk(Desk):
         does not say what only those may know who run it."""
         turns, source = self._turns, self._frame._source        # turns of a version from before, where it changes meanwhile
         try:
-            found = self._frame.snapshot(text, selection)
+            found = self._frame.snapshot(text, selection, time.monotonic() + SECONDS_TO_WAIT)
         except source.faults as why:
             raise Refused(f"{source.name} cannot be read: its database raises {type(why).__name__}", "follow") from why
         wrong = next((key for key in found.rows if not isinstance(key, int)), None)
@@ -87,7 +89,7 @@ class FollowedDesk(Desk):
     def _look(self) -> None:
         """Wakes those who watch where the rows have changed, cannot be read any more, or can be read again. Why they cannot is said to who asks for a picture."""
         try:
-            self._frame.refresh()
+            self._frame._surviving(len, until=time.monotonic() + SECONDS_TO_WAIT)
         except Exception as why:
             if isinstance(why, Ended) and why.kind == "closed":
                 return self.close()
@@ -117,8 +119,9 @@ class FollowedDesk(Desk):
 
 def follows(held: "weakref.ref[FollowedDesk]") -> None:
     """Has a desk look at its table now and then, as long as it is there and not closed."""
+    pause = PAUSE
     while True:
-        time.sleep(PAUSE)
+        time.sleep(pause)
         desk = held()
         if desk is None or desk.is_closed:
             return
@@ -126,6 +129,7 @@ def follows(held: "weakref.ref[FollowedDesk]") -> None:
             desk._look()
         except Exception:       # of one who subscribed: the others are told of later changes too
             threading.excepthook(threading.ExceptHookArgs([*sys.exc_info(), threading.current_thread()]))
+        pause = PAUSE if desk._is_readable else PAUSE_REFUSED
         del desk
 
 
