@@ -4,6 +4,7 @@ import os
 import random
 import unittest
 from decimal import Decimal
+from functools import partial
 
 import prefq
 from prefq.desk import Desk
@@ -140,6 +141,18 @@ class Notices(TestCase):
             end()
             frame.insert({"price": 1})
             self.assertEqual(seen, [3, 5, 5, 3, 2])
+
+    def test_a_subscription_is_ended_twice(self):
+        """The second time does nothing, also where the same function was subscribed by somebody else."""
+        with Desk(prices(60, 50)) as desk:
+            for rows in (desk, desk._frame):
+                seen = []
+                call = partial(seen.append, 1)
+                end, _ = rows.subscribe(call), rows.subscribe(call)
+                end()
+                end()
+                desk.insert({"price": 1})
+                self.assertEqual(seen, [1])
 
     def test_who_is_told_behind_one_that_raises(self):
         """Of a change of a frame and of a desk, which is made."""

@@ -306,6 +306,19 @@ class OfADesk(TestCase):
             # A picture keeps the columns that its numbers stand for.
             self.assertEqual([before.columns[0].decode(row.numbers[0]) for row in before.rows], [60, 50])
 
+    def test_a_desk_that_refuses_a_change_stays_of_its_version(self):
+        with Desk(prefq.Frame.from_records([{"price": 60}, {"price": 50}], capacity=2)) as desk:
+            woken = []
+            desk.subscribe(lambda: woken.append(desk.version))
+            for _ in range(2):
+                with self.refuses(prefq.Refused, "full", kind="client"):
+                    desk.insert({"price": 7})
+                self.assertEqual(desk.picture("best low(price)").version, 1)
+            with self.refuses(prefq.Refused, "full"):
+                desk.insert({"price": "0.5"})           # for which the column has become wider
+            self.assertEqual([str(column.kind) for column in desk.picture("best low(price)").columns], ["decimal(1)"])
+            self.assertEqual((desk.version, woken), (2, [2]))
+
     def test_a_frame_that_has_grown_has_its_ids_on_a_desk(self):
         frame = prices(60, 50, 40)
         frame.delete(1)

@@ -15,7 +15,7 @@ from .errors import Ended, Error, Refused, no_such_row
 from .frame import Frame
 from .frame_query import FrameQuery
 from .hints import unknown_column
-from .live_rows import call_all
+from .live_rows import call_all, subscribed
 from .moment import Moment, moment_of
 from .questions import Question
 from .selection import Selection, picked, query_of, reading
@@ -179,8 +179,7 @@ class Desk:
     def subscribe(self, call: Callable[[], None]) -> Callable[[], None]:
         """Has this called after each change and at the close, by the thread that makes it, so it must be quick. Returns what ends it. Neither waits for a change that
         is under way, so an event loop may call them."""
-        self._subscribed.append(call)
-        return lambda: self._subscribed.remove(call)
+        return subscribed(self._subscribed, call)
 
     def wait(self, seen: Optional[int], seconds: float) -> int:
         """The version, as soon as it is another than `seen`, but after this number of seconds at the latest."""
@@ -316,9 +315,10 @@ class Desk:
         if self._is_whole:
             return
         self.table._free.check_at_hand()
-        rows = self._there()
-        self.version += 1
-        self._since = {id: self._versions(id) if self._rows.get(id) == row else (self.version,) * len(self.columns) for id, row in rows.items()}
+        opened, rows = self._opened, self._there()
+        if (opened, self._rows) != (self._opened, rows):
+            self.version += 1
+            self._since = {id: self._versions(id) if self._rows.get(id) == row else (self.version,) * len(self.columns) for id, row in rows.items()}
         self._rows, self._is_whole = rows, True
 
     def _waking(self, call: Callable[[], Result]) -> Result:

@@ -1,7 +1,7 @@
 """The rows of a frame: records that go in and come out, each change at one moment; and columns that become wider where a value needs it."""
 import os
 import threading
-from contextlib import ExitStack
+from contextlib import ExitStack, suppress
 from functools import partial
 from typing import Any, Callable, Dict, Iterable, Iterator, List, Mapping, Optional, Sequence, Tuple, TypeVar, Union
 
@@ -147,8 +147,7 @@ class LiveRows:
         ...     frame.delete(1)
         [1]
         """
-        self._subscribed.append(call)
-        return lambda: self._subscribed.remove(call)
+        return subscribed(self._subscribed, call)
 
     def get(self, id: int) -> Record:
         """The row with this id."""
@@ -302,6 +301,17 @@ class LiveRows:
             return call(inside)
         except Refused as why:
             raise (no_such_row(id) if why.kind == "client" and why.number == 7 else why) from None
+
+
+def subscribed(calls: List[Callable[[], None]], call: Callable[[], None]) -> Callable[[], None]:
+    """Adds a call to others, and returns what takes it away; the same again does nothing."""
+    own = partial(call)         # which is none of the others, whatever these are equal to
+    calls.append(own)
+
+    def end() -> None:
+        with suppress(ValueError):
+            calls.remove(own)
+    return end
 
 
 def call_all(calls: Sequence[Callable[[], None]]) -> None:
