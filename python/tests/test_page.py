@@ -248,5 +248,31 @@ class Page(Paged):
         self.assertEqual(self.browser.js("document.documentElement.lang"), "en")
 
 
+class OddNames(Paged):
+    records = [{" Price ": number, "far\naway": 9 - number, "Hotel": text} for number, text in enumerate(["Quay\n  by the river", "it's \"new\"\n", "Alpine"])]
+
+    def open(self):
+        self.browser.open(self.server.url)
+        self.browser.until("document.readyState === 'complete' && document.querySelectorAll('#examples option').length === 3")
+
+    def test_line_ends_between_quotes_stay(self):
+        for question, rows in [('best low("far\naway")', ["Alpine"]), ('best\n  low("far\naway") *\n low(" Price ")', [text for text in (self.records[at]["Hotel"] for at in range(3))]),
+                               ("best pos(Hotel, 'Quay\n  by the river')", ["Quay\n  by the river"]), ("best\npos(Hotel, 'it''s \"new\"\n')", ["it's \"new\"\n"])]:
+            self.ask(question)
+            self.browser.until(f"[...document.querySelectorAll('#rows tbody th')].map(row => row.textContent).join('|') === {json.dumps('|'.join(rows))}")
+            self.assertTrue(self.browser.js("document.getElementById('refusal').hidden"))
+
+    def test_an_axis_whose_name_has_blanks_around_it(self):
+        self.ask('best low("far\naway")')
+        self.browser.js("document.getElementById('y').value = ' Price '; document.getElementById('y').dispatchEvent(new Event('change'))")
+        self.browser.until("[...document.querySelectorAll('#plot text.name')].map(text => text.textContent).join('|') === 'far\\naway| Price '")
+        self.browser.js("history.back()")
+        self.browser.until("document.getElementById('y').value === ''")
+
+    def test_a_first_question_that_is_refused_leaves_no_picture(self):
+        self.browser.open(f"{self.server.url}?{urlencode({'question': 'best low(nothing)'})}")
+        self.browser.until("document.getElementById('state')?.textContent === 'The question is refused.'")
+
+
 if __name__ == "__main__":
     unittest.main()

@@ -10,6 +10,7 @@ import {showWhy} from "./why.js";
 
 const EXCERPT = 72;
 const BESIDE = ["where", "top"];       // what is asked beside the question
+const LINES = /('[^']*'|"[^"]*")|\s*\n\s*/g;     // ends of lines in a question, but for those of its names and texts
 const NAMED = 3;        // rows of the answer that are named in a message
 const AGAIN = 3000;     // milliseconds until a server that has refused is asked again
 const SILENCE = 40000;  // milliseconds without a sign of life of the server, which sends one every 15 seconds
@@ -61,8 +62,9 @@ function watch() {
 }
 
 function asked() {
-  const found = new URLSearchParams({question: $("question").value.trim().replace(/\s*\n\s*/g, " ")});
-  for (const field of [...BESIDE, "x", "y"]) if ($(field).value.trim()) found.set(field, $(field).value.trim());
+  const found = new URLSearchParams({question: $("question").value.trim().replace(LINES, (_, quoted) => quoted ?? " ")});
+  for (const field of BESIDE) if ($(field).value.trim()) found.set(field, $(field).value.trim());
+  for (const axis of ["x", "y"]) if ($(axis).value) found.set(axis, $(axis).value);
   return found;
 }
 
@@ -120,7 +122,7 @@ function refuse(reason) {
   $("refusal").replaceChildren(element("p", {textContent: reason.error}));
   if (Number.isInteger(reason.place)) $("refusal").append(pointed(query.get(field), reason.place));
   $("refusal").hidden = false;
-  $("state").textContent = "The question is refused; the picture is that of the question before.";
+  $("state").textContent = picture ? "The question is refused; the picture is that of the question before." : "The question is refused.";
 }
 
 // Marks the field that is refused, if one is.
