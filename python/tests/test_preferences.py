@@ -78,6 +78,12 @@ class Values(TestCase):
             with self.subTest(says), self.refuses(ValueError, says):
                 make()
 
+    def test_and_of_python_is_refused(self):
+        """It would take the second of two preferences, and `or` the first, and nothing would be said of the other."""
+        for make in (lambda: low("x") and low("y"), lambda: low("x") or low("y"), lambda: empty() and low("y"), lambda: not low("x")):
+            with self.refuses(TypeError, "a preference is neither true nor false: in place of and write * where both count at once, & where the first decides"):
+                make()
+
     def test_a_time_that_the_clocks_of_its_zone_skip_is_refused(self):
         """It would be asked for as another one, an hour later."""
         skipped = datetime.datetime(2026, 3, 29, 2, 30, tzinfo=zoneinfo.ZoneInfo("Europe/Berlin"))

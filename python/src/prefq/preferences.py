@@ -70,6 +70,10 @@ class Preference:
         """How many base terms it has."""
         return self._length
 
+    def __bool__(self) -> bool:
+        """Python's `and` asks it, and would drop one of two preferences."""
+        raise TypeError("a preference is neither true nor false: in place of and write * where both count at once, & where the first decides")
+
     def __str__(self) -> str:
         return self._text + (f" by {', '.join(map(spelled, self._groups))}" if self._groups else "")
 
