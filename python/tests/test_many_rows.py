@@ -292,6 +292,17 @@ class Limits(TestCase):
         with self.refuses(prefq.Refused, "two columns are called 'x'"):
             prefq.Frame.from_sql(cursor.execute("SELECT 1 AS x, 2 AS x"))
 
+    def test_what_is_neither_records_nor_a_cursor(self):
+        """A text was taken for its letters, a mapping for its names, and of others Python itself said something."""
+        database = sqlite3.connect(":memory:")
+        self.addCleanup(database.close)
+        for source in ("hotels.csv", b"x", {"x": [1, 2]}, None, database):
+            for ask in (lambda records: prefq.psel(records, "low(x)"), prefq.Frame.from_records):
+                with self.subTest(source=source), self.refuses(TypeError, f"records is of type {type(source).__name__}: not a list of records"):
+                    ask(source)
+            with self.refuses(TypeError, f"cursor is of type {type(source).__name__}: not the cursor of a query"):
+                prefq.Frame.from_sql(source)
+
     def test_a_cursor_whose_rows_are_made_into_other_things(self):
         """The first value of each is a usual one. Lyon was the city L then, and a value too many was left out."""
         database = sqlite3.connect(":memory:")

@@ -96,6 +96,7 @@ class Frame(LiveRows):
         check_options(options, ["columns", "kinds", *TABLE_OPTIONS], "Frame.from_records")
         if hasattr(records, "iloc"):
             raise TypeError(f"records is of type {type(records).__name__}: not a list of records (from_dataframe takes a DataFrame)")
+        check_rows(records, "records")
         rows = list(mappings(fitting(records, "records")))
         if not rows and columns is not None:
             return cls.empty(columns, kinds or {}, **options)

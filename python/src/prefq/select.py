@@ -3,7 +3,7 @@ from typing import Any, Dict, List, Mapping, Optional, Sequence
 
 from .answer import Answer
 from .carried import frame_of
-from .checks import MOST_ROWS, whole
+from .checks import MOST_ROWS, check_rows, whole
 from .cursors import found_of, is_cursor, parts_of_rows
 from .errors import Refused
 from .follow import Followed
@@ -67,6 +67,7 @@ def _of_records(frame: Any, text: str, selection: Selection, kinds: Optional[Map
     if is_cursor(frame):
         job = _job(text, selection, kinds, options)
         return answer_of(found_of(frame, job), job)
+    check_rows(frame, "records")
     records = frame if isinstance(frame, list) else list(frame)
     if len(records) > MOST_ROWS:
         job = _job(text, selection, kinds, options)
