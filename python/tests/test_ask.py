@@ -147,6 +147,7 @@ class Asks(TestCase):
         self.refused(ask("best low(Price)", "--kind", "Price=number"), "no kind 'number'")
         self.refused(ask("best low(City)", "--kind", "City=whole"), "line 2, column 'City' (whole): 'Lyon' is no number")
         self.refused(ask("best low(Price)", text=""), "is empty")
+        self.refused(ask(text="# of 2026\n\nCity,Price\nLyon,5\n"), "it has 2 cells, and the first line has 1 name; --skip 1 leaves out that line")
         self.refused(run("ask", "/nowhere.csv", "best low(x)"), "prefq: /nowhere.csv: No such file")
         self.refused(ask("best low(a)", text="a;b\n1,5;2\n"), "'1,5' is not plain: the kind decimal(1, decimal=\",\") reads 1.5")
         self.refused(run("ask", HOTELS, QUESTION, "--csv", "--json"), "not allowed with")

@@ -305,7 +305,7 @@ class Files(TestCase):
     def test_a_line_that_names_no_delimiter(self):
         """It is the one with the names. The end of the line was taken for the delimiter, and each row for one cell."""
         for line in ("sep=\r\n", 'sep="\n', "sep=\r"):
-            with self.subTest(line=line), self.refuses(prefq.Refused, "line 2: it has 2 cells, and the first line has 1 names"):
+            with self.subTest(line=line), self.refuses(prefq.Refused, "line 2: it has 2 cells, and the first line has 1 name; skip=1 leaves out that line"):
                 self.reads(f"{line}a,b\r\n1,2\r\n".encode())
 
     def test_a_line_that_is_refused_behind_plain_ones(self):

@@ -95,6 +95,7 @@ IN_OPTIONS = {
     r"by where=": "by --where",
     r"missing=\[\.\.\]": "--missing",
     r"null_padding=True": "--null-padding",
+    r"skip=(\d+)": r"--skip \1",
     r"encoding='([^']*)'": r"--encoding \1",
     r"give it the kind '([^']*)'": r"give it a kind, as --kind 'COLUMN=\1'",
     r"kinds=\{'([^']*)': '([^']*)'\}": r"--kind '\1=\2'",

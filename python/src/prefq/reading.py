@@ -242,8 +242,8 @@ class Cells:
             if len(row) < width and self._dialect.null_padding:
                 row = row + [""] * (width - len(row))
             if len(row) != width:
-                more = "; null_padding=True fills short rows with missing values" if len(row) < width else ""
-                raise Refused(f"{self.what}, line {self.line(first + taken)}: it has {len(row)} cells, and the first line has {width} names{more}", "table")
+                more = "null_padding=True fills short rows with missing values" if len(row) < width else f"skip={self._dialect.skip + 1} leaves out that line, where the names stand behind it"
+                raise Refused(f"{self.what}, line {self.line(first + taken)}: it has {len(row)} cells, and the first line has {width} name{'s' * (width != 1)}; {more}", "table")
             taken += 1
             yield row
 
