@@ -35,7 +35,8 @@ EXAMPLES = """examples:
   python -m prefq ask 'data/*.csv' "best low(Price)"      asks all of these files, on all processors
 
 A question: best TERM, top_level K TERM, at_least K TERM, each with `by COLUMN, ..` behind it or without, or skyline of COLUMN min, COLUMN max, COLUMN diff.
-A term: low(x), high(x), around(x, 5), between(x, 1, 5), pos(x, 'a', 'b'), layered(x, {'a'}, {'b'}), -t, t * u (both at once), t & u (t decides first).
+A term: low(x), high(x), around(x, 5), between(x, 1, 5), pos(x, 'a', 'b'), layered(x, {'a'}, {'b'}), true(x > 5 and y = 'a'), -t,
+t * u (both at once), t & u (t decides first), t | u (better in both). In the place of a column may stand an expression, as in low(x / y).
 """
 
 

@@ -13,7 +13,7 @@ from typing import Callable, Dict, Iterator, List, Optional, Sequence, Tuple, Un
 from .columns import Column, quoted
 from .hints import IN_EXPRESSIONS, OF_FRAMES, unknown_column
 from .kinds.booleans import WORDS
-from .questions import DEEPEST, TOO_DEEP, UNKNOWN_COLUMN, Base, Converse, Mode, Question, Reader, Term, Token, product, refuse
+from .questions import A_NAME, BASE_TERMS, DEEPEST, SIGNS, TOO_DEEP, UNKNOWN_COLUMN, Base, Converse, Mode, Question, Reader, Term, Token, product, refuse
 
 FUNCTIONS = {"abs": 1, "min": 2, "max": 2}      # with the fewest arguments
 COMPARISONS = ("<=", ">=", "<>", "!=", "==", "<", ">", "=")
@@ -119,6 +119,7 @@ class FrameReader(Reader):
 
     signs = ("|", *Reader.signs)
     hints = OF_FRAMES
+    terms, said_of_signs, a_name = f"{BASE_TERMS}, true(..)", f"{SIGNS}, | (better in both)", f"{A_NAME}, in double quotes where it is no word"
 
     def __init__(self, question: str, column: Callable[[str], Optional[Column]], names: Sequence[str], make: Make) -> None:
         super().__init__(question, column, names)

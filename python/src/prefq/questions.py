@@ -18,8 +18,9 @@ UNEXPECTED, UNKNOWN_COLUMN, NUMBER_RANGE, TOO_DEEP, TOO_LONG, BAD_COUNT, NO_MIN_
 DEEPEST = 64
 MOST_LEVELS = 1000
 LONGEST_EXAMPLE = 40
-TERMS = "low(..), high(..), around(..), between(..), pos(..), layered(..), reverse(..), - or ("
+BASE_TERMS = "low(..), high(..), around(..), between(..), pos(..), layered(..)"
 SIGNS = "* (both at once), & (the first decides)"
+A_NAME = "the name of a column"
 TOKEN = re.compile(r"""(?P<blank>[ \t\r\n]+)
     |(?P<name>"(?:[^"]|"")*"|`(?:[^`]|``)*`)
     |(?P<text>'(?:[^']|'')*')
@@ -159,6 +160,8 @@ class Reader:
     signs: Tuple[str, ...] = ("&", "*")
     # Hints beside those of the program's language, by what is written.
     hints: Mapping[str, str] = {}
+    # What could stand at a place, as it is said.
+    terms, said_of_signs, a_name = BASE_TERMS, SIGNS, A_NAME
 
     def __init__(self, question: str, column: Callable[[str], Optional[Column]], names: Sequence[str]) -> None:
         self._question, self._column, self._names = question, column, names
@@ -228,7 +231,7 @@ class Reader:
         term = self._prior()
         by = self._listed(self._name) if self._takes("by", "word") else ()
         if self._next.kind != "end":
-            self._unexpected("a , or the end" if by else f"{SIGNS}, by or the end")
+            self._unexpected("a , or the end" if by else f"{self.said_of_signs}, by or the end")
         return Question(name, count, term, by)
 
     def _mode(self, mode: Optional[Mode]) -> Mode:
@@ -256,7 +259,7 @@ class Reader:
     def _name(self) -> Column:
         token = self._next
         if not token.is_name():
-            self._unexpected("the name of a column")
+            self._unexpected(self.a_name)
         column = self._column(token.text)
         if column is None:
             said = f"a question has no functions: add a column with {token.text}(..)" if self._is_called() else unknown_column(token.text, self._names)
@@ -298,7 +301,7 @@ class Reader:
         self._deeper(token)
         term = self._prior()
         if not self._takes(")"):
-            self._unexpected(f"{SIGNS} or a )")
+            self._unexpected(f"{self.said_of_signs} or a )")
         self._depth -= 1
         return term
 
@@ -310,7 +313,7 @@ class Reader:
     def _base(self) -> Base:
         token = self._next
         if token.kind != "word" or token.text not in ("low", "high", "around", "between", "pos", "layered"):
-            self._unexpected(TERMS)
+            self._unexpected(f"{self.terms}, reverse(..), - or (")
         self._at += 1
         self._need("(")
         column = self._operand()
