@@ -110,6 +110,21 @@ class Expressions(FrameTestCase):
                     self.assertEqual(frame.best("best empty()", where=where).ids, ids)
             self.assertEqual((frame.best("best pos(smoking, no)").ids, frame.best("best true(smoking = no)").ids, frame.best("best high(smoking)").ids), ([1], [1], [1]))
 
+    def test_the_words_that_a_column_has_for_true_and_false_stand_in_quotes(self):
+        """A refusal said so, and then they were no truth."""
+        with prefq.Frame.from_records([{"x": "Y"}, {"x": "n"}, {"x": None}], kinds={"x": "bool(y, n)"}) as frame:
+            for where, ids in [("x = 'Y'", [1]), ("x <> 'Y'", [2]), ("'n' = x", [2]), ("x in ('y', 'n')", [1, 2]), ("x not in ('y')", [2]), ("x = 'true'", [1])]:
+                with self.subTest(where):
+                    self.assertEqual((frame.best("best empty()", where=where).ids, frame.best(f"best true({where})").ids), (ids, ids))
+            with self.refuses(prefq.Refused, "A text stands in single quotes, 'y'"):
+                frame.best("best empty()", where="x = y")
+            for where, says in [("x = 'z'", "column 'x' (bool(y, n)): 'z' is not true, false, yes, no, y or n"), ("x = 1", "column 'x' (bool(y, n)): '1' is not true"),
+                                ("(x is missing) = 'y'", "'y' is a text, and a condition is true or false")]:
+                with self.subTest(where), self.refuses(prefq.Refused, says, kind="term", place=where.index("'z'" if "z" in where else "1" if "1" in where else "'y'")):
+                    frame.best("best empty()", where=where)
+        with prefq.Frame.from_records([{"x": "1"}, {"x": "0"}], kinds={"x": "bool(1, 0)"}) as frame:
+            self.assertEqual((frame.best("best pos(x, 0)").ids, frame.best("best empty()", where="x = 0").ids), ([2], [2]))
+
     def test_a_negation_in_the_place_of_a_column(self):
         with prefq.Frame.from_records([{"b": True, "not": 2}, {"b": False, "not": 1}, {"b": None, "not": 3}]) as frame:
             for text, ids in [("high(not b)", [2]), ("pos(not b, false)", [1]), ("low(not b and `not` > 1)", [1, 2]), ("low(not)", [2]), ("around(not, 3)", [3])]:

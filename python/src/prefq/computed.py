@@ -267,12 +267,23 @@ class Computer:
     def _two_truths(self, node: Comparison, left: Values, right: Values) -> Union[Truths, Within]:
         if node.sign not in ("=", "<>"):
             refuse(self._text, node.place, f"{node.sign} compares numbers, dates and so on: of true and false write = or <>")
-        first, second = self._as_truths(node.left, left), self._as_truths(node.right, right)
-        for truths, beside, written in ((first, node.left, right), (second, node.right, left)):
+        for found, beside, written in ((left, node.left, right), (right, node.right, left)):
             if isinstance(written, Literal):
-                return truths if truth_of(written, beside) == (node.sign == "=") else truths.inverse()
-        alike = self._masks(first).alike(self._masks(second))
+                truths = self._as_truths(beside, found)
+                return truths if self._truth_of(written, beside) == (node.sign == "=") else truths.inverse()
+        alike = self._masks(self._as_truths(node.left, left)).alike(self._masks(self._as_truths(node.right, right)))
         return alike if node.sign == "=" else alike.inverse()
+
+    def _truth_of(self, written: Literal, beside: Node) -> bool:
+        """What a word says, true or false. Beside a column it says what the column's own words do, as in pos(..): of the kind bool(no, yes), `no` is true."""
+        column = beside.column if isinstance(beside, Named) else None
+        if column is None or not isinstance(column.kind, Booleans):
+            self._as_truths(written, written)       # which refuses a text and a number
+            return WORDS[written.text.lower()]
+        try:
+            return bool(column.kind.read(written.text))
+        except ValueError as why:
+            refuse(self._text, written.place, f"column {column.name!r} ({column.kind}): {why}")
 
     def _with_literal(self, sign: str, column: Others, literal: Literal) -> Within:
         """A column of texts, dates and so on beside a value that is written."""
@@ -323,12 +334,6 @@ class Computer:
             return f"{found.text!r} is a {'truth value' if found.kind == 'truth' else found.kind}"
         what = "true or false" if isinstance(found, (Truths, Within)) else "a number"
         return f"column {node.column.name!r} is {what}" if isinstance(node, Named) else f"this is {what}"
-
-
-def truth_of(written: Literal, beside: Node) -> bool:
-    """What a word says, true or false. Beside a column it says what the column's own words do, as in pos(..): of the kind bool(no, yes), `no` is true."""
-    kind = beside.column.kind if isinstance(beside, Named) else None
-    return bool(kind.read(written.text)) if isinstance(kind, Booleans) else WORDS[written.text.lower()]
 
 
 def is_time(found: Values) -> bool:
