@@ -92,6 +92,12 @@ class Top(FrameTestCase):
         for top in (0, -1, 1001):
             with self.refuses(ValueError, f"top is {top}: not from 1 to 1000"):
                 self.frame.best("best low(price)", top=top)
+        class Two:
+            def __index__(self):
+                return 2
+
+        for ask in (lambda **words: self.frame.best("best low(price)", **words), lambda **words: prefq.psel(HOTELS, "low(price)", **words)):
+            self.assertEqual(len(ask(top=Two())), 2)       # as numpy and enumerations have it
         for top in (True, 2.5, "3"):
             with self.refuses(TypeError, "top is", "not a whole number"):
                 self.frame.best("best low(price)", top=top)

@@ -46,11 +46,10 @@ class Selection:
     @staticmethod
     def of(mode: Optional[Mode] = None, *, where: Optional[Operand] = None, top: Optional[int] = None, ties: Optional[Asked] = None, by: Names = None) -> "Selection":
         """The selection of these arguments of a call, which are refused where they are none."""
-        if top is not None:
-            whole(top, "top", 1, MOST_ROWS_ASKED)
         if ties is not None and top is None:
             raise Refused("ties= says which rows of the last level are among the first ones: it needs top=", "arguments")
-        return Selection(mode, None if where is None else text_of_operand(where), top, None if ties is None else text_preferred(ties), names_of(by))
+        rows = None if top is None else whole(top, "top", 1, MOST_ROWS_ASKED)
+        return Selection(mode, None if where is None else text_of_operand(where), rows, None if ties is None else text_preferred(ties), names_of(by))
 
     def grouped(self, names: Sequence[str]) -> "Selection":
         """The same in groups of rows that are equal in these columns."""
