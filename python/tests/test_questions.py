@@ -45,6 +45,12 @@ REFUSED = [
     ("best around(Stars, mean(x))", "a question has no functions: write the value in place of mean(..)", 1, "mean"),
     ("best pos(City, )", "Here could stand a value of 'City', such as 'Lyon'", 1, ")"),
     ("best low(Stars);", "a question is one term", 1, ";"),
+    ("best pos(City, \u2018Lyon\u2019)", "unexpected \u2018: the quotes are ' and \". Here", 1, "\u2018Lyon"),
+    ("best low(Stars) \u00d7 high(x)", "unexpected \u00d7: write *. Here", 1, "\u00d7"),
+    ("best low(Stars)\u00a0* high(x)", "unexpected '\\xa0'. Here could stand", 1, "\u00a0*"),
+    ("best around(Opened, 17:30)", "unexpected :: a time stands in quotes, as '17:30'", 1, ":30"),
+    ("best pos(Stars, NULL)", "unexpected NULL: a missing value is none that is preferred by itself: write true(x is missing)", 1, "NULL"),
+    ("best not low(Stars)", "unexpected not. Here could stand low(..)", 1, "not low"),
     ("best low(Stars", "the question breaks off. Here could stand a )", 1, ""),
     ("best (low(Stars) & (high(x))", "the question breaks off. Here could stand * (both at once)", 1, ""),
     ("best low('Stars)", "the quote ' is not closed", 1, "'Stars)"),
@@ -136,7 +142,8 @@ REFUSED_IN_EXPRESSIONS = [
     ("best true(x > +5)", "a number has no + in front", 1, "+5"),
     ("best true(x > 1,000)", "a number has no commas", 1, ",000"),
     ("best true(x = NaN)", "Opened, Pool, x. Write is missing", 2, "NaN"),
-    ("best true(City = Lyonx)", "did you mean x? A text stands in single quotes, 'Lyonx'", 2, "Lyonx"),
+    ("best true(City = Lyxn)", "A text stands in single quotes, 'Lyxn'", 2, "Lyxn"),
+    ("best true(x \u2264 5)", "there are =, <>, <, <=, > and >=", 1, "\u2264"),
     ("best low(+x)", "a sum stands in the place of a column, as in low(x + y)", 1, "+x"),
     ("best true(x > 1) / low(x)", "a quotient stands in the place of a column, as in low(x / y)", 1, "/ low"),
     ("best true", "write true(x > 5). Here could stand low(..), high(..), around(..), between(..), pos(..), layered(..), true(..), reverse(..), - or (", 1, "true"),
@@ -385,6 +392,10 @@ class Spellings(TestCase):
                 nearest(text(length, signs), names)
         self.assertIsNone(nearest("x" * 101, ["x" * 101]))
         self.assertEqual(nearest("x" * 99 + "y", ["z", "x" * 100]), "x" * 100)
+
+    def test_a_letter_that_a_name_contains_is_not_meant_by_it(self):
+        self.assertIsNone(nearest("Lyon", ["y", "no"]))
+        self.assertEqual(nearest("the price of a night", ["y", "price"]), "price")
 
     def test_nearest(self):
         names = ["Price (EUR)", "Distance km", "x", "X"]

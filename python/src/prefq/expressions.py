@@ -11,7 +11,7 @@ from dataclasses import dataclass, replace
 from typing import Callable, Dict, Iterator, List, Optional, Sequence, Tuple, Union
 
 from .columns import Column, quoted
-from .hints import IN_EXPRESSIONS, OF_FRAMES, unknown_column
+from .hints import IN_EXPRESSIONS, OF_FRAMES, WORDS_OF_MISSING, nearest, unknown_column
 from .kinds.booleans import WORDS
 from .questions import A_NAME, BASE_TERMS, DEEPEST, SIGNS, TOO_DEEP, UNKNOWN_COLUMN, Base, Converse, Mode, Question, Reader, Term, Token, product, refuse
 
@@ -20,7 +20,6 @@ COMPARISONS = ("<=", ">=", "<>", "!=", "==", "<", ">", "=")
 # Signs that begin what stands behind a column in an expression, and nowhere else behind a column.
 BEHIND_A_COLUMN = ("+", "-", "*", "/", "<", ">", "=", "!")
 WORDS_BEHIND_A_COLUMN = ("and", "or", "in", "is", "not")
-WORDS_OF_MISSING = ("missing", "null", "none")
 # What is read and computed by functions that call themselves stays far from the depth that Python has.
 DEEPEST_IN_AN_EXPRESSION = 24
 MOST_IN_A_ROW = 64
@@ -284,10 +283,9 @@ class FrameReader(Reader):
             return Literal("truth", self._take().text, token.place)
         if not token.is_name():
             self._unexpected(AN_OPERAND)
-        if self._column(token.text) is None:
+        if self._column(token.text) is None and nearest(token.text, self._names) is None:
             instead = "Write is missing" if token.text.lower() in (*WORDS_OF_MISSING, "nan") else f"A text stands in single quotes, {quoted(token.text)}"
-            said = unknown_column(token.text, self._names)
-            refuse(self._question, token.place, f"{said}{'.' * (said[-1] != '?')} {instead}", UNKNOWN_COLUMN)
+            refuse(self._question, token.place, f"{unknown_column(token.text, self._names)}. {instead}", UNKNOWN_COLUMN)
         return Named(self._name(), token.place)
 
     def _call(self) -> Node:

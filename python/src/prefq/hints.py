@@ -36,6 +36,10 @@ SIGNS = {
     "/": "a question has no arithmetic: add a column with the quotient",
     "+": "a question has no arithmetic: add a column with the sum",
     ";": "a question is one term: write * or & between two",
+    ":": "a time stands in quotes, as '17:30'",
+    "\u2212": "write -",
+    "\u00d7": "write *",
+    **dict.fromkeys("\u2018\u2019\u201c\u201d\u201e\u00ab\u00bb", "the quotes are ' and \""),
 }
 # What a question of a frame has beside the program's language, where it stands in the wrong place.
 OF_FRAMES = {
@@ -57,7 +61,7 @@ IN_EXPRESSIONS = {
     "like": "there are no patterns: write = or in (..)",
     "between": "write 1 <= x <= 5",
     "!": "write not",
-    **dict.fromkeys("=<>", "there are =, <>, <, <=, > and >="),
+    **dict.fromkeys("=<>\u2260\u2264\u2265", "there are =, <>, <, <=, > and >="),
 }
 # In the place of a ) behind the name of a column.
 ARITHMETIC = {
@@ -65,14 +69,16 @@ ARITHMETIC = {
     "*": "a question has no arithmetic: add a column with the product",
     "(": "a question has no functions: add a column with what it gives",
 }
+# What is written for a missing value.
+WORDS_OF_MISSING = ("missing", "null", "none")
 LONGEST_COMPARED = 100
 # To look at as many signs, or to compare as many pairs of them, takes some ten milliseconds at most.
 SIGNS_COMPARED = 40_000
 
 
 def nearest(name: str, names: Sequence[str]) -> Optional[str]:
-    """The name that is most like another one: the same in other capitals, or a similar one or one with a similar word, or one that contains it. Only short
-    names that are not blank are compared."""
+    """The name that is most like another one: the same in other capitals, or a similar one or one with a similar word, or one that contains it, or three letters and
+    more that it contains. Only short names that are not blank are compared."""
     if len(name) > LONGEST_COMPARED:
         return None
     wanted = name.casefold()
@@ -82,7 +88,7 @@ def nearest(name: str, names: Sequence[str]) -> Optional[str]:
     if wanted in folded:
         return folded[wanted]
     near = most_like(wanted, folded) or most_like(wanted, words, 0.7)
-    within = [other for other in folded if wanted and (wanted in other or other in wanted)]
+    within = [other for other in folded if wanted and (wanted in other or len(other) > 2 and other in wanted)]
     found = near or (min(within, key=len) if within else "")
     return {**words, **folded}.get(found)
 
@@ -145,6 +151,8 @@ def hint_for_value(kind: str, text: str, is_called: bool) -> str:
     """What is said of a token in the place of a value."""
     if kind != "word":
         return ""
+    if text.lower() in WORDS_OF_MISSING:
+        return "a missing value is none that is preferred by itself: write true(x is missing)"
     if not is_called:
         return f"a text stands in quotes, '{text}'"
     return "values stand one after the other, as in pos(x, 4, 6)" if text == "c" else f"a question has no functions: write the value in place of {text}(..)"

@@ -214,7 +214,10 @@ class Reader:
         token = self._next
         if token.kind == "strange" and token.text in "\"'`":
             refuse(self._question, token.place, f"the quote {token.text} is not closed")
-        found = "the question breaks off" if token.kind == "end" else f"unexpected {self._question[token.place:token.place + token.length]}"
+        written = self._question[token.place:token.place + token.length]
+        # Of a sign that nobody sees, as a blank that takes no new line, the number is said.
+        shown = ascii(written) if token.kind == "strange" and not written.isprintable() else written
+        found = "the question breaks off" if token.kind == "end" else f"unexpected {shown}"
         hint = hint or hint_for(token.kind, token.text, could, self._names, self.hints)
         refuse(self._question, token.place, f"{found}{': ' * bool(hint)}{hint}. Here could stand {could}")
 
