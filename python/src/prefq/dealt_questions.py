@@ -5,7 +5,7 @@ why). What no table answers by itself, as a condition, is computed over all rows
 """
 from dataclasses import replace
 from itertools import chain
-from typing import Iterator, List, Sequence, Tuple
+from typing import List, Sequence, Tuple
 
 from .columns import Column
 from .condition_terms import RangeCondition, ReadCondition, condition_of, planned
@@ -15,7 +15,7 @@ from .once import ask_once
 from .parts import fitting
 from .questions import Question
 from .rows import ColumnarRows, Row, Zipped
-from .selection import Selection, answered, picked, reading
+from .selection import Selection, answered, first_of_each, picked, reading
 from .translate import Plan, bases_of, clause_of, plan
 
 
@@ -58,8 +58,9 @@ class AskedOfTables(Asked):
             parts = [[row for row in part if self._condition.is_met(row.numbers)] for part in parts]
         rows = parts[0] if len(parts) == 1 else self._merged(list(chain.from_iterable(parts)))
         rows.sort(key=lambda row: (row.level, ordered(row.key)))
-        if self._twins is not None:
-            rows = list(_first_of_twins(rows, self._twins))
+        twins = self._twins
+        if twins is not None:
+            rows = first_of_each(rows, lambda row: tuple(row.numbers[place] for place in twins))
         return rows if self._selection.top is None else self._first(rows)
 
     def _first(self, found: List[Found]) -> List[Found]:
@@ -132,12 +133,3 @@ def of_tables(question: Question, tables: int) -> Question:
 def moment_of_keyed(columns: Sequence[Column], rows: ColumnarRows) -> Moment:
     """Rows of these columns as they are at one moment, which messages call by their keys."""
     return moment_of_columnar(columns, rows, lambda number: repr(rows[number - 1][0]))
-
-
-def _first_of_twins(rows: Sequence[Found], places: Sequence[int]) -> Iterator[Found]:
-    seen = set()
-    for row in rows:
-        values = tuple(row.numbers[place] for place in places)
-        if values not in seen:
-            seen.add(values)
-            yield row

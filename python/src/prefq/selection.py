@@ -109,18 +109,20 @@ def known(name: str, column: Callable[[str], Optional[Column]], names: Sequence[
 
 def without_twins(rows: List[Levelled], asked: Plan) -> List[Levelled]:
     """The rows of an answer; of those that are equal in the columns of a distinct clause, the first."""
-    if asked.twins is None:
-        return rows
-    places = [int(name[1:]) for name in asked.twins]
-    first: Dict[Tuple[int, ...], Levelled] = {}
+    return rows if asked.twins is None else first_of_each(rows, values_in(asked.twins))
+
+
+def first_of_each(rows: Iterable[Levelled], values_of: Callable[[Levelled], Hashable]) -> List[Levelled]:
+    """Of rows that have the same values the first, in their order."""
+    first: Dict[Hashable, Levelled] = {}
     for row in rows:
-        first.setdefault(tuple(row.values[place] for place in places), row)
+        first.setdefault(values_of(row), row)
     return list(first.values())
 
 
-def group_in(asked: Plan) -> Callable[[Row], Tuple[int, ...]]:
-    """What gives the group of a row of an answer."""
-    places = [int(name[1:]) for name in asked.by]
+def values_in(names: Iterable[str]) -> Callable[[Row], Tuple[int, ...]]:
+    """What gives the values of a row of an answer in columns of these names, as those of its group."""
+    places = [int(name[1:]) for name in names]
     return lambda row: tuple(row.values[place] for place in places)
 
 
@@ -157,7 +159,7 @@ def in_order(rows: Iterable[Row]) -> List[Row]:
 
 def first_rows(rows: List[Row], asked: Plan, top: Optional[int]) -> List[Row]:
     """The first `top` rows of each group of an answer, those that are equally good in their order; all of them where it is None."""
-    return rows if top is None else Cut.of(rows, top, group_in(asked)).by_order()
+    return rows if top is None else Cut.of(rows, top, values_in(asked.by)).by_order()
 
 
 class Reading(NamedTuple):
@@ -272,7 +274,7 @@ def picked(answer: List[Row], read: Reading, selection: Selection, moment: Momen
     rows = [row._replace(id=moment.id(row.id)) for row in without_twins(answer, read.plan)]
     if selection.top is None or selection.ties is None:
         return first_rows(rows, read.plan, selection.top), []
-    return with_ties(Cut.of(rows, selection.top, group_in(read.plan)), selection.ties, [column.name for column in read.question.by], moment, options)
+    return with_ties(Cut.of(rows, selection.top, values_in(read.plan.by)), selection.ties, [column.name for column in read.question.by], moment, options)
 
 
 def kept(selection: Selection, moment: Moment) -> List[Tuple[Column, str]]:
