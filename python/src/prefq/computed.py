@@ -16,7 +16,7 @@ from typing import Any, Callable, Dict, List, Optional, Tuple, Union
 
 from .checks import LEAST
 from .columns import Column
-from .computed_values import NoValues, NumberColumn, Numbers, Others, Truths, Values, Within, both_known, combined, compared, joined, known_in
+from .computed_values import NoValues, NumberColumn, Numbers, Others, Truths, Values, Within, both_known, combined, joined, known_in
 from .computed_numbers import column_of_numbers, decoded_texts, numbers_of_floats, position_in
 from .expressions import Comparison, Literal, Named, Node, Operation
 from .kinds import Booleans, Choices, Dates, Floats, Texts, Times, Whole
@@ -262,7 +262,8 @@ class Computer:
     def _holds(self, sign: str, left: Numbers, right: Numbers) -> Truths:
         """Whether a comparison holds, row by row."""
         scale = math.lcm(left.scale, right.scale)
-        return compared(COMPARE[sign], left, right, (scale // left.scale, scale // right.scale), self._moment.count)
+        found = combined(COMPARE[sign], left, right, (scale // left.scale, scale // right.scale), 1)
+        return Truths.of(bytes(found.values) * (self._moment.count if found.is_constant else 1), found.known)
 
     def _two_truths(self, node: Comparison, left: Values, right: Values) -> Union[Truths, Within]:
         if node.sign not in ("=", "<>"):

@@ -162,12 +162,3 @@ def combined(function: Callable[[Any, Any], Any], left: Numbers, right: Numbers,
     else:
         values = extended([], map(function, left.each(factors[0]), right.each(factors[1])))
     return Numbers(values, scale, both_known(left.known, right.known), left.are_whole and right.are_whole, is_constant)
-
-
-def compared(function: Callable[[Any, Any], bool], left: Numbers, right: Numbers, factors: Tuple[int, int], count: int) -> Truths:
-    """Whether a comparison of the numbers of so many rows holds."""
-    if left.is_constant and right.is_constant:
-        holds = bytes([function(left.values[0] * factors[0], right.values[0] * factors[1])]) * count
-    else:
-        holds = bytes(extended(bytearray(), map(function, left.each(factors[0]), right.each(factors[1]))))
-    return Truths.of(holds, both_known(left.known, right.known))
