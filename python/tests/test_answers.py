@@ -6,6 +6,7 @@ import json
 import pickle
 import tempfile
 import unittest
+import warnings
 from pathlib import Path
 from xml.etree import ElementTree
 
@@ -15,7 +16,7 @@ from prefq.columns import Column
 from prefq.plot import ticks_of
 from prefq.records import Record
 from prefq.visible import visible, width
-from support import QUESTION, SKYLINE, TestCase, hotels
+from support import QUESTION, SKYLINE, TestCase, hotels, needs
 
 TEXTS = ["a\rb", "\r", "a\nb", "a\r\nb", '"', ",", " x ", "\x1b[31mred", "\t", "plain"]
 
@@ -75,6 +76,22 @@ class Answers(TestCase):
             picture = ElementTree.fromstring(frame.best("best low(x / y) * high(y)").to_svg())
         texts = ["".join(element.itertext()) for element in picture.iter("{http://www.w3.org/2000/svg}text")]
         self.assertIn("y (more is better)", texts)
+
+    def test_a_picture_by_matplotlib_has_the_texts_as_they_are(self):
+        """Between two dollars it takes a text for a formula; some are none, and were a ValueError when the picture was drawn."""
+        needs(self, "matplotlib")
+        import matplotlib
+        matplotlib.use("Agg")
+        from matplotlib import pyplot
+        self.addCleanup(pyplot.close, "all")
+        with prefq.Frame.from_records([{"Price ($)": 1, "Fee ($)": 2, "c": "a$^$"}, {"Price ($)": 2, "Fee ($)": 1, "c": "\r\ud800"}]) as frame, warnings.catch_warnings():
+            warnings.simplefilter("error")
+            for question, x in [('best low("Price ($)") * low("Fee ($)")', None), ("best pos(c, 'a$^$')", "c"), ("best pos(c, '\r\ud800')", "c")]:
+                with self.subTest(question):
+                    axes = frame.best(question).plot(x)
+                    axes.figure.canvas.draw()
+                    title = axes.title.get_text()
+                    self.assertEqual((title.count("$"), title.count("\\$")), (question.count("$"), question.count("$")))
 
     def test_pictures_of_values_at_their_limits(self):
         """The last date stands for an open end; beside a large number the next one is the same float, and no float has the distance of the largest ones."""

@@ -14,7 +14,7 @@ from .hints import unknown_column
 from .kinds import Booleans, Choices, Clock, Texts
 from .questions import Base, Converse, Product, Question, Term
 from .records import Record
-from .visible import in_xml
+from .visible import in_xml, visible
 
 WIDTH, HEIGHT = 720, 480
 LEFT, RIGHT, TOP, BOTTOM = 96, 150, 44, 56
@@ -196,12 +196,17 @@ def plotted(answer: Answer, x: Optional[str], y: Optional[str], ax: Any) -> Any:
         ax.plot([x for x, _ in line], [y for _, y in line], color=_colour(1), linewidth=1.2, zorder=2)
     for axis, set_label, set_ticks, places in ((what.x, ax.set_xlabel, ax.set_xticks, [point.x for point in what.points + what.others]),
                                                (what.y, ax.set_ylabel, ax.set_yticks, [point.y for point in what.points + what.others])):
-        set_label(label_of(axis))
+        set_label(_no_formula(label_of(axis)))
         ticks = ticks_of(axis.column, places)
-        set_ticks([place for place, _ in ticks], [text for _, text in ticks])
-    ax.set_title(what.title, fontsize=10)
+        set_ticks([place for place, _ in ticks], [_no_formula(text) for _, text in ticks])
+    ax.set_title(_no_formula(what.title), fontsize=10)
     ax.legend(loc="best", fontsize=8)
     return ax
+
+
+def _no_formula(text: str) -> str:
+    """A text as matplotlib draws it: what stands between two dollars would be a formula."""
+    return visible(in_xml(text)).replace("$", r"\$")
 
 
 def svg_of(answer: Answer, x: Optional[str], y: Optional[str]) -> str:
