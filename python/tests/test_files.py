@@ -124,6 +124,12 @@ class WrittenOtherwise(TestCase):
             with prefq.Frame.from_records([{"x": text}]) as frame, self.refuses(prefq.Refused, f"has texts ('{text}' is a text: the kind {kind}), which"):
                 frame.best("best low(x)")
 
+    def test_dates_by_the_names_of_months_and_by_the_year_first(self):
+        for text, kind in [("19-Sep-03", 'date("%d-%b-%y") reads 2003-09-19'), ("19 Sep 2003", 'date("%d %b %Y") reads 2003-09-19'), ("2003/09/19", 'date("%Y/%m/%d") reads 2003-09-19'),
+                           ("19-Sep-03 17:30", 'time("%d-%b-%y %H:%M") reads 2003-09-19 17:30:00')]:
+            with self.subTest(text), from_text(f"x\n{text}\n") as frame, self.refuses(prefq.Refused, f"('{text}' is not plain: the kind {kind}), which"):
+                frame.best("best low(x)")
+
     def test_a_sign_with_a_blank_behind_it(self):
         """Is none of a plain number, and no reason to refuse the file."""
         for cells in (["5", "- 5"], ["+ 5"], ["- 5", "NA", ""]):

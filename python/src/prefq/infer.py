@@ -242,7 +242,8 @@ def _number_kinds(texts: Sequence[str], plain: Kind) -> List[str]:
 def _moment_kinds(texts: Sequence[str]) -> List[str]:
     if not all(re.match(r"\d", text) for text in texts):
         return []
-    days = [f"{day}{sign}{month}{sign}{year}" for sign in "./-" for day, month in (("%d", "%m"), ("%m", "%d")) for year in ("%Y", "%y")]
+    days = [sign.join(signs) for sign in "./- " for signs in (("%d", "%m", "%Y"), ("%d", "%m", "%y"), ("%m", "%d", "%Y"), ("%m", "%d", "%y"), ("%d", "%b", "%Y"), ("%d", "%b", "%y"),
+                                                              ("%Y", "%m", "%d"))]
     return [*(f'date("{day}")' for day in days), *(f'time("{day} %H:%M{second}")' for day in days for second in ("", ":%S")), "clock"]
 
 
