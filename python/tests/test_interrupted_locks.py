@@ -187,6 +187,21 @@ class RefusedByAHandler(TestCase):
                 with self.subTest(interrupter.where):
                     self.assertEqual([row.id for row in desk.picture(QUESTION).rows], [id for id, _ in desk.table.rows()])
 
+    def test_other_rows_of_a_desk_are_of_another_version(self):
+        for raises, change in ((Raising, lambda desk: desk.insert({"x": 9})), (Interrupter, lambda desk: desk.insert({"x": "0.5"})),
+                               (Interrupter, lambda desk: desk.update(1, {"x": 9})), (Interrupter, lambda desk: desk.delete(1))):
+            counted = raises(-1)
+            counted.runs(lambda: change(Desk(frame())))
+            for place in range(1, -counted.left, 2):
+                interrupter = raises(place)
+                with Desk(frame()) as desk:
+                    before = desk.picture(QUESTION)
+                    with contextlib.suppress(prefq.Refused, Interruption):
+                        interrupter.runs(lambda: change(desk))
+                    now = desk.picture(QUESTION)
+                    with self.subTest(where=interrupter.where):
+                        self.assertTrue(now.version > before.version or now.rows == before.rows)
+
 
 class Copies(TestCase):
     def test_what_is_live_is_not_copied(self):

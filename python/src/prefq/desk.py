@@ -171,6 +171,7 @@ class Desk:
             row = self._row(id)
             self._check_unchanged(id, [True] * len(self.columns), seen)
             self._frame._delete(id)
+            self.version += 1
             del self._rows[id]
             self._since.pop(id, None)
             return self.record(row.numbers)
@@ -233,7 +234,9 @@ class Desk:
         return {id: Held(id, tuple(numbers)) for id, numbers in ((outside(inside), numbers) for inside, numbers in self.table.rows())}
 
     def _note(self, id: int, before: Optional[Mapping[str, Any]] = None) -> None:
-        """Takes a row as it is in the frame, which had these values before; all of them where that has opened another table for it."""
+        """Takes a row as it is in the frame, which had these values before; all of them where that has opened another table for it. The version is the next one before
+        the rows here are others, and never after: behind an interruption nobody would see that they are."""
+        self.version += 1
         changed: Iterable[int] = [id]
         if self._opened is not self._frame._opened:
             self._show_opened()
@@ -244,7 +247,7 @@ class Desk:
         rows = {id: Held(id, tuple(self.table.get(self._opened.ids.inside(id)))) for id in changed}
         if before is not None:
             after = self.record(rows[id].numbers)
-            self._since[id] = tuple(version if is_same(after[name], before[name]) else self.version + 1 for name, version in zip(after, self._versions(id)))
+            self._since[id] = tuple(version if is_same(after[name], before[name]) else self.version for name, version in zip(after, self._versions(id)))
         # Last: behind an interruption, a row that is here as it is in the frame counts as unchanged.
         self._rows.update(rows)
 
@@ -294,7 +297,6 @@ class Desk:
                 # Of a handler, it may come behind the change.
                 self._is_whole = self._changes() == before
                 raise
-            self.version += 1
             self._is_whole = True
             return result
 
