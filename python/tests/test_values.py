@@ -404,6 +404,17 @@ class DataFrames(TestCase):
         with prefq.Frame.from_dataframe(pandas.DataFrame({"x": pandas.Categorical([3, 1, None, 2], [3, 1, 2])})) as frame:
             self.assertEqual(frame.best("top_level 9 low(x)").ids, [2, 4, 1, 3])
 
+    def test_categories_of_which_no_row_is_left(self):
+        """A DataFrame keeps them, as behind a condition. Nobody was warned of them, and of other types they were refused."""
+        dataframe = pandas.DataFrame({"x": pandas.Categorical(["Bern", "Lyon", None], ["Bern", "Lyon", "Oslo"]), "y": pandas.Categorical([2, 1, 2], [1, 2, "two"])})[:2]
+        with prefq.Frame.from_dataframe(dataframe[1:]) as frame:
+            self.assertEqual([str(column.kind) for column in frame.columns], ["text", "whole"])
+            self.assertEqual(frame.best("best low(y)").to_dataframe()["x"].dtype, dataframe["x"].dtype)
+            for ask in (lambda: frame.best("best pos(x, 'Bern')"), lambda: prefq.psel(dataframe[1:], "pos(x, 'Oslo')")):
+                with self.assertWarns(prefq.UnknownValue):
+                    ask()
+        self.assertEqual(list(prefq.psel(dataframe, "pos(x, 'Lyon') & low(y)").index), [1])
+
     def test_texts_with_a_nul(self):
         some = ["x\0y", "x", "x\0z", "\0", ""]
         for texts, dtype in ((some, "object"), ([*some, None], "object"), ([*some, None], "string")):

@@ -157,6 +157,8 @@ def _check_same(found: Any, given: Any, name: str, why: str) -> None:
 
 
 def _categories(series: Any, name: str) -> Tuple[Kind, Optional[List[int]]]:
+    if not series.cat.ordered and series.nunique() < len(series.cat.categories):
+        series = series.cat.remove_unused_categories()      # which are no values of the column
     categories = series.cat.categories.tolist()
     of = kind_of_values(name, categories)
     if not series.cat.ordered and not isinstance(of, Texts):
