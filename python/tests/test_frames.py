@@ -76,6 +76,10 @@ class Records(TestCase):
                         frame.best("best pos(city, 'Lyon')")
                 with self.refuses(error, f"row 2{says}"):
                     prefq.Frame(columns, rows)
+                frame.insert(rows[0])
+                with self.refuses(error, f"change 3{says}"):
+                    frame.commit(("insert", rows[0]), ("delete", 1), ("insert", rows[1]))
+                self.assertEqual(len(frame), 1)
 
     def test_one_record_that_is_another_one_each_time(self):
         """As some readers of files give it. All rows were the last one by insert_many, though not by from_records."""

@@ -52,7 +52,7 @@ class Frame(LiveRows):
         if wrong is not None:
             raise TypeError(f"columns has {wrong!r}: a frame has Columns, as Column('price', 'whole'), and Frame.empty takes names and kinds")
         check_rows(rows)
-        values = zip(*values_of_each(fitting(rows, "rows"), columns, "row"))
+        values = zip(*values_of_each(fitting(rows, "rows"), columns, "row {}".format))
         self._open(columns, Zipped([encoded(column, some) for column, some in zip(columns, values)]), options)
 
     def _open(self, columns: Sequence[Column], rows: WholeRows, options: Dict[str, Any], index: Any = None, notes: Iterable[str] = (), ids: Ids = Ids()) -> None:

@@ -94,10 +94,10 @@ class LiveRows:
         range(2, 4)
         """
         check_rows(records, "records")
-        some = list(values_of_each(records, self.columns, "record"))
+        some = list(values_of_each(records, self.columns, "record {}".format))
 
         def insert_many() -> range:
-            numbers = self._numbers(some, more=len(some), what="record")        # By this the table may become another one.
+            numbers = self._numbers(some, more=len(some), called="record {}".format)        # By this the table may become another one.
             self._opened.note_gaps(numbers)
             inside = self.table.insert_many(numbers)
             if not inside:
@@ -203,9 +203,9 @@ class LiveRows:
     def _delete(self, id: int) -> None:
         self._of_row(id, self.table.delete)
 
-    def _numbers(self, rows: Sequence[Sequence[Any]], ids: Iterable[int] = (), *, more: int = 0, what: str = "") -> List[List[int]]:
+    def _numbers(self, rows: Sequence[Sequence[Any]], ids: Iterable[int] = (), *, more: int = 0, called: Optional[Callable[[int], str]] = None) -> List[List[int]]:
         """The numbers of some rows of values, for which columns that are too narrow become wider, if the rows with these ids are there, and room for so many `more`.
-        What is refused is said of the row, which is called `what` with its number."""
+        What is refused is said of the row, which is called so by its number."""
         if self._opened.is_outgrown():
             self._open_anew({})
         if more > 0 and (self.table._engine.rows or 0) + more > self.table.capacity:
@@ -219,7 +219,7 @@ class LiveRows:
                 # What is refused by wider columns, too, changes nothing.
                 wider = {} if wider else self._opened.wider(rows)
                 if not wider:
-                    raise placed(f"{what} {why.row + 1}, ", why.why) if what else why.why from None
+                    raise placed(f"{called(why.row + 1)}, ", why.why) if called else why.why from None
                 continue
             if not wider:
                 return numbers
@@ -241,8 +241,10 @@ class LiveRows:
         twice = next((place for place, (verb, id, _) in enumerate(changes) if verb != "insert" and id in [other for _, other, _ in changes[:place]]), None)
         if twice is not None:       # which the table says as well, but only after a column became wider
             raise Refused(f"twice place {twice + 1}", "commit", 12, twice + 1)
-        rows = [values_of(record, self.columns) for verb, _, record in changes if verb != "delete"]
-        numbers = iter(self._numbers(rows, ids, more=sum({"insert": 1, "delete": -1}.get(verb, 0) for verb, _, _ in changes)))
+        written = {f"change {place}": record for place, (verb, _, record) in enumerate(changes, 1) if verb != "delete"}
+        called: Callable[[int], str] = lambda number: list(written)[number - 1]
+        rows = list(values_of_each(written.values(), self.columns, called))
+        numbers = iter(self._numbers(rows, ids, more=sum({"insert": 1, "delete": -1}.get(verb, 0) for verb, _, _ in changes), called=called))
         inside = self._opened.ids.inside
         made: List[Tuple[Any, ...]] = []
         for verb, id, record in changes:

@@ -1,7 +1,7 @@
 """Rows as mappings."""
 import dataclasses
 from collections.abc import Mapping, Sequence
-from typing import Any, Dict, Iterable, Iterator, List, Optional, Tuple
+from typing import Any, Callable, Dict, Iterable, Iterator, List, Optional, Tuple
 
 from .checks import NO_LISTS
 from .columns import Column
@@ -92,10 +92,10 @@ def values_of(record: Any, columns: Tuple[Column, ...]) -> List[Any]:
     return list(record)
 
 
-def values_of_each(records: Iterable[Any], columns: Tuple[Column, ...], what: str) -> Iterator[List[Any]]:
-    """The values of each of these records, which are called `what` with their number."""
+def values_of_each(records: Iterable[Any], columns: Tuple[Column, ...], called: Callable[[int], str]) -> Iterator[List[Any]]:
+    """The values of each of these records, which are called so by their number."""
     for number, record in enumerate(records, 1):
         try:
             yield values_of(record, columns)
         except (Refused, TypeError) as why:
-            raise placed(f"{what} {number}: ", why) from None
+            raise placed(f"{called(number)}: ", why) from None
