@@ -34,7 +34,7 @@ TEXTS = [
     (around("x", datetime.date(2026, 5, 1)), "around(x, '2026-05-01')"), (around("x", datetime.datetime(2026, 5, 1, 17, 30)), "around(x, '2026-05-01 17:30:00')"),
     (around("x", datetime.time(17, 30)), "around(x, '17:30:00')"), (layered("x", ["a", "b"], ["c"]), "layered(x, {'a', 'b'}, {'c'})"),
     (low(expr("x / y")), "low(x / y)"), (true("x > 5"), "true(x > 5)"), (true(expr("x > 5")), "true(x > 5)"),
-    (empty(), "empty()"), (empty() * x, "low(x)"), (x & empty(), "low(x)"), (empty() * empty(), "empty()"), (empty() | x, "low(x)"),
+    (empty(), "empty()"), (empty() * x, "low(x)"), (x & empty(), "low(x)"), (empty() * empty(), "empty()"), (empty() | x, "low(x)"), (-empty(), "empty()"), (-empty() & x, "low(x)"),
 ]
 
 
@@ -50,7 +50,7 @@ class Values(TestCase):
                 self.assertEqual(len(preference), length)
 
     def test_what_a_preference_is(self):
-        for preference, is_base, is_empty in [(x, True, False), (true("x > 5"), True, False), (empty(), False, True), (-x, False, False), (x * y, False, False), (empty() * x, True, False)]:
+        for preference, is_base, is_empty in [(x, True, False), (true("x > 5"), True, False), (empty(), False, True), (-empty(), False, True), (-x, False, False), (x * y, False, False), (empty() * x, True, False)]:
             with self.subTest(str(preference)):
                 self.assertEqual((preference.is_base, preference.is_empty, isinstance(preference, prefq.Preference)), (is_base, is_empty, True))
         self.assertEqual(((x & y).by("c").question, empty().question), ("best low(x) & high(y) by c", "best empty()"))

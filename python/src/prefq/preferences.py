@@ -142,6 +142,9 @@ class Empty(Preference):
     def __init__(self) -> None:
         super().__init__("empty()", length=0)
 
+    def __neg__(self) -> "Preference":
+        return self
+
     def _with(self, sign: int, other: Preference) -> Preference:
         if not isinstance(other, Preference):
             return super()._with(sign, other)
