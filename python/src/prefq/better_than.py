@@ -143,9 +143,9 @@ def ranks(keys: Sequence[Hashable]) -> List[int]:
     return [places[key] for key in keys]
 
 
-def rows_alike(columns: Rows, places: Sequence[int], count: int) -> List[int]:
-    """For each row the rows that are equal to it in the columns at these places."""
-    keys: List[Hashable] = list(zip(*(columns[place] for place in places))) if places else [()] * count
+def rows_alike(columns: Rows, count: int) -> List[int]:
+    """For each of so many rows the rows that are equal to it in these columns."""
+    keys: List[Hashable] = list(zip(*columns)) if columns else [()] * count
     found = groups(keys)
     return [found[key] for key in keys]
 

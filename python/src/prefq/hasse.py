@@ -11,8 +11,8 @@ from .columns import Column
 from .errors import Refused, no_such_row
 from .records import Record
 from .selection import Reading
-from .translate import terms_columns
 from .visible import in_xml
+from .why import terms_lists
 
 MOST_ROWS_COMPARED = 10_000
 MOST_EDGES = 1_000_000
@@ -127,17 +127,15 @@ class Hasse(List[Edge]):
 
 def ranked(read: Reading) -> Tuple[List[int], List[int]]:
     """The places of the rows in an order in which none dominates an earlier one, and for each of them those that it dominates, as bits in this order."""
-    width = len(terms_columns(read.question.term))
     count = len(read.lists[0])
     if count > MOST_ROWS_COMPARED:
         raise Refused(f"there are {count} rows, and at most {MOST_ROWS_COMPARED} are compared with each other: leave some out by where=", "arguments")
-    extension = Order(read.term, read.names[:width], read.lists[:width]).extension()
+    extension = Order(read.term, *terms_lists(read)).extension()
     order = sorted(range(count), key=extension.__getitem__)
-    lists = [[numbers[place] for place in order] for numbers in read.lists]
-    by = [lists[int(name[1:])] for name in read.plan.by]
-    group = rows_alike(by, range(len(by)), count)
-    twins = rows_alike(lists, range(len(lists)), count) if read.question.distinct else [0] * count
-    worse = Order(read.term, read.names[:width], lists[:width]).worse()
+    read = read.at(order)
+    group = rows_alike(read.lists_of(read.plan.by), count)
+    twins = rows_alike(read.lists, count) if read.question.distinct else [0] * count
+    worse = Order(read.term, *terms_lists(read)).worse()
     return order, [under & group[place] | twins[place] >> place + 1 << place + 1 for place, under in enumerate(worse)]
 
 

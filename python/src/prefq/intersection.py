@@ -15,7 +15,7 @@ from .better_than import Order, is_weak, ranks
 from .columns import Column
 from .moment import Moment
 from .questions import Base, Converse, Product, Question, Term, refuse
-from .translate import bases_of, plan, terms_columns
+from .translate import bases_of, below, plan, terms_columns
 
 
 def has_intersection(term: Term) -> bool:
@@ -61,10 +61,10 @@ class Intersections:
 
     def _ranks(self, part: Term) -> List[int]:
         columns = terms_columns(part)
-        below = [f"c{place}" for place in range(len(columns))]
-        asked = plan(self._text, Question("best", 1, part, ()), {id(column): name for column, name in zip(columns, below)})
+        names = below(columns)
+        asked = plan(self._text, Question("best", 1, part, ()), names)
         self.absent += asked.absent
-        return ranks(Order(asked.text[len("best "):], below, [self._moment.numbers(column) for column in columns]).extension())
+        return ranks(Order(asked.text[len("best "):], list(names.values()), [self._moment.numbers(column) for column in columns]).extension())
 
     def _column(self, name: str, by_part: Sequence[Sequence[int]], number: int) -> Column:
         """The ranks of a part, and of rows that are the same in it those of the other parts the other way round."""

@@ -12,6 +12,7 @@ from .moment import Moment, moment_of_columnar
 from .reading import check_names
 from .rows import ColumnarRows, WholeRows, Zipped
 from .table import Table
+from .translate import below
 
 # A code book is worth a new one where it has grown to twice what it was, and by this and so much for each row, so that what this takes is spread over many texts.
 BYTES_OF_GROWTH = 1_000_000
@@ -47,7 +48,7 @@ class Columns:
         check_width(columns)
         self.columns = tuple(columns)
         self.by_name = {column.name: column for column in columns}
-        self.below = {id(column): f"c{place}" for place, column in enumerate(columns)}
+        self.below = below(columns)
         # The places of columns, and those of texts.
         self.order = [[place for place, column in enumerate(columns) if isinstance(column.kind, Texts) == is_text] for is_text in (False, True)]
         self._code_books = size_of_code_books(columns)

@@ -21,7 +21,7 @@ from .questions import Mode, Question, names_asked_for, refuse, tokens_of
 from .reading import Progress
 from .rows import Row, Zipped
 from .table import Table
-from .translate import Plan, bases_of, columns_in, plan, term_below, unknown_value
+from .translate import Plan, bases_of, below, columns_in, plan, term_below, unknown_value
 from .warned import warn_of
 
 MOST_ROWS_ASKED = 1000
@@ -209,7 +209,7 @@ class Reading(NamedTuple):
     @property
     def names(self) -> List[str]:
         """The names of the columns in the table."""
-        return [f"c{place}" for place in range(len(self.columns))]
+        return list(below(self.columns).values())
 
     @property
     def term(self) -> str:
@@ -227,11 +227,6 @@ def check_width(text: str, question: Question, columns: Sequence[Column]) -> Non
         further = set(map(id, columns[MOST_COLUMNS:]))
         place = next((base.place for base in bases_of(question.term) if id(base.column) in further), len(text))
         refuse(text, place, f"{len(columns)} columns and expressions are asked, and a table has {MOST_COLUMNS}")
-
-
-def below(columns: Sequence[Column]) -> Dict[int, str]:
-    """The names c0, c1 and so on of columns, by their identity."""
-    return {id(column): f"c{place}" for place, column in enumerate(columns)}
 
 
 def reading(text: str, selection: Selection, moment: Moment) -> Reading:

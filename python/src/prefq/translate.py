@@ -104,6 +104,11 @@ def different(columns: Iterable[Column]) -> List[Column]:
     return list({id(column): column for column in columns}.values())
 
 
+def below(columns: Sequence[Column]) -> Dict[int, str]:
+    """The names c0, c1 and so on that columns have in the table below, by their identity."""
+    return {id(column): f"c{place}" for place, column in enumerate(columns)}
+
+
 def plan(text: str, question: Question, names: Dict[int, str], before: Sequence[str] = ()) -> Plan:
     """The plan of a question whose columns have these names in the table below, by their identity. Terms of that table that stand `before` decide first."""
     return Translator(text, names).plan(question, before)

@@ -8,8 +8,8 @@ from .loading import Found
 from .moment import Moment
 from .once import ask_once
 from .rows import Zipped
-from .selection import Reading, Selection, below, check_width, reading
-from .translate import clause_of, term_below, terms_columns
+from .selection import Reading, Selection, check_width, reading
+from .translate import below, clause_of, term_below, terms_columns
 
 LEVELS = 1000
 
