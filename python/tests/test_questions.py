@@ -218,6 +218,12 @@ class Refusals(TestCase):
                     self.frame.best(f"{before}hgh(x)")
                 self.assertEqual(len(str(caught.exception).splitlines()[2].expandtabs(1)), 4 + blanks + 1)
 
+    def test_the_caret_in_a_question_of_several_lines(self):
+        """They are shown as one. A line end was shown as a sign that nobody has."""
+        with self.assertRaises(prefq.Refused) as caught:
+            self.frame.best("best low(x)\r\n  * high(Stars)\n\t& hgh(x)")
+        self.assertEqual(str(caught.exception).splitlines()[1:], ["    best low(x)    * high(Stars) \t& hgh(x)", "                                 \t  ^"])
+
     def test_signs_that_steer_a_terminal(self):
         with self.refuses(prefq.Refused, "no column '\\x1b[31m\\u202e'"):
             self.frame.best('best low("\x1b[31m\u202e")')

@@ -4,6 +4,8 @@ from typing import Any, Optional
 from .visible import UNSEEN, visible, width
 
 ROUND = 80
+# How the blanks of a question are shown on a line.
+BLANKS = {"\t": "\t", "\r": " ", "\n": " "}
 # What to do about a refusal, by its kind and number.
 ADVICE = {
     ("client", 2): "take another client",
@@ -118,7 +120,7 @@ class ProgramNotFound(Error):
 def pointed(question: str, place: Optional[int]) -> str:
     """The question on a line, and a caret below its byte `place`, counted from 0. Of a long one only what stands round the place is shown. Wide signs have two
     places on a terminal."""
-    shown = UNSEEN.sub(lambda found: "\t" if found[0] == "\t" else "\N{REPLACEMENT CHARACTER}", question)
+    shown = UNSEEN.sub(lambda found: BLANKS.get(found[0], "\N{REPLACEMENT CHARACTER}"), question)
     at = 0 if place is None else len(question.encode(errors="replace")[:place].decode(errors="ignore"))
     first, last = (0, len(shown)) if len(shown) <= 2 * ROUND else (max(0, at - ROUND), at + ROUND)
     before = "..." * (first > 0) + shown[first:at]
