@@ -55,6 +55,16 @@ class Kinds(TestCase):
             with self.subTest(values=values), self.refuses(prefq.Refused, "column 'x' has values of", "columns=[..]", kind="table"):
                 prefq.Frame.from_records([{"x": value} for value in values])
 
+    def test_the_first_value_that_does_not_go_with_those_before_is_named(self):
+        """Of thousands of rows nobody knew which one it was."""
+        noon = datetime.datetime(2026, 5, 1, 12)
+        for values, says in [([1, None, 2, "a", 3.5], "row 4, column 'x' has values of int and str, as 'a':"), ([noon, None, noon, 5], "row 4, column 'x' has values of datetime and int, as 5:"),
+                             ([None, "a", b"x" * 99], f"row 3, column 'x' has values of bytes and str, as b'{'x' * 58}..:"), (["a", 10**5000], "as a number of thousands of digits:"),
+                             ([float("nan"), [1]], "row 2, column 'x' has values of list, as [1]:")]:
+            for door in (lambda: prefq.Frame.from_records([{"x": value} for value in values]), lambda: prefq.parts.best([prefq.parts.Partition(["x"], [[value] for value in values])], "best low(x)")):
+                with self.subTest(says=says), self.refuses(prefq.Refused, says, kind="table"):
+                    door()
+
     def test_in_a_program_whose_decimals_have_few_digits(self):
         for texts, kind in [(["922337203685477580.7", "1e0"], "decimal(1)"), (["922337203685477580.9", "1e0"], "text"), (["-92233720368547758.07", "1e-2"], "decimal(2)")]:
             for rounding in ("ROUND_DOWN", "ROUND_UP"):

@@ -295,8 +295,8 @@ class Frames(TestCase):
 
     def test_what_is_wrong(self):
         for frame, says in [(pandas.DataFrame({"x": pandas.Series([2**64 - 1], dtype="uint64")}), "column 'x' has numbers from 18446744073709551615"),
-                            (pandas.DataFrame({"x": [[1]]}), "column 'x' has values of list"), (pandas.DataFrame({"x": pandas.to_timedelta([1], "D")}), "column 'x' has values of"),
-                            (pandas.DataFrame({"x": [1, "a"]}), "column 'x' has values of"), (pandas.DataFrame(index=[1]), "there are no columns")]:
+                            (pandas.DataFrame({"x": [[1]]}), "row 1, column 'x' has values of list, as [1]"), (pandas.DataFrame({"x": pandas.to_timedelta([1], "D")}), "column 'x' has values of"),
+                            (pandas.DataFrame({"x": [1, "a"]}), "row 2, column 'x' has values of int and str, as 'a'"), (pandas.DataFrame(index=[1]), "there are no columns")]:
             with self.subTest(says=says), self.refuses(prefq.Refused, says, kind="table"):
                 prefq.Frame.from_dataframe(frame)
         for other in ([{"x": 1}], "hotels.csv", None):

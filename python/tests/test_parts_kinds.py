@@ -203,7 +203,7 @@ class Together(TestCase):
 
     def test_the_partition_whose_rows_are_refused(self):
         good = Partition(["x", "n"], [[1, 2]])
-        for other, says in [([[1]], "partition 2: row 1, 1 values: not 2"), ([[1, 2], ["a", 3]], "partition 2: column 'x' has values of int and str"),
+        for other, says in [([[1]], "partition 2: row 1, 1 values: not 2"), ([[1, 2], ["a", 3]], "partition 2: row 2, column 'x' has values of int and str, as 'a':"),
                             ([[1, 2], [2**64, 3]], "partition 2: row 2, column 'x' (whole): 18446744073709551616 does not fit")]:
             with self.subTest(says), self.refuses((ValueError, prefq.Refused), says):
                 best([good, Partition(["x", "n"], other)], "best low(x)", kinds={"x": "whole"} if "fit" in says else {})

@@ -3,7 +3,7 @@ import datetime
 import re
 from array import array
 from decimal import Decimal
-from typing import Any, Iterable, List, Optional, Sequence, Tuple
+from typing import Any, Iterable, List, Optional, Sequence, Set, Tuple
 
 from .checks import MOST
 from .columns import is_missing
@@ -14,7 +14,7 @@ from .kinds.booleans import WORDS as WORDS_OF_TRUTH
 from .kinds.booleans import is_truth
 from .kinds.forms import NUMBER, PLAIN, Form
 from .kinds.moments import DAY, MOMENT, are_of_one_name, offset_of, shows_times
-from .kinds.numbers import FLOAT, WIDE, Number, are_in_range, decimals_of, is_number, whole_numbers
+from .kinds.numbers import FLOAT, WIDE, Number, are_in_range, decimals_of, is_number, shown, whole_numbers
 from .missing import WORDS, folded
 
 WHOLE = re.compile(r"[+-]?\d+")
@@ -123,10 +123,26 @@ def _kind_of_moments(texts: List[str]) -> Kind:
         return Texts()
 
 
-def kind_of_values(name: str, values: Iterable[Any]) -> Kind:
-    """The kind of a column of Python's values, where those that are missing are left out."""
+def kind_of_values(name: str, values: Sequence[Any], ids: Optional[Sequence[Any]] = None, what: str = "row") -> Kind:
+    """The kind of a column of Python's values, where those that are missing are left out. Where there is none, the first value that does not go together with those
+    before is named with its row, or `what` else has the ids."""
     present = [value for value in values if not is_missing(value)]
-    types = {_type_of(value) for value in present}
+    kind = _kind_of_types({_type_of(value) for value in present}, present)
+    if kind is not None:
+        return kind
+    types: Set[Any] = set()
+    for place, value in enumerate(values):
+        if not is_missing(value):
+            types.add(_type_of(value))
+            if _kind_of_types(types, [value]) is None:
+                break
+    names = " and ".join(sorted(found if isinstance(found, str) else found.__name__ for found in types))
+    raise Refused(f"{what} {place + 1 if ids is None else ids[place]!r}, column {name!r} has values of {names}, as {_short(value) if isinstance(value, str) else shown(value)}: a column has whole numbers, Decimals, "
+                  "floats, bools, dates, times or texts; leave it out by columns=[..], or give it a kind by kinds={..}", "table")
+
+
+def _kind_of_types(types: Set[Any], present: Sequence[Any]) -> Optional[Kind]:
+    """The kind of values of these types, None where they do not go together."""
     if not types or types == {str}:
         return Texts()
     if types == {bool}:
@@ -145,9 +161,7 @@ def kind_of_values(name: str, values: Iterable[Any]) -> Kind:
         zone = present[0].tzinfo        # Those of dateutil have no hash.
         is_of_all = all(value.tzinfo == zone or are_of_one_name(value.tzinfo, zone) for value in present)
         return Times(zone if is_of_all and (zone is None or shows_times(zone)) else datetime.timezone.utc)
-    names = " and ".join(sorted(kind if isinstance(kind, str) else kind.__name__ for kind in types))
-    raise Refused(f"column {name!r} has values of {names}: a column has whole numbers, Decimals, floats, bools, dates, times or texts; "
-                  "leave it out by columns=[..], or give it a kind by kinds={..}", "table")
+    return None
 
 
 def _kind_of_decimals(values: Sequence[Any]) -> Kind:

@@ -5,7 +5,6 @@ from .columns import Column
 from .dealt import Dealt, Key, Numbers
 from .errors import Refused
 from .follow_source import UNCHANGED, Cells, Unchanged
-from .infer import kind_of_values
 from .kinds import Floats, Whole
 from .loading import column_of_values, encoded, plain_whole_numbers
 
@@ -17,10 +16,8 @@ def column_at_keys(name: str, values: Sequence[Any], column: Optional[Column], k
     """This column, or one of the kind of the values, with their numbers. A value that it does not take is `Refused`, with its key."""
     try:
         return column_of_values(name, values, None, keys, "key") if column is None else (column, encoded(column, values, keys, "key"))
-    except (TypeError, ValueError) as why:
+    except (Refused, TypeError, ValueError) as why:
         raise Refused(str(why), "follow") from None
-    except Refused as why:
-        raise Refused(_of_no_kind(name, values, keys) or str(why), "follow") from None
 
 
 def numbers_of_rows(dealt: Dealt, rows: Mapping[Key, Cells]) -> Mapping[Key, Numbers]:
@@ -49,16 +46,3 @@ def _number_before(dealt: Dealt, place: int, key: Key) -> int:
     if before is None:
         raise ValueError(f"key {key!r} has a value that was never seen")
     return before[place]
-
-
-def _of_no_kind(name: str, values: Sequence[Any], keys: Sequence[Key]) -> str:
-    """Why there is no kind of these values, with the key of the first row whose value has none together with those before: a kind is one of types."""
-    firsts: Dict[type, int] = {}
-    for place, value in enumerate(values):
-        if type(value) not in firsts:
-            firsts[type(value)] = place
-            try:
-                kind_of_values(name, [values[first] for first in firsts.values()])
-            except Refused as why:
-                return f"key {keys[place]!r}, {why}"
-    return ""

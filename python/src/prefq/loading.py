@@ -370,7 +370,7 @@ def column_of_values(name: str, values: Sequence[Any], kinds: Kinds, ids: Option
     """A column of Python's values, and its numbers; see `encoded`."""
     given = kinds[name] if kinds and name in kinds else None
     whole = plain_whole_numbers(values) if given is None else None
-    column = Column(name, Whole() if whole is not None else kind_of_values(name, values) if given is None else given)
+    column = Column(name, Whole() if whole is not None else kind_of_values(name, values, ids, what) if given is None else given)
     column.grows = given is None
     if whole is None:
         return column, encoded(column, values, ids, what)

@@ -63,7 +63,7 @@ def encoded_series(series: Any, name: str, kinds: Optional[Mapping[str, str]] = 
     if kinds and name in kinds:
         column, numbers = _by_values(series, Column(name, kinds[name]), ids)
     else:
-        kind, codes = _by_type(series, name)
+        kind, codes = _by_type(series, name, ids)
         column, numbers = (_by_values(series, Column(name, kind), ids) if codes is None else (Column(name, kind), codes))
         column.grows = True
     column.has_gaps = column.has_gaps or LEAST in numbers
@@ -79,7 +79,7 @@ def _by_values(series: Any, column: Column, ids: Optional[Sequence[int]]) -> Tup
     return column, encoded(column, list(series.to_numpy()) if is_narrow else series.tolist(), ids)
 
 
-def _by_type(series: Any, name: str) -> Tuple[Kind, Optional[List[int]]]:
+def _by_type(series: Any, name: str, ids: Optional[Sequence[int]]) -> Tuple[Kind, Optional[List[int]]]:
     """The kind of a type of pandas, and the numbers of its values where they are found all at once."""
     import pandas
     types = pandas.api.types
@@ -100,7 +100,7 @@ def _by_type(series: Any, name: str) -> Tuple[Kind, Optional[List[int]]]:
     if isinstance(series.dtype, pandas.CategoricalDtype):
         return _categories(series, name)
     values = series.tolist()
-    kind = kind_of_values(name, values)
+    kind = kind_of_values(name, values, ids)
     return kind, _codes(values, kind) if isinstance(kind, Texts) else None
 
 
@@ -160,7 +160,7 @@ def _categories(series: Any, name: str) -> Tuple[Kind, Optional[List[int]]]:
     if not series.cat.ordered and series.nunique() < len(series.cat.categories):
         series = series.cat.remove_unused_categories()      # which are no values of the column
     categories = series.cat.categories.tolist()
-    of = kind_of_values(name, categories)
+    of = kind_of_values(name, categories, what="category")
     if not series.cat.ordered and not isinstance(of, Texts):
         return of, None
     try:

@@ -98,7 +98,7 @@ class Job:
     >>> job = Job("best low(price)")
     >>> found = job.answer([job.part(Partition(["price"], [[7], [5]])), job.part(Partition(["price"], [[6], ["5"]]))])
     Traceback (most recent call last):
-    prefq.errors.Refused: column 'price' has values of int and str: ...
+    prefq.errors.Refused: row 2, column 'price' has values of int and str, as '5': ...
     >>> found = job.answer([job.part(Partition(["price"], [[7], [5]])), job.part(Partition(["price"], [[6], [5]]))])
     >>> list(found.rows.places), found.levels, found.is_whole
     ([1, 3], [1, 1], True)
