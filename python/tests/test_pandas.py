@@ -294,8 +294,10 @@ class Frames(TestCase):
         self.assertEqual((list(found.index), found.index.name), ([2, 1], "id"))
 
     def test_what_is_wrong(self):
-        for frame, says in [(pandas.DataFrame({"x": pandas.Series([2**64 - 1], dtype="uint64")}), "column 'x' has numbers from 18446744073709551615"),
-                            (pandas.DataFrame({"x": [[1]]}), "row 1, column 'x' has values of list, as [1]"), (pandas.DataFrame({"x": pandas.to_timedelta([1], "D")}), "column 'x' has values of"),
+        for some, dtype in (([0, 2**64 - 1], "uint64"), ([None, 2**63], "UInt64"), ([LEAST + 1, LEAST], "int64")):
+            with self.refuses(ValueError, f"row 2, column 'x' (whole): {some[1]} does not fit: a column has whole numbers from {LEAST + 1} to"):
+                prefq.Frame.from_dataframe(pandas.DataFrame({"x": pandas.Series(some, dtype=dtype)}))
+        for frame, says in [(pandas.DataFrame({"x": [[1]]}), "row 1, column 'x' has values of list, as [1]"), (pandas.DataFrame({"x": pandas.to_timedelta([1], "D")}), "column 'x' has values of"),
                             (pandas.DataFrame({"x": [1, "a"]}), "row 2, column 'x' has values of int and str, as 'a'"), (pandas.DataFrame(index=[1]), "there are no columns")]:
             with self.subTest(says=says), self.refuses(prefq.Refused, says, kind="table"):
                 prefq.Frame.from_dataframe(frame)

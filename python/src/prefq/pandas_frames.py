@@ -88,7 +88,7 @@ def _by_type(series: Any, name: str, ids: Optional[Sequence[int]]) -> Tuple[Kind
     if types.is_bool_dtype(series.dtype) and not isinstance(series.dtype, pandas.CategoricalDtype):
         return Booleans(), _numbers(series.astype("boolean"))
     if types.is_integer_dtype(series.dtype):
-        return Whole(), _whole(series, name)
+        return Whole(), _whole(series)
     if types.is_float_dtype(series.dtype):
         return Floats(), _floats(series, name)
     if types.is_datetime64_any_dtype(series.dtype):
@@ -112,12 +112,10 @@ def _numbers(series: Any) -> List[int]:
     return list(numbers.tolist())
 
 
-def _whole(series: Any, name: str) -> List[int]:
+def _whole(series: Any) -> Optional[List[int]]:
+    """Whole numbers; None where one of them does not fit."""
     present = series.dropna()
-    if len(present) and not (LEAST < int(present.min()) and int(present.max()) <= MOST):
-        raise Refused(f"column {name!r} has numbers from {present.min()} to {present.max()}: a column has whole numbers from {LEAST + 1} to {MOST}; "
-                      "leave it out by columns=[..], or give it the kind 'float' by kinds={..}", "table")
-    return _numbers(series)
+    return _numbers(series) if not len(present) or LEAST < int(present.min()) and int(present.max()) <= MOST else None
 
 
 def _floats(series: Any, name: str) -> List[int]:
