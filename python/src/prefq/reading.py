@@ -173,7 +173,8 @@ class Cells:
         lines = list(io.StringIO(text, newline=""))
         with self._reader(chain(lines, further), passed) as reader:
             found = rows_of(reader, len(lines))
-        if set(map(len, found)) != {width} or width == 1:       # where a line of blanks has as many cells
+        # In a file of one column a line of blanks has as many cells as names.
+        if set(map(len, found)) != {width} or width == 1 and any(map(str.isspace, chain.from_iterable(found))):
             found = list(self._squared(found, first))
         return Chunk(first, len(found), width, list(chain.from_iterable(found))), reader.line_num
 
