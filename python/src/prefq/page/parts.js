@@ -23,7 +23,7 @@ class Refusal extends Error {
 export async function request(path, options = {}) {
   let reply, received;
   try {
-    reply = await fetch(path, {...options, signal: AbortSignal.timeout(LONGEST)});
+    reply = await fetch(path, {...options, signal: AbortSignal.timeout?.(LONGEST)});
     received = await reply.json();
   } catch {
     const isRefused = reply && !reply.ok;
