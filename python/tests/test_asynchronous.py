@@ -8,6 +8,7 @@ import threading
 import unittest
 from concurrent.futures import ThreadPoolExecutor
 from contextlib import AsyncExitStack, closing
+from unittest import mock
 
 import prefq
 from prefq.asynchronous import FreeClients
@@ -132,6 +133,28 @@ class Tasks(TestCase):
                     await table.query(QUESTION)
                     gc.collect()
                 self.assertEqual(len(await table.best(QUESTION)), 4)
+        self.run_async(main)
+
+    def test_a_client_is_given_back_behind_its_query(self):
+        """Another thread may take it at once."""
+        async def main():
+            async with await self.open(clients=2) as table:
+                are_open, put = [], table._free.put
+
+                def puts(client):
+                    held = table._table._engine.queries.get(client, lambda: None)()
+                    are_open.append(held is not None and held.is_wanted)
+                    put(client)
+
+                with mock.patch.object(table._free, "put", puts):
+                    await table.query(QUESTION)
+                    query = await table.query(QUESTION)
+                    query.itself = query
+                    del query
+                    gc.collect()
+                    await (await table.query(QUESTION)).abandon()
+                    await table.best(QUESTION)
+                self.assertEqual(are_open, [False] * 4)
         self.run_async(main)
 
     def test_a_client_that_garbage_has_is_waited_for_a_second_at_most(self):

@@ -327,12 +327,12 @@ class AsyncQuery:
             job.add_done_callback(partial(_give_up, free, client))
             raise
         self._query = query
-        self._give_back = weakref.finalize(self, free.put, client)
+        self._give_back = weakref.finalize(self, _give_up, free, client, job)
         return self
 
 
 def _give_up(free: FreeClients, client: int, job: "Future[Query]") -> None:
-    """Nobody waits for this query any more: if it has begun, it is abandoned."""
+    """Gives the client of a query back that nobody has any more; one that has begun and not ended is abandoned before, since another thread may take the client at once."""
     if not job.cancelled() and job.exception() is None:
         try:
             job.result().abandon()
