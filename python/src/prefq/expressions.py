@@ -13,13 +13,10 @@ from typing import Callable, Dict, Iterator, List, Optional, Sequence, Tuple, Un
 from .columns import Column, quoted
 from .hints import IN_EXPRESSIONS, OF_FRAMES, WORDS_OF_MISSING, nearest, unknown_column
 from .kinds.booleans import WORDS
-from .questions import A_NAME, BASE_TERMS, DEEPEST, SIGNS, TOO_DEEP, UNKNOWN_COLUMN, Base, Converse, Mode, Question, Reader, Term, Token, product, refuse
+from .questions import BASE_TERMS, DEEPEST, SIGNS, TOO_DEEP, UNKNOWN_COLUMN, Base, Converse, Mode, Question, Reader, Term, Token, product, refuse
 
 FUNCTIONS = {"abs": 1, "min": 2, "max": 2}      # with the fewest arguments
 COMPARISONS = ("<=", ">=", "<>", "!=", "==", "<", ">", "=")
-# Signs that begin what stands behind a column in an expression, and nowhere else behind a column.
-BEHIND_A_COLUMN = ("+", "-", "*", "/", "<", ">", "=", "!")
-WORDS_BEHIND_A_COLUMN = ("and", "or", "in", "is", "not")
 # What is read and computed by functions that call themselves stays far from the depth that Python has.
 DEEPEST_IN_AN_EXPRESSION = 24
 MOST_IN_A_ROW = 64
@@ -118,7 +115,7 @@ class FrameReader(Reader):
 
     signs = ("|", *Reader.signs)
     hints = OF_FRAMES
-    terms, said_of_signs, a_name = f"{BASE_TERMS}, true(..)", f"{SIGNS}, | (better in both)", f"{A_NAME}, in double quotes where it is no word"
+    terms, said_of_signs = f"{BASE_TERMS}, true(..)", f"{SIGNS}, | (better in both)"
 
     def __init__(self, question: str, column: Callable[[str], Optional[Column]], names: Sequence[str], make: Make) -> None:
         super().__init__(question, column, names)
@@ -170,17 +167,10 @@ class FrameReader(Reader):
         return Base("pos", column, ((),), empty.place)
 
     def _operand(self) -> Column:
-        return self._expression() if self._is_expression() else self._name()
-
-    def _is_expression(self) -> bool:
-        """Whether more than the name of a column stands here."""
-        token, after = self._next, self._ahead(1)
-        if (token.kind, token.text.lower()) == ("word", "not") and after.is_name():
-            return True
-        if token.is_name():
-            is_operator = after.kind in ("sign", "strange") and after.text in BEHIND_A_COLUMN
-            return is_operator or after.kind == "word" and after.text.lower() in WORDS_BEHIND_A_COLUMN or (after.kind, after.text) == ("sign", "(")
-        return token.kind in ("number", "date") or token.kind == "sign" and token.text in ("-", "(")
+        """The name of a column stands alone, whatever word it is; else this is an expression."""
+        after = self._ahead(1)
+        is_alone = self._next.is_name() and after.kind == "sign" and after.text in ",)"
+        return self._name() if is_alone else self._expression()
 
     def _expression(self) -> Column:
         first = self._next

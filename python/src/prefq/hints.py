@@ -41,8 +41,11 @@ SIGNS = {
     "\u00d7": "write *",
     **dict.fromkeys("\u2018\u2019\u201c\u201d\u201e\u00ab\u00bb", "the quotes are ' and \""),
 }
+# Signs of names that stand without quotes.
+OF_NAMES = dict.fromkeys("^$#@?\\", "a name that is no word stands in double quotes, as in low(\"Price (EUR)\")")
 # What a question of a frame has beside the program's language, where it stands in the wrong place.
 OF_FRAMES = {
+    **OF_NAMES,
     "+": "a sum stands in the place of a column, as in low(x + y)",
     "/": "a quotient stands in the place of a column, as in low(x / y)",
     "true": "write true(x > 5)",
@@ -51,6 +54,7 @@ OF_FRAMES = {
 }
 # What other languages write in a condition or an expression.
 IN_EXPRESSIONS = {
+    **OF_NAMES,
     "&": "write and",
     "|": "write or",
     ";": "write and between two conditions",

@@ -20,7 +20,6 @@ MOST_LEVELS = 1000
 LONGEST_EXAMPLE = 40
 BASE_TERMS = "low(..), high(..), around(..), between(..), pos(..), layered(..)"
 SIGNS = "* (both at once), & (the first decides)"
-A_NAME = "the name of a column"
 TOKEN = re.compile(r"""(?P<blank>[ \t\r\n]+)
     |(?P<name>"(?:[^"]|"")*"|`(?:[^`]|``)*`)
     |(?P<text>'(?:[^']|'')*')
@@ -161,7 +160,7 @@ class Reader:
     # Hints beside those of the program's language, by what is written.
     hints: Mapping[str, str] = {}
     # What could stand at a place, as it is said.
-    terms, said_of_signs, a_name = BASE_TERMS, SIGNS, A_NAME
+    terms, said_of_signs = BASE_TERMS, SIGNS
 
     def __init__(self, question: str, column: Callable[[str], Optional[Column]], names: Sequence[str]) -> None:
         self._question, self._column, self._names = question, column, names
@@ -262,7 +261,7 @@ class Reader:
     def _name(self) -> Column:
         token = self._next
         if not token.is_name():
-            self._unexpected(self.a_name)
+            self._unexpected("the name of a column")
         column = self._column(token.text)
         if column is None:
             said = f"a question has no functions: add a column with {token.text}(..)" if self._is_called() else unknown_column(token.text, self._names)
