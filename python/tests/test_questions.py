@@ -35,7 +35,7 @@ REFUSED = [
     ("best Stars", "write low(Stars) or high(Stars)", 1, "Stars"),
     ("best price", 'write low("Price (EUR)")', 1, "price"),
     ("best min(Stars)", "min(x) is written low(x)", 1, "min"),
-    ("best lowest(Stars)", "did you mean low(..)?", 1, "lowest"),
+    ("best lowest(Stars)", "did you mean low(..)? Here could stand low(..)", 1, "lowest"),
     ("best low(Stars), high(x)", "no comma stands between two terms", 1, ", high"),
     ("best low(Stars) and high(x)", "write * where both count", 1, "and"),
     ("best low(Stars) limit 5", "at_least 5", 1, "limit"),

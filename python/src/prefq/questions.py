@@ -218,7 +218,7 @@ class Reader:
         shown = ascii(written) if token.kind == "strange" and not written.isprintable() else written
         found = "the question breaks off" if token.kind == "end" else f"unexpected {shown}"
         hint = hint or hint_for(token.kind, token.text, could, self._names, self.hints)
-        refuse(self._question, token.place, f"{found}{': ' * bool(hint)}{hint}. Here could stand {could}")
+        refuse(self._question, token.place, f"{found}{': ' * bool(hint)}{hint}{'.' * (hint[-1:] != '?')} Here could stand {could}")
 
     def _need(self, sign: str) -> None:
         if not self._takes(sign):
