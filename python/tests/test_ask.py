@@ -161,7 +161,7 @@ class Asks(TestCase):
     def test_help(self):
         self.assertEqual(self.prints(run("--version")), f"prefq {prefq.__version__}\n")
         self.assertIn("python -m prefq serve FILE.csv", self.prints(run("--help")))
-        for word in ("examples:", "--plot OUT.svg", "top_level K TERM", "true(x > 5 and y = 'a')", "low(x / y)"):
+        for word in ("examples:", "--plot OUT.svg", "top_level K TERM", "true(x > 5 and y = 'a')", "low(x / y)", "--ties='-low(x)'"):
             self.assertIn(word, self.prints(run("ask", "--help")))
 
     def test_commands_of_the_program(self):

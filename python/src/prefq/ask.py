@@ -53,7 +53,7 @@ def parser() -> argparse.ArgumentParser:
     form.add_argument("--html", dest="form", action="store_const", const="html", help="print a page of HTML")
     found.add_argument("--where", metavar="CONDITION", help="only rows that meet it count, as --where \"Stars >= 4 and City = 'Lyon'\"")
     found.add_argument("--top", type=int, metavar="K", help="print K rows, in each group: those of whole levels, and of the last one those that stand first in the file")
-    found.add_argument("--ties", metavar="TERM", help="of the last level, print those that this term likes best")
+    found.add_argument("--ties", metavar="TERM", help="of the last level, print those that this term likes best; with a minus in front, as --ties='-low(x)'")
     found.add_argument("--plot", metavar="OUT.svg", help="draw the answer by its first two criteria into this file")
     add_file_options(found)
     return found
