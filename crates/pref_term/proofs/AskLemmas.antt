@@ -4,11 +4,11 @@ use Rattle.pref_term.proofs.Common.{All-append, comma, Token, word, digits, sign
 use Rattle.pref_term.proofs.Common.{cased_of, Direction, minimal, maximal, different, direction_word, DimText, HeadText, best_head, top_level_head, at_least_head, PriorText}
 use Rattle.pref_term.proofs.Common.{AskText, rated, name, mark, column_name, count_digits, cased, last, Names, column_at, mode_of, order_by, group_by, orders_of, groups_of, product_of, bad_count}
 use Rattle.pref_term.proofs.Common.{State, start, operand, whole, in_whole, ranked, top_level_named, at_least_named, group_due, skyline_named, dim_due, dim_named, run, done}
-use Rattle.pref_term.proofs.Common.{listed_column, listed_dim, directed, begun, of_named, next, meant, Goes, Fails, Passes, IsKnown, IsTermOf, NotNext, IsOther}
+use Rattle.pref_term.proofs.Common.{directed, begun, of_named, next, meant, Goes, Fails, Passes, IsKnown, IsTermOf, NotNext, IsOther}
 use Rattle.pref_term.proofs.Common.{WantsColumn, TakesColumn, ReadsPrior, Asks, AsksNothing, WantsCount, TakesCount, FailsCount, ReadsSomeColumns, ReadsColumns, FailsColumns}
 use Rattle.pref_term.proofs.Common.{ReadsGrouping, FailsGrouping, TakesDirection, FailsDirection, ReadsDim, FailsDim, with_order, ReadsDims, ReadsClause, FailsClause, PassesOf, AsksClauseNothing}
 use Rattle.pref_term.proofs.Common.{Preference, scored, pareto, prior, reverse, ReadsBelow, IsWritable, Question, FitsWidth, IsAsk, IsSkyline, IsCount, cut_of, Mode, Best, TopLevel}
-use Rattle.pref_term.proofs.Common.{AtLeast, TermFault}
+use Rattle.pref_term.proofs.Common.{AtLeast, TermFault, with_next, dims_listed, group_listed}
 use Rattle.std.specs.Str.Parse.{digits_value}
 use Rattle.std.proofs.lemmas.List.Sums.{fold-append}
 use Rattle.std.proofs.lemmas.Grind.{flat_map-append}
@@ -21,26 +21,26 @@ ended names ts us s m a h c e p = let g = goes_then names s m (done a) ts us [] 
 
 -- ---- a column of a group
 
-pub wants_group : (head : HeadText) (r : PriorText) (some : List (List ℕ)) → WantsColumn (group_due head r some) (λ letters. listed_column head r some letters)
+pub wants_group : (head : HeadText) (r : PriorText) (some : List (List ℕ)) → WantsColumn (group_due head r some) (λ letters. with_next (group_listed head r) some letters)
 wants_group head r some = record { takes = λ letters. refl; only = λ t n. grind arith }
 
 column_goes : (names : Names) (ts us : List Placed) (col : ℕ) (s : State) (behind : List ℕ → State) → WantsColumn s behind → (t : TakesColumn names ts col us) → Goes names s ts (behind t.letters) us
 column_goes names ts us col s behind w t = passes_goes names (word t.letters) ts us s (behind t.letters) (column_name t.letters) t.passes (w.takes t.letters) (column_good names t.letters col t.found.place)
 
-group_comma : (head : HeadText) (r : PriorText) (some : List (List ℕ)) (letters : List ℕ) → next (listed_column head r some letters) (sign comma) ≡ Some (mark comma, group_due head r (some ++ letters ∷ []))
+group_comma : (head : HeadText) (r : PriorText) (some : List (List ℕ)) (letters : List ℕ) → next (with_next (group_listed head r) some letters) (sign comma) ≡ Some (mark comma, group_due head r (some ++ letters ∷ []))
 group_comma head r some letters = grind arith
 
-group_finish : (head : HeadText) (r : PriorText) (some : List (List ℕ)) (letters : List ℕ) → next (listed_column head r some letters) finish ≡ Some (last, done (rated head r (some ++ letters ∷ [])))
+group_finish : (head : HeadText) (r : PriorText) (some : List (List ℕ)) (letters : List ℕ) → next (with_next (group_listed head r) some letters) finish ≡ Some (last, done (rated head r (some ++ letters ∷ [])))
 group_finish head r some letters = grind arith
 
-group_stuck : (head : HeadText) (r : PriorText) (some : List (List ℕ)) (letters : List ℕ) (u : Token) → u ≢ sign comma → u ≢ finish → next (listed_column head r some letters) u ≡ None
+group_stuck : (head : HeadText) (r : PriorText) (some : List (List ℕ)) (letters : List ℕ) (u : Token) → u ≢ sign comma → u ≢ finish → next (with_next (group_listed head r) some letters) u ≡ None
 group_stuck head r some letters = grind (arith)
 
 -- ---- the columns of a group
 
 -- one column more, and what is behind it
 module _ (names : Names) (ts us vs : List Placed) (columns : List ℕ) (col : ℕ) (r : ReadsSomeColumns names ts columns us) (t : TakesColumn names us col vs) where
-  columns_go : (head : HeadText) (p : PriorText) → Goes names (group_due head p []) ts (listed_column head p r.some t.letters) vs
+  columns_go : (head : HeadText) (p : PriorText) → Goes names (group_due head p []) ts (with_next (group_listed head p) r.some t.letters) vs
   columns_go head p = goes_then names _ _ _ ts us vs (r.goes head p) (column_goes names us vs col _ _ (wants_group head p r.some) t)
 
   columns_are : map (column_at names) (r.some ++ t.letters ∷ []) ≡ columns ++ col ∷ []
@@ -106,10 +106,10 @@ rated_group_fails names ts us p f r g head =
 pub wants_dim : (s o : List ℕ) (some : List DimText) → WantsColumn (dim_due s o some) (λ letters. dim_named s o some letters)
 wants_dim s o some = record { takes = λ letters. refl; only = λ t n. grind arith }
 
-dim_comma : (s o : List ℕ) (some : List DimText) (d : DimText) → next (listed_dim s o some d) (sign comma) ≡ Some (mark comma, dim_due s o (some ++ d ∷ []))
+dim_comma : (s o : List ℕ) (some : List DimText) (d : DimText) → next (with_next (dims_listed s o) some d) (sign comma) ≡ Some (mark comma, dim_due s o (some ++ d ∷ []))
 dim_comma s o some d = grind arith
 
-dim_stuck : (s o : List ℕ) (some : List DimText) (d : DimText) (u : Token) → u ≢ sign comma → u ≢ finish → next (listed_dim s o some d) u ≡ None
+dim_stuck : (s o : List ℕ) (some : List DimText) (d : DimText) (u : Token) → u ≢ sign comma → u ≢ finish → next (with_next (dims_listed s o) some d) u ≡ None
 dim_stuck s o some d = grind (arith)
 
 pub dim_read : (names : Names) (ts us vs : List Placed) (col : ℕ) (d : Direction) → TakesColumn names ts col us → TakesDirection us d vs → ReadsDim names ts col d vs
@@ -147,7 +147,7 @@ groups_more names dims dim group d col e f g = grind (arith, flat_map-append)
 
 -- one dimension more, and what is behind it
 module _ (names : Names) (ts us vs : List Placed) (product : Option Preference) (group : List ℕ) (col : ℕ) (d : Direction) (r : ReadsDims names ts product group us) (l : ReadsDim names us col d vs) where
-  dims_go : (s o : List ℕ) → Goes names (dim_due s o []) ts (listed_dim s o r.dims l.dim) vs
+  dims_go : (s o : List ℕ) → Goes names (dim_due s o []) ts (with_next (dims_listed s o) r.dims l.dim) vs
   dims_go s o = goes_then names _ _ _ ts us vs (r.goes s o) (l.goes s o r.dims)
 
   orders_are : product_of (orders_of names (r.dims ++ l.dim ∷ [])) ≡ with_order product d col
@@ -170,7 +170,7 @@ module _ (names : Names) (ts us vs : List Placed) (product : Option Preference) 
   pub dims_all : Passes finish vs [] → ReadsClause names ts (with_order product d col) (group ++ group_by d col)
   dims_all c = go (product_known_more names product d col l.found.known r.product_known) (group_known_more names group d col l.found.known r.group_known) r.dims orders_are groups_are dims_go
     where
-      go : IfSome (with_order product d col) (IsTermOf names) → All (IsKnown names) (group ++ group_by d col) → (dims : List DimText) → product_of (orders_of names (dims ++ l.dim ∷ [])) ≡ with_order product d col → groups_of names (dims ++ l.dim ∷ []) ≡ group ++ group_by d col → ((s o : List ℕ) → Goes names (dim_due s o []) ts (listed_dim s o dims l.dim) vs) → ReadsClause names ts (with_order product d col) (group ++ group_by d col)
+      go : IfSome (with_order product d col) (IsTermOf names) → All (IsKnown names) (group ++ group_by d col) → (dims : List DimText) → product_of (orders_of names (dims ++ l.dim ∷ [])) ≡ with_order product d col → groups_of names (dims ++ l.dim ∷ []) ≡ group ++ group_by d col → ((s o : List ℕ) → Goes names (dim_due s o []) ts (with_next (dims_listed s o) dims l.dim) vs) → ReadsClause names ts (with_order product d col) (group ++ group_by d col)
       go k m [] e f g = record { first = l.dim; others = []; product_is = e; group_is = f; product_known = k; group_known = m; goes = λ s o. ended names ts vs _ _ _ (g s o) c refl }
       go k m (x ∷ xs) e f g = record { first = x; others = xs ++ l.dim ∷ []; product_is = e; group_is = f; product_known = k; group_known = m; goes = λ s o. ended names ts vs _ _ _ (g s o) c refl }
 

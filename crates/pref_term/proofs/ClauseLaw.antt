@@ -1,9 +1,9 @@
 -- What is shown of a clause that keeps one of equal rows spells it; and so does what is shown of any ask.
 use Rattle.pref_term.proofs.Common.{[], ◌≡◌, ◌<◌, ◌≤◌, ℕ, List, ◌∷◌, ◌++◌, map, Bool, true, false, cond, Some, Ok, length, refl, sym, ap, ◌∙◌, append_assoc, codes, fold, AllByRecursion, option_map}
 use Rattle.pref_term.proofs.Common.{recursion_from_All, is_name_byte, schema_of, comma, Token, word, sign, Placed, tokens_of, minimal, maximal, different, direction_word, DimText, AskText, skyline}
-use Rattle.pref_term.proofs.Common.{Leaf, mark, column_name, cased, last, IsWritten, dim_leaves, more_dims, ask_leaves, says_distinct, plain, column, low, high, Preference, scored, pareto, Question}
+use Rattle.pref_term.proofs.Common.{Leaf, mark, column_name, cased, last, IsWritten, dim_leaves, ask_leaves, says_distinct, plain, column, low, high, Preference, scored, pareto, Question}
 use Rattle.pref_term.proofs.Common.{FitsWidth, IsAsk, IsClause, IsDimension, IsSkyline, Names, Spells, IsGood, tokens_in, tokens_on, orders_of, groups_of, product_of, question, name_at, nests}
-use Rattle.pref_term.proofs.Common.{shown_mode, shown_term, shown_group, shown_dims, shown_diffs, shown, Best}
+use Rattle.pref_term.proofs.Common.{shown_mode, shown_term, shown_group, shown_dims, shown_diffs, shown, Best, after_commas}
 use Rattle.pref_term.proofs.ShownNames.{IsWordText, IsNamed, is_named}
 use Rattle.pref_term.proofs.ShownLemmas.{CanShow, column_same}
 use Rattle.pref_term.proofs.ShownTokens.{lexed, Ends, place_free, word_lexed, sign_lexed}
@@ -41,8 +41,8 @@ dim_lexed names (scored (low col)) rest d h e = named_lexed (name_at names col) 
 dim_lexed names (scored (high col)) rest d h e = named_lexed (name_at names col) 109 (97 ∷ 120 ∷ []) rest h.0.0 (refl, (refl, (refl, tt))) e
 dim_lexed names p rest d h e = absurd d
 
-clause_lexed : (names : Names) (p : Preference) (ds : List DimText) (rest : List ℕ) → IsClause p → CanShow names p → Ends is_name_byte rest → lexed rest ≡ tokens_on (more_dims ds ++ last ∷ [])
-    → lexed (shown_dims names p ++ rest) ≡ tokens_on (dim_leaves (first_dim names p) ++ (more_dims (later_dims names p ds) ++ last ∷ []))
+clause_lexed : (names : Names) (p : Preference) (ds : List DimText) (rest : List ℕ) → IsClause p → CanShow names p → Ends is_name_byte rest → lexed rest ≡ tokens_on (after_commas dim_leaves ds ++ last ∷ [])
+    → lexed (shown_dims names p ++ rest) ≡ tokens_on (dim_leaves (first_dim names p) ++ (after_commas dim_leaves (later_dims names p ds) ++ last ∷ []))
 clause_lexed names (scored t) ds rest c h e is =
     dim_lexed names (scored t) rest c h e ∙ ap (λ ts. word (dim_of names (scored t)).column ∷ word (dim_of names (scored t)).written ∷ ts) is
 clause_lexed names (pareto p q) ds rest c h e is =
@@ -57,7 +57,7 @@ diffs_end : (names : Names) (cs : List ℕ) → Ends is_name_byte (shown_diffs n
 diffs_end names [] = tt
 diffs_end names (c ∷ cs) = refl
 
-diffs_lexed : (names : Names) (cs : List ℕ) → AllByRecursion (IsNamed names) cs → lexed (shown_diffs names cs) ≡ tokens_on (more_dims (map (diff_dim names) cs) ++ last ∷ [])
+diffs_lexed : (names : Names) (cs : List ℕ) → AllByRecursion (IsNamed names) cs → lexed (shown_diffs names cs) ≡ tokens_on (after_commas dim_leaves (map (diff_dim names) cs) ++ last ∷ [])
 diffs_lexed names [] h = refl
 diffs_lexed names (c ∷ cs) h =
     let more = shown_diffs names cs in
@@ -89,7 +89,7 @@ said_tokens _ t w rest h = cc
 abbrev OfDim : (Leaf → Type 0) → DimText → Type 0
 OfDim P d = P (column_name d.column) × P (cased (direction_word d.direction) d.written)
 
-leaves_all : (P : Leaf → Type 0) → P (mark comma) → P last → (ds : List DimText) → AllByRecursion (OfDim P) ds → AllByRecursion P (more_dims ds ++ last ∷ [])
+leaves_all : (P : Leaf → Type 0) → P (mark comma) → P last → (ds : List DimText) → AllByRecursion (OfDim P) ds → AllByRecursion P (after_commas dim_leaves ds ++ last ∷ [])
 leaves_all P m l [] h = (l, tt)
 leaves_all P m l (d ∷ ds) h = (m, (h.0.0, (h.0.1, leaves_all P m l ds h.1)))
 
@@ -164,7 +164,7 @@ module _ (names : Names) (q : Question) (keeps : q.distinct ≡ true) (clause : 
 
   said : (says_distinct (tokens_of (shown names q)) ≡ true) × (tokens_in (plain (tokens_of (shown names q))) ≡ tokens_on (ask_leaves tree))
   said =
-      said_tokens (tokens_of (shown names q)) (first_dim names q.preference).column (first_dim names q.preference).written (tokens_on (more_dims later ++ last ∷ []))
+      said_tokens (tokens_of (shown names q)) (first_dim names q.preference).column (first_dim names q.preference).written (tokens_on (after_commas dim_leaves later ++ last ∷ []))
       (ap (λ b. lexed (cond b (codes "skyline of distinct " ++ (shown_dims names q.preference ++ shown_diffs names q.group)) (shown_mode q.mode ++ shown_term names q.preference ++ shown_group names q.group))) keeps
       ∙ (words_lexed (shown_dims names q.preference ++ shown_diffs names q.group)
       ∙ ap (λ ts. word (codes "skyline") ∷ word (codes "of") ∷ word (codes "distinct") ∷ ts)

@@ -30,10 +30,10 @@ pub use Rattle.pref_term.specs.Chains.{AreInRow, by_chain, is_chain}
 pub use Rattle.pref_term.specs.Columns.{ReadsBelow, column, columns_in}
 pub use Rattle.pref_term.specs.Distinct.{is_distinct_ahead, is_in_any_case, is_word, plain, says_distinct, without_third}
 pub use Rattle.pref_term.specs.Grammar.{AskText, BaseText, CasedWord, DimText, Direction, HeadText, IsText, IsWritten, Keyword, Leaf, NumberText, PriorText, ProductText, SetText, UnaryText}
-pub use Rattle.pref_term.specs.Grammar.{around_text, around_word, ask_leaves, at_least_head, at_least_word, base_leaves, base_words, based, best_head, best_word, between_text, between_word, by_word}
+pub use Rattle.pref_term.specs.Grammar.{after_commas, around_text, around_word, ask_leaves, at_least_head, at_least_word, base_leaves, base_words, based, best_head, best_word, between_text, between_word, by_word, column_leaves}
 pub use Rattle.pref_term.specs.Grammar.{cased, cased_in, cased_letters, cased_of, column_name, count_digits, diff_word, different, dim_leaves, direction_word, end_leaves, group_leaves, grouped}
 pub use Rattle.pref_term.specs.Grammar.{head_leaves, high_text, high_word, keyword_of, last, layered_text, layered_word, letters_of, list_leaves, low_text, low_word, mark, max_word, maximal, min_word}
-pub use Rattle.pref_term.specs.Grammar.{minimal, more_columns, more_dims, more_sets, name, negated, number_digits, number_leaves, of_word, one_factor, one_product, opens, others_leaves, outer_words}
+pub use Rattle.pref_term.specs.Grammar.{minimal, name, negated, number_digits, number_leaves, of_word, one_factor, one_product, opens, outer_words}
 pub use Rattle.pref_term.specs.Grammar.{pos_text, pos_word, prior_leaves, product_leaves, rated, reverse_word, reversed, set_leaves, signed_leaves, skyline, skyline_word, then_factor, then_product}
 pub use Rattle.pref_term.specs.Grammar.{token_of, top_level_head, top_level_word, unary_leaves}
 pub use Rattle.pref_term.specs.Keys.{by_key, by_keys, from_zero, is_number, is_product, key_for, keyed, leading, opposed}
@@ -45,14 +45,14 @@ pub use Rattle.pref_term.specs.ReaderResults.{FailsDim, FailsDirection, FailsEnd
 pub use Rattle.pref_term.specs.ReaderResults.{Goes, IsBehindDistinct, IsColumn, IsKnown, IsNoDigits, IsNoWord, IsOther, IsTermOf, NotNext, Passes, PassesOf, ReadsBase, ReadsClause, ReadsColumns}
 pub use Rattle.pref_term.specs.ReaderResults.{ReadsDim, ReadsDims, ReadsEnd, ReadsFactors, ReadsGroup, ReadsGrouping, ReadsNumber, ReadsNumbers, ReadsOpened, ReadsPrior, ReadsProduct, ReadsProducts}
 pub use Rattle.pref_term.specs.ReaderResults.{ReadsSets, ReadsSome, ReadsSomeColumns, ReadsSomeSets, ReadsUnary, TakesColumn, TakesCount, TakesDirection, WantsColumn, WantsCount}
-pub use Rattle.pref_term.specs.ReaderResults.{behind_column, first_place, list_hole, with_order, word_ahead}
-pub use Rattle.pref_term.specs.Reading.{BaseKind, BasePart, BaseStep, NumberHole, NumberList, PriorHole, ProductHole, State, UnaryHole, after, around_kind, at_least_named, base_next, before_dim}
-pub use Rattle.pref_term.specs.Reading.{before_prior, before_product, before_unary, begun, between_kind, carried, centre_of, centred, closed, closing, columned, completed, dim_due, dim_named}
-pub use Rattle.pref_term.specs.Reading.{dims_listed, directed, done, end_of, ended, filled, finished, first_factor, first_of, first_product, group_due, group_listed, grouped_by, high_kind}
-pub use Rattle.pref_term.specs.Reading.{hole_leaves, in_group, in_minus, in_pos, in_reverse, in_set, in_whole, judged, kind_word, layered_kind, least_of, led, list_closed, listed, listed_column}
-pub use Rattle.pref_term.specs.Reading.{listed_dim, low_kind, named, next, next_factor, next_of, next_product, number_due, number_signed, of_named, opened, operand, operand_word, outer, part}
+pub use Rattle.pref_term.specs.ReaderResults.{behind_column, first_place, with_order, word_ahead}
+pub use Rattle.pref_term.specs.Reading.{BaseKind, BasePart, BaseStep, NumberHole, NumberList, PriorHole, ProductHole, State, UnaryHole, after, around_kind, at_least_named, base_next}
+pub use Rattle.pref_term.specs.Reading.{before_next, before_prior, before_product, before_unary, begun, between_kind, carried, centre_of, centred, closed, closing, columned, completed, dim_due, dim_named}
+pub use Rattle.pref_term.specs.Reading.{dims_listed, directed, done, end_of, ended, filled, finished, first_factor, first_product, group_due, group_listed, grouped_by, high_kind}
+pub use Rattle.pref_term.specs.Reading.{hole_leaves, in_group, in_minus, in_pos, in_reverse, in_set, in_whole, judged, kind_word, layered_kind, least_of, led, list_closed, listed}
+pub use Rattle.pref_term.specs.Reading.{low_kind, named, next, next_factor, next_of, next_product, number_due, number_signed, of_named, opened, operand, operand_word, outer, part}
 pub use Rattle.pref_term.specs.Reading.{part_leaves, parted, pos_kind, prior_depth, product_depth, range_ended, ranged, ranked, read_of, reading, reverse_named, run, set_due, sets_listed}
-pub use Rattle.pref_term.specs.Reading.{skyline_named, start, start_of, stepped, top_level_named, unary_depth, whole, whole_base, with_set}
+pub use Rattle.pref_term.specs.Reading.{skyline_named, start, start_of, stepped, top_level_named, unary_depth, whole, whole_base, with_next}
 pub use Rattle.pref_term.specs.SeenTokens.{IsFront, seen}
 pub use Rattle.pref_term.specs.Shown.{IsShownAs, held, held_nests, is_composed, is_prior, more_names, name_at, nests, shown, shown_base, shown_diffs, shown_dims, shown_group, shown_mode, shown_set}
 pub use Rattle.pref_term.specs.Shown.{shown_sets, shown_term, shown_values, worked_names}

@@ -2,15 +2,15 @@
 use Rattle.pref_term.proofs.Common.{◌≡◌, arith, ℕ, ◌+◌, List, [], ◌∷◌, ◌++◌, Bool, true, false, Option, Some, None, refl, sym, ap, subst, ◌∙◌, append_assoc, append-nil, IfSome, AllByRecursion, bytes_eq}
 use Rattle.pref_term.proofs.Common.{str_to_ascii_lowercase, bytes_eq-Decides, left, right, left_brace, comma, star, ampersand, word, sign, finish, Keyword, best_word, by_word, CasedWord, skyline_word}
 use Rattle.pref_term.proofs.Common.{of_word, min_word, letters_of, keyword_of, cased_letters, cased_in, cased_of, HeadText, best_head, top_level_head, at_least_head, head_leaves}
-use Rattle.pref_term.proofs.Common.{Direction, minimal, direction_word, DimText, dim_leaves, more_dims, group_leaves, more_columns, AskText, rated, skyline, IsWritten, IsText}
+use Rattle.pref_term.proofs.Common.{Direction, minimal, direction_word, DimText, dim_leaves, group_leaves, AskText, rated, skyline, IsWritten, IsText}
 use Rattle.pref_term.proofs.Common.{NumberText, BaseText, low_text, high_text, around_text, pos_text, PriorText, one_product, then_product, ProductText, one_factor, then_factor, UnaryText, negated}
-use Rattle.pref_term.proofs.Common.{grouped, reversed, based, Leaf, name, mark, opens, column_name, number_digits, count_digits, cased, last, signed_leaves, number_leaves, others_leaves, base_leaves}
-use Rattle.pref_term.proofs.Common.{prior_leaves, product_leaves, unary_leaves, ask_leaves, token_of, between_text, end_leaves, layered_text, SetText, list_leaves, set_leaves, more_sets, BaseKind}
-use Rattle.pref_term.proofs.Common.{low_kind, high_kind, around_kind, pos_kind, NumberHole, centre_of, first_of, next_of, BasePart, named, opened, columned, number_due, number_signed, centred, listed}
+use Rattle.pref_term.proofs.Common.{grouped, reversed, based, Leaf, name, mark, opens, column_name, number_digits, count_digits, cased, last, signed_leaves, number_leaves, base_leaves}
+use Rattle.pref_term.proofs.Common.{prior_leaves, product_leaves, unary_leaves, ask_leaves, token_of, between_text, end_leaves, layered_text, SetText, list_leaves, set_leaves, BaseKind}
+use Rattle.pref_term.proofs.Common.{low_kind, high_kind, around_kind, pos_kind, NumberHole, centre_of, next_of, BasePart, named, opened, columned, number_due, number_signed, centred, listed}
 use Rattle.pref_term.proofs.Common.{filled, PriorHole, whole, in_group, in_reverse, ProductHole, first_product, next_product, UnaryHole, first_factor, next_factor, in_minus, prior_depth}
 use Rattle.pref_term.proofs.Common.{product_depth, unary_depth, State, start, operand, reverse_named, reading, after, top_level_named, at_least_named, group_due, group_listed, skyline_named, dim_due}
-use Rattle.pref_term.proofs.Common.{dim_named, dims_listed, done, completed, outer, closed, ranked, in_whole, begun, of_named, listed_dim, directed, next, between_kind, start_of, end_of, least_of}
-use Rattle.pref_term.proofs.Common.{ranged, range_ended, layered_kind, NumberList, in_pos, in_set, closing, list_closed, stepped, set_due, sets_listed, with_set, parted}
+use Rattle.pref_term.proofs.Common.{dim_named, dims_listed, done, completed, outer, closed, ranked, in_whole, begun, of_named, directed, next, between_kind, start_of, end_of, least_of}
+use Rattle.pref_term.proofs.Common.{ranged, range_ended, layered_kind, NumberList, in_pos, in_set, closing, list_closed, stepped, set_due, sets_listed, parted, after_commas, column_leaves, with_next}
 use Rattle.pref_term.proofs.GrammarSound.{keyword_letters}
 
 -- reading these leaves leads from one state to the other
@@ -29,33 +29,33 @@ reads_number h hole n = go n.negative n.digits
     go true ds = (_, refl, (_, refl, refl))
     go false ds = (_, refl, refl)
 
-reads_others : (h : UnaryHole) (l : NumberList) (first : NumberText) (front ns : List NumberText) → Reads (reading h (listed l first front)) (others_leaves ns) (reading h (listed l first (front ++ ns)))
+reads_others : (h : UnaryHole) (l : NumberList) (first : NumberText) (front ns : List NumberText) → Reads (reading h (listed l first front)) (after_commas number_leaves ns) (reading h (listed l first (front ++ ns)))
 reads_others h l first front [] = ap (λ ns. reading h (listed l first ns)) (sym (append-nil front))
 reads_others h l first front (n ∷ ns) =
     let here = reading h (listed l first (front ++ n ∷ [])) in
-    let more = subst (λ (ms : List NumberText). Reads here (others_leaves ns) (reading h (listed l first ms))) (append_assoc front (n ∷ []) ns) (reads_others h l first (front ++ n ∷ []) ns) in
-    (_, refl, reads_on (reading h (number_due (next_of l first front))) (number_leaves n) (others_leaves ns) here _ (reads_number h (next_of l first front) n) more)
+    let more = subst (λ (ms : List NumberText). Reads here (after_commas number_leaves ns) (reading h (listed l first ms))) (append_assoc front (n ∷ []) ns) (reads_others h l first (front ++ n ∷ []) ns) in
+    (_, refl, reads_on (reading h (number_due (next_of l (first ∷ front)))) (number_leaves n) (after_commas number_leaves ns) here _ (reads_number h (next_of l (first ∷ front)) n) more)
 
 -- the sign that closes a list of numbers ends it
 pub list_ends : (h : UnaryHole) (l : NumberList) (first : NumberText) (others : List NumberText) → next (reading h (listed l first others)) (sign (closing l)) ≡ Some (mark (closing l), stepped h (list_closed l first others))
 list_ends h l first others = grind arith
 
-reads_list : (h : UnaryHole) (l : NumberList) (first : NumberText) (others : List NumberText) → Reads (reading h (number_due (first_of l))) (list_leaves first others (closing l)) (stepped h (list_closed l first others))
+reads_list : (h : UnaryHole) (l : NumberList) (first : NumberText) (others : List NumberText) → Reads (reading h (number_due (next_of l []))) (list_leaves first others (closing l)) (stepped h (list_closed l first others))
 reads_list h l first others =
-    reads_on (reading h (number_due (first_of l))) (number_leaves first) (others_leaves others ++ mark (closing l) ∷ []) (reading h (listed l first [])) (stepped h (list_closed l first others))
-    (reads_number h (first_of l) first)
-    (reads_on (reading h (listed l first [])) (others_leaves others) (mark (closing l) ∷ []) (reading h (listed l first others)) (stepped h (list_closed l first others))
+    reads_on (reading h (number_due (next_of l []))) (number_leaves first) (after_commas number_leaves others ++ mark (closing l) ∷ []) (reading h (listed l first [])) (stepped h (list_closed l first others))
+    (reads_number h (next_of l []) first)
+    (reads_on (reading h (listed l first [])) (after_commas number_leaves others) (mark (closing l) ∷ []) (reading h (listed l first others)) (stepped h (list_closed l first others))
     (reads_others h l first [] others) (_, list_ends h l first others, refl))
 
-reads_set : (h : UnaryHole) (column : List ℕ) (sets : List SetText) (s : SetText) → Reads (reading h (set_due column sets)) (set_leaves s) (reading h (with_set column sets s))
+reads_set : (h : UnaryHole) (column : List ℕ) (sets : List SetText) (s : SetText) → Reads (reading h (set_due column sets)) (set_leaves s) (reading h (with_next (sets_listed column) sets s))
 reads_set h column sets s = (_, refl, reads_list h (in_set column sets) s.first s.others)
 
-reads_sets : (h : UnaryHole) (column : List ℕ) (first : SetText) (front ss : List SetText) → Reads (reading h (sets_listed column first front)) (more_sets ss) (reading h (sets_listed column first (front ++ ss)))
+reads_sets : (h : UnaryHole) (column : List ℕ) (first : SetText) (front ss : List SetText) → Reads (reading h (sets_listed column first front)) (after_commas set_leaves ss) (reading h (sets_listed column first (front ++ ss)))
 reads_sets h column first front [] = ap (λ ss. reading h (sets_listed column first ss)) (sym (append-nil front))
 reads_sets h column first front (s ∷ ss) =
     let here = reading h (sets_listed column first (front ++ s ∷ [])) in
-    let more = subst (λ (ts : List SetText). Reads here (more_sets ss) (reading h (sets_listed column first ts))) (append_assoc front (s ∷ []) ss) (reads_sets h column first (front ++ s ∷ []) ss) in
-    (_, refl, reads_on (reading h (set_due column (first ∷ front))) (set_leaves s) (more_sets ss) here _ (reads_set h column (first ∷ front) s) more)
+    let more = subst (λ (ts : List SetText). Reads here (after_commas set_leaves ss) (reading h (sets_listed column first ts))) (append_assoc front (s ∷ []) ss) (reads_sets h column first (front ++ s ∷ []) ss) in
+    (_, refl, reads_on (reading h (set_due column (first ∷ front))) (set_leaves s) (after_commas set_leaves ss) here _ (reads_set h column (first ∷ front) s) more)
 
 reads_base : (b : BaseText) (h : UnaryHole) → Reads (operand h) (base_leaves b) (completed h (based b))
 reads_base (low_text column) h = (_, refl, (_, refl, (_, refl, (_, refl, refl))))
@@ -73,8 +73,8 @@ reads_base (between_text column l r) h =
 reads_base (pos_text column first others) h = (_, refl, (_, refl, (_, refl, (_, refl, reads_list h (in_pos column) first others))))
 reads_base (layered_text column first others) h =
     let end = completed h (based (layered_text column first others)) in
-    let more = reads_on (reading h (sets_listed column first [])) (more_sets others) (mark right ∷ []) (reading h (sets_listed column first others)) end (reads_sets h column first [] others) (_, refl, refl) in
-    let sets = reads_on (reading h (set_due column [])) (set_leaves first) (more_sets others ++ mark right ∷ []) (reading h (sets_listed column first [])) end (reads_set h column [] first) more in
+    let more = reads_on (reading h (sets_listed column first [])) (after_commas set_leaves others) (mark right ∷ []) (reading h (sets_listed column first others)) end (reads_sets h column first [] others) (_, refl, refl) in
+    let sets = reads_on (reading h (set_due column [])) (set_leaves first) (after_commas set_leaves others ++ mark right ∷ []) (reading h (sets_listed column first [])) end (reads_set h column [] first) more in
     (_, refl, (_, refl, (_, refl, (_, refl, sets))))
 
 pub ranked_goes_on : (h : PriorHole) (r : PriorText) → next (ranked h r) (sign ampersand) ≡ Some (mark ampersand, operand (first_factor (next_product h r)))
@@ -120,11 +120,11 @@ reads_head best_head = (_, refl, refl)
 reads_head (top_level_head count) = (_, refl, (_, refl, refl))
 reads_head (at_least_head count) = (_, refl, (_, refl, refl))
 
-reads_columns : (head : HeadText) (r : PriorText) (first : List ℕ) (front columns : List (List ℕ)) → Reads (group_listed head r first front) (more_columns columns ++ last ∷ []) (done (rated head r (first ∷ (front ++ columns))))
+reads_columns : (head : HeadText) (r : PriorText) (first : List ℕ) (front columns : List (List ℕ)) → Reads (group_listed head r first front) (after_commas column_leaves columns ++ last ∷ []) (done (rated head r (first ∷ (front ++ columns))))
 reads_columns head r first front [] = (_, refl, ap (λ cs. done (rated head r (first ∷ cs))) (sym (append-nil front)))
 reads_columns head r first front (c ∷ cs) =
     let more = reads_columns head r first (front ++ c ∷ []) cs in
-    (_, refl, (_, refl, subst (λ (xs : List (List ℕ)). Reads (group_listed head r first (front ++ c ∷ [])) (more_columns cs ++ last ∷ []) (done (rated head r (first ∷ xs)))) (append_assoc front (c ∷ []) cs) more))
+    (_, refl, (_, refl, subst (λ (xs : List (List ℕ)). Reads (group_listed head r first (front ++ c ∷ [])) (after_commas column_leaves cs ++ last ∷ []) (done (rated head r (first ∷ xs)))) (append_assoc front (c ∷ []) cs) more))
 
 reads_group : (head : HeadText) (r : PriorText) (group : List (List ℕ)) → Reads (ranked (whole head) r) (group_leaves group ++ last ∷ []) (done (rated head r group))
 reads_group head r [] = (_, ranked_whole head r, refl)
@@ -157,19 +157,19 @@ no_keyword letters w = go (keyword_of letters) (keyword_letters letters)
 abbrev pub dim_of : List ℕ → Direction → List ℕ → DimText
 dim_of column direction written = record { column = column; direction = direction; written = written }
 
-pub direction_next : (s o : List ℕ) (dims : List DimText) (column letters : List ℕ) (d : Direction) → directed s o dims column letters (Some (direction_word d)) ≡ Some (cased (direction_word d) letters, listed_dim s o dims (dim_of column d letters))
+pub direction_next : (s o : List ℕ) (dims : List DimText) (column letters : List ℕ) (d : Direction) → directed s o dims column letters (Some (direction_word d)) ≡ Some (cased (direction_word d) letters, with_next (dims_listed s o) dims (dim_of column d letters))
 direction_next s o dims column letters d = grind arith
 
-reads_dim : (s o : List ℕ) (dims : List DimText) (d : DimText) → IsWritten (cased (direction_word d.direction) d.written) → Reads (dim_due s o dims) (dim_leaves d) (listed_dim s o dims d)
+reads_dim : (s o : List ℕ) (dims : List DimText) (d : DimText) → IsWritten (cased (direction_word d.direction) d.written) → Reads (dim_due s o dims) (dim_leaves d) (with_next (dims_listed s o) dims d)
 reads_dim s o dims d w =
     (_, refl, (_, ap (directed s o dims d.column d.written) (cased_found (direction_word d.direction) d.written w) ∙ direction_next s o dims d.column d.written d.direction, refl))
 
-reads_dims : (s o : List ℕ) (first : DimText) (front ds : List DimText) → AllByRecursion IsWritten (more_dims ds ++ last ∷ []) → Reads (dims_listed s o first front) (more_dims ds ++ last ∷ []) (done (skyline s o first (front ++ ds)))
+reads_dims : (s o : List ℕ) (first : DimText) (front ds : List DimText) → AllByRecursion IsWritten (after_commas dim_leaves ds ++ last ∷ []) → Reads (dims_listed s o first front) (after_commas dim_leaves ds ++ last ∷ []) (done (skyline s o first (front ++ ds)))
 reads_dims s o first front [] w = (_, refl, ap (λ ds. done (skyline s o first ds)) (sym (append-nil front)))
 reads_dims s o first front (d ∷ ds) w =
     let here = dims_listed s o first (front ++ d ∷ []) in
-    let more = subst (λ (xs : List DimText). Reads here (more_dims ds ++ last ∷ []) (done (skyline s o first xs))) (append_assoc front (d ∷ []) ds) (reads_dims s o first (front ++ d ∷ []) ds w.1.1.1) in
-    (_, refl, reads_on (dim_due s o (first ∷ front)) (dim_leaves d) (more_dims ds ++ last ∷ []) here _ (reads_dim s o (first ∷ front) d w.1.1.0) more)
+    let more = subst (λ (xs : List DimText). Reads here (after_commas dim_leaves ds ++ last ∷ []) (done (skyline s o first xs))) (append_assoc front (d ∷ []) ds) (reads_dims s o first (front ++ d ∷ []) ds w.1.1.1) in
+    (_, refl, reads_on (dim_due s o (first ∷ front)) (dim_leaves d) (after_commas dim_leaves ds ++ last ∷ []) here _ (reads_dim s o (first ∷ front) d w.1.1.0) more)
 
 -- each text of the grammar is read to its end
 pub reads_ask : (a : AskText) → IsText a → Reads start (ask_leaves a) (done a)
@@ -180,7 +180,7 @@ reads_ask (rated head r group) w =
     (reads_prior r (whole head)) (reads_group head r group))
 reads_ask (skyline s o first others) w =
     let begins = ap (λ k. begun s k (cased_of s)) (no_keyword s w.0) ∙ ap (begun s None) (cased_found skyline_word s w.0) in
-    let dims = reads_on (dim_due s o []) (dim_leaves first) (more_dims others ++ last ∷ []) (dims_listed s o first []) (done (skyline s o first others)) (reads_dim s o [] first w.1.1.1.0) (reads_dims s o first [] others w.1.1.1.1) in
+    let dims = reads_on (dim_due s o []) (dim_leaves first) (after_commas dim_leaves others ++ last ∷ []) (dims_listed s o first []) (done (skyline s o first others)) (reads_dim s o [] first w.1.1.1.0) (reads_dims s o first [] others w.1.1.1.1) in
     (skyline_named s, begins, (dim_due s o [], ap (of_named s o) (cased_found of_word o w.1.0), dims))
 
 -- ---- each state can be completed
@@ -242,17 +242,17 @@ ends_range h column l r = first_reads _ (mark right) (completed h (based (betwee
 
 ends_filled : (h : UnaryHole) (hole : NumberHole) (n : NumberText) → CanEnd (reading h (filled hole n))
 ends_filled h (centre_of column) n = first_reads _ (mark right) (completed h (based (around_text column n))) refl (ends_unary h (based (around_text column n)))
-ends_filled h (first_of l) n = ends_listed h l n []
 ends_filled h (start_of column) n = first_reads _ (mark comma) (reading h (number_due (end_of column n))) refl
     (first_reads _ (number_digits (Some n) false zero_digits) (reading h (range_ended column n (record { negative = false; digits = zero_digits }))) refl (ends_range h column n (record { negative = false; digits = zero_digits })))
 ends_filled h (end_of column l) n = ends_range h column l n
-ends_filled h (next_of l first others) n = ends_listed h l first (others ++ n ∷ [])
+ends_filled h (next_of l []) n = ends_listed h l n []
+ends_filled h (next_of l (first ∷ others)) n = ends_listed h l first (others ++ n ∷ [])
 
 ends_due : (h : UnaryHole) (hole : NumberHole) → CanEnd (reading h (number_due hole))
 ends_due h hole = first_reads _ (number_digits (least_of hole) false zero_digits) (reading h (filled hole (record { negative = false; digits = zero_digits }))) refl (ends_filled h hole (record { negative = false; digits = zero_digits }))
 
 ends_set_due : (h : UnaryHole) (column : List ℕ) (sets : List SetText) → CanEnd (reading h (set_due column sets))
-ends_set_due h column sets = first_reads _ (mark left_brace) (reading h (number_due (first_of (in_set column sets)))) refl (ends_due h (first_of (in_set column sets)))
+ends_set_due h column sets = first_reads _ (mark left_brace) (reading h (number_due (next_of (in_set column sets) []))) refl (ends_due h (next_of (in_set column sets) []))
 
 -- behind a column of each kind of base term
 ends_columned : (h : UnaryHole) (k : BaseKind) (column : List ℕ) → CanEnd (reading h (columned k column))
@@ -260,7 +260,7 @@ ends_columned h low_kind column = first_reads _ (mark right) (completed h (based
 ends_columned h high_kind column = first_reads _ (mark right) (completed h (based (high_text column))) refl (ends_unary h (based (high_text column)))
 ends_columned h around_kind column = first_reads _ (mark comma) (reading h (number_due (centre_of column))) refl (ends_due h (centre_of column))
 ends_columned h between_kind column = first_reads _ (mark comma) (reading h (number_due (start_of column))) refl (ends_due h (start_of column))
-ends_columned h pos_kind column = first_reads _ (mark comma) (reading h (number_due (first_of (in_pos column)))) refl (ends_due h (first_of (in_pos column)))
+ends_columned h pos_kind column = first_reads _ (mark comma) (reading h (number_due (next_of (in_pos column) []))) refl (ends_due h (next_of (in_pos column) []))
 ends_columned h layered_kind column = first_reads _ (mark comma) (reading h (set_due column [])) refl (ends_set_due h column [])
 
 pub ends_part : (h : UnaryHole) (b : BasePart) → CanEnd (reading h b)
@@ -286,14 +286,14 @@ ends_group head r (c ∷ cs) = first_reads _ (column_name x_name) (group_listed 
 ends_dims : (s o : List ℕ) (first : DimText) (others : List DimText) → CanEnd (dims_listed s o first others)
 ends_dims s o first others = record { leaves = last ∷ []; tree = skyline s o first others; reads = (done (skyline s o first others), refl, refl) }
 
-ends_listed_dim : (s o : List ℕ) (dims : List DimText) (d : DimText) → CanEnd (listed_dim s o dims d)
+ends_listed_dim : (s o : List ℕ) (dims : List DimText) (d : DimText) → CanEnd (with_next (dims_listed s o) dims d)
 ends_listed_dim s o [] d = ends_dims s o d []
 ends_listed_dim s o (e ∷ es) d = ends_dims s o e (es ++ d ∷ [])
 
 ends_named_dim : (s o : List ℕ) (dims : List DimText) (column : List ℕ) → CanEnd (dim_named s o dims column)
 ends_named_dim s o dims column =
     let d : DimText = record { column = column; direction = minimal; written = cased_letters min_word } in
-    first_reads _ (cased min_word (cased_letters min_word)) (listed_dim s o dims d) refl (ends_listed_dim s o dims d)
+    first_reads _ (cased min_word (cased_letters min_word)) (with_next (dims_listed s o) dims d) refl (ends_listed_dim s o dims d)
 
 ends_dim : (s o : List ℕ) (dims : List DimText) → CanEnd (dim_due s o dims)
 ends_dim s o dims = first_reads _ (column_name x_name) (dim_named s o dims x_name) refl (ends_named_dim s o dims x_name)

@@ -2,42 +2,37 @@
 use Rattle.pref_term.proofs.Common.{◌≡◌, ℕ, List, [], ◌∷◌, ◌++◌, Bool, true, false, Option, Some, None, cond, refl, sym, ap, subst, ◌∙◌, append_assoc, append-nil, IfSome, find, bytes_eq}
 use Rattle.pref_term.proofs.Common.{str_to_ascii_lowercase, bytes_eq-Decides, left, right, comma, star, ampersand, minus, left_brace, right_brace, Token, word, digits, sign, finish, Keyword}
 use Rattle.pref_term.proofs.Common.{best_word, top_level_word, at_least_word, by_word, CasedWord, skyline_word, of_word, min_word, max_word, diff_word, letters_of, outer_words, base_words, keyword_of}
-use Rattle.pref_term.proofs.Common.{cased_letters, cased_of, HeadText, minimal, maximal, different, DimText, dim_leaves, more_dims, more_columns, IsWritten, NumberText, PriorText, ProductText}
-use Rattle.pref_term.proofs.Common.{UnaryText, negated, grouped, reversed, based, Leaf, name, mark, column_name, cased, number_leaves, others_leaves, base_leaves, prior_leaves, product_leaves}
-use Rattle.pref_term.proofs.Common.{unary_leaves, token_of, signed_leaves, layered_word, SetText, set_leaves, more_sets, low_kind, high_kind, around_kind, pos_kind, NumberHole, centre_of, first_of}
+use Rattle.pref_term.proofs.Common.{cased_letters, cased_of, HeadText, minimal, maximal, different, DimText, dim_leaves, IsWritten, NumberText, PriorText, ProductText}
+use Rattle.pref_term.proofs.Common.{UnaryText, negated, grouped, reversed, based, Leaf, name, mark, column_name, cased, number_leaves, base_leaves, prior_leaves, product_leaves}
+use Rattle.pref_term.proofs.Common.{unary_leaves, token_of, signed_leaves, layered_word, SetText, set_leaves, low_kind, high_kind, around_kind, pos_kind, NumberHole, centre_of}
 use Rattle.pref_term.proofs.Common.{next_of, BasePart, named, opened, columned, number_due, number_signed, centred, listed, hole_leaves, part_leaves, BaseStep, part, whole_base, filled, base_next}
 use Rattle.pref_term.proofs.Common.{PriorHole, whole, in_group, in_reverse, ProductHole, first_product, next_product, UnaryHole, first_factor, next_factor, in_minus, prior_depth, product_depth}
 use Rattle.pref_term.proofs.Common.{unary_depth, before_prior, before_product, before_unary, State, start, operand, reverse_named, reading, after, top_level_named, at_least_named, group_due}
-use Rattle.pref_term.proofs.Common.{group_listed, skyline_named, dim_due, dim_named, dims_listed, before_dim, read_of, completed, outer, closed, begun, of_named, listed_column, listed_dim, directed}
+use Rattle.pref_term.proofs.Common.{group_listed, skyline_named, dim_due, dim_named, dims_listed, read_of, completed, outer, closed, begun, of_named, directed}
 use Rattle.pref_term.proofs.Common.{grouped_by, operand_word, carried, parted, finished, next, between_kind, start_of, end_of, least_of, ranged, range_ended, layered_kind, in_pos, in_set, set_due}
-use Rattle.pref_term.proofs.Common.{sets_listed, with_set}
+use Rattle.pref_term.proofs.Common.{sets_listed, after_commas, column_leaves, before_next, with_next}
 
--- one more number at the end of a list of them
-pub others_more : (ns : List NumberText) (n : NumberText) → others_leaves (ns ++ n ∷ []) ≡ others_leaves ns ++ mark comma ∷ number_leaves n
-others_more [] n = simp append-nil
-others_more (m ∷ ns) n = rw (others_more ns n) (simp append_assoc)
+-- one more at the end of some
+after_last : {X : Type 0} (leaves : X → List Leaf) (xs : List X) (x : X) → after_commas leaves (xs ++ x ∷ []) ≡ after_commas leaves xs ++ mark comma ∷ leaves x
+after_last leaves [] x = simp append-nil
+after_last leaves (y ∷ ys) x = rw (after_last leaves ys x) (simp append_assoc)
 
 pub hole_filled : (h : NumberHole) (n : NumberText) → part_leaves (filled h n) ≡ hole_leaves h ++ signed_leaves (least_of h) n.negative n.digits
 hole_filled (centre_of column) n = refl
-hole_filled (first_of l) n = simp append-nil
 hole_filled (start_of column) n = refl
 hole_filled (end_of column l) n = simp append_assoc
-hole_filled (next_of l first others) n = rw (others_more others n) (simp append_assoc)
-
--- one more set at the end of some
-more_sets_end : (ss : List SetText) (s : SetText) → more_sets (ss ++ s ∷ []) ≡ more_sets ss ++ mark comma ∷ set_leaves s
-more_sets_end [] s = simp append-nil
-more_sets_end (t ∷ ts) s = ap (λ ls. mark comma ∷ set_leaves t ++ ls) (more_sets_end ts s) ∙ ap (λ ls. mark comma ∷ ls) (sym (append_assoc (set_leaves t) (more_sets ts) (mark comma ∷ set_leaves s)))
+hole_filled (next_of l []) n = simp append-nil
+hole_filled (next_of l (first ∷ others)) n = rw (after_last number_leaves others n) (simp append_assoc)
 
 -- a set behind others
 set_regrouped : (a b n o : List Leaf) (c l r : Leaf) → a ++ (b ++ c ∷ l ∷ (n ++ (o ++ r ∷ []))) ≡ (((a ++ (b ++ c ∷ [])) ++ l ∷ []) ++ (n ++ o)) ++ r ∷ []
 set_regrouped a b n o c l r = simp append_assoc
 
-set_closed : (column : List ℕ) (sets : List SetText) (first : NumberText) (others : List NumberText) → part_leaves (with_set column sets (record { first = first; others = others })) ≡ part_leaves (listed (in_set column sets) first others) ++ mark right_brace ∷ []
+set_closed : (column : List ℕ) (sets : List SetText) (first : NumberText) (others : List NumberText) → part_leaves (with_next (sets_listed column) sets (record { first = first; others = others })) ≡ part_leaves (listed (in_set column sets) first others) ++ mark right_brace ∷ []
 set_closed column [] first others = simp (append_assoc, append-nil)
 set_closed column (s ∷ ss) first others =
-    ap (λ ls. name layered_word ∷ mark left ∷ column_name column ∷ mark comma ∷ set_leaves s ++ ls) (more_sets_end ss (record { first = first; others = others }))
-    ∙ ap (λ ls. name layered_word ∷ mark left ∷ column_name column ∷ mark comma ∷ ls) (set_regrouped (set_leaves s) (more_sets ss) (number_leaves first) (others_leaves others) (mark comma) (mark left_brace) (mark right_brace))
+    ap (λ ls. name layered_word ∷ mark left ∷ column_name column ∷ mark comma ∷ set_leaves s ++ ls) (after_last set_leaves ss (record { first = first; others = others }))
+    ∙ ap (λ ls. name layered_word ∷ mark left ∷ column_name column ∷ mark comma ∷ ls) (set_regrouped (set_leaves s) (after_commas set_leaves ss) (number_leaves first) (after_commas number_leaves others) (mark comma) (mark left_brace) (mark right_brace))
 
 abbrev pub step_leaves : BaseStep → List Leaf
 step_leaves (part b) = part_leaves b
@@ -67,7 +62,7 @@ base_grows (listed (in_pos column) first others) (sign right) = (refl, simp appe
 base_grows (listed (in_set column sets) first others) (sign right_brace) = (refl, set_closed column sets first others, tt)
 base_grows (listed (in_pos column) first others) _ = tt
 base_grows (listed (in_set column sets) first others) _ = tt
-base_grows (set_due column sets) (sign left_brace) = (refl, refl, tt)
+base_grows (set_due column sets) (sign left_brace) = (refl, simp append-nil, tt)
 base_grows (sets_listed column first others) (sign comma) = (refl, simp append_assoc, tt)
 base_grows (sets_listed column first others) (sign right) = (refl, simp append_assoc, tt)
 base_grows _ _ = tt
@@ -118,22 +113,13 @@ of_grows : (s letters : List ℕ) (c : Option CasedWord) → IfSome c (λ k. IsW
 of_grows s letters (Some of_word) w = (refl, refl, w)
 of_grows s letters _ w = tt
 
--- one more column or dimension at the end of some
-more_columns_end : (columns : List (List ℕ)) (column : List ℕ) → more_columns (columns ++ column ∷ []) ≡ more_columns columns ++ mark comma ∷ column_name column ∷ []
-more_columns_end [] column = refl
-more_columns_end (c ∷ cs) column = rw (more_columns_end cs column)
-
-more_dims_end : (ds : List DimText) (d : DimText) → more_dims (ds ++ d ∷ []) ≡ more_dims ds ++ mark comma ∷ dim_leaves d
-more_dims_end [] d = simp append-nil
-more_dims_end (e ∷ es) d = rw (more_dims_end es d) (simp append_assoc)
-
-column_listed : (head : HeadText) (r : PriorText) (columns : List (List ℕ)) (column : List ℕ) → read_of (listed_column head r columns column) ≡ read_of (group_due head r columns) ++ column_name column ∷ []
+column_listed : (head : HeadText) (r : PriorText) (columns : List (List ℕ)) (column : List ℕ) → read_of (with_next (group_listed head r) columns column) ≡ read_of (group_due head r columns) ++ column_name column ∷ []
 column_listed head r [] column = simp append_assoc
-column_listed head r (c ∷ cs) column = rw (more_columns_end cs column) (simp append_assoc)
+column_listed head r (c ∷ cs) column = rw (after_last column_leaves cs column) (simp append_assoc)
 
-dim_listed : (s o : List ℕ) (dims : List DimText) (d : DimText) → read_of (listed_dim s o dims d) ≡ cased skyline_word s ∷ cased of_word o ∷ before_dim dims ++ dim_leaves d
+dim_listed : (s o : List ℕ) (dims : List DimText) (d : DimText) → read_of (with_next (dims_listed s o) dims d) ≡ cased skyline_word s ∷ cased of_word o ∷ before_next dim_leaves dims ++ dim_leaves d
 dim_listed s o [] d = simp append-nil
-dim_listed s o (e ∷ es) d = rw (more_dims_end es d) (simp append_assoc)
+dim_listed s o (e ∷ es) d = rw (after_last dim_leaves es d) (simp append_assoc)
 
 directed_grows : (s o : List ℕ) (dims : List DimText) (column letters : List ℕ) (c : Option CasedWord) → IfSome c (λ k. IsWritten (cased k letters)) → IfSome (directed s o dims column letters c) (λ r. Grows (read_of (dim_named s o dims column)) (word letters) r.0 (read_of r.1))
 directed_grows s o dims column letters (Some min_word) w = (refl, dim_listed s o dims (record { column = column; direction = minimal; written = letters }) ∙ simp append_assoc, w)

@@ -2,12 +2,12 @@
 use Rattle.pref_term.proofs.Common.{◌≡◌, arith, ℕ, ℤ, Bor, List, [], ◌∷◌, ◌++◌, map, Bool, true, false, cond, Some, None, Result, Err, refl, sym, ap, subst, ◌∙◌, fits_cell, Sign, left, right}
 use Rattle.pref_term.proofs.Common.{comma, minus, Token, digits, sign, Placed, based, NumberText, low_text, high_text, around_text, pos_text, Leaf, mark, column_name, number_digits}
 use Rattle.pref_term.proofs.Common.{between_text, Names, UnlessMemory, own_fault, signed_value, number_value, column_at, number_range, below, empty_range, reported, OwnFault, BaseKind}
-use Rattle.pref_term.proofs.Common.{low_kind, high_kind, around_kind, pos_kind, centre_of, first_of, named, opened, columned, number_due, centred, listed, filled}
+use Rattle.pref_term.proofs.Common.{low_kind, high_kind, around_kind, pos_kind, centre_of, named, opened, columned, number_due, centred, listed, filled}
 use Rattle.pref_term.proofs.Common.{NumberHole, UnaryHole, State, reading, completed, run, next, between_kind, start_of, end_of, least_of, ranged, range_ended, NumberList, in_pos}
 use Rattle.pref_term.proofs.Common.{closing, list_closed, stepped, seen, ahead, taken, behind_token, Cursor, Lexeme, Digits, Goes, Fails, IsOther, NotNext, Passes, WantsColumn, TakesColumn}
-use Rattle.pref_term.proofs.Common.{ReadsOpened, FailsColumn, FailsOpened, ReadsNumber, ReadsSome, ReadsNumbers, ReadsBase, FailsNumber, FailsNumbers, FailsBase, list_hole, ReadsEnd}
+use Rattle.pref_term.proofs.Common.{ReadsOpened, FailsColumn, FailsOpened, ReadsNumber, ReadsSome, ReadsNumbers, ReadsBase, FailsNumber, FailsNumbers, FailsBase, ReadsEnd}
 use Rattle.pref_term.proofs.Common.{FailsEnd, first_place, word_ahead, TermFault, EmptyRange, NumberRange, All, FitsSigned, ◌≢◌, IsErrAnd, IfErr, unwrap_or, int_lt, Option, scored, low}
-use Rattle.pref_term.proofs.Common.{high, around, one_of, between, all_ascii_digits, map-append, All-append, All-cons, All-nil}
+use Rattle.pref_term.proofs.Common.{high, around, one_of, between, all_ascii_digits, map-append, All-append, All-cons, All-nil, next_of}
 use Rattle.pref_table.specs.Columns.{column_of}
 use Rattle.pref_term.proofs.GrammarComplete.{list_ends}
 use Rattle.pref_term.proofs.TokenLemmas.{digits_taken}
@@ -137,18 +137,14 @@ pub cons_not_none : {A : Type 0} {x : A} {xs : List A} → (x ∷ xs) ≢ []
 cons_not_none h = cc
 
 -- behind a number of a list
-list_goes_on : (h : UnaryHole) (l : NumberList) (some : List NumberText) (n : NumberText) → next (reading h (filled (list_hole l some) n)) (sign comma) ≡ Some (mark comma, reading h (number_due (list_hole l (some ++ n ∷ []))))
+list_goes_on : (h : UnaryHole) (l : NumberList) (some : List NumberText) (n : NumberText) → next (reading h (filled (next_of l some) n)) (sign comma) ≡ Some (mark comma, reading h (number_due (next_of l (some ++ n ∷ []))))
 list_goes_on h l some n = grind arith
 
 list_closes : (h : UnaryHole) (l : NumberList) (first : NumberText) (others : List NumberText) (close : Sign) → closing l ≡ close → next (reading h (listed l first others)) (sign close) ≡ Some (mark close, stepped h (list_closed l first others))
 list_closes h l first others close e = subst (λ (s : Sign). next (reading h (listed l first others)) (sign s) ≡ Some (mark s, stepped h (list_closed l first others))) e (list_ends h l first others)
 
-list_stuck : (h : UnaryHole) (l : NumberList) (some : List NumberText) (n : NumberText) (close : Sign) → closing l ≡ close → (u : Token) → u ≢ sign comma → u ≢ sign close → next (reading h (filled (list_hole l some) n)) u ≡ None
+list_stuck : (h : UnaryHole) (l : NumberList) (some : List NumberText) (n : NumberText) (close : Sign) → closing l ≡ close → (u : Token) → u ≢ sign comma → u ≢ sign close → next (reading h (filled (next_of l some) n)) u ≡ None
 list_stuck h l some n close e u nc nr = grind (arith)
-
--- a number of a list may be any
-list_plain : (l : NumberList) (some : List NumberText) (n : NumberText) → below (least_of (list_hole l some)) (number_value n) ≡ None
-list_plain l some n = grind arith
 
 -- the first number is due
 pub some_none : (close : Sign) (ts : List Placed) → ReadsSome close ts [] ts
@@ -162,8 +158,8 @@ module _ (close : Sign) (ts us vs : List Placed) (values : List ℤ) (v : ℤ) (
   all_fit : All (FitsSigned w64) (values ++ v ∷ [])
   all_fit = All-append (FitsSigned w64) values (v ∷ []) r.fits (all_one (FitsSigned w64) v n.fits)
 
-  all_goes : (names : Names) (h : UnaryHole) (l : NumberList) → closing l ≡ close → Goes names (reading h (number_due (first_of l))) ts (reading h (filled (list_hole l r.some) n.number)) vs
-  all_goes names h l e = goes_then names _ _ _ ts us vs (r.goes names h l e) (n.goes names h (list_hole l r.some) (list_plain l r.some n.number))
+  all_goes : (names : Names) (h : UnaryHole) (l : NumberList) → closing l ≡ close → Goes names (reading h (number_due (next_of l []))) ts (reading h (filled (next_of l r.some) n.number)) vs
+  all_goes names h l e = goes_then names _ _ _ ts us vs (r.goes names h l e) (n.goes names h (next_of l r.some) refl)
 
   pub some_more : (ws : List Placed) → Passes (sign comma) vs ws → ReadsSome close ts (values ++ v ∷ []) ws
   some_more ws c =
@@ -179,7 +175,7 @@ module _ (close : Sign) (ts us vs : List Placed) (values : List ℤ) (v : ℤ) (
   some_all ws c = go r.some (mapped_more number_value r.some n.number values v r.values_are n.value_is) all_goes
     where
       go : (some : List NumberText) → map number_value (some ++ n.number ∷ []) ≡ values ++ v ∷ []
-          → ((names : Names) (h : UnaryHole) (l : NumberList) → closing l ≡ close → Goes names (reading h (number_due (first_of l))) ts (reading h (filled (list_hole l some) n.number)) vs) → ReadsNumbers close ts (values ++ v ∷ []) ws
+          → ((names : Names) (h : UnaryHole) (l : NumberList) → closing l ≡ close → Goes names (reading h (number_due (next_of l []))) ts (reading h (filled (next_of l some) n.number)) vs) → ReadsNumbers close ts (values ++ v ∷ []) ws
       go [] e goes = record { first = n.number; others = []; fits = all_fit; values_are = e; goes = λ names h l k. sign_behind names ts vs ws _ _ _ close (goes names h l k) c (list_closes h l n.number [] close k) }
       go (f ∷ os) e goes = record { first = f; others = os ++ n.number ∷ []; fits = all_fit; values_are = e; goes = λ names h l k. sign_behind names ts vs ws _ _ _ close (goes names h l k) c (list_closes h l f (os ++ n.number ∷ []) close k) }
 

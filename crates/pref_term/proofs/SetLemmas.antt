@@ -1,7 +1,7 @@
 -- What the parts of the reader of `layered` promise, from the tokens that they take.
 use Rattle.pref_term.proofs.Common.{◌≡◌, arith, ℕ, ℤ, List, [], ◌∷◌, ◌++◌, map, Some, None, refl, ap, subst, ◌∙◌, All, ◌≢◌, All-append, All-nil, left_brace, right, right_brace, comma, Token, sign, Placed}
-use Rattle.pref_term.proofs.Common.{layered_text, SetText, mark, Names, set_value, layered_kind, in_set, first_of, number_due, set_due, with_set, UnaryHole, reading, next, Goes, IsOther}
-use Rattle.pref_term.proofs.Common.{NotNext, Passes, ReadsOpened, ReadsNumbers, FailsNumbers, ReadsSomeSets, ReadsSets, FailsSets, ReadsBase, scored, layered, IsWritableSet, TermFault}
+use Rattle.pref_term.proofs.Common.{layered_text, SetText, mark, Names, set_value, layered_kind, in_set, number_due, set_due, UnaryHole, reading, next, Goes, IsOther}
+use Rattle.pref_term.proofs.Common.{NotNext, Passes, ReadsOpened, ReadsNumbers, FailsNumbers, ReadsSomeSets, ReadsSets, FailsSets, ReadsBase, scored, layered, IsWritableSet, TermFault, with_next, sets_listed, next_of}
 use Rattle.pref_term.proofs.LedLemmas.{all_one, column_is, cons_not_none, goes_then, goes_fails, mapped_more, neither_fails, other_fails, sign_behind}
 
 -- ---- a set and the sign behind it
@@ -9,10 +9,10 @@ use Rattle.pref_term.proofs.LedLemmas.{all_one, column_is, cons_not_none, goes_t
 set_opens : (h : UnaryHole) (column : List ℕ) (sets : List SetText) (u : Token) → u ≢ sign left_brace → next (reading h (set_due column sets)) u ≡ None
 set_opens h column sets u ne = grind arith
 
-set_goes_on : (h : UnaryHole) (column : List ℕ) (some : List SetText) (s : SetText) → next (reading h (with_set column some s)) (sign comma) ≡ Some (mark comma, reading h (set_due column (some ++ s ∷ [])))
+set_goes_on : (h : UnaryHole) (column : List ℕ) (some : List SetText) (s : SetText) → next (reading h (with_next (sets_listed column) some s)) (sign comma) ≡ Some (mark comma, reading h (set_due column (some ++ s ∷ [])))
 set_goes_on h column some s = grind arith
 
-set_stuck : (h : UnaryHole) (column : List ℕ) (some : List SetText) (s : SetText) (u : Token) → u ≢ sign comma → u ≢ sign right → next (reading h (with_set column some s)) u ≡ None
+set_stuck : (h : UnaryHole) (column : List ℕ) (some : List SetText) (s : SetText) (u : Token) → u ≢ sign comma → u ≢ sign right → next (reading h (with_next (sets_listed column) some s)) u ≡ None
 set_stuck h column some s u nc nr = grind (arith)
 
 -- ---- one set behind another
@@ -26,7 +26,7 @@ some_sets_fails ts us sets f r o names h column = goes_fails names _ _ ts us f (
 
 -- one set more
 module _ (ts us vs : List Placed) (sets : List (List ℤ)) (r : ReadsSomeSets ts sets us) (c : Passes (sign left_brace) us vs) where
-  open_goes : (names : Names) (h : UnaryHole) (column : List ℕ) → Goes names (reading h (set_due column [])) ts (reading h (number_due (first_of (in_set column r.some)))) vs
+  open_goes : (names : Names) (h : UnaryHole) (column : List ℕ) → Goes names (reading h (set_due column [])) ts (reading h (number_due (next_of (in_set column r.some) []))) vs
   open_goes names h column = sign_behind names ts us vs _ _ _ left_brace (r.goes names h column) c refl
 
   pub some_numbers_fails : (f : TermFault) → FailsNumbers right_brace vs f → FailsSets ts f
@@ -40,7 +40,7 @@ module _ (ts us vs : List Placed) (sets : List (List ℤ)) (r : ReadsSomeSets ts
     all_fit : All IsWritableSet (sets ++ set ∷ [])
     all_fit = All-append IsWritableSet sets (set ∷ []) r.fits (all_one IsWritableSet set (subst (λ (values : List ℤ). values ≢ []) n.values_are cons_not_none, n.fits))
 
-    all_goes : (names : Names) (h : UnaryHole) (column : List ℕ) → Goes names (reading h (set_due column [])) ts (reading h (with_set column r.some text)) ws
+    all_goes : (names : Names) (h : UnaryHole) (column : List ℕ) → Goes names (reading h (set_due column [])) ts (reading h (with_next (sets_listed column) r.some text)) ws
     unfolding text
     all_goes names h column = goes_then names _ _ _ ts vs ws (open_goes names h column) (n.goes names h (in_set column r.some) refl)
 
@@ -61,7 +61,7 @@ module _ (ts us vs : List Placed) (sets : List (List ℤ)) (r : ReadsSomeSets ts
     some_sets_all xs d = go r.some all_are all_goes
       where
         go : (some : List SetText) → map set_value (some ++ text ∷ []) ≡ sets ++ set ∷ []
-            → ((names : Names) (h : UnaryHole) (column : List ℕ) → Goes names (reading h (set_due column [])) ts (reading h (with_set column some text)) ws) → ReadsSets ts (sets ++ set ∷ []) xs
+            → ((names : Names) (h : UnaryHole) (column : List ℕ) → Goes names (reading h (set_due column [])) ts (reading h (with_next (sets_listed column) some text)) ws) → ReadsSets ts (sets ++ set ∷ []) xs
         go [] e goes = record { first = text; others = []; fits = all_fit; values_are = e; goes = λ names h column. sign_behind names ts ws xs _ _ _ right (goes names h column) d refl }
         go (f ∷ os) e goes = record { first = f; others = os ++ text ∷ []; fits = all_fit; values_are = e; goes = λ names h column. sign_behind names ts ws xs _ _ _ right (goes names h column) d refl }
 

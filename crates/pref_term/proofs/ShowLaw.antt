@@ -2,12 +2,12 @@
 use Rattle.pref_term.proofs.Common.{[], ◌≡◌, ◌<◌, ◌≤◌, ◌^◌, ◌+◌, ℕ, ℤ, pos, negsuc, suc, List, ◌∷◌, ◌++◌, map, true, cond, Some, None, Ok, length, refl, sym, ap, ◌∙◌, append_assoc, arith, int_lt}
 use Rattle.pref_term.proofs.Common.{false, FitsSigned, decimal, is_none, codes, AllByRecursion, is_ascii_digit, all_ascii_digits, digits_value-decimal, digits_decimal, decimal_nonempty}
 use Rattle.pref_term.proofs.Common.{recursion_from_All, nat_tests, left, right, star, ampersand, minus, comma, tokens_of, Sign, right_brace, PriorText, one_product, then_product, then_factor, grouped}
-use Rattle.pref_term.proofs.Common.{rated, mark, column_name, count_digits, head_leaves, more_columns, group_leaves, number_leaves, others_leaves, base_leaves, prior_leaves, product_leaves}
-use Rattle.pref_term.proofs.Common.{unary_leaves, end_leaves, list_leaves, set_leaves, more_sets, schema_of, fits_cell, and_parts, column, ReadsBelow, IsWritableSet, IsWritableBase, IsWritable}
+use Rattle.pref_term.proofs.Common.{rated, mark, column_name, count_digits, head_leaves, group_leaves, number_leaves, base_leaves, prior_leaves, product_leaves}
+use Rattle.pref_term.proofs.Common.{unary_leaves, end_leaves, list_leaves, set_leaves, schema_of, fits_cell, and_parts, column, ReadsBelow, IsWritableSet, IsWritableBase, IsWritable}
 use Rattle.pref_term.proofs.Common.{Question, FitsWidth, IsCount, is_count, cut_of, IsAsk, Names, Spells, IsGood, own_fault, mode_of, column_at, unknown_column, number_range, bad_count, below}
 use Rattle.pref_term.proofs.Common.{empty_range, Base, low, high, around, one_of, Preference, scored, pareto, prior, reverse, between, layered, is_prior, is_composed, held_nests, nests, name_at}
 use Rattle.pref_term.proofs.Common.{shown_term, shown_mode, shown_group, shown, shown_dims, shown_diffs, Mode, Best, TopLevel, AtLeast, Option, is_name_byte, IsWritten, Leaf, NumberText}
-use Rattle.pref_term.proofs.Common.{number_digits, signed_leaves}
+use Rattle.pref_term.proofs.Common.{number_digits, signed_leaves, after_commas, column_leaves}
 use Rattle.std.specs.Int.{w64}
 use Rattle.pref_term.proofs.ShownNames.{IsNamed, is_named}
 use Rattle.pref_term.proofs.ShownLemmas.{AreInRange, CanShow, leaves_text, leaves_text-append, head_text, head_shown, group_shown, columns_same, number_text, base_text, Shape, factor, as_prior}
@@ -52,28 +52,28 @@ module _ (names : Names) where
   apart_number least (pos n) rest h above e = (number_fine (pos n) h, number_good least (pos n) h above, e, tt)
   apart_number least (negsuc n) rest h above e = (tt, refl, tt, (number_fine (negsuc n) h, number_good least (negsuc n) h above, e, tt))
 
-  apart_others : (vs : List ℤ) (rest : List ℕ) → AreInRange vs → Ends is_ascii_digit rest → Apart names (others_leaves (map number_text vs)) rest
+  apart_others : (vs : List ℤ) (rest : List ℕ) → AreInRange vs → Ends is_ascii_digit rest → Apart names (after_commas number_leaves (map number_text vs)) rest
   apart_others [] rest h e = tt
   apart_others (v ∷ vs) rest h e = (
     tt,
     refl,
     tt,
-    apart_both names (number_leaves (number_text v)) (others_leaves (map number_text vs)) rest
-        (apart_number None v (leaves_text (others_leaves (map number_text vs)) ++ rest) h.0 refl (ends vs)) (apart_others vs rest h.1 e),
+    apart_both names (number_leaves (number_text v)) (after_commas number_leaves (map number_text vs)) rest
+        (apart_number None v (leaves_text (after_commas number_leaves (map number_text vs)) ++ rest) h.0 refl (ends vs)) (apart_others vs rest h.1 e),
   )
     where
-      ends : (vs : List ℤ) → Ends is_ascii_digit (leaves_text (others_leaves (map number_text vs)) ++ rest)
+      ends : (vs : List ℤ) → Ends is_ascii_digit (leaves_text (after_commas number_leaves (map number_text vs)) ++ rest)
       ends [] = e
       ends (w ∷ ws) = refl
 
   -- numbers, and a sign that no digit begins
   apart_list : (v : ℤ) (vs : List ℤ) (closing : Sign) (rest : List ℕ) → AreInRange (v ∷ vs) → Ends is_ascii_digit (leaves_text (mark closing ∷ []) ++ rest) → Apart names (list_leaves (number_text v) (map number_text vs) closing) rest
   apart_list v vs closing rest h e =
-      apart_both names (number_leaves (number_text v)) (others_leaves (map number_text vs) ++ mark closing ∷ []) rest
-      (apart_number None v (leaves_text (others_leaves (map number_text vs) ++ mark closing ∷ []) ++ rest) h.0 refl (ends vs))
-      (apart_both names (others_leaves (map number_text vs)) (mark closing ∷ []) rest (apart_others vs (leaves_text (mark closing ∷ []) ++ rest) h.1 e) (tt, refl, tt, tt))
+      apart_both names (number_leaves (number_text v)) (after_commas number_leaves (map number_text vs) ++ mark closing ∷ []) rest
+      (apart_number None v (leaves_text (after_commas number_leaves (map number_text vs) ++ mark closing ∷ []) ++ rest) h.0 refl (ends vs))
+      (apart_both names (after_commas number_leaves (map number_text vs)) (mark closing ∷ []) rest (apart_others vs (leaves_text (mark closing ∷ []) ++ rest) h.1 e) (tt, refl, tt, tt))
     where
-      ends : (vs : List ℤ) → Ends is_ascii_digit (leaves_text (others_leaves (map number_text vs) ++ mark closing ∷ []) ++ rest)
+      ends : (vs : List ℤ) → Ends is_ascii_digit (leaves_text (after_commas number_leaves (map number_text vs) ++ mark closing ∷ []) ++ rest)
       ends [] = e
       ends (w ∷ ws) = refl
 
@@ -81,10 +81,10 @@ module _ (names : Names) where
   apart_set [] rest h = absurd (h.0 refl)
   apart_set (v ∷ vs) rest h = (tt, refl, tt, apart_list v vs right_brace rest (recursion_from_All (FitsSigned w64) (v ∷ vs) h.1) refl)
 
-  apart_sets : (sets : List (List ℤ)) (rest : List ℕ) → AllByRecursion IsWritableSet sets → Apart names (more_sets (map set_text sets)) rest
+  apart_sets : (sets : List (List ℤ)) (rest : List ℕ) → AllByRecursion IsWritableSet sets → Apart names (after_commas set_leaves (map set_text sets)) rest
   apart_sets [] rest h = tt
   apart_sets (s ∷ ss) rest h =
-      (tt, refl, tt, apart_both names (set_leaves (set_text s)) (more_sets (map set_text ss)) rest (apart_set s (leaves_text (more_sets (map set_text ss)) ++ rest) h.0) (apart_sets ss rest h.1))
+      (tt, refl, tt, apart_both names (set_leaves (set_text s)) (after_commas set_leaves (map set_text ss)) rest (apart_set s (leaves_text (after_commas set_leaves (map set_text ss)) ++ rest) h.0) (apart_sets ss rest h.1))
 
   -- the parenthesis behind the word of a base term, its column, and what is behind that
   opened : (col : ℕ) (leaves : List Leaf) (rest : List ℕ) → IsNamed names col → Ends is_name_byte (leaves_text leaves ++ rest) → Apart names leaves rest → Apart names (mark left ∷ column_name (name_at names col) ∷ leaves) rest
@@ -109,8 +109,8 @@ module _ (names : Names) where
   apart_base (layered col []) rest h w = absurd (w.0 refl)
   apart_base (layered col (s ∷ ss)) rest h w =
       let each = recursion_from_All IsWritableSet (s ∷ ss) w.1 in
-      let behind = more_sets (map set_text ss) ++ mark right ∷ [] in
-      let more = apart_both names (more_sets (map set_text ss)) (mark right ∷ []) rest (apart_sets ss (codes ")" ++ rest) each.1) (tt, refl, tt, tt) in
+      let behind = after_commas set_leaves (map set_text ss) ++ mark right ∷ [] in
+      let more = apart_both names (after_commas set_leaves (map set_text ss)) (mark right ∷ []) rest (apart_sets ss (codes ")" ++ rest) each.1) (tt, refl, tt, tt) in
       let sets = apart_both names (set_leaves (set_text s)) behind rest (apart_set s (leaves_text behind ++ rest) each.0) more in
       (tt, refl, refl, opened col (mark comma ∷ set_leaves (set_text s) ++ behind) rest h refl (tt, refl, tt, sets))
 
@@ -161,11 +161,11 @@ module _ (names : Names) where
   apart_head (TopLevel k) rest h = (tt, refl, tt, (decimal_text k (count_small k h), count_fine k h, tt, tt))
   apart_head (AtLeast k) rest h = (tt, refl, tt, (decimal_text k (count_small k h), count_fine k h, tt, tt))
 
-  columns_end : (cs : List ℕ) → Ends is_name_byte (leaves_text (more_columns (map (name_at names) cs)) ++ [])
+  columns_end : (cs : List ℕ) → Ends is_name_byte (leaves_text (after_commas column_leaves (map (name_at names) cs)) ++ [])
   columns_end [] = tt
   columns_end (c ∷ cs) = refl
 
-  apart_columns : (cs : List ℕ) → AllByRecursion (IsNamed names) cs → Apart names (more_columns (map (name_at names) cs)) []
+  apart_columns : (cs : List ℕ) → AllByRecursion (IsNamed names) cs → Apart names (after_commas column_leaves (map (name_at names) cs)) []
   apart_columns [] h = tt
   apart_columns (c ∷ cs) h = (tt, refl, tt, (h.0.0, column_fine c h.0, columns_end cs, apart_columns cs h.1))
 

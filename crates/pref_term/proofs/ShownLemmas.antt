@@ -3,11 +3,11 @@ use Rattle.pref_term.proofs.Common.{[], ◌≡◌, ◌+◌, ℕ, ℤ, pos, negsu
 use Rattle.pref_term.proofs.Common.{FitsSigned, decimal, AllByRecursion, all_ascii_digits, digits_value-decimal, Sign, left, right, comma, star, ampersand, minus, left_brace, right_brace}
 use Rattle.pref_term.proofs.Common.{Keyword, best_word, low_word, high_word, around_word, pos_word, reverse_word, top_level_word, at_least_word, by_word, NumberText, BaseText, low_text, high_text}
 use Rattle.pref_term.proofs.Common.{around_text, pos_text, PriorText, one_product, then_product, ProductText, one_factor, then_factor, UnaryText, negated, grouped, based, HeadText, best_head}
-use Rattle.pref_term.proofs.Common.{top_level_head, at_least_head, Leaf, name, mark, opens, column_name, number_digits, count_digits, cased, last, number_leaves, others_leaves, base_leaves}
-use Rattle.pref_term.proofs.Common.{prior_leaves, product_leaves, unary_leaves, head_leaves, more_columns, group_leaves, between_word, between_text, end_leaves, layered_word, layered_text, SetText}
-use Rattle.pref_term.proofs.Common.{list_leaves, set_leaves, more_sets, Names, number_value, set_value, column_at, base_meaning, prior_meaning, product_meaning, unary_meaning, Base, low, high, around}
+use Rattle.pref_term.proofs.Common.{top_level_head, at_least_head, Leaf, name, mark, opens, column_name, number_digits, count_digits, cased, last, number_leaves, base_leaves}
+use Rattle.pref_term.proofs.Common.{prior_leaves, product_leaves, unary_leaves, head_leaves, group_leaves, between_word, between_text, end_leaves, layered_word, layered_text, SetText}
+use Rattle.pref_term.proofs.Common.{list_leaves, set_leaves, Names, number_value, set_value, column_at, base_meaning, prior_meaning, product_meaning, unary_meaning, Base, low, high, around}
 use Rattle.pref_term.proofs.Common.{one_of, Preference, scored, pareto, prior, reverse, between, layered, name_at, shown_values, shown_set, shown_sets, shown_base, is_prior, is_composed, held}
-use Rattle.pref_term.proofs.Common.{shown_term, shown_mode, more_names, shown_group, Mode, Best, TopLevel, AtLeast, recursion_from_All, column, IsWritableBase, IsWritableSet}
+use Rattle.pref_term.proofs.Common.{shown_term, shown_mode, more_names, shown_group, Mode, Best, TopLevel, AtLeast, recursion_from_All, column, IsWritableBase, IsWritableSet, after_commas, column_leaves}
 use Rattle.std.specs.Fmt.{signed_decimal}
 use Rattle.std.specs.Int.{w64}
 use Rattle.std.specs.Str.Parse.{digits_value}
@@ -188,7 +188,7 @@ end_shown : (l v : ℤ) → leaves_text (end_leaves (number_text l) (number_text
 end_shown l (pos n) = append-nil (decimal n)
 end_shown l (negsuc n) = simp append-nil
 
-values_shown : (vs : List ℤ) → leaves_text (others_leaves (map number_text vs)) ≡ shown_values vs
+values_shown : (vs : List ℤ) → leaves_text (after_commas number_leaves (map number_text vs)) ≡ shown_values vs
 values_shown [] = refl
 values_shown (v ∷ vs) = grind (arith, values_shown vs)
 
@@ -200,7 +200,7 @@ set_shown : (set : List ℤ) → IsWritableSet set → leaves_text (set_leaves (
 set_shown [] h = absurd (h.0 refl)
 set_shown (v ∷ vs) h = ap (λ xs. codes "{" ++ xs) (list_shown v vs right_brace)
 
-sets_shown : (sets : List (List ℤ)) → AllByRecursion IsWritableSet sets → leaves_text (more_sets (map set_text sets)) ≡ shown_sets sets
+sets_shown : (sets : List (List ℤ)) → AllByRecursion IsWritableSet sets → leaves_text (after_commas set_leaves (map set_text sets)) ≡ shown_sets sets
 sets_shown [] h = refl
 sets_shown (s ∷ ss) h = grind (arith, sets_shown ss h.1, leaves_text-append, set_shown)
 
@@ -215,9 +215,9 @@ base_shown names (layered col []) h = absurd (h.0 refl)
 base_shown names (layered col (s ∷ ss)) h =
     let each = recursion_from_All IsWritableSet (s ∷ ss) h.1 in
     ap (λ xs. codes "layered(" ++ (name_at names col ++ (codes ", " ++ xs)))
-    (leaves_text-append (set_leaves (set_text s)) (more_sets (map set_text ss) ++ mark right ∷ [])
-    ∙ (ap (λ ys. ys ++ leaves_text (more_sets (map set_text ss) ++ mark right ∷ [])) (set_shown s each.0)
-    ∙ ap (λ ys. shown_set s ++ ys) (leaves_text-append (more_sets (map set_text ss)) (mark right ∷ []) ∙ ap (λ ys. ys ++ codes ")") (sets_shown ss each.1))))
+    (leaves_text-append (set_leaves (set_text s)) (after_commas set_leaves (map set_text ss) ++ mark right ∷ [])
+    ∙ (ap (λ ys. ys ++ leaves_text (after_commas set_leaves (map set_text ss) ++ mark right ∷ [])) (set_shown s each.0)
+    ∙ ap (λ ys. shown_set s ++ ys) (leaves_text-append (after_commas set_leaves (map set_text ss)) (mark right ∷ []) ∙ ap (λ ys. ys ++ codes ")") (sets_shown ss each.1))))
     ∙ simp append_assoc
 
 abbrev pub Shows : Names → Preference → Type 0
@@ -256,7 +256,7 @@ head_text (AtLeast k) = at_least_head (decimal k)
 pub head_shown : (m : Mode) → leaves_text (head_leaves (head_text m)) ≡ shown_mode m
 head_shown m = search (rules)
 
-pub columns_shown : (names : Names) (cs : List ℕ) → leaves_text (more_columns (map (name_at names) cs)) ≡ more_names names cs
+pub columns_shown : (names : Names) (cs : List ℕ) → leaves_text (after_commas column_leaves (map (name_at names) cs)) ≡ more_names names cs
 columns_shown names [] = refl
 columns_shown names (c ∷ cs) = ap (λ xs. codes ", " ++ (name_at names c ++ xs)) (columns_shown names cs)
 

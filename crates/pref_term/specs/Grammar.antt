@@ -154,23 +154,18 @@ number_leaves n = signed_leaves None n.negative n.digits
 abbrev pub end_leaves : NumberText → NumberText → List Leaf
 end_leaves least n = signed_leaves (Some least) n.negative n.digits
 
--- each after a comma
-abbrev pub others_leaves : List NumberText → List Leaf
-others_leaves [] = []
-others_leaves (n ∷ ns) = mark comma ∷ number_leaves n ++ others_leaves ns
+-- the leaves of each, after a comma
+abbrev pub after_commas : {X : Type 0} → (X → List Leaf) → List X → List Leaf
+after_commas leaves [] = []
+after_commas leaves (x ∷ xs) = mark comma ∷ leaves x ++ after_commas leaves xs
 
 -- numbers, and the sign that closes their list
 abbrev pub list_leaves : NumberText → List NumberText → Sign → List Leaf
-list_leaves first others closing = number_leaves first ++ (others_leaves others ++ mark closing ∷ [])
+list_leaves first others closing = number_leaves first ++ (after_commas number_leaves others ++ mark closing ∷ [])
 
 -- the leaves of a set
 abbrev pub set_leaves : SetText → List Leaf
 set_leaves s = mark left_brace ∷ list_leaves s.first s.others right_brace
-
--- each after a comma
-abbrev pub more_sets : List SetText → List Leaf
-more_sets [] = []
-more_sets (s ∷ ss) = mark comma ∷ set_leaves s ++ more_sets ss
 
 -- the leaves of a base term
 abbrev pub base_leaves : BaseText → List Leaf
@@ -183,7 +178,7 @@ base_leaves (between_text column lower upper) =
 base_leaves (pos_text column first others) =
     name pos_word ∷ mark left ∷ column_name column ∷ mark comma ∷ list_leaves first others right
 base_leaves (layered_text column first others) =
-    name layered_word ∷ mark left ∷ column_name column ∷ mark comma ∷ set_leaves first ++ (more_sets others ++ mark right ∷ [])
+    name layered_word ∷ mark left ∷ column_name column ∷ mark comma ∷ set_leaves first ++ (after_commas set_leaves others ++ mark right ∷ [])
 
 -- the leaves, where this many nestings are open around them
 abbrev mutual
@@ -207,15 +202,14 @@ head_leaves best_head = name best_word ∷ []
 head_leaves (top_level_head count) = name top_level_word ∷ count_digits count ∷ []
 head_leaves (at_least_head count) = name at_least_word ∷ count_digits count ∷ []
 
--- each after a comma
-abbrev pub more_columns : List (List ℕ) → List Leaf
-more_columns [] = []
-more_columns (column ∷ columns) = mark comma ∷ column_name column ∷ more_columns columns
+-- the leaf of a column
+abbrev pub column_leaves : List ℕ → List Leaf
+column_leaves letters = column_name letters ∷ []
 
 -- the leaves of a group; none where it has no column
 abbrev pub group_leaves : List (List ℕ) → List Leaf
 group_leaves [] = []
-group_leaves (column ∷ columns) = name by_word ∷ column_name column ∷ more_columns columns
+group_leaves (column ∷ columns) = name by_word ∷ column_leaves column ++ after_commas column_leaves columns
 
 -- the word of a direction
 abbrev pub direction_word : Direction → CasedWord
@@ -227,15 +221,10 @@ direction_word different = diff_word
 abbrev pub dim_leaves : DimText → List Leaf
 dim_leaves d = column_name d.column ∷ cased (direction_word d.direction) d.written ∷ []
 
--- each after a comma
-abbrev pub more_dims : List DimText → List Leaf
-more_dims [] = []
-more_dims (d ∷ ds) = mark comma ∷ dim_leaves d ++ more_dims ds
-
 -- the leaves of a whole text, from its first token to its end
 abbrev pub ask_leaves : AskText → List Leaf
 ask_leaves (rated head r group) = head_leaves head ++ (prior_leaves r 0 ++ (group_leaves group ++ last ∷ []))
-ask_leaves (skyline s o first others) = cased skyline_word s ∷ cased of_word o ∷ dim_leaves first ++ (more_dims others ++ last ∷ [])
+ask_leaves (skyline s o first others) = cased skyline_word s ∷ cased of_word o ∷ dim_leaves first ++ (after_commas dim_leaves others ++ last ∷ [])
 
 -- the words of a text that may be in any case are those words
 abbrev pub IsText : AskText → Type 0

@@ -7,7 +7,7 @@ use Rattle.pref_table.specs.Columns.{column_of}
 use Rattle.pref_term.specs.Token.{left, right, comma, star, ampersand, Token, word, digits, sign, Placed, Sign}
 use Rattle.pref_term.specs.Grammar.{mark, based, grouped, reversed, NumberText, BaseText, UnaryText, ProductText, PriorText, HeadText, DimText, Direction, minimal, maximal, different, direction_word, cased_of, of_word, rated, skyline, column_name, count_digits, layered_text, SetText}
 use Rattle.pref_term.specs.Spells.{Names, UnlessMemory, number_value, column_at, base_meaning, unary_meaning, product_meaning, prior_meaning, product_of, orders_of, groups_of, below, empty_range, set_value}
-use Rattle.pref_term.specs.Reading.{BaseKind, low_kind, high_kind, BaseStep, after_column, named, NumberHole, first_of, next_of, number_due, filled, UnaryHole, ProductHole, PriorHole, whole, in_whole, first_factor, first_product, unary_depth, product_depth, prior_depth, State, start, operand, reverse_named, reading, after, group_due, skyline_named, dim_due, listed_dim, dim_named, completed, ranked, next, run, least_of, end_of, range_ended, stepped, NumberList, closing, list_closed, set_due}
+use Rattle.pref_term.specs.Reading.{BaseKind, low_kind, high_kind, BaseStep, after_column, named, NumberHole, next_of, number_due, filled, UnaryHole, ProductHole, PriorHole, whole, in_whole, first_factor, first_product, unary_depth, product_depth, prior_depth, State, start, operand, reverse_named, reading, after, group_due, skyline_named, dim_due, dim_named, completed, ranked, next, run, least_of, end_of, range_ended, stepped, NumberList, closing, list_closed, set_due, with_next, dims_listed}
 use Rattle.pref_term.specs.Asked.{meant}
 use Rattle.pref_term.specs.Distinct.{plain, says_distinct}
 use Rattle.pref_term.specs.Preference.{Base, low, high, Preference, scored, pareto, prior, reverse}
@@ -121,17 +121,12 @@ pub record ReadsEnd (least : ℤ) (ts : List Placed) (value : ℤ) (us : List Pl
 abbrev pub FailsEnd : ℤ → List Placed → TermFault → Type 0
 FailsEnd least ts f = (names : Names) (h : UnaryHole) (column : List ℕ) (lower : NumberText) → number_value lower ≡ least → Fails names (reading h (number_due (end_of column lower))) ts f
 
--- where the next number of a list is, behind some
-abbrev pub list_hole : NumberList → List NumberText → NumberHole
-list_hole l [] = first_of l
-list_hole l (first ∷ others) = next_of l first others
-
 -- some numbers of a list, behind which one more is due
 pub record ReadsSome (close : Sign) (ts : List Placed) (values : List ℤ) (us : List Placed) : Type 0 where
   pub some : List NumberText
   pub fits : All (FitsSigned w64) values
   pub values_are : map number_value some ≡ values
-  pub goes : (names : Names) (h : UnaryHole) (l : NumberList) → closing l ≡ close → Goes names (reading h (number_due (first_of l))) ts (reading h (number_due (list_hole l some))) us
+  pub goes : (names : Names) (h : UnaryHole) (l : NumberList) → closing l ≡ close → Goes names (reading h (number_due (next_of l []))) ts (reading h (number_due (next_of l some))) us
 
 -- the numbers of a list, and the sign that closes it
 pub record ReadsNumbers (close : Sign) (ts : List Placed) (values : List ℤ) (us : List Placed) : Type 0 where
@@ -139,7 +134,7 @@ pub record ReadsNumbers (close : Sign) (ts : List Placed) (values : List ℤ) (u
   pub others : List NumberText
   pub fits : All (FitsSigned w64) values
   pub values_are : number_value first ∷ map number_value others ≡ values
-  pub goes : (names : Names) (h : UnaryHole) (l : NumberList) → closing l ≡ close → Goes names (reading h (number_due (first_of l))) ts (stepped h (list_closed l first others)) us
+  pub goes : (names : Names) (h : UnaryHole) (l : NumberList) → closing l ≡ close → Goes names (reading h (number_due (next_of l []))) ts (stepped h (list_closed l first others)) us
 
 abbrev pub FailsOpened : Names → Sign → List Placed → TermFault → Type 0
 FailsOpened names behind ts f = (h : UnaryHole) (k : BaseKind) → behind_column k ≡ behind → Fails names (reading h (named k)) ts f
@@ -148,7 +143,7 @@ abbrev pub FailsNumber : List Placed → TermFault → Type 0
 FailsNumber ts f = (names : Names) (h : UnaryHole) (hole : NumberHole) → Fails names (reading h (number_due hole)) ts f
 
 abbrev pub FailsNumbers : (close : Sign) → List Placed → TermFault → Type 0
-FailsNumbers close ts f = (names : Names) (h : UnaryHole) (l : NumberList) → closing l ≡ close → Fails names (reading h (number_due (first_of l))) ts f
+FailsNumbers close ts f = (names : Names) (h : UnaryHole) (l : NumberList) → closing l ≡ close → Fails names (reading h (number_due (next_of l []))) ts f
 
 -- some sets of `layered`, behind which one more is due
 pub record ReadsSomeSets (ts : List Placed) (sets : List (List ℤ)) (us : List Placed) : Type 0 where
@@ -301,7 +296,7 @@ pub record ReadsDim (names : Names) (ts : List Placed) (col : ℕ) (direction : 
   pub dim : DimText
   pub said : dim.direction ≡ direction
   pub found : IsColumn names dim.column col
-  pub goes : (s o : List ℕ) (some : List DimText) → Goes names (dim_due s o some) ts (listed_dim s o some dim) us
+  pub goes : (s o : List ℕ) (some : List DimText) → Goes names (dim_due s o some) ts (with_next (dims_listed s o) some dim) us
 
 abbrev pub FailsDim : Names → List Placed → TermFault → Type 0
 FailsDim names ts f = (s o : List ℕ) (some : List DimText) → Fails names (dim_due s o some) ts f

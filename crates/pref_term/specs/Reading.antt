@@ -2,7 +2,7 @@
 -- Reading a question text from the left, one token after another: what is still pending, and where a token leads. (this project)
 use Rattle.std.specs.Prelude.{ℕ, ◌+◌, List, [], ◌∷◌, ◌++◌, true, false, Option, Some, None, Result, Ok, Err}
 use Rattle.pref_term.specs.Token.{Sign, left, right, comma, star, ampersand, minus, left_brace, right_brace, Token, word, digits, sign, finish, Placed}
-use Rattle.pref_term.specs.Grammar.{Keyword, best_word, low_word, high_word, around_word, pos_word, reverse_word, top_level_word, at_least_word, by_word, CasedWord, skyline_word, of_word, min_word, max_word, diff_word, keyword_of, cased_of, HeadText, best_head, top_level_head, at_least_head, head_leaves, minimal, maximal, different, DimText, dim_leaves, more_dims, group_leaves, AskText, rated, skyline, NumberText, BaseText, low_text, high_text, around_text, pos_text, PriorText, one_product, then_product, ProductText, one_factor, then_factor, UnaryText, negated, grouped, reversed, based, Leaf, name, mark, opens, column_name, number_digits, count_digits, cased, last, number_leaves, others_leaves, prior_leaves, product_leaves, ask_leaves, between_word, between_text, end_leaves, layered_word, layered_text, SetText, set_leaves, more_sets}
+use Rattle.pref_term.specs.Grammar.{Keyword, best_word, low_word, high_word, around_word, pos_word, reverse_word, top_level_word, at_least_word, by_word, CasedWord, skyline_word, of_word, min_word, max_word, diff_word, keyword_of, cased_of, HeadText, best_head, top_level_head, at_least_head, head_leaves, minimal, maximal, different, DimText, dim_leaves, group_leaves, AskText, rated, skyline, NumberText, BaseText, low_text, high_text, around_text, pos_text, PriorText, one_product, then_product, ProductText, one_factor, then_factor, UnaryText, negated, grouped, reversed, based, Leaf, name, mark, opens, column_name, number_digits, count_digits, cased, last, number_leaves, prior_leaves, product_leaves, ask_leaves, between_word, between_text, end_leaves, layered_word, layered_text, SetText, set_leaves, after_commas, column_leaves}
 use Rattle.pref_term.specs.Spells.{Names, own_fault, OwnFault, reported, reported_at}
 use Rattle.pref_term.specs.declared.fault.TermFault.{TermFault}
 use Rattle.pref_term.specs.declared.fault.TermFault.TheVariants.{Unexpected}
@@ -38,11 +38,11 @@ closing (in_set column sets) = right_brace
 -- where a number is missing
 pub data NumberHole : Type 0 where
   centre_of : (column : List ℕ) → NumberHole
-  first_of : (l : NumberList) → NumberHole
   -- the left end of a range, and its right end
   start_of : (column : List ℕ) → NumberHole
   end_of : (column : List ℕ) (lower : NumberText) → NumberHole
-  next_of : (l : NumberList) (first : NumberText) (others : List NumberText) → NumberHole
+  -- in a list, behind these
+  next_of : (l : NumberList) (some : List NumberText) → NumberHole
 
 pub data BasePart : Type 0 where
   named : (k : BaseKind) → BasePart
@@ -58,22 +58,26 @@ pub data BasePart : Type 0 where
   ranged : (column : List ℕ) (lower : NumberText) → BasePart
   range_ended : (column : List ℕ) (lower upper : NumberText) → BasePart
 
--- what comes before a set
-abbrev pub before_set : List SetText → List Leaf
-before_set [] = []
-before_set (s ∷ ss) = set_leaves s ++ (more_sets ss ++ mark comma ∷ [])
+-- what comes before one more, behind these
+abbrev pub before_next : {X : Type 0} → (X → List Leaf) → List X → List Leaf
+before_next leaves [] = []
+before_next leaves (first ∷ others) = leaves first ++ (after_commas leaves others ++ mark comma ∷ [])
+
+-- the first of some and one more, and the others
+abbrev pub with_next : {X S : Type 0} → (X → List X → S) → List X → X → S
+with_next parts [] x = parts x []
+with_next parts (first ∷ others) x = parts first (others ++ x ∷ [])
 
 -- what comes before the first number of a list
 abbrev pub before_list : NumberList → List Leaf
 before_list (in_pos column) = name pos_word ∷ mark left ∷ column_name column ∷ mark comma ∷ []
-before_list (in_set column sets) = name layered_word ∷ mark left ∷ column_name column ∷ mark comma ∷ before_set sets ++ mark left_brace ∷ []
+before_list (in_set column sets) = name layered_word ∷ mark left ∷ column_name column ∷ mark comma ∷ before_next set_leaves sets ++ mark left_brace ∷ []
 
 abbrev pub hole_leaves : NumberHole → List Leaf
 hole_leaves (centre_of column) = name around_word ∷ mark left ∷ column_name column ∷ mark comma ∷ []
-hole_leaves (first_of l) = before_list l
 hole_leaves (start_of column) = name between_word ∷ mark left ∷ column_name column ∷ mark comma ∷ []
 hole_leaves (end_of column lower) = name between_word ∷ mark left ∷ column_name column ∷ mark comma ∷ number_leaves lower ++ mark comma ∷ []
-hole_leaves (next_of l first others) = before_list l ++ (number_leaves first ++ (others_leaves others ++ mark comma ∷ []))
+hole_leaves (next_of l some) = before_list l ++ before_next number_leaves some
 
 -- the number that the missing one may not be less than
 abbrev pub least_of : NumberHole → Option NumberText
@@ -92,9 +96,9 @@ part_leaves (centred column centre) =
 part_leaves (ranged column lower) = name between_word ∷ mark left ∷ column_name column ∷ mark comma ∷ number_leaves lower
 part_leaves (range_ended column lower upper) =
     name between_word ∷ mark left ∷ column_name column ∷ mark comma ∷ number_leaves lower ++ mark comma ∷ end_leaves lower upper
-part_leaves (listed l first others) = before_list l ++ (number_leaves first ++ others_leaves others)
-part_leaves (set_due column sets) = name layered_word ∷ mark left ∷ column_name column ∷ mark comma ∷ before_set sets
-part_leaves (sets_listed column first others) = name layered_word ∷ mark left ∷ column_name column ∷ mark comma ∷ set_leaves first ++ more_sets others
+part_leaves (listed l first others) = before_list l ++ (number_leaves first ++ after_commas number_leaves others)
+part_leaves (set_due column sets) = name layered_word ∷ mark left ∷ column_name column ∷ mark comma ∷ before_next set_leaves sets
+part_leaves (sets_listed column first others) = name layered_word ∷ mark left ∷ column_name column ∷ mark comma ∷ set_leaves first ++ after_commas set_leaves others
 
 pub data BaseStep : Type 0 where
   part : (b : BasePart) → BaseStep
@@ -102,20 +106,14 @@ pub data BaseStep : Type 0 where
 
 abbrev pub filled : NumberHole → NumberText → BasePart
 filled (centre_of column) n = centred column n
-filled (first_of l) n = listed l n []
 filled (start_of column) n = ranged column n
 filled (end_of column lower) n = range_ended column lower n
-filled (next_of l first others) n = listed l first (others ++ n ∷ [])
-
--- one more set
-abbrev pub with_set : List ℕ → List SetText → SetText → BasePart
-with_set column [] s = sets_listed column s []
-with_set column (first ∷ others) s = sets_listed column first (others ++ s ∷ [])
+filled (next_of l some) n = with_next (listed l) some n
 
 -- a list of numbers is whole
 abbrev pub list_closed : NumberList → NumberText → List NumberText → BaseStep
 list_closed (in_pos column) first others = whole_base (pos_text column first others)
-list_closed (in_set column sets) first others = part (with_set column sets (record { first = first; others = others }))
+list_closed (in_set column sets) first others = part (with_next (sets_listed column) sets (record { first = first; others = others }))
 
 -- the sign behind a number of a list, other than a comma
 abbrev pub behind_listed : NumberList → NumberText → List NumberText → Sign → Option (Leaf × BaseStep)
@@ -128,7 +126,7 @@ after_column low_kind column right = Some (mark right, whole_base (low_text colu
 after_column high_kind column right = Some (mark right, whole_base (high_text column))
 after_column around_kind column comma = Some (mark comma, part (number_due (centre_of column)))
 after_column between_kind column comma = Some (mark comma, part (number_due (start_of column)))
-after_column pos_kind column comma = Some (mark comma, part (number_due (first_of (in_pos column))))
+after_column pos_kind column comma = Some (mark comma, part (number_due (next_of (in_pos column) [])))
 after_column layered_kind column comma = Some (mark comma, part (set_due column []))
 after_column _ _ _ = None
 
@@ -142,9 +140,9 @@ base_next (number_signed n) (digits ds) = Some (number_digits (least_of n) true 
 base_next (centred column centre) (sign right) = Some (mark right, whole_base (around_text column centre))
 base_next (ranged column lower) (sign comma) = Some (mark comma, part (number_due (end_of column lower)))
 base_next (range_ended column lower upper) (sign right) = Some (mark right, whole_base (between_text column lower upper))
-base_next (listed l first others) (sign comma) = Some (mark comma, part (number_due (next_of l first others)))
+base_next (listed l first others) (sign comma) = Some (mark comma, part (number_due (next_of l (first ∷ others))))
 base_next (listed l first others) (sign s) = behind_listed l first others s
-base_next (set_due column sets) (sign left_brace) = Some (mark left_brace, part (number_due (first_of (in_set column sets))))
+base_next (set_due column sets) (sign left_brace) = Some (mark left_brace, part (number_due (next_of (in_set column sets) [])))
 base_next (sets_listed column first others) (sign comma) = Some (mark comma, part (set_due column (first ∷ others)))
 base_next (sets_listed column first others) (sign right) = Some (mark right, whole_base (layered_text column first others))
 base_next _ _ = None
@@ -222,14 +220,6 @@ pub data State : Type 0 where
   dims_listed : (s o : List ℕ) (first : DimText) (others : List DimText) → State
   done : (a : AskText) → State
 
-abbrev pub before_column : List (List ℕ) → List Leaf
-before_column [] = name by_word ∷ []
-before_column (column ∷ columns) = group_leaves (column ∷ columns) ++ mark comma ∷ []
-
-abbrev pub before_dim : List DimText → List Leaf
-before_dim [] = []
-before_dim (d ∷ ds) = dim_leaves d ++ (more_dims ds ++ mark comma ∷ [])
-
 -- what was read up to a state
 abbrev pub read_of : State → List Leaf
 read_of start = []
@@ -239,12 +229,12 @@ read_of (reading h b) = before_unary h ++ part_leaves b
 read_of (after h p) = before_product h ++ product_leaves p (product_depth h)
 read_of top_level_named = name top_level_word ∷ []
 read_of at_least_named = name at_least_word ∷ []
-read_of (group_due head r columns) = head_leaves head ++ (prior_leaves r 0 ++ before_column columns)
+read_of (group_due head r columns) = head_leaves head ++ (prior_leaves r 0 ++ name by_word ∷ before_next column_leaves columns)
 read_of (group_listed head r first others) = head_leaves head ++ (prior_leaves r 0 ++ group_leaves (first ∷ others))
 read_of (skyline_named s) = cased skyline_word s ∷ []
-read_of (dim_due s o dims) = cased skyline_word s ∷ cased of_word o ∷ before_dim dims
-read_of (dim_named s o dims column) = cased skyline_word s ∷ cased of_word o ∷ before_dim dims ++ column_name column ∷ []
-read_of (dims_listed s o first others) = cased skyline_word s ∷ cased of_word o ∷ dim_leaves first ++ more_dims others
+read_of (dim_due s o dims) = cased skyline_word s ∷ cased of_word o ∷ before_next dim_leaves dims
+read_of (dim_named s o dims column) = cased skyline_word s ∷ cased of_word o ∷ before_next dim_leaves dims ++ column_name column ∷ []
+read_of (dims_listed s o first others) = cased skyline_word s ∷ cased of_word o ∷ dim_leaves first ++ after_commas dim_leaves others
 read_of (done a) = ask_leaves a
 
 -- a factor is whole
@@ -281,18 +271,10 @@ abbrev pub of_named : List ℕ → List ℕ → Option CasedWord → Option (Lea
 of_named s letters (Some of_word) = Some (cased of_word letters, dim_due s letters [])
 of_named _ _ _ = None
 
-abbrev pub listed_column : HeadText → PriorText → List (List ℕ) → List ℕ → State
-listed_column head r [] column = group_listed head r column []
-listed_column head r (first ∷ others) column = group_listed head r first (others ++ column ∷ [])
-
-abbrev pub listed_dim : List ℕ → List ℕ → List DimText → DimText → State
-listed_dim s o [] d = dims_listed s o d []
-listed_dim s o (first ∷ others) d = dims_listed s o first (others ++ d ∷ [])
-
 abbrev pub directed : List ℕ → List ℕ → List DimText → List ℕ → List ℕ → Option CasedWord → Option (Leaf × State)
-directed s o dims column letters (Some min_word) = Some (cased min_word letters, listed_dim s o dims (record { column = column; direction = minimal; written = letters }))
-directed s o dims column letters (Some max_word) = Some (cased max_word letters, listed_dim s o dims (record { column = column; direction = maximal; written = letters }))
-directed s o dims column letters (Some diff_word) = Some (cased diff_word letters, listed_dim s o dims (record { column = column; direction = different; written = letters }))
+directed s o dims column letters (Some min_word) = Some (cased min_word letters, with_next (dims_listed s o) dims (record { column = column; direction = minimal; written = letters }))
+directed s o dims column letters (Some max_word) = Some (cased max_word letters, with_next (dims_listed s o) dims (record { column = column; direction = maximal; written = letters }))
+directed s o dims column letters (Some diff_word) = Some (cased diff_word letters, with_next (dims_listed s o) dims (record { column = column; direction = different; written = letters }))
 directed _ _ _ _ _ _ = None
 
 abbrev pub grouped_by : PriorHole → PriorText → Option Keyword → Option (Leaf × State)
@@ -342,7 +324,7 @@ next (after h p) finish = finished (outer h) (closed h p)
 next (after h p) (word letters) = grouped_by (outer h) (closed h p) (keyword_of letters)
 next top_level_named (digits ds) = Some (count_digits ds, operand (in_whole (top_level_head ds)))
 next at_least_named (digits ds) = Some (count_digits ds, operand (in_whole (at_least_head ds)))
-next (group_due head r columns) (word letters) = Some (column_name letters, listed_column head r columns letters)
+next (group_due head r columns) (word letters) = Some (column_name letters, with_next (group_listed head r) columns letters)
 next (group_listed head r first others) (sign comma) = Some (mark comma, group_due head r (first ∷ others))
 next (group_listed head r first others) finish = Some (last, done (rated head r (first ∷ others)))
 next (skyline_named s) (word letters) = of_named s letters (cased_of letters)

@@ -1,4 +1,4 @@
-use Rattle.pref_term.proofs.Common.{List, ℕ, sym, subst, ◌∙◌, finish, ahead, NotNext, ReadsColumns, ReadsSomeColumns, All-nil, IsKnown, [], group_due, listed_column, refl}
+use Rattle.pref_term.proofs.Common.{List, ℕ, sym, subst, ◌∙◌, finish, ahead, NotNext, ReadsColumns, ReadsSomeColumns, All-nil, IsKnown, [], group_due, refl, with_next, group_listed}
 use Rattle.pref_term.proofs.LedLemmas.{err_exit, goes_fails}
 use Rattle.pref_term.proofs.AskLemmas.{columns_more, columns_all, columns_stuck, wants_group}
 use Rattle.pref_term.proofs.read.ask.group_columns.Goals as goal
@@ -9,7 +9,7 @@ loop-columns-init c = subst (λ (xs : List ℕ). ReadsSomeColumns c.args.schema.
 pub returns-in_err-col-clause-err : goal.returns-in_err-col-clause-err
 returns-in_err-col-clause-err c =
     let r = c.loop-columns.invariant in
-    err_exit _ _ c.from_residual.ensures.1 (λ head p. goes_fails c.args.schema.now _ _ (ahead c.args.cursor) (ahead c.loop-columns.place) _ (r.goes head p) (c.in_err-col.ensures.err (group_due head p r.some) (λ letters. listed_column head p r.some letters) (wants_group head p r.some)))
+    err_exit _ _ c.from_residual.ensures.1 (λ head p. goes_fails c.args.schema.now _ _ (ahead c.args.cursor) (ahead c.loop-columns.place) _ (r.goes head p) (c.in_err-col.ensures.err (group_due head p r.some) (λ letters. with_next (group_listed head p) r.some letters) (wants_group head p r.some)))
 
 pub returns-then-ends-clause-ok : goal.returns-then-ends-clause-ok
 returns-then-ends-clause-ok c =

@@ -1,4 +1,4 @@
-use Rattle.pref_term.proofs.Common.{w64, rules, arith, length, ℤ, List, [], ◌∷◌, ◌++◌, subst, ap, ◌∙◌, sym, to_z-of_z, Placed, sign, ahead, NotNext, ReadsNumbers, ReadsSome, list_hole}
+use Rattle.pref_term.proofs.Common.{w64, rules, arith, length, ℤ, List, [], ◌∷◌, ◌++◌, subst, ap, ◌∙◌, sym, to_z-of_z, Placed, sign, ahead, NotNext, ReadsNumbers, ReadsSome, next_of}
 use Rattle.pref_term.proofs.LedLemmas.{some_none, some_more, some_stuck, some_all, err_exit, goes_fails}
 use Rattle.pref_term.proofs.read.base_term.numbers.Goals as goal
 
@@ -11,7 +11,7 @@ loop-set-init c = record {
 pub returns-in_err-value-clause-err : goal.returns-in_err-value-clause-err
 returns-in_err-value-clause-err c =
     let r = c.loop-set.invariant.so_far in
-    err_exit _ _ c.from_residual.ensures.1 (λ names h l e. goes_fails names _ _ (ahead c.args.cursor) (ahead c.loop-set.place) _ (r.goes names h l e) (c.in_err-value.ensures.err names h (list_hole l r.some)))
+    err_exit _ _ c.from_residual.ensures.1 (λ names h l e. goes_fails names _ _ (ahead c.args.cursor) (ahead c.loop-set.place) _ (r.goes names h l e) (c.in_err-value.ensures.err names h (next_of l r.some)))
 
 pub returns-then-is-clause-ok : goal.returns-then-is-clause-ok
 returns-then-is-clause-ok c =
