@@ -3,12 +3,12 @@ use Rattle.pref_term.proofs.Common.{◌≡◌, arith, ℕ, List, [], ◌∷◌, 
 use Rattle.pref_term.proofs.Common.{All-append, comma, Token, word, digits, sign, finish, Placed, Keyword, best_word, top_level_word, at_least_word, by_word, keyword_of, skyline_word, of_word}
 use Rattle.pref_term.proofs.Common.{cased_of, Direction, minimal, maximal, different, direction_word, DimText, HeadText, best_head, top_level_head, at_least_head, PriorText}
 use Rattle.pref_term.proofs.Common.{AskText, rated, name, mark, column_name, count_digits, cased, last, Names, column_at, mode_of, order_by, group_by, orders_of, groups_of, product_of, bad_count}
-use Rattle.pref_term.proofs.Common.{State, start, operand, whole, in_whole, ranked, top_level_named, at_least_named, group_due, skyline_named, dim_due, dim_named, run, done}
+use Rattle.pref_term.proofs.Common.{State, start, operand, whole, in_whole, ranked, group_due, skyline_named, dim_due, dim_named, run, done}
 use Rattle.pref_term.proofs.Common.{directed, begun, of_named, next, meant, Goes, Fails, Passes, IsKnown, IsTermOf, NotNext, IsOther}
-use Rattle.pref_term.proofs.Common.{WantsColumn, TakesColumn, ReadsPrior, Asks, AsksNothing, WantsCount, TakesCount, FailsCount, ReadsSomeColumns, ReadsColumns, FailsColumns}
-use Rattle.pref_term.proofs.Common.{ReadsGrouping, FailsGrouping, TakesDirection, FailsDirection, ReadsDim, FailsDim, with_order, ReadsDims, ReadsClause, FailsClause, PassesOf, AsksClauseNothing}
+use Rattle.pref_term.proofs.Common.{WantsColumn, TakesColumn, ReadsPrior, Asks, TakesCount, FailsCount, ReadsSomeColumns, ReadsColumns, FailsColumns}
+use Rattle.pref_term.proofs.Common.{ReadsGrouping, FailsGrouping, TakesDirection, FailsDirection, ReadsDim, FailsDim, with_order, ReadsDims, ReadsClause, FailsClause, PassesOf}
 use Rattle.pref_term.proofs.Common.{Preference, scored, pareto, prior, reverse, ReadsBelow, IsWritable, Question, FitsWidth, IsAsk, IsSkyline, IsCount, cut_of, Mode, Best, TopLevel}
-use Rattle.pref_term.proofs.Common.{AtLeast, TermFault, with_next, dims_listed, group_listed}
+use Rattle.pref_term.proofs.Common.{AtLeast, TermFault, with_next, dims_listed, group_listed, Result, Err, IsErrAnd, UnlessMemory, Gives, AsksClause, CountKind, levels, rows, count_word, count_head, count_due}
 use Rattle.std.specs.Str.Parse.{digits_value}
 use Rattle.std.proofs.lemmas.List.Sums.{fold-append}
 use Rattle.std.proofs.lemmas.Grind.{flat_map-append}
@@ -80,26 +80,24 @@ grouping_fails names letters ts us f c e r ns na head p = grind (arith, goes_fai
 
 -- ---- what stands behind a head
 
-goes_asks : (names : Names) (s m : State) (ts us : List Placed) (q : Question) → Goes names s ts m us → Asks names m us q → Asks names s ts q
-goes_asks names s m ts us q h k p = let a = h p in ap (meant names false) a.1 ∙ k a.0
+goes_asks : (names : Names) (distinct : Bool) (s m : State) (ts us : List Placed) (r : Result Question TermFault) → Goes names s ts m us → Asks names distinct m us r → Asks names distinct s ts r
+goes_asks names distinct s m ts us r h k p = let a = h p in subst (λ (x : Result AskText TermFault). Gives (meant names distinct x) r) (sym a.1) (k a.0)
 
-goes_asks_nothing : (names : Names) (s m : State) (ts us : List Placed) (f : TermFault) → Goes names s ts m us → AsksNothing names m us f → AsksNothing names s ts f
-goes_asks_nothing names s m ts us f h k = unless_map f (λ k p. let a = h p in ap (meant names false) a.1 ∙ k a.0) k
+-- what a `?` hands on
+pub fails_asks : (names : Names) (distinct : Bool) (s : State) (ts : List Placed) (f : TermFault) (r : Result Question TermFault) → IsErrAnd r (λ g. g ≡ f) → Fails names s ts f → Asks names distinct s ts r
+fails_asks names distinct s ts f (Ok q) e h p = absurd e
+fails_asks names distinct s ts f (Err g) e h p = subst (λ (x : TermFault). UnlessMemory x (meant names distinct (run names ts p s) ≡ Err x)) (sym e) (unless_map f (λ k. ap (meant names distinct) (k p)) h)
 
-pub fails_asks : (names : Names) (s : State) (ts : List Placed) (f : TermFault) → Fails names s ts f → AsksNothing names s ts f
-fails_asks names s ts f h = unless_map f (λ k p. ap (meant names false) (k p)) h
-
-pub rated_read : (names : Names) (ts us : List Placed) (p : Preference) (group : List ℕ) (mode : Mode) → ReadsPrior names 0 ts p us → ReadsGrouping names us group → (head : HeadText) → mode_of head ≡ mode → Asks names (operand (in_whole head)) ts (record { preference = p; group = group; mode = mode; distinct = false })
+pub rated_read : (names : Names) (ts us : List Placed) (p : Preference) (group : List ℕ) (mode : Mode) → ReadsPrior names 0 ts p us → ReadsGrouping names us group → (head : HeadText) → mode_of head ≡ mode → Asks names false (operand (in_whole head)) ts (Ok (record { preference = p; group = group; mode = mode; distinct = false }))
 rated_read names ts us p group mode r g head e =
-    goes_asks names _ (ranked (whole head) r.products.tree) ts us _ (r.products.goes (whole head) refl)
+    goes_asks names false _ (ranked (whole head) r.products.tree) ts us (Ok (record { preference = p; group = group; mode = mode; distinct = false })) (r.products.goes (whole head) refl)
     (λ k. ap (meant names false) (g.goes head r.products.tree k)
     ∙ (ap (λ x. Ok (record { preference = x; group = map (column_at names) g.some; mode = mode_of head; distinct = false })) r.products.meaning
     ∙ (ap (λ x. Ok (record { preference = p; group = x; mode = mode_of head; distinct = false })) g.meaning
     ∙ ap (λ x. Ok (record { preference = p; group = group; mode = x; distinct = false })) e)))
 
-pub rated_group_fails : (names : Names) (ts us : List Placed) (p : Preference) (f : TermFault) → ReadsPrior names 0 ts p us → FailsGrouping names us f → (head : HeadText) → AsksNothing names (operand (in_whole head)) ts f
-rated_group_fails names ts us p f r g head =
-    fails_asks names _ ts f (goes_fails names _ _ ts us f (r.products.goes (whole head) refl) (g r.stops r.stops_too head r.products.tree))
+pub rated_group_fails : (names : Names) (ts us : List Placed) (p : Preference) (f : TermFault) → ReadsPrior names 0 ts p us → FailsGrouping names us f → (head : HeadText) → Fails names (operand (in_whole head)) ts f
+rated_group_fails names ts us p f r g head = goes_fails names _ _ ts us f (r.products.goes (whole head) refl) (g r.stops r.stops_too head r.products.tree)
 
 -- ---- dimensions
 
@@ -182,64 +180,42 @@ module _ (names : Names) (ts us vs : List Placed) (product : Option Preference) 
 of_goes : (names : Names) (s : List ℕ) (ts us : List Placed) → (c : PassesOf ts us) → Goes names (skyline_named s) ts (dim_due s c.0 []) us
 of_goes names s ts us c = passes_goes names (word c.0) ts us (skyline_named s) (dim_due s c.0 []) (cased of_word c.0) c.2 (ap (of_named s c.0) c.1) refl
 
-pub clause_faults : (names : Names) (ts us : List Placed) (f : TermFault) → PassesOf ts us → AsksClauseNothing names false us f → (s : List ℕ) → AsksNothing names (skyline_named s) ts f
-clause_faults names ts us f c h s = goes_asks_nothing names _ _ ts us f (of_goes names s ts us c) (h s c.0)
+pub clause_asks : (names : Names) (ts us : List Placed) (r : Result Question TermFault) → PassesOf ts us → AsksClause names false us r → (s : List ℕ) → Asks names false (skyline_named s) ts r
+clause_asks names ts us r c h s = goes_asks names false _ _ ts us r (of_goes names s ts us c) (h s c.0)
 
 -- ---- the first word
 
-skyline_goes : (names : Names) (letters : List ℕ) (ts us : List Placed) → Passes (word letters) ts us → keyword_of letters ≡ None → cased_of letters ≡ Some skyline_word → Goes names start ts (skyline_named letters) us
+pub skyline_goes : (names : Names) (letters : List ℕ) (ts us : List Placed) → Passes (word letters) ts us → keyword_of letters ≡ None → cased_of letters ≡ Some skyline_word → Goes names start ts (skyline_named letters) us
 skyline_goes names letters ts us c e f = grind (arith)
 
-pub skyline_fails : (names : Names) (letters : List ℕ) (ts us : List Placed) (g : TermFault) → Passes (word letters) ts us → keyword_of letters ≡ None → cased_of letters ≡ Some skyline_word → ((s : List ℕ) → AsksNothing names (skyline_named s) us g) → AsksNothing names start ts g
-skyline_fails names letters ts us g c e f h = goes_asks_nothing names start (skyline_named letters) ts us g (skyline_goes names letters ts us c e f) (h letters)
+pub skyline_asks : (names : Names) (letters : List ℕ) (ts us : List Placed) (r : Result Question TermFault) → Passes (word letters) ts us → keyword_of letters ≡ None → cased_of letters ≡ Some skyline_word → ((s : List ℕ) → Asks names false (skyline_named s) us r) → Asks names false start ts r
+skyline_asks names letters ts us r c e f h = goes_asks names false start (skyline_named letters) ts us r (skyline_goes names letters ts us c e f) (h letters)
 
-pub best_fails : (names : Names) (letters : List ℕ) (ts us : List Placed) (f : TermFault) → Passes (word letters) ts us → keyword_of letters ≡ Some best_word → ((head : HeadText) → mode_of head ≡ Best → AsksNothing names (operand (in_whole head)) us f) → AsksNothing names start ts f
-best_fails names letters ts us f c e h = goes_asks_nothing names start _ ts us f (passes_goes names (word letters) ts us start _ (name best_word) c (ap (λ k. begun letters k (cased_of letters)) e) refl) (h best_head refl)
+pub best_asks : (names : Names) (letters : List ℕ) (ts us : List Placed) (r : Result Question TermFault) → Passes (word letters) ts us → keyword_of letters ≡ Some best_word → ((head : HeadText) → mode_of head ≡ Best → Asks names false (operand (in_whole head)) us r) → Asks names false start ts r
+best_asks names letters ts us r c e h = goes_asks names false start _ ts us r (passes_goes names (word letters) ts us start _ (name best_word) c (ap (λ k. begun letters k (cased_of letters)) e) refl) (h best_head refl)
 
 -- ---- a word and a count
-
-pub data CountKind : Type 0 where
-  levels : CountKind
-  rows : CountKind
-
-abbrev pub count_word : CountKind → Keyword
-count_word levels = top_level_word
-count_word rows = at_least_word
-
-abbrev pub count_head : CountKind → List ℕ → HeadText
-count_head levels ds = top_level_head ds
-count_head rows ds = at_least_head ds
 
 abbrev pub count_mode : CountKind → ℕ → Mode
 count_mode levels k = TopLevel k
 count_mode rows k = AtLeast k
 
-count_named : CountKind → State
-count_named levels = top_level_named
-count_named rows = at_least_named
-
-wants_count : (k : CountKind) → WantsCount (count_named k) (count_head k)
-unfolding count_named
-wants_count k = grind (arith)
-
-count_word_goes : (names : Names) (k : CountKind) (letters : List ℕ) (ts us : List Placed) → Passes (word letters) ts us → keyword_of letters ≡ Some (count_word k) → Goes names start ts (count_named k) us
-unfolding count_named
+count_word_goes : (names : Names) (k : CountKind) (letters : List ℕ) (ts us : List Placed) → Passes (word letters) ts us → keyword_of letters ≡ Some (count_word k) → Goes names start ts (count_due k) us
 count_word_goes names k letters ts us c e = grind (arith)
 
 count_goes : (names : Names) (k : CountKind) (letters : List ℕ) (ts us vs : List Placed) (n : ℕ) → Passes (word letters) ts us → keyword_of letters ≡ Some (count_word k) → (t : TakesCount us n vs) → Goes names start ts (operand (in_whole (count_head k t.digits_are))) vs
 count_goes names k letters ts us vs n c e t =
-    goes_then names start (count_named k) _ ts us vs (count_word_goes names k letters ts us c e)
-    (passes_goes names (digits t.digits_are) us vs (count_named k) _ (count_digits t.digits_are) t.passes ((wants_count k).takes t.digits_are) (ap (λ b. cond b None (Some bad_count)) t.good))
+    goes_then names start (count_due k) _ ts us vs (count_word_goes names k letters ts us c e)
+    (passes_goes names (digits t.digits_are) us vs (count_due k) _ (count_digits t.digits_are) t.passes refl (ap (λ b. cond b None (Some bad_count)) t.good))
 
 mode_said : (k : CountKind) (ds : List ℕ) (n : ℕ) → digits_value 10 ds ≡ n → mode_of (count_head k ds) ≡ count_mode k n
 mode_said k ds n e = grind (arith)
 
-pub count_behind_fails : (names : Names) (k : CountKind) (letters : List ℕ) (ts us vs : List Placed) (n : ℕ) (f : TermFault) → Passes (word letters) ts us → keyword_of letters ≡ Some (count_word k) → TakesCount us n vs → ((head : HeadText) → mode_of head ≡ count_mode k n → AsksNothing names (operand (in_whole head)) vs f) → AsksNothing names start ts f
-count_behind_fails names k letters ts us vs n f c e t h = goes_asks_nothing names start _ ts vs f (count_goes names k letters ts us vs n c e t) (h (count_head k t.digits_are) (mode_said k t.digits_are n t.value))
+pub count_asks : (names : Names) (k : CountKind) (letters : List ℕ) (ts us vs : List Placed) (n : ℕ) (r : Result Question TermFault) → Passes (word letters) ts us → keyword_of letters ≡ Some (count_word k) → TakesCount us n vs → ((head : HeadText) → mode_of head ≡ count_mode k n → Asks names false (operand (in_whole head)) vs r) → Asks names false start ts r
+count_asks names k letters ts us vs n r c e t h = goes_asks names false start _ ts vs r (count_goes names k letters ts us vs n c e t) (h (count_head k t.digits_are) (mode_said k t.digits_are n t.value))
 
-pub count_fails : (names : Names) (k : CountKind) (letters : List ℕ) (ts us : List Placed) (f : TermFault) → Passes (word letters) ts us → keyword_of letters ≡ Some (count_word k) → FailsCount us f → AsksNothing names start ts f
-count_fails names k letters ts us f c e h =
-    fails_asks names start ts f (goes_fails names start (count_named k) ts us f (count_word_goes names k letters ts us c e) (h names (count_named k) (count_head k) (wants_count k)))
+pub count_fails : (names : Names) (k : CountKind) (letters : List ℕ) (ts us : List Placed) (f : TermFault) → Passes (word letters) ts us → keyword_of letters ≡ Some (count_word k) → FailsCount us f → Fails names start ts f
+count_fails names k letters ts us f c e h = goes_fails names start (count_due k) ts us f (count_word_goes names k letters ts us c e) (h names k)
 
 -- ---- what is so of each ask
 

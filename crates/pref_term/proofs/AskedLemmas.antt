@@ -2,7 +2,7 @@
 use Rattle.pref_term.proofs.Common.{◌≡◌, ◌≤◌, ◌<◌, ◌+◌, ℕ, zero, suc, List, [], ◌∷◌, Bool, false, length, None, Result, Ok, Err, refl, sym, ap, subst, ◌∙◌, ◌⊎◌, inl}
 use Rattle.pref_term.proofs.Common.{inr, arith, MatchResult, IfOk, IfErr, nat_tests, Placed, more_bytes, tokens_from, tokens_of, plain, says_distinct}
 use Rattle.pref_term.proofs.Common.{AskText, Names, Spells, Faults, LacksOrder, FirstFault, UnlessMemory}
-use Rattle.pref_term.proofs.Common.{question, Question, FitsWidth, start, run, ordered, meant, asked, TermFault, TooLong, NoMinOrMax, AsksWhole, AsksWholeNothing}
+use Rattle.pref_term.proofs.Common.{question, Question, FitsWidth, start, run, ordered, meant, asked, TermFault, TooLong, NoMinOrMax, AsksWhole, Gives}
 use Rattle.pref_term.proofs.LedLemmas.{unless_map}
 use Rattle.pref_term.proofs.SpellsLaws.{Finishes, Due, Spelt, Answers, run_answers, spelt_run, fault_run}
 use Rattle.std.proofs.Common.{rules}
@@ -85,13 +85,13 @@ one_fault names text f g s t = let a = fault_asked names text f s in let b = fau
 -- ---- what the reader promises
 
 module _ (names : Names) (text : List ℕ) (ts : List Placed) (e : ts ≡ tokens_of text) (short : length text ≤ 4096) where
-  pub read_exact : (r : Result Question TermFault) → IfOk r (AsksWhole names ts) → IfErr r (AsksWholeNothing names ts) → MatchResult r (λ a. asked names text ≡ Ok a) (λ f. UnlessMemory f (asked names text ≡ Err f))
-  read_exact r h k = grind (arith, asked_short, unless_map)
+  pub read_exact : (r : Result Question TermFault) → AsksWhole names ts r → Gives (asked names text) r
+  read_exact r h = subst (λ (x : Result Question TermFault). Gives x r) (sym (asked_short names text short)) (subst (λ (us : List Placed). AsksWhole names us r) e h)
 
-  pub read_ok : (r : Result Question TermFault) → IfOk r (AsksWhole names ts) → IfErr r (AsksWholeNothing names ts) → IfOk r (FitsWidth (length names)) → IfOk r (λ a. Spells names text a × FitsWidth (length names) a)
-  read_ok (Ok a) h k known = (subst (IsAnswer names text) (read_exact (Ok a) h k) (asked_answer names text), known)
-  read_ok (Err f) h k known = tt
+  pub read_ok : (r : Result Question TermFault) → AsksWhole names ts r → IfOk r (FitsWidth (length names)) → IfOk r (λ a. Spells names text a × FitsWidth (length names) a)
+  read_ok (Ok a) h known = (subst (IsAnswer names text) (read_exact (Ok a) h) (asked_answer names text), known)
+  read_ok (Err f) h known = tt
 
-  pub read_err : (r : Result Question TermFault) → IfOk r (AsksWhole names ts) → IfErr r (AsksWholeNothing names ts) → IfErr r (λ f. UnlessMemory f (Faults names text f))
-  read_err (Ok a) h k = tt
-  read_err (Err f) h k = unless_map f (λ (is : asked names text ≡ Err f). subst (IsAnswer names text) is (asked_answer names text)) (read_exact (Err f) h k)
+  pub read_err : (r : Result Question TermFault) → AsksWhole names ts r → IfErr r (λ f. UnlessMemory f (Faults names text f))
+  read_err (Ok a) h = tt
+  read_err (Err f) h = unless_map f (λ (is : asked names text ≡ Err f). subst (IsAnswer names text) is (asked_answer names text)) (read_exact (Err f) h)

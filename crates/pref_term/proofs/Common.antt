@@ -40,19 +40,19 @@ pub use Rattle.pref_term.specs.Keys.{by_key, by_keys, from_zero, is_number, is_p
 pub use Rattle.pref_term.specs.Order.{is_better, is_same, is_worse}
 pub use Rattle.pref_term.specs.Preference.{Base, Preference, around, between, high, layered, low, one_of, pareto, preference_of, prior, reverse, scored}
 pub use Rattle.pref_term.specs.Question.{FitsWidth, IsAsk, IsClause, IsCount, IsDimension, IsSkyline, Question, alike, cut_of, is_count}
-pub use Rattle.pref_term.specs.ReaderResults.{Asks, AsksClause, AsksClauseNothing, AsksNothing, AsksWhole, AsksWholeNothing, Fails, FailsBase, FailsClause, FailsColumn, FailsColumns, FailsCount}
+pub use Rattle.pref_term.specs.ReaderResults.{Asks, AsksClause, AsksWhole, Fails, FailsBase, FailsClause, FailsColumn, FailsColumns, FailsCount}
 pub use Rattle.pref_term.specs.ReaderResults.{FailsDim, FailsDirection, FailsEnd, FailsGroup, FailsGrouping, FailsNumber, FailsNumbers, FailsOpened, FailsPrior, FailsProduct, FailsSets, FailsUnary}
-pub use Rattle.pref_term.specs.ReaderResults.{Goes, IsBehindDistinct, IsColumn, IsKnown, IsNoDigits, IsNoWord, IsOther, IsTermOf, NotNext, Passes, PassesOf, ReadsBase, ReadsClause, ReadsColumns}
+pub use Rattle.pref_term.specs.ReaderResults.{Goes, IsBehindDistinct, IsColumn, IsKnown, IsNoWord, IsOther, IsTermOf, NotNext, Passes, PassesOf, ReadsBase, ReadsClause, ReadsColumns}
 pub use Rattle.pref_term.specs.ReaderResults.{ReadsDim, ReadsDims, ReadsEnd, ReadsFactors, ReadsGroup, ReadsGrouping, ReadsNumber, ReadsNumbers, ReadsOpened, ReadsPrior, ReadsProduct, ReadsProducts}
-pub use Rattle.pref_term.specs.ReaderResults.{ReadsSets, ReadsSome, ReadsSomeColumns, ReadsSomeSets, ReadsUnary, TakesColumn, TakesCount, TakesDirection, WantsColumn, WantsCount}
-pub use Rattle.pref_term.specs.ReaderResults.{behind_column, first_place, with_order, word_ahead}
-pub use Rattle.pref_term.specs.Reading.{BaseKind, BasePart, BaseStep, NumberHole, NumberList, PriorHole, ProductHole, State, UnaryHole, after, around_kind, at_least_named, base_next}
+pub use Rattle.pref_term.specs.ReaderResults.{ReadsSets, ReadsSome, ReadsSomeColumns, ReadsSomeSets, ReadsUnary, TakesColumn, TakesCount, TakesDirection, WantsColumn}
+pub use Rattle.pref_term.specs.ReaderResults.{behind_column, first_place, with_order, word_ahead, Gives}
+pub use Rattle.pref_term.specs.Reading.{BaseKind, BasePart, BaseStep, NumberHole, NumberList, PriorHole, ProductHole, State, UnaryHole, after, around_kind, base_next}
 pub use Rattle.pref_term.specs.Reading.{before_next, before_prior, before_product, before_unary, begun, between_kind, carried, centre_of, centred, closed, closing, columned, completed, dim_due, dim_named}
 pub use Rattle.pref_term.specs.Reading.{dims_listed, directed, done, end_of, ended, filled, finished, first_factor, first_product, group_due, group_listed, grouped_by, high_kind}
 pub use Rattle.pref_term.specs.Reading.{hole_leaves, in_group, in_minus, in_pos, in_reverse, in_set, in_whole, judged, kind_word, layered_kind, least_of, led, list_closed, listed}
 pub use Rattle.pref_term.specs.Reading.{low_kind, named, next, next_factor, next_of, next_product, number_due, number_signed, of_named, opened, operand, operand_word, outer, part}
 pub use Rattle.pref_term.specs.Reading.{part_leaves, parted, pos_kind, prior_depth, product_depth, range_ended, ranged, ranked, read_of, reading, reverse_named, run, set_due, sets_listed}
-pub use Rattle.pref_term.specs.Reading.{skyline_named, start, start_of, stepped, top_level_named, unary_depth, whole, whole_base, with_next}
+pub use Rattle.pref_term.specs.Reading.{skyline_named, start, start_of, stepped, unary_depth, whole, whole_base, with_next, CountKind, levels, rows, count_word, count_head, count_due}
 pub use Rattle.pref_term.specs.SeenTokens.{IsFront, seen}
 pub use Rattle.pref_term.specs.Shown.{IsShownAs, held, held_nests, is_composed, is_prior, more_names, name_at, nests, shown, shown_base, shown_diffs, shown_dims, shown_group, shown_mode, shown_set}
 pub use Rattle.pref_term.specs.Shown.{shown_sets, shown_term, shown_values, worked_names}

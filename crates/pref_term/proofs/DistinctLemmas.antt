@@ -4,10 +4,10 @@ use Rattle.pref_term.proofs.Common.{bytes_eq, str_to_ascii_lowercase, bytes_eq-D
 use Rattle.pref_term.proofs.Common.{cased_letters, cased, IsWritten, DimText, HeadText, PriorText, AskText, rated, skyline}
 use Rattle.pref_term.proofs.Common.{ask_leaves, IsText, is_distinct_ahead, says_distinct, without_third, plain, is_word, Names, orders_of}
 use Rattle.pref_term.proofs.Common.{product_of, tokens_in, tokens_on, IsGood, Spells, question, meant, start, dim_due, run, word_ahead}
-use Rattle.pref_term.proofs.Common.{AsksWholeNothing, AsksClauseNothing, IsBehindDistinct, Preference, scored, pareto, Question, IsClause, IsDimension, TermFault}
-use Rattle.pref_term.proofs.Common.{and_from, ◌&&◌, Bor, Lexeme, Word, ahead, taken}
+use Rattle.pref_term.proofs.Common.{IsBehindDistinct, Preference, scored, pareto, Question, IsClause, IsDimension, TermFault}
+use Rattle.pref_term.proofs.Common.{and_from, ◌&&◌, Bor, Lexeme, Word, ahead, taken, Result, Bool, subst, sym, Gives, Asks, AsksWhole, AsksClause}
 use Rattle.pref_term.proofs.GrammarComplete.{cased_found, no_keyword}
-use Rattle.pref_term.proofs.LedLemmas.{at_place, run_step, unless_map}
+use Rattle.pref_term.proofs.LedLemmas.{at_place, run_step}
 use Rattle.pref_term.specs.declared.front.Token as code
 use Rattle.std.proofs.lemmas.Bool.Decides.{nat_tests}
 
@@ -51,9 +51,9 @@ not_word k h = grind arith
 
 -- ---- whole questions
 
-pub whole_clause_nothing : (names : Names) (ts us : List Placed) (f : TermFault) → IsBehindDistinct ts us → AsksClauseNothing names true us f → AsksWholeNothing names ts f
-whole_clause_nothing names ts us f b h =
-    unless_map f (λ k. ap (λ d. meant names d (run names (plain ts) 0 start)) b.said ∙ (ap (meant names true) (b.leads names) ∙ k b.place)) (h b.skyline_is b.of_is)
+pub whole_clause : (names : Names) (ts us : List Placed) (r : Result Question TermFault) → IsBehindDistinct ts us → AsksClause names true us r → AsksWhole names ts r
+whole_clause names ts us r b h =
+    subst (λ (x : Result Question TermFault). Gives x r) (sym (ap (λ d. meant names d (run names (plain ts) 0 start)) b.said ∙ ap (meant names true) (b.leads names))) (h b.skyline_is b.of_is b.place)
 
 -- ---- a clause
 

@@ -8,9 +8,9 @@ use Rattle.pref_term.proofs.Common.{grouped, reversed, based, Leaf, name, mark, 
 use Rattle.pref_term.proofs.Common.{prior_leaves, product_leaves, unary_leaves, ask_leaves, token_of, between_text, end_leaves, layered_text, SetText, list_leaves, set_leaves, BaseKind}
 use Rattle.pref_term.proofs.Common.{low_kind, high_kind, around_kind, pos_kind, NumberHole, centre_of, next_of, BasePart, named, opened, columned, number_due, number_signed, centred, listed}
 use Rattle.pref_term.proofs.Common.{filled, PriorHole, whole, in_group, in_reverse, ProductHole, first_product, next_product, UnaryHole, first_factor, next_factor, in_minus, prior_depth}
-use Rattle.pref_term.proofs.Common.{product_depth, unary_depth, State, start, operand, reverse_named, reading, after, top_level_named, at_least_named, group_due, group_listed, skyline_named, dim_due}
+use Rattle.pref_term.proofs.Common.{product_depth, unary_depth, State, start, operand, reverse_named, reading, after, group_due, group_listed, skyline_named, dim_due}
 use Rattle.pref_term.proofs.Common.{dim_named, dims_listed, done, completed, outer, closed, ranked, in_whole, begun, of_named, directed, next, between_kind, start_of, end_of, least_of}
-use Rattle.pref_term.proofs.Common.{ranged, range_ended, layered_kind, NumberList, in_pos, in_set, closing, list_closed, stepped, set_due, sets_listed, parted, after_commas, column_leaves, with_next}
+use Rattle.pref_term.proofs.Common.{ranged, range_ended, layered_kind, NumberList, in_pos, in_set, closing, list_closed, stepped, set_due, sets_listed, parted, after_commas, column_leaves, with_next, count_due, count_head}
 use Rattle.pref_term.proofs.GrammarSound.{keyword_letters}
 
 -- reading these leaves leads from one state to the other
@@ -306,8 +306,7 @@ can_end (operand h) = ends_operand h
 can_end (reverse_named h) = first_reads (reverse_named h) (opens (unary_depth h) left) (operand (first_factor (first_product (in_reverse h)))) refl (ends_operand (first_factor (first_product (in_reverse h))))
 can_end (reading h b) = ends_part h b
 can_end (after h p) = ends_product h p
-can_end top_level_named = first_reads top_level_named (count_digits zero_digits) (operand (in_whole (top_level_head zero_digits))) refl (ends_operand (in_whole (top_level_head zero_digits)))
-can_end at_least_named = first_reads at_least_named (count_digits zero_digits) (operand (in_whole (at_least_head zero_digits))) refl (ends_operand (in_whole (at_least_head zero_digits)))
+can_end (count_due k) = first_reads (count_due k) (count_digits zero_digits) (operand (in_whole (count_head k zero_digits))) refl (ends_operand (in_whole (count_head k zero_digits)))
 can_end (group_due head r columns) = ends_group head r columns
 can_end (group_listed head r first others) = ends_listed_group head r first others
 can_end (skyline_named s) = first_reads (skyline_named s) (cased of_word (cased_letters of_word)) (dim_due s (cased_letters of_word) []) refl (ends_dim s (cased_letters of_word) [])

@@ -7,10 +7,10 @@ use Rattle.pref_term.proofs.Common.{UnaryText, negated, grouped, reversed, based
 use Rattle.pref_term.proofs.Common.{unary_leaves, token_of, signed_leaves, layered_word, SetText, set_leaves, low_kind, high_kind, around_kind, pos_kind, NumberHole, centre_of}
 use Rattle.pref_term.proofs.Common.{next_of, BasePart, named, opened, columned, number_due, number_signed, centred, listed, hole_leaves, part_leaves, BaseStep, part, whole_base, filled, base_next}
 use Rattle.pref_term.proofs.Common.{PriorHole, whole, in_group, in_reverse, ProductHole, first_product, next_product, UnaryHole, first_factor, next_factor, in_minus, prior_depth, product_depth}
-use Rattle.pref_term.proofs.Common.{unary_depth, before_prior, before_product, before_unary, State, start, operand, reverse_named, reading, after, top_level_named, at_least_named, group_due}
+use Rattle.pref_term.proofs.Common.{unary_depth, before_prior, before_product, before_unary, State, start, operand, reverse_named, reading, after, group_due}
 use Rattle.pref_term.proofs.Common.{group_listed, skyline_named, dim_due, dim_named, dims_listed, read_of, completed, outer, closed, begun, of_named, directed}
 use Rattle.pref_term.proofs.Common.{grouped_by, operand_word, carried, parted, finished, next, between_kind, start_of, end_of, least_of, ranged, range_ended, layered_kind, in_pos, in_set, set_due}
-use Rattle.pref_term.proofs.Common.{sets_listed, after_commas, column_leaves, before_next, with_next}
+use Rattle.pref_term.proofs.Common.{sets_listed, after_commas, column_leaves, before_next, with_next, count_due, levels, rows}
 
 -- one more at the end of some
 after_last : {X : Type 0} (leaves : X → List Leaf) (xs : List X) (x : X) → after_commas leaves (xs ++ x ∷ []) ≡ after_commas leaves xs ++ mark comma ∷ leaves x
@@ -168,8 +168,8 @@ next_grows (after h p) finish =
     subst (λ (ls : List Leaf). IfSome (finished (outer h) (closed h p)) (λ r. Grows ls finish r.0 (read_of r.1))) (sym (closed_read h p)) (finished_grows (outer h) (closed h p))
 next_grows (after h p) (word letters) =
     subst (λ (ls : List Leaf). IfSome (grouped_by (outer h) (closed h p) (keyword_of letters)) (λ r. Grows ls (word letters) r.0 (read_of r.1))) (sym (closed_read h p)) (grouped_by_grows (outer h) (closed h p) (keyword_of letters) letters (keyword_letters letters))
-next_grows top_level_named (digits ds) = (refl, refl, tt)
-next_grows at_least_named (digits ds) = (refl, refl, tt)
+next_grows (count_due levels) (digits ds) = (refl, refl, tt)
+next_grows (count_due rows) (digits ds) = (refl, refl, tt)
 next_grows (group_due head r columns) (word letters) = (refl, column_listed head r columns letters, tt)
 next_grows (group_listed head r first others) (sign comma) = (refl, simp append_assoc, tt)
 next_grows (group_listed head r first others) finish = (refl, simp append_assoc, tt)

@@ -1,13 +1,13 @@
 -- No public contract cites this.
 -- What each part of the reader promises: where reading comes to, or the fault that it reports. (this project)
-use Rattle.std.specs.Prelude.{◌≡◌, ◌≢◌, ◌<◌, ℕ, ℤ, List, [], ◌∷◌, length, All, FitsSigned, IfSome, Bool, true, false, map, Ok, Err, Option, Some, None, int_lt}
+use Rattle.std.specs.Prelude.{◌≡◌, ◌≢◌, ◌<◌, ℕ, ℤ, List, [], ◌∷◌, length, All, FitsSigned, IfSome, Bool, true, false, map, Ok, Err, Option, Some, None, int_lt, Result, MatchResult}
 use Rattle.std.specs.Int.{w64}
 use Rattle.std.specs.Str.Parse.{digits_value}
 use Rattle.pref_table.specs.Columns.{column_of}
 use Rattle.pref_term.specs.Token.{left, right, comma, star, ampersand, Token, word, digits, sign, Placed, Sign}
 use Rattle.pref_term.specs.Grammar.{mark, based, grouped, reversed, NumberText, BaseText, UnaryText, ProductText, PriorText, HeadText, DimText, Direction, minimal, maximal, different, direction_word, cased_of, of_word, rated, skyline, column_name, count_digits, layered_text, SetText}
 use Rattle.pref_term.specs.Spells.{Names, UnlessMemory, number_value, column_at, base_meaning, unary_meaning, product_meaning, prior_meaning, product_of, orders_of, groups_of, below, empty_range, set_value}
-use Rattle.pref_term.specs.Reading.{BaseKind, low_kind, high_kind, BaseStep, after_column, named, NumberHole, next_of, number_due, filled, UnaryHole, ProductHole, PriorHole, whole, in_whole, first_factor, first_product, unary_depth, product_depth, prior_depth, State, start, operand, reverse_named, reading, after, group_due, skyline_named, dim_due, dim_named, completed, ranked, next, run, least_of, end_of, range_ended, stepped, NumberList, closing, list_closed, set_due, with_next, dims_listed}
+use Rattle.pref_term.specs.Reading.{BaseKind, low_kind, high_kind, BaseStep, after_column, named, NumberHole, next_of, number_due, filled, UnaryHole, ProductHole, PriorHole, whole, in_whole, first_factor, first_product, unary_depth, product_depth, prior_depth, State, start, operand, reverse_named, reading, after, group_due, skyline_named, dim_due, dim_named, completed, ranked, next, run, least_of, end_of, range_ended, stepped, NumberList, closing, list_closed, set_due, with_next, dims_listed, CountKind, count_due}
 use Rattle.pref_term.specs.Asked.{meant}
 use Rattle.pref_term.specs.Distinct.{plain, says_distinct}
 use Rattle.pref_term.specs.Preference.{Base, low, high, Preference, scored, pareto, prior, reverse}
@@ -227,23 +227,13 @@ FailsPrior names depth ts f = (h : PriorHole) → prior_depth h ≡ depth → Fa
 
 -- ---- whole questions
 
--- reading asks the question
-abbrev pub Asks : Names → State → List Placed → Question → Type 0
-Asks names s ts q = (p : ℕ) → meant names false (run names ts p s) ≡ Ok q
+-- the result is this one, unless memory ran out
+abbrev pub Gives : Result Question TermFault → Result Question TermFault → Type 0
+Gives x r = MatchResult r (λ q. x ≡ Ok q) (λ f. UnlessMemory f (x ≡ Err f))
 
--- reading reports the fault, unless memory ran out
-abbrev pub AsksNothing : Names → State → List Placed → TermFault → Type 0
-AsksNothing names s ts f = UnlessMemory f ((p : ℕ) → meant names false (run names ts p s) ≡ Err f)
-
--- the token isn't digits
-abbrev pub IsNoDigits : Token → Type 0
-IsNoDigits (digits ds) = ⊥
-IsNoDigits _ = Unit {0}
-
--- digits are due in the state, and a term behind them
-pub record WantsCount (s : State) (head : List ℕ → HeadText) : Type 0 where
-  pub takes : (ds : List ℕ) → next s (digits ds) ≡ Some (count_digits ds, operand (in_whole (head ds)))
-  pub only : (t : Token) → IsNoDigits t → next s t ≡ None
+-- reading from the state asks this, or reports this
+abbrev pub Asks : Names → (distinct : Bool) → State → List Placed → Result Question TermFault → Type 0
+Asks names distinct s ts r = (p : ℕ) → Gives (meant names distinct (run names ts p s)) r
 
 -- a count in front
 pub record TakesCount (ts : List Placed) (k : ℕ) (us : List Placed) : Type 0 where
@@ -253,7 +243,7 @@ pub record TakesCount (ts : List Placed) (k : ℕ) (us : List Placed) : Type 0 w
   pub passes : Passes (digits digits_are) ts us
 
 abbrev pub FailsCount : List Placed → TermFault → Type 0
-FailsCount ts f = (names : Names) (s : State) (head : List ℕ → HeadText) → WantsCount s head → Fails names s ts f
+FailsCount ts f = (names : Names) (k : CountKind) → Fails names (count_due k) ts f
 
 -- some columns of a group, behind which one more is due
 pub record ReadsSomeColumns (names : Names) (ts : List Placed) (columns : List ℕ) (us : List Placed) : Type 0 where
@@ -342,13 +332,9 @@ FailsOf ts f = (names : Names) (s : List ℕ) → Fails names (skyline_named s) 
 
 -- ---- with the word `distinct`, or without it
 
--- a whole question asks this
-abbrev pub AsksWhole : Names → List Placed → Question → Type 0
-AsksWhole names ts q = meant names (says_distinct ts) (run names (plain ts) 0 start) ≡ Ok q
-
--- or has this fault, unless memory ran out
-abbrev pub AsksWholeNothing : Names → List Placed → TermFault → Type 0
-AsksWholeNothing names ts f = UnlessMemory f (meant names (says_distinct ts) (run names (plain ts) 0 start) ≡ Err f)
+-- a whole question
+abbrev pub AsksWhole : Names → List Placed → Result Question TermFault → Type 0
+AsksWhole names ts r = Gives (meant names (says_distinct ts) (run names (plain ts) 0 start)) r
 
 -- behind the word `distinct` of a clause: there reading is behind `of`
 pub record IsBehindDistinct (ts us : List Placed) : Type 0 where
@@ -359,8 +345,5 @@ pub record IsBehindDistinct (ts us : List Placed) : Type 0 where
   pub leads : (names : Names) → run names (plain ts) 0 start ≡ run names us place (dim_due skyline_is of_is [])
 
 -- a clause from its first column on, with the word or without it
-abbrev pub AsksClause : Names → (distinct : Bool) → List Placed → Question → Type 0
-AsksClause names distinct ts q = (s o : List ℕ) (p : ℕ) → meant names distinct (run names ts p (dim_due s o [])) ≡ Ok q
-
-abbrev pub AsksClauseNothing : Names → (distinct : Bool) → List Placed → TermFault → Type 0
-AsksClauseNothing names distinct ts f = (s o : List ℕ) → UnlessMemory f ((p : ℕ) → meant names distinct (run names ts p (dim_due s o [])) ≡ Err f)
+abbrev pub AsksClause : Names → (distinct : Bool) → List Placed → Result Question TermFault → Type 0
+AsksClause names distinct ts r = (s o : List ℕ) → Asks names distinct (dim_due s o []) ts r

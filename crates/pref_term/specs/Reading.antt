@@ -201,6 +201,19 @@ abbrev mutual
 
 -- ---- the states of reading
 
+-- how many are wanted: of levels, or of rows at least
+pub data CountKind : Type 0 where
+  levels : CountKind
+  rows : CountKind
+
+abbrev pub count_word : CountKind → Keyword
+count_word levels = top_level_word
+count_word rows = at_least_word
+
+abbrev pub count_head : CountKind → List ℕ → HeadText
+count_head levels count = top_level_head count
+count_head rows count = at_least_head count
+
 pub data State : Type 0 where
   start : State
   operand : (h : UnaryHole) → State
@@ -208,8 +221,7 @@ pub data State : Type 0 where
   reading : (h : UnaryHole) (b : BasePart) → State
   after : (h : ProductHole) (p : ProductText) → State
   -- behind `top_level` or `at_least`
-  top_level_named : State
-  at_least_named : State
+  count_due : (k : CountKind) → State
   -- a column of the group is due, behind these
   group_due : (head : HeadText) (r : PriorText) (columns : List (List ℕ)) → State
   group_listed : (head : HeadText) (r : PriorText) (first : List ℕ) (others : List (List ℕ)) → State
@@ -227,8 +239,7 @@ read_of (operand h) = before_unary h
 read_of (reverse_named h) = before_unary h ++ name reverse_word ∷ []
 read_of (reading h b) = before_unary h ++ part_leaves b
 read_of (after h p) = before_product h ++ product_leaves p (product_depth h)
-read_of top_level_named = name top_level_word ∷ []
-read_of at_least_named = name at_least_word ∷ []
+read_of (count_due k) = name (count_word k) ∷ []
 read_of (group_due head r columns) = head_leaves head ++ (prior_leaves r 0 ++ name by_word ∷ before_next column_leaves columns)
 read_of (group_listed head r first others) = head_leaves head ++ (prior_leaves r 0 ++ group_leaves (first ∷ others))
 read_of (skyline_named s) = cased skyline_word s ∷ []
@@ -262,8 +273,8 @@ in_whole head = first_factor (first_product (whole head))
 
 abbrev pub begun : List ℕ → Option Keyword → Option CasedWord → Option (Leaf × State)
 begun letters (Some best_word) c = Some (name best_word, operand (in_whole best_head))
-begun letters (Some top_level_word) c = Some (name top_level_word, top_level_named)
-begun letters (Some at_least_word) c = Some (name at_least_word, at_least_named)
+begun letters (Some top_level_word) c = Some (name top_level_word, count_due levels)
+begun letters (Some at_least_word) c = Some (name at_least_word, count_due rows)
 begun letters None (Some skyline_word) = Some (cased skyline_word letters, skyline_named letters)
 begun _ _ _ = None
 
@@ -322,8 +333,7 @@ next (after h p) (sign ampersand) = Some (mark ampersand, operand (first_factor 
 next (after h p) (sign right) = parted (outer h) (closed h p)
 next (after h p) finish = finished (outer h) (closed h p)
 next (after h p) (word letters) = grouped_by (outer h) (closed h p) (keyword_of letters)
-next top_level_named (digits ds) = Some (count_digits ds, operand (in_whole (top_level_head ds)))
-next at_least_named (digits ds) = Some (count_digits ds, operand (in_whole (at_least_head ds)))
+next (count_due k) (digits ds) = Some (count_digits ds, operand (in_whole (count_head k ds)))
 next (group_due head r columns) (word letters) = Some (column_name letters, with_next (group_listed head r) columns letters)
 next (group_listed head r first others) (sign comma) = Some (mark comma, group_due head r (first ∷ others))
 next (group_listed head r first others) finish = Some (last, done (rated head r (first ∷ others)))

@@ -79,9 +79,8 @@ fn read_rated_term(
     cursor: Cursor<'_>,
 ) -> Result<Ask, TermFault>
     requires { IsCount (cut_of mode) }
-    ensures ok { IfOk result (λ a. (head : grammar.HeadText) → spells.mode_of head ≡ mode → led.Asks schema.now (reading.operand (reading.in_whole head)) (ahead cursor.entry) a) }
+    ensures asked { (head : grammar.HeadText) → spells.mode_of head ≡ mode → led.Asks schema.now false (reading.operand (reading.in_whole head)) (ahead cursor.entry) result }
     ensures known { IfOk result (λ a. FitsWidth (length schema.now) a) }
-    ensures err { IfErr result (λ f. (head : grammar.HeadText) → spells.mode_of head ≡ mode → led.AsksNothing schema.now (reading.operand (reading.in_whole head)) (ahead cursor.entry) f) }
 {
     let (term, next) = prior(alloc, schema, 0, cursor)?;
     let group = grouping(alloc, schema, next)?;
@@ -197,9 +196,8 @@ fn clause_ask(
     cursor: Cursor<'_>,
     distinct: bool,
 ) -> Result<Ask, TermFault>
-    ensures ok { IfOk result (λ a. led.AsksClause schema.now distinct (ahead cursor.entry) a) }
+    ensures asked { led.AsksClause schema.now distinct (ahead cursor.entry) result }
     ensures known { IfOk result (λ a. FitsWidth (length schema.now) a) }
-    ensures err { IfErr result (λ f. led.AsksClauseNothing schema.now distinct (ahead cursor.entry) f) }
 {
     let Clause { product, group } = dimensions(alloc, schema, cursor)?;
     let Some(term) = product else {
@@ -210,9 +208,8 @@ fn clause_ask(
 
 /// Takes a whole question, in which no word `distinct` is a word of the clause.
 fn ask(alloc: Global, schema: &Schema, cursor: Cursor<'_>) -> Result<Ask, TermFault>
-    ensures ok { IfOk result (λ a. led.Asks schema.now reading.start (ahead cursor.entry) a) }
+    ensures asked { led.Asks schema.now false reading.start (ahead cursor.entry) result }
     ensures known { IfOk result (λ a. FitsWidth (length schema.now) a) }
-    ensures err { IfErr result (λ f. led.AsksNothing schema.now reading.start (ahead cursor.entry) f) }
 {
     let (letters, word) = take_word(cursor)?;
     match word_of_grammar(letters) {
@@ -276,9 +273,8 @@ fn distinct_clause<'a>(cursor: Cursor<'a>) -> Option<Cursor<'a>>
 
 /// Takes a whole question. Whether a word `distinct` behind `skyline of` is one of the clause or a column is chosen first.
 pub(super) fn question(alloc: Global, schema: &Schema, cursor: Cursor<'_>) -> Result<Ask, TermFault>
-    ensures ok { IfOk result (λ a. led.AsksWhole schema.now (ahead cursor.entry) a) }
+    ensures asked { led.AsksWhole schema.now (ahead cursor.entry) result }
     ensures known { IfOk result (λ a. FitsWidth (length schema.now) a) }
-    ensures err { IfErr result (λ f. led.AsksWholeNothing schema.now (ahead cursor.entry) f) }
 {
     match distinct_clause(cursor) {
         Some(behind) => clause_ask(alloc, schema, behind, true),

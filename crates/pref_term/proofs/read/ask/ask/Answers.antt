@@ -1,48 +1,44 @@
-use Rattle.pref_term.proofs.Common.{IfErr-weaker, Some, sym, ap, ◌∙◌, ahead}
-use Rattle.pref_term.proofs.LedLemmas.{err_exit}
-use Rattle.pref_term.proofs.AskLemmas.{levels, rows, best_fails, count_fails, count_behind_fails, skyline_fails, clause_faults, fails_asks}
+use Rattle.pref_term.proofs.Common.{Some, false, sym, ap, ◌∙◌, ahead, levels, rows}
+use Rattle.pref_term.proofs.LedLemmas.{goes_fails}
+use Rattle.pref_term.proofs.AskLemmas.{fails_asks, best_asks, count_fails, count_asks, skyline_goes, skyline_asks, clause_asks}
 use Rattle.pref_term.proofs.read.ask.ask.Goals as goal
 
-pub returns-in_err-k-in-Some-TopLevel-clause-err : goal.returns-in_err-k-in-Some-TopLevel-clause-err
-returns-in_err-k-in-Some-TopLevel-clause-err c =
+pub returns-in_err-k-in-Some-TopLevel-clause-asked : goal.returns-in_err-k-in-Some-TopLevel-clause-asked
+returns-in_err-k-in-Some-TopLevel-clause-asked c =
     let w = c.in_ok-letters in
-    err_exit _ _ c.from_residual-in_err-k-in-Some-TopLevel.ensures.1 (count_fails c.args.schema.now levels w.letters.now (ahead c.args.cursor) (ahead w.word.next) _ (w.word.at, w.ensures.ok) (sym c.in-Some-TopLevel.ensures ∙ ap Some c.in-Some-TopLevel.field-0-is) c.in_err-k-in-Some-TopLevel.ensures.err)
+    fails_asks c.args.schema.now false _ (ahead c.args.cursor) _ _ c.from_residual-in_err-k-in-Some-TopLevel.ensures.1 (count_fails c.args.schema.now levels w.letters.now (ahead c.args.cursor) (ahead w.word.next) _ (w.word.at, w.ensures.ok) (sym c.in-Some-TopLevel.ensures ∙ ap Some c.in-Some-TopLevel.field-0-is) c.in_err-k-in-Some-TopLevel.ensures.err)
 
-pub returns-in_err-k-in-Some-AtLeast-clause-err : goal.returns-in_err-k-in-Some-AtLeast-clause-err
-returns-in_err-k-in-Some-AtLeast-clause-err c =
+pub returns-in_err-k-in-Some-AtLeast-clause-asked : goal.returns-in_err-k-in-Some-AtLeast-clause-asked
+returns-in_err-k-in-Some-AtLeast-clause-asked c =
     let w = c.in_ok-letters in
-    err_exit _ _ c.from_residual-in_err-k-in-Some-AtLeast.ensures.1 (count_fails c.args.schema.now rows w.letters.now (ahead c.args.cursor) (ahead w.word.next) _ (w.word.at, w.ensures.ok) (sym c.in-Some-AtLeast.ensures ∙ ap Some c.in-Some-AtLeast.field-0-is) c.in_err-k-in-Some-AtLeast.ensures.err)
+    fails_asks c.args.schema.now false _ (ahead c.args.cursor) _ _ c.from_residual-in_err-k-in-Some-AtLeast.ensures.1 (count_fails c.args.schema.now rows w.letters.now (ahead c.args.cursor) (ahead w.word.next) _ (w.word.at, w.ensures.ok) (sym c.in-Some-AtLeast.ensures ∙ ap Some c.in-Some-AtLeast.field-0-is) c.in_err-k-in-Some-AtLeast.ensures.err)
 
-pub returns-in-Some-Best-clause-err : goal.returns-in-Some-Best-clause-err
-returns-in-Some-Best-clause-err c =
+pub returns-in-Some-Best-clause-asked : goal.returns-in-Some-Best-clause-asked
+returns-in-Some-Best-clause-asked c =
     let w = c.in_ok-letters in
-    IfErr-weaker _ _ _ (λ f h. best_fails c.args.schema.now w.letters.now (ahead c.args.cursor) (ahead w.word.next) f (w.word.at, w.ensures.ok) (sym c.in-Some-Best.ensures ∙ ap Some c.in-Some-Best.field-0-is) h)
-    c.read_rated_term.ensures.err
+    best_asks c.args.schema.now w.letters.now (ahead c.args.cursor) (ahead w.word.next) c.read_rated_term.result (w.word.at, w.ensures.ok) (sym c.in-Some-Best.ensures ∙ ap Some c.in-Some-Best.field-0-is) c.read_rated_term.ensures.asked
 
-pub returns-in_ok-k-in-Some-TopLevel-clause-err : goal.returns-in_ok-k-in-Some-TopLevel-clause-err
-returns-in_ok-k-in-Some-TopLevel-clause-err c =
+pub returns-in_ok-k-in-Some-TopLevel-clause-asked : goal.returns-in_ok-k-in-Some-TopLevel-clause-asked
+returns-in_ok-k-in-Some-TopLevel-clause-asked c =
     let w = c.in_ok-letters in
     let k = c.in_ok-k-in-Some-TopLevel in
-    IfErr-weaker _ _ _ (λ f h. count_behind_fails c.args.schema.now levels w.letters.now (ahead c.args.cursor) (ahead w.word.next) (ahead k.behind) k.k f (w.word.at, w.ensures.ok) (sym c.in-Some-TopLevel.ensures ∙ ap Some c.in-Some-TopLevel.field-0-is) k.ensures.ok h)
-    c.read_rated_term-in-Some-TopLevel.ensures.err
+    count_asks c.args.schema.now levels w.letters.now (ahead c.args.cursor) (ahead w.word.next) (ahead k.behind) k.k c.read_rated_term-in-Some-TopLevel.result (w.word.at, w.ensures.ok) (sym c.in-Some-TopLevel.ensures ∙ ap Some c.in-Some-TopLevel.field-0-is) k.ensures.ok c.read_rated_term-in-Some-TopLevel.ensures.asked
 
-pub returns-in_ok-k-in-Some-AtLeast-clause-err : goal.returns-in_ok-k-in-Some-AtLeast-clause-err
-returns-in_ok-k-in-Some-AtLeast-clause-err c =
+pub returns-in_ok-k-in-Some-AtLeast-clause-asked : goal.returns-in_ok-k-in-Some-AtLeast-clause-asked
+returns-in_ok-k-in-Some-AtLeast-clause-asked c =
     let w = c.in_ok-letters in
     let k = c.in_ok-k-in-Some-AtLeast in
-    IfErr-weaker _ _ _ (λ f h. count_behind_fails c.args.schema.now rows w.letters.now (ahead c.args.cursor) (ahead w.word.next) (ahead k.behind) k.k f (w.word.at, w.ensures.ok) (sym c.in-Some-AtLeast.ensures ∙ ap Some c.in-Some-AtLeast.field-0-is) k.ensures.ok h)
-    c.read_rated_term-in-Some-AtLeast.ensures.err
+    count_asks c.args.schema.now rows w.letters.now (ahead c.args.cursor) (ahead w.word.next) (ahead k.behind) k.k c.read_rated_term-in-Some-AtLeast.result (w.word.at, w.ensures.ok) (sym c.in-Some-AtLeast.ensures ∙ ap Some c.in-Some-AtLeast.field-0-is) k.ensures.ok c.read_rated_term-in-Some-AtLeast.ensures.asked
 
-pub returns-in_err-behind-in-None-clause-err : goal.returns-in_err-behind-in-None-clause-err
-returns-in_err-behind-in-None-clause-err c =
+pub returns-in_err-behind-in-None-clause-asked : goal.returns-in_err-behind-in-None-clause-asked
+returns-in_err-behind-in-None-clause-asked c =
     let w = c.in_ok-letters in
-    err_exit _ _ c.from_residual-in_err-behind-in-None.ensures.1 (skyline_fails c.args.schema.now w.letters.now (ahead c.args.cursor) (ahead w.word.next) _ (w.word.at, w.ensures.ok) (sym c.in-None.ensures) (sym c.in-Some-Skyline.ensures ∙ ap Some c.in-Some-Skyline.field-0-is)
-    (λ s. fails_asks c.args.schema.now _ (ahead w.word.next) _ (c.in_err-behind-in-None.ensures.err c.args.schema.now s)))
+    fails_asks c.args.schema.now false _ (ahead c.args.cursor) _ _ c.from_residual-in_err-behind-in-None.ensures.1
+    (goes_fails c.args.schema.now _ _ (ahead c.args.cursor) (ahead w.word.next) _ (skyline_goes c.args.schema.now w.letters.now (ahead c.args.cursor) (ahead w.word.next) (w.word.at, w.ensures.ok) (sym c.in-None.ensures) (sym c.in-Some-Skyline.ensures ∙ ap Some c.in-Some-Skyline.field-0-is)) (c.in_err-behind-in-None.ensures.err c.args.schema.now w.letters.now))
 
-pub returns-in_ok-behind-in-None-clause-err : goal.returns-in_ok-behind-in-None-clause-err
-returns-in_ok-behind-in-None-clause-err c =
+pub returns-in_ok-behind-in-None-clause-asked : goal.returns-in_ok-behind-in-None-clause-asked
+returns-in_ok-behind-in-None-clause-asked c =
     let w = c.in_ok-letters in
-    IfErr-weaker _ _ _
-    (λ f h. skyline_fails c.args.schema.now w.letters.now (ahead c.args.cursor) (ahead w.word.next) f (w.word.at, w.ensures.ok) (sym c.in-None.ensures) (sym c.in-Some-Skyline.ensures ∙ ap Some c.in-Some-Skyline.field-0-is)
-    (clause_faults c.args.schema.now (ahead w.word.next) (ahead c.in_ok-behind-in-None.behind) f c.in_ok-behind-in-None.ensures.ok h))
-    c.clause_ask.ensures.err
+    let b = c.in_ok-behind-in-None in
+    skyline_asks c.args.schema.now w.letters.now (ahead c.args.cursor) (ahead w.word.next) c.clause_ask.result (w.word.at, w.ensures.ok) (sym c.in-None.ensures) (sym c.in-Some-Skyline.ensures ∙ ap Some c.in-Some-Skyline.field-0-is)
+    (clause_asks c.args.schema.now (ahead w.word.next) (ahead b.behind) c.clause_ask.result b.ensures.ok c.clause_ask.ensures.asked)

@@ -1,12 +1,10 @@
 use Rattle.pref_term.proofs.Common.{Option, refl, sym, subst, length, arith, ◌∷◌, option_map, ahead, preference_of, ReadsClause, FitsWidth, Best, Term}
-use Rattle.pref_term.proofs.Common.{meant, ap}
-use Rattle.pref_term.proofs.LedLemmas.{err_exit, unless_map}
-use Rattle.pref_term.proofs.AskLemmas.{is_ask, fits_width}
+use Rattle.pref_term.proofs.AskLemmas.{fails_asks, is_ask, fits_width}
 use Rattle.pref_term.proofs.DistinctLemmas.{product_is_clause}
 use Rattle.pref_term.proofs.read.ask.clause_ask.Goals as goal
 
-pub returns-in_err-product-clause-err : goal.returns-in_err-product-clause-err
-returns-in_err-product-clause-err c = err_exit _ _ c.from_residual.ensures.1 (λ s o. unless_map c.in_err-product.field-0.0 (λ k p. ap (meant c.args.schema.now c.args.distinct) (k p)) (c.in_err-product.ensures.err s o))
+pub returns-in_err-product-clause-asked : goal.returns-in_err-product-clause-asked
+returns-in_err-product-clause-asked c s o = fails_asks c.args.schema.now c.args.distinct _ (ahead c.args.cursor) _ _ c.from_residual.ensures.1 (c.in_err-product.ensures.err s o)
 
 pub new-requires : goal.new-requires
 new-requires c =
