@@ -45,7 +45,7 @@ pub use Rattle.pref_term.specs.ReaderResults.{FailsDim, FailsDirection, FailsEnd
 pub use Rattle.pref_term.specs.ReaderResults.{Goes, IsBehindDistinct, IsColumn, IsKnown, IsNoWord, IsOther, IsTermOf, NotNext, Passes, PassesOf, ReadsBase, ReadsClause, ReadsColumns}
 pub use Rattle.pref_term.specs.ReaderResults.{ReadsDim, ReadsDims, ReadsEnd, ReadsFactors, ReadsGroup, ReadsGrouping, ReadsNumber, ReadsNumbers, ReadsOpened, ReadsPrior, ReadsProduct, ReadsProducts}
 pub use Rattle.pref_term.specs.ReaderResults.{ReadsSets, ReadsSome, ReadsSomeColumns, ReadsSomeSets, ReadsUnary, TakesColumn, TakesCount, TakesDirection, WantsColumn}
-pub use Rattle.pref_term.specs.ReaderResults.{behind_column, first_place, with_order, word_ahead, Gives}
+pub use Rattle.pref_term.specs.ReaderResults.{behind_column, first_place, with_order, word_ahead, Gives, Parses}
 pub use Rattle.pref_term.specs.Reading.{BaseKind, BasePart, BaseStep, NumberHole, NumberList, PriorHole, ProductHole, State, UnaryHole, after, around_kind, base_next}
 pub use Rattle.pref_term.specs.Reading.{before_next, before_prior, before_product, before_unary, begun, between_kind, carried, centre_of, centred, closed, closing, columned, completed, dim_due, dim_named}
 pub use Rattle.pref_term.specs.Reading.{dims_listed, directed, done, end_of, ended, filled, finished, first_factor, first_product, group_due, group_listed, grouped_by, high_kind}

@@ -4,7 +4,7 @@ use Rattle.pref_term.proofs.Common.{left, right, star, ampersand, minus, Token, 
 use Rattle.pref_term.proofs.Common.{then_product, name, mark, opens, Names, own_fault, too_deep, unary_meaning, product_meaning, BaseKind, kind_word, named, UnaryHole, in_minus}
 use Rattle.pref_term.proofs.Common.{first_factor, next_factor, next_product, in_group, in_reverse, unary_depth, State, operand, reverse_named, reading, after, completed, ranked, next}
 use Rattle.pref_term.proofs.Common.{operand_word, Goes, Fails, IsOther, Passes, ReadsBase, ReadsUnary, ReadsFactors, ReadsProducts, ReadsProduct, ReadsPrior, ReadsGroup, FailsBase, NotNext, ahead, taken, seen, Unexpected, TooDeep, ◌≤◌}
-use Rattle.pref_term.proofs.Common.{FailsUnary, FailsGroup, FailsProduct, FailsPrior, Preference, pareto, prior, reverse, preference_of, Cursor, Lexeme, Word, Term, TermFault}
+use Rattle.pref_term.proofs.Common.{FailsUnary, FailsGroup, FailsProduct, FailsPrior, Parses, grouped, Ok, Err, Preference, pareto, prior, reverse, preference_of, Cursor, Lexeme, Word, Term, TermFault}
 use Rattle.pref_term.proofs.GrammarComplete.{ranked_goes_on, ranked_right}
 use Rattle.pref_term.proofs.LedLemmas.{at_place, goes_then, goes_fails, passes_goes, taken_is}
 
@@ -83,24 +83,25 @@ module _ (names : Names) (depth inside : ℕ) (ts us : List Placed) (room : (dep
           reversed = λ h e. goes_fails names _ _ ts vs f (reverse_goes h e) (end_fails names vs f (ranked (in_reverse h) r.products.tree) o r.stops r.stops_too (λ u a b c. (stuck_within h r.products.tree u a b c).1));
         }
 
+-- a group that is a factor
+pub group_alone : (names : Names) (depth : ℕ) (ts us : List Placed) → Passes (sign left) ts us → (r : Result (Term × Cursor) TermFault) → Parses (ReadsGroup names depth ts) (FailsGroup names depth ts) r → Parses (ReadsUnary names depth ts) (FailsUnary names depth ts) r
+group_alone names depth ts us c (Ok x) g = record { tree = grouped g.tree; meaning = g.meaning; known = g.known; goes = g.goes }
+group_alone names depth ts us c (Err f) g = g.alone us c
+
 -- ---- words
 
 by_kind : (h : UnaryHole) (k : BaseKind) → operand_word h (Some (kind_word k)) ≡ Some (name (kind_word k), reading h (named k))
 by_kind h k = grind arith
 
 -- a base term behind the word that was taken
-module _ (names : Names) (k : BaseKind) (t : Lexeme) (letters : Bor (List ℕ)) (f : t.token ≡ Word letters) (word_is : keyword_of letters.now ≡ Some (kind_word k)) (r : Result (Term × Cursor) TermFault) where
+module _ (names : Names) (k : BaseKind) (t : Lexeme) (letters : Bor (List ℕ)) (f : t.token ≡ Word letters) (word_is : keyword_of letters.now ≡ Some (kind_word k)) where
   word_goes : (h : UnaryHole) → Goes names (operand h) (taken t) (reading h (named k)) (ahead t.next)
   word_goes h =
       passes_goes names (word letters.now) (taken t) (ahead t.next) (operand h) (reading h (named k)) (name (kind_word k)) (t.at, taken_is (taken t) t _ refl f) (ap (operand_word h) word_is ∙ by_kind h k) refl
 
-  pub taken_base_read : IfOk r (λ x. ReadsBase names k (ahead t.next) (preference_of x.0) (ahead x.1)) → IfOk r (λ x. (depth : ℕ) → ReadsUnary names depth (taken t) (preference_of x.0) (ahead x.1))
-  taken_base_read read =
-      IfOk-weaker r (λ x. ReadsBase names k (ahead t.next) (preference_of x.0) (ahead x.1)) _
-      (λ x b depth. record { tree = based b.tree; meaning = b.meaning; known = b.known; goes = λ h _. goes_then names (operand h) (reading h (named k)) (completed h (based b.tree)) (taken t) (ahead t.next) (ahead x.1) (word_goes h) (b.goes h) }) read
-
-  pub taken_base_fails : IfErr r (FailsBase names k (ahead t.next)) → IfErr r (λ fault. (depth : ℕ) → FailsUnary names depth (taken t) fault)
-  taken_base_fails fails = IfErr-weaker r _ _ (λ fault b depth h _. goes_fails names (operand h) (reading h (named k)) (taken t) (ahead t.next) fault (word_goes h) (b h)) fails
+  pub taken_base : (r : Result (Term × Cursor) TermFault) → Parses (ReadsBase names k (ahead t.next)) (FailsBase names k (ahead t.next)) r → (depth : ℕ) → Parses (ReadsUnary names depth (taken t)) (FailsUnary names depth (taken t)) r
+  taken_base (Ok x) b depth = record { tree = based b.tree; meaning = b.meaning; known = b.known; goes = λ h _. goes_then names (operand h) (reading h (named k)) (completed h (based b.tree)) (taken t) (ahead t.next) (ahead x.1) (word_goes h) (b.goes h) }
+  taken_base (Err f) b depth = λ h _. goes_fails names (operand h) (reading h (named k)) (taken t) (ahead t.next) f (word_goes h) (b h)
 
 -- a group behind the word `reverse`
 module _ (names : Names) (depth : ℕ) (letters : List ℕ) (ts us : List Placed) (c : Passes (word letters) ts us) (e : keyword_of letters ≡ Some reverse_word) where

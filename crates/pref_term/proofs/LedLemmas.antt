@@ -6,7 +6,7 @@ use Rattle.pref_term.proofs.Common.{low_kind, high_kind, around_kind, pos_kind, 
 use Rattle.pref_term.proofs.Common.{NumberHole, UnaryHole, State, reading, completed, run, next, between_kind, start_of, end_of, least_of, ranged, range_ended, NumberList, in_pos}
 use Rattle.pref_term.proofs.Common.{closing, list_closed, stepped, seen, ahead, taken, behind_token, Cursor, Lexeme, Digits, Goes, Fails, IsOther, NotNext, Passes, WantsColumn, TakesColumn}
 use Rattle.pref_term.proofs.Common.{ReadsOpened, FailsColumn, FailsOpened, ReadsNumber, ReadsSome, ReadsNumbers, ReadsBase, FailsNumber, FailsNumbers, FailsBase, ReadsEnd}
-use Rattle.pref_term.proofs.Common.{FailsEnd, first_place, word_ahead, TermFault, EmptyRange, NumberRange, All, FitsSigned, ◌≢◌, IsErrAnd, IfErr, unwrap_or, int_lt, Option, scored, low}
+use Rattle.pref_term.proofs.Common.{FailsEnd, first_place, word_ahead, TermFault, EmptyRange, NumberRange, All, FitsSigned, ◌≢◌, IsErrAnd, IfErr, MatchResult, unwrap_or, int_lt, Option, scored, low}
 use Rattle.pref_term.proofs.Common.{high, around, one_of, between, all_ascii_digits, map-append, All-append, All-cons, All-nil, next_of}
 use Rattle.pref_table.specs.Columns.{column_of}
 use Rattle.pref_term.proofs.GrammarComplete.{list_ends}
@@ -122,6 +122,9 @@ end_refused ts us least value n under names h column l e = n.refused names h (en
 -- what a `?` hands on
 pub err_exit : {T : Type 0} {f : TermFault} (r : Result T TermFault) (P : TermFault → Type 0) → IsErrAnd r (λ g. g ≡ f) → P f → IfErr r P
 err_exit r P h k = grind (arith)
+
+pub fault_exit : {T : Type 0} {f : TermFault} (r : Result T TermFault) (Q : T → Type 0) (P : TermFault → Type 0) → IsErrAnd r (λ g. g ≡ f) → P f → MatchResult r Q P
+fault_exit r Q P h k = grind (arith)
 
 -- ---- the last sign of a base term
 

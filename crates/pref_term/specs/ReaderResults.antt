@@ -10,12 +10,15 @@ use Rattle.pref_term.specs.Spells.{Names, UnlessMemory, number_value, column_at,
 use Rattle.pref_term.specs.Reading.{BaseKind, low_kind, high_kind, BaseStep, after_column, named, NumberHole, next_of, number_due, filled, UnaryHole, ProductHole, PriorHole, whole, in_whole, first_factor, first_product, unary_depth, product_depth, prior_depth, State, start, operand, reverse_named, reading, after, group_due, skyline_named, dim_due, dim_named, completed, ranked, next, run, least_of, end_of, range_ended, stepped, NumberList, closing, list_closed, set_due, with_next, dims_listed, CountKind, count_due}
 use Rattle.pref_term.specs.Asked.{meant}
 use Rattle.pref_term.specs.Distinct.{plain, says_distinct}
-use Rattle.pref_term.specs.Preference.{Base, low, high, Preference, scored, pareto, prior, reverse}
+use Rattle.pref_term.specs.Ahead.{ahead}
+use Rattle.pref_term.specs.Preference.{Base, low, high, Preference, preference_of, scored, pareto, prior, reverse}
 use Rattle.pref_term.specs.Columns.{column}
 use Rattle.pref_term.specs.Writable.{IsWritableSet, IsWritableBase}
 use Rattle.pref_term.specs.Question.{Question, is_count}
+use Rattle.pref_term.specs.declared.cursor.Cursor.{Cursor}
 use Rattle.pref_term.specs.declared.fault.TermFault.{TermFault}
 use Rattle.pref_term.specs.declared.fault.TermFault.TheVariants.{Unexpected, EmptyRange}
+use Rattle.pref_term.specs.declared.term.Term.{Term}
 
 -- with these tokens ahead, reading comes from the one state to the other, with those ahead
 abbrev pub Goes : Names → State → List Placed → State → List Placed → Type 0
@@ -162,6 +165,10 @@ pub record ReadsSets (ts : List Placed) (sets : List (List ℤ)) (us : List Plac
 
 abbrev pub FailsSets : List Placed → TermFault → Type 0
 FailsSets ts f = (names : Names) (h : UnaryHole) (column : List ℕ) → Fails names (reading h (set_due column [])) ts f
+
+-- a term that is read so in front, or the fault
+abbrev pub Parses : (Preference → List Placed → Type 0) → (TermFault → Type 0) → Result (Term × Cursor) TermFault → Type 0
+Parses reads fails r = MatchResult r (λ x. reads (preference_of x.0) (ahead x.1)) fails
 
 -- a base term behind its word
 pub record ReadsBase (names : Names) (k : BaseKind) (ts : List Placed) (p : Preference) (us : List Placed) : Type 0 where

@@ -110,9 +110,8 @@ fn numbers<'a>(alloc: Global, cursor: Cursor<'a>, close: Sign) -> Parsed<'a, Vec
 
 /// Takes what follows `low`.
 fn low<'a>(schema: &Schema, cursor: Cursor<'a>) -> Parsed<'a, Term>
-    ensures ok { IfOk result (λ x. led.ReadsBase schema.now reading.low_kind (ahead cursor.entry) (preference_of x.0) (ahead x.1)) }
+    ensures parsed { led.Parses (led.ReadsBase schema.now reading.low_kind (ahead cursor.entry)) (led.FailsBase schema.now reading.low_kind (ahead cursor.entry)) result }
     ensures shorter { IfOk result (λ x. length (ahead x.1) < length (ahead cursor.entry)) }
-    ensures err { IfErr result (λ f. led.FailsBase schema.now reading.low_kind (ahead cursor.entry) f) }
 {
     let (col, rest) = opened_column(schema, cursor, Sign::Right)?;
     Ok((Term::Low { col }, rest))
@@ -120,9 +119,8 @@ fn low<'a>(schema: &Schema, cursor: Cursor<'a>) -> Parsed<'a, Term>
 
 /// Takes what follows `high`.
 fn high<'a>(schema: &Schema, cursor: Cursor<'a>) -> Parsed<'a, Term>
-    ensures ok { IfOk result (λ x. led.ReadsBase schema.now reading.high_kind (ahead cursor.entry) (preference_of x.0) (ahead x.1)) }
+    ensures parsed { led.Parses (led.ReadsBase schema.now reading.high_kind (ahead cursor.entry)) (led.FailsBase schema.now reading.high_kind (ahead cursor.entry)) result }
     ensures shorter { IfOk result (λ x. length (ahead x.1) < length (ahead cursor.entry)) }
-    ensures err { IfErr result (λ f. led.FailsBase schema.now reading.high_kind (ahead cursor.entry) f) }
 {
     let (col, rest) = opened_column(schema, cursor, Sign::Right)?;
     Ok((Term::High { col }, rest))
@@ -130,9 +128,8 @@ fn high<'a>(schema: &Schema, cursor: Cursor<'a>) -> Parsed<'a, Term>
 
 /// Takes what follows `around`.
 fn around<'a>(schema: &Schema, cursor: Cursor<'a>) -> Parsed<'a, Term>
-    ensures ok { IfOk result (λ x. led.ReadsBase schema.now reading.around_kind (ahead cursor.entry) (preference_of x.0) (ahead x.1)) }
+    ensures parsed { led.Parses (led.ReadsBase schema.now reading.around_kind (ahead cursor.entry)) (led.FailsBase schema.now reading.around_kind (ahead cursor.entry)) result }
     ensures shorter { IfOk result (λ x. length (ahead x.1) < length (ahead cursor.entry)) }
-    ensures err { IfErr result (λ f. led.FailsBase schema.now reading.around_kind (ahead cursor.entry) f) }
 {
     let (col, inside) = opened_column(schema, cursor, Sign::Comma)?;
     let (centre, behind) = number(inside)?;
@@ -142,9 +139,8 @@ fn around<'a>(schema: &Schema, cursor: Cursor<'a>) -> Parsed<'a, Term>
 
 /// Takes what follows `between`. The right end of a range is no less than its left end.
 fn between<'a>(schema: &Schema, cursor: Cursor<'a>) -> Parsed<'a, Term>
-    ensures ok { IfOk result (λ x. led.ReadsBase schema.now reading.between_kind (ahead cursor.entry) (preference_of x.0) (ahead x.1)) }
+    ensures parsed { led.Parses (led.ReadsBase schema.now reading.between_kind (ahead cursor.entry)) (led.FailsBase schema.now reading.between_kind (ahead cursor.entry)) result }
     ensures shorter { IfOk result (λ x. length (ahead x.1) < length (ahead cursor.entry)) }
-    ensures err { IfErr result (λ f. led.FailsBase schema.now reading.between_kind (ahead cursor.entry) f) }
 {
     let (col, inside) = opened_column(schema, cursor, Sign::Comma)?;
     let (left, behind) = number(inside)?;
@@ -160,9 +156,8 @@ fn between<'a>(schema: &Schema, cursor: Cursor<'a>) -> Parsed<'a, Term>
 
 /// Takes what follows `pos`.
 fn pos<'a>(alloc: Global, schema: &Schema, cursor: Cursor<'a>) -> Parsed<'a, Term>
-    ensures ok { IfOk result (λ x. led.ReadsBase schema.now reading.pos_kind (ahead cursor.entry) (preference_of x.0) (ahead x.1)) }
+    ensures parsed { led.Parses (led.ReadsBase schema.now reading.pos_kind (ahead cursor.entry)) (led.FailsBase schema.now reading.pos_kind (ahead cursor.entry)) result }
     ensures shorter { IfOk result (λ x. length (ahead x.1) < length (ahead cursor.entry)) }
-    ensures err { IfErr result (λ f. led.FailsBase schema.now reading.pos_kind (ahead cursor.entry) f) }
 {
     let (col, inside) = opened_column(schema, cursor, Sign::Comma)?;
     let (numbers, rest) = numbers(alloc, inside, Sign::Right)?;
@@ -192,9 +187,8 @@ fn sets<'a>(alloc: Global, cursor: Cursor<'a>) -> Parsed<'a, Vec<Numbers>>
 
 /// Takes what follows `layered`.
 fn layered<'a>(alloc: Global, schema: &Schema, cursor: Cursor<'a>) -> Parsed<'a, Term>
-    ensures ok { IfOk result (λ x. led.ReadsBase schema.now reading.layered_kind (ahead cursor.entry) (preference_of x.0) (ahead x.1)) }
+    ensures parsed { led.Parses (led.ReadsBase schema.now reading.layered_kind (ahead cursor.entry)) (led.FailsBase schema.now reading.layered_kind (ahead cursor.entry)) result }
     ensures shorter { IfOk result (λ x. length (ahead x.1) < length (ahead cursor.entry)) }
-    ensures err { IfErr result (λ f. led.FailsBase schema.now reading.layered_kind (ahead cursor.entry) f) }
 {
     let (col, inside) = opened_column(schema, cursor, Sign::Comma)?;
     let (sets, rest) = sets(alloc, inside)?;
@@ -211,9 +205,8 @@ pub(super) fn base_term<'a>(
 ) -> Parsed<'a, Term>
     requires word { taken.token ≡ Word letters }
     requires other { keyword_of letters.now ≡ Some reverse_word → ⊥ }
-    ensures ok { IfOk result (λ x. (depth : ℕ) → led.ReadsUnary schema.now depth (places.taken taken.entry) (preference_of x.0) (ahead x.1)) }
+    ensures parsed { (depth : ℕ) → led.Parses (led.ReadsUnary schema.now depth (places.taken taken.entry)) (led.FailsUnary schema.now depth (places.taken taken.entry)) result }
     ensures shorter { IfOk result (λ x. length (ahead x.1) < length (places.taken taken.entry)) }
-    ensures err { IfErr result (λ f. (depth : ℕ) → led.FailsUnary schema.now depth (places.taken taken.entry) f) }
 {
     match word_of_grammar(letters) {
         Some(Keyword::Low) => low(schema, taken.next),

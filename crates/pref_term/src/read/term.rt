@@ -34,9 +34,8 @@ fn deeper(depth: usize, at: u64) -> Result<usize, TermFault>
 #[cycle(term)]
 fn unary<'a>(alloc: Global, schema: &Schema, depth: usize, cursor: Cursor<'a>) -> Parsed<'a, Term>
     requires { depth ≤ 64 }
-    ensures ok { IfOk result (λ x. led.ReadsUnary schema.now depth (ahead cursor.entry) (preference_of x.0) (ahead x.1)) }
+    ensures parsed { led.Parses (led.ReadsUnary schema.now depth (ahead cursor.entry)) (led.FailsUnary schema.now depth (ahead cursor.entry)) result }
     ensures shorter { IfOk result (λ x. length (ahead x.1) < length (ahead cursor.entry)) }
-    ensures err { IfErr result (λ f. led.FailsUnary schema.now depth (ahead cursor.entry) f) }
 {
     let taken = cursor.take();
     if taken.is(Sign::Minus) {
@@ -63,9 +62,8 @@ fn unary<'a>(alloc: Global, schema: &Schema, depth: usize, cursor: Cursor<'a>) -
 #[cycle(term)]
 fn group<'a>(alloc: Global, schema: &Schema, depth: usize, cursor: Cursor<'a>) -> Parsed<'a, Term>
     requires { depth ≤ 64 }
-    ensures ok { IfOk result (λ x. led.ReadsGroup schema.now depth (ahead cursor.entry) (preference_of x.0) (ahead x.1)) }
+    ensures parsed { led.Parses (led.ReadsGroup schema.now depth (ahead cursor.entry)) (led.FailsGroup schema.now depth (ahead cursor.entry)) result }
     ensures shorter { IfOk result (λ x. length (ahead x.1) < length (ahead cursor.entry)) }
-    ensures err { IfErr result (λ f. led.FailsGroup schema.now depth (ahead cursor.entry) f) }
 {
     let taken = cursor.take();
     if !taken.is(Sign::Left) {
@@ -81,9 +79,8 @@ fn group<'a>(alloc: Global, schema: &Schema, depth: usize, cursor: Cursor<'a>) -
 #[cycle(term)]
 fn product<'a>(alloc: Global, schema: &Schema, depth: usize, cursor: Cursor<'a>) -> Parsed<'a, Term>
     requires { depth ≤ 64 }
-    ensures ok { IfOk result (λ x. led.ReadsProduct schema.now depth (ahead cursor.entry) (preference_of x.0) (ahead x.1)) }
+    ensures parsed { led.Parses (led.ReadsProduct schema.now depth (ahead cursor.entry)) (led.FailsProduct schema.now depth (ahead cursor.entry)) result }
     ensures shorter { IfOk result (λ x. length (ahead x.1) < length (ahead cursor.entry)) }
-    ensures err { IfErr result (λ f. led.FailsProduct schema.now depth (ahead cursor.entry) f) }
 {
     let (mut term, mut place) = unary(alloc, schema, depth, cursor)?;
     loop {
@@ -106,9 +103,8 @@ pub(super) fn prior<'a>(
     cursor: Cursor<'a>,
 ) -> Parsed<'a, Term>
     requires { depth ≤ 64 }
-    ensures ok { IfOk result (λ x. led.ReadsPrior schema.now depth (ahead cursor.entry) (preference_of x.0) (ahead x.1)) }
+    ensures parsed { led.Parses (led.ReadsPrior schema.now depth (ahead cursor.entry)) (led.FailsPrior schema.now depth (ahead cursor.entry)) result }
     ensures shorter { IfOk result (λ x. length (ahead x.1) < length (ahead cursor.entry)) }
-    ensures err { IfErr result (λ f. led.FailsPrior schema.now depth (ahead cursor.entry) f) }
 {
     let (mut term, mut place) = product(alloc, schema, depth, cursor)?;
     loop {
