@@ -1,7 +1,7 @@
 -- What the parts of the reader promise that read what stands around a term, and skyline clauses.
 use Rattle.pref_term.proofs.Common.{◌≡◌, arith, ℕ, List, [], ◌∷◌, ◌++◌, length, map, Bool, true, false, Option, Some, None, Ok, refl, sym, ap, subst, ◌∙◌, append-nil, ◌≢◌, All, IfSome, cond}
-use Rattle.pref_term.proofs.Common.{All-append, comma, Token, word, digits, sign, finish, Placed, Keyword, best_word, top_level_word, at_least_word, by_word, keyword_of, skyline_word, of_word}
-use Rattle.pref_term.proofs.Common.{cased_of, Direction, minimal, maximal, different, direction_word, DimText, HeadText, best_head, top_level_head, at_least_head, PriorText}
+use Rattle.pref_term.proofs.Common.{All-append, comma, Token, word, digits, sign, finish, Placed, best_word, by_word, keyword_of, skyline_word, of_word}
+use Rattle.pref_term.proofs.Common.{cased_of, Direction, minimal, maximal, different, direction_word, DimText, HeadText, best_head, PriorText}
 use Rattle.pref_term.proofs.Common.{AskText, rated, name, mark, column_name, count_digits, cased, last, Names, column_at, mode_of, order_by, group_by, orders_of, groups_of, product_of, bad_count}
 use Rattle.pref_term.proofs.Common.{State, start, operand, whole, in_whole, ranked, group_due, skyline_named, dim_due, dim_named, run, done}
 use Rattle.pref_term.proofs.Common.{directed, begun, of_named, next, meant, Goes, Fails, Passes, IsKnown, IsTermOf, NotNext, IsOther}

@@ -1,10 +1,10 @@
 -- What the parts of the reader that call each other promise.
-use Rattle.pref_term.proofs.Common.{IfErr-weaker, ◌≡◌, ◌<◌, ◌+◌, ℕ, List, ◌∷◌, Bor, Result, true, cond, Some, None, nat_lt, refl, sym, ap, subst, ◌∙◌, arith, ◌≢◌, IfOk, IfErr, IfOk-weaker, nat_tests, Sign}
+use Rattle.pref_term.proofs.Common.{◌≡◌, ◌<◌, ◌+◌, ℕ, List, ◌∷◌, Bor, Result, true, cond, Some, None, nat_lt, refl, sym, ap, subst, ◌∙◌, arith, ◌≢◌, nat_tests, Sign}
 use Rattle.pref_term.proofs.Common.{left, right, star, ampersand, minus, Token, word, sign, Placed, reverse_word, keyword_of, based, reversed, negated, then_factor, PriorText}
 use Rattle.pref_term.proofs.Common.{then_product, name, mark, opens, Names, own_fault, too_deep, unary_meaning, product_meaning, BaseKind, kind_word, named, UnaryHole, in_minus}
 use Rattle.pref_term.proofs.Common.{first_factor, next_factor, next_product, in_group, in_reverse, unary_depth, State, operand, reverse_named, reading, after, completed, ranked, next}
 use Rattle.pref_term.proofs.Common.{operand_word, Goes, Fails, IsOther, Passes, ReadsBase, ReadsUnary, ReadsFactors, ReadsProducts, ReadsProduct, ReadsPrior, ReadsGroup, FailsBase, NotNext, ahead, taken, seen, Unexpected, TooDeep, ◌≤◌}
-use Rattle.pref_term.proofs.Common.{FailsUnary, FailsGroup, FailsProduct, FailsPrior, Parses, grouped, Ok, Err, Preference, pareto, prior, reverse, preference_of, Cursor, Lexeme, Word, Term, TermFault}
+use Rattle.pref_term.proofs.Common.{FailsUnary, FailsGroup, FailsProduct, FailsPrior, Parses, grouped, Ok, Err, Preference, pareto, prior, reverse, Cursor, Lexeme, Word, Term, TermFault}
 use Rattle.pref_term.proofs.GrammarComplete.{ranked_goes_on, ranked_right}
 use Rattle.pref_term.proofs.LedLemmas.{at_place, goes_then, goes_fails, passes_goes, taken_is}
 

@@ -5,7 +5,7 @@ use Rattle.pref_term.proofs.Common.{between_text, Names, UnlessMemory, own_fault
 use Rattle.pref_term.proofs.Common.{low_kind, high_kind, around_kind, pos_kind, centre_of, named, opened, columned, number_due, centred, listed, filled}
 use Rattle.pref_term.proofs.Common.{NumberHole, UnaryHole, State, reading, completed, run, next, between_kind, start_of, end_of, least_of, ranged, range_ended, NumberList, in_pos}
 use Rattle.pref_term.proofs.Common.{closing, list_closed, stepped, seen, ahead, taken, behind_token, Cursor, Lexeme, Digits, Goes, Fails, IsOther, NotNext, Passes, WantsColumn, TakesColumn}
-use Rattle.pref_term.proofs.Common.{ReadsOpened, FailsColumn, FailsOpened, ReadsNumber, ReadsSome, ReadsNumbers, ReadsBase, FailsNumber, FailsNumbers, FailsBase, ReadsEnd}
+use Rattle.pref_term.proofs.Common.{ReadsOpened, FailsColumn, FailsOpened, ReadsNumber, ReadsSome, ReadsNumbers, ReadsBase, FailsNumber, FailsNumbers, FailsBase}
 use Rattle.pref_term.proofs.Common.{FailsEnd, first_place, word_ahead, TermFault, EmptyRange, NumberRange, All, FitsSigned, ◌≢◌, IsErrAnd, IfErr, MatchResult, unwrap_or, int_lt, Option, scored, low}
 use Rattle.pref_term.proofs.Common.{high, around, one_of, between, all_ascii_digits, map-append, All-append, All-cons, All-nil, next_of}
 use Rattle.pref_table.specs.Columns.{column_of}
@@ -113,8 +113,8 @@ number_out_of_range negative ts us ds c fits names h hole = grind (arith)
 below_of : (l : NumberText) (value least : ℤ) (test : Bool) → number_value l ≡ least → int_lt value least ≡ test → below (Some l) value ≡ cond test (Some empty_range) None
 below_of l value least test e f = ap (λ x. cond (int_lt value x) (Some empty_range) None) e ∙ ap (λ b. cond b (Some empty_range) None) f
 
-pub end_read : (ts us : List Placed) (least value : ℤ) → ReadsNumber ts value us → int_lt value least ≡ false → ReadsEnd least ts value us
-end_read ts us least value n above = grind arith
+end_goes : (names : Names) (ts us : List Placed) (least value : ℤ) (n : ReadsNumber ts value us) → int_lt value least ≡ false → (h : UnaryHole) (column : List ℕ) (lower : NumberText) → number_value lower ≡ least → Goes names (reading h (number_due (end_of column lower))) ts (reading h (range_ended column lower n.number)) us
+end_goes names ts us least value n above h column l e = n.goes names h (end_of column l) (ap (below (Some l)) n.value_is ∙ below_of l value least false e above)
 
 pub end_refused : (ts us : List Placed) (least value : ℤ) → ReadsNumber ts value us → int_lt value least ≡ true → FailsEnd least ts (EmptyRange (first_place ts))
 end_refused ts us least value n under names h column l e = n.refused names h (end_of column l) (ap (below (Some l)) n.value_is ∙ below_of l value least true e under)
@@ -228,15 +228,15 @@ start_goes names ts us vs col l r n h = goes_then names _ _ _ ts us vs (r.goes h
 range_goes : (names : Names) (ts us vs ws : List Placed) (col : ℕ) (l : ℤ) (r : ReadsOpened names comma ts col us) (n : ReadsNumber us l vs) → Passes (sign comma) vs ws → (h : UnaryHole) → Goes names (reading h (named between_kind)) ts (reading h (number_due (end_of r.letters n.number))) ws
 range_goes names ts us vs ws col l r n d h = sign_behind names ts vs ws _ _ (reading h (number_due (end_of r.letters n.number))) comma (start_goes names ts us vs col l r n h) d refl
 
-pub between_read : (names : Names) (ts us vs ws xs ys : List Placed) (col : ℕ) (l r : ℤ) → ReadsOpened names comma ts col us → ReadsNumber us l vs → Passes (sign comma) vs ws → ReadsEnd l ws r xs → Passes (sign right) xs ys → ReadsBase names between_kind ts (scored (between col l r)) ys
-between_read names ts us vs ws xs ys col l r o n d m e =
+pub between_read : (names : Names) (ts us vs ws xs ys : List Placed) (col : ℕ) (l r : ℤ) → ReadsOpened names comma ts col us → ReadsNumber us l vs → Passes (sign comma) vs ws → ReadsNumber ws r xs → int_lt r l ≡ false → Passes (sign right) xs ys → ReadsBase names between_kind ts (scored (between col l r)) ys
+between_read names ts us vs ws xs ys col l r o n d m above e =
     record {
       tree = between_text o.letters n.number m.number;
       meaning = ap (λ i. scored (between i (number_value n.number) (number_value m.number))) (column_is names o.letters col o.found.place)
           ∙ (ap (λ v. scored (between col v (number_value m.number))) n.value_is ∙ ap (λ v. scored (between col l v)) m.value_is);
-      known = (o.found.known, (n.fits, m.fits, m.ordered));
+      known = (o.found.known, (n.fits, m.fits, above));
       goes = λ h. sign_behind names ts xs ys _ _ (completed h (based (between_text o.letters n.number m.number))) right
-          (goes_then names _ _ _ ts ws xs (range_goes names ts us vs ws col l o n d h) (m.goes names h o.letters n.number n.value_is)) e refl;
+          (goes_then names _ _ _ ts ws xs (range_goes names ts us vs ws col l o n d h) (end_goes names ws xs l r m above h o.letters n.number n.value_is)) e refl;
     }
 
 pub pos_read : (names : Names) (ts us vs : List Placed) (col : ℕ) (set : List ℤ) → ReadsOpened names comma ts col us → ReadsNumbers right us set vs → ReadsBase names pos_kind ts (scored (one_of col set)) vs
@@ -265,7 +265,7 @@ pub between_right_fails : (names : Names) (ts us vs ws : List Placed) (col : ℕ
 between_right_fails names ts us vs ws col l f r n d m h =
     goes_fails names _ _ ts ws f (range_goes names ts us vs ws col l r n d h) (m names h r.letters n.number n.value_is)
 
-pub between_end_fails : (names : Names) (ts us vs ws xs : List Placed) (col : ℕ) (l r : ℤ) (f : TermFault) → ReadsOpened names comma ts col us → ReadsNumber us l vs → Passes (sign comma) vs ws → ReadsEnd l ws r xs → IsOther (sign right) xs f → FailsBase names between_kind ts f
-between_end_fails names ts us vs ws xs col l r f o n d m e h =
-    goes_fails names _ _ ts xs f (goes_then names _ _ _ ts ws xs (range_goes names ts us vs ws col l o n d h) (m.goes names h o.letters n.number n.value_is))
+pub between_end_fails : (names : Names) (ts us vs ws xs : List Placed) (col : ℕ) (l r : ℤ) (f : TermFault) → ReadsOpened names comma ts col us → ReadsNumber us l vs → Passes (sign comma) vs ws → ReadsNumber ws r xs → int_lt r l ≡ false → IsOther (sign right) xs f → FailsBase names between_kind ts f
+between_end_fails names ts us vs ws xs col l r f o n d m above e h =
+    goes_fails names _ _ ts xs f (goes_then names _ _ _ ts ws xs (range_goes names ts us vs ws col l o n d h) (end_goes names ws xs l r m above h o.letters n.number n.value_is))
     (other_fails names (sign right) xs f _ e (range_closes h o.letters n.number m.number))

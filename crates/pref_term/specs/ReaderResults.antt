@@ -1,13 +1,13 @@
 -- No public contract cites this.
 -- What each part of the reader promises: where reading comes to, or the fault that it reports. (this project)
-use Rattle.std.specs.Prelude.{◌≡◌, ◌≢◌, ◌<◌, ℕ, ℤ, List, [], ◌∷◌, length, All, FitsSigned, IfSome, Bool, true, false, map, Ok, Err, Option, Some, None, int_lt, Result, MatchResult}
+use Rattle.std.specs.Prelude.{◌≡◌, ◌≢◌, ◌<◌, ℕ, ℤ, List, [], ◌∷◌, length, All, FitsSigned, IfSome, Bool, true, map, Ok, Err, Option, Some, None, Result, MatchResult}
 use Rattle.std.specs.Int.{w64}
 use Rattle.std.specs.Str.Parse.{digits_value}
 use Rattle.pref_table.specs.Columns.{column_of}
 use Rattle.pref_term.specs.Token.{left, right, comma, star, ampersand, Token, word, digits, sign, Placed, Sign}
-use Rattle.pref_term.specs.Grammar.{mark, based, grouped, reversed, NumberText, BaseText, UnaryText, ProductText, PriorText, HeadText, DimText, Direction, minimal, maximal, different, direction_word, cased_of, of_word, rated, skyline, column_name, count_digits, layered_text, SetText}
+use Rattle.pref_term.specs.Grammar.{mark, based, grouped, reversed, NumberText, BaseText, UnaryText, ProductText, PriorText, HeadText, DimText, Direction, minimal, maximal, different, direction_word, cased_of, of_word, rated, skyline, column_name, layered_text, SetText}
 use Rattle.pref_term.specs.Spells.{Names, UnlessMemory, number_value, column_at, base_meaning, unary_meaning, product_meaning, prior_meaning, product_of, orders_of, groups_of, below, empty_range, set_value}
-use Rattle.pref_term.specs.Reading.{BaseKind, low_kind, high_kind, BaseStep, after_column, named, NumberHole, next_of, number_due, filled, UnaryHole, ProductHole, PriorHole, whole, in_whole, first_factor, first_product, unary_depth, product_depth, prior_depth, State, start, operand, reverse_named, reading, after, group_due, skyline_named, dim_due, dim_named, completed, ranked, next, run, least_of, end_of, range_ended, stepped, NumberList, closing, list_closed, set_due, with_next, dims_listed, CountKind, count_due}
+use Rattle.pref_term.specs.Reading.{BaseKind, low_kind, high_kind, BaseStep, after_column, named, NumberHole, next_of, number_due, filled, UnaryHole, ProductHole, PriorHole, whole, first_factor, first_product, unary_depth, product_depth, prior_depth, State, start, operand, reverse_named, reading, after, group_due, skyline_named, dim_due, dim_named, completed, ranked, next, run, least_of, end_of, stepped, NumberList, closing, list_closed, set_due, with_next, dims_listed, CountKind, count_due}
 use Rattle.pref_term.specs.Asked.{meant}
 use Rattle.pref_term.specs.Distinct.{plain, says_distinct}
 use Rattle.pref_term.specs.Ahead.{ahead}
@@ -113,14 +113,7 @@ pub record ReadsNumber (ts : List Placed) (value : ℤ) (us : List Placed) : Typ
   pub goes : (names : Names) (h : UnaryHole) (hole : NumberHole) → below (least_of hole) (number_value number) ≡ None → Goes names (reading h (number_due hole)) ts (reading h (filled hole number)) us
   pub refused : (names : Names) (h : UnaryHole) (hole : NumberHole) → below (least_of hole) (number_value number) ≡ Some empty_range → Fails names (reading h (number_due hole)) ts (EmptyRange (first_place ts))
 
--- the right end of a range, which is no less than its left end
-pub record ReadsEnd (least : ℤ) (ts : List Placed) (value : ℤ) (us : List Placed) : Type 0 where
-  pub number : NumberText
-  pub fits : FitsSigned w64 value
-  pub value_is : number_value number ≡ value
-  pub ordered : int_lt value least ≡ false
-  pub goes : (names : Names) (h : UnaryHole) (column : List ℕ) (lower : NumberText) → number_value lower ≡ least → Goes names (reading h (number_due (end_of column lower))) ts (reading h (range_ended column lower number)) us
-
+-- the right end of a range
 abbrev pub FailsEnd : ℤ → List Placed → TermFault → Type 0
 FailsEnd least ts f = (names : Names) (h : UnaryHole) (column : List ℕ) (lower : NumberText) → number_value lower ≡ least → Fails names (reading h (number_due (end_of column lower))) ts f
 

@@ -1,6 +1,6 @@
 use Rattle.pref_term.proofs.Common.{ahead, ReadsBase, FailsEnd, first_place, between_kind, end_of, EmptyRange, ◌≡◌, w64, rules, to_z, of_z, int_lt, ℤ, ap, sym, subst, ◌∙◌, to_z-of_z, scored, between}
 use Rattle.pref_term.proofs.Common.{start_of, refl}
-use Rattle.pref_term.proofs.LedLemmas.{between_read, between_comma_fails, between_right_fails, between_end_fails, end_read, end_refused, fault_exit, goes_fails}
+use Rattle.pref_term.proofs.LedLemmas.{between_read, between_comma_fails, between_right_fails, between_end_fails, end_refused, fault_exit, goes_fails}
 use Rattle.pref_term.proofs.read.base_term.between.Goals as goal
 
 pub returns-in_err-col-clause-parsed : goal.returns-in_err-col-clause-parsed
@@ -34,7 +34,7 @@ returns-in_err-rest-clause-parsed c =
     let l : to_z w64 (of_z w64 left) ≡ left = to_z-of_z w64 left (search rules) in
     let r : to_z w64 (of_z w64 right) ≡ right = to_z-of_z w64 right (search rules) in
     fault_exit _ _ _ c.from_residual-in_err-rest.ensures.1 (between_end_fails c.args.schema.now _ (ahead c.in_ok-col.inside) (ahead c.in_ok-left.behind) (ahead c.in_ok-beside.beside) (ahead c.in_ok-right.end) c.in_ok-col.col left right _ c.in_ok-col.ensures.ok c.in_ok-left.ensures.ok c.in_ok-beside.ensures.ok
-    (end_read _ _ left right c.in_ok-right.ensures.ok (sym (λ i. int_lt (r i) (l i)) ∙ c.if-right-left.false)) c.in_err-rest.ensures.err)
+    c.in_ok-right.ensures.ok (sym (λ i. int_lt (r i) (l i)) ∙ c.if-right-left.false) c.in_err-rest.ensures.err)
 
 pub returns-clause-parsed : goal.returns-clause-parsed
 returns-clause-parsed c =
@@ -46,4 +46,4 @@ returns-clause-parsed c =
     (subst (λ (b : ℤ). ReadsBase c.args.schema.now between_kind (ahead c.args.cursor) (scored (between c.in_ok-col.col left b)) (ahead c.in_ok-rest.rest)) (sym r)
     (between_read c.args.schema.now _ (ahead c.in_ok-col.inside) (ahead c.in_ok-left.behind) (ahead c.in_ok-beside.beside) (ahead c.in_ok-right.end) (ahead c.in_ok-rest.rest) c.in_ok-col.col left right
     c.in_ok-col.ensures.ok c.in_ok-left.ensures.ok c.in_ok-beside.ensures.ok
-    (end_read _ _ left right c.in_ok-right.ensures.ok (sym (λ i. int_lt (r i) (l i)) ∙ c.if-right-left.false)) c.in_ok-rest.ensures.ok))
+    c.in_ok-right.ensures.ok (sym (λ i. int_lt (r i) (l i)) ∙ c.if-right-left.false) c.in_ok-rest.ensures.ok))
