@@ -28,6 +28,13 @@ plan g c left =
 adds_rows : (change : Bool) (lost : Option ℕ) (full some : Bool) (size next_id : ℕ) → adds (cond change (elim lost as (λ _. Outcome) [ Some id ↦ NoRow id | None ↦ cond full (NoRoom size) (cond some (Added next_id) Done) ]) Done) ≡ true → some ≡ true
 adds_rows change lost full some size next_id e = grind (arith)
 
+-- a call that joined is not refused
+pub returns-clause-refused : goal.returns-clause-refused
+returns-clause-refused g c = tt
+
+pub returns-clause-same : goal.returns-clause-same
+returns-clause-same g c = tt
+
 pub returns-in-Err-clause-refused : goal.returns-in-Err-clause-refused
 returns-in-Err-clause-refused g c =
     let o = g.J.BoardBrand.opening in
