@@ -1,5 +1,5 @@
-//! How searches for an entry of the last level that dominates a new one went lately. Any numbers are right: they only say which entry is asked
-//! first, and whether a search is worth while.
+//! How looks for an entry of the last level that dominates a new one went since that level was found. Any numbers are right: they only say
+//! which entry is asked first, and whether a look is worth while.
 
 ghost use Rattle.std.specs.Prelude.{◌<◌, All};
 
@@ -12,37 +12,56 @@ const SLOTS: usize = 1024;
 /// 2^64 divided by the golden ratio, to the nearest odd number: the upper bits of a product with it distinguish values well.
 const GOLDEN: u64 = 0x9E37_79B9_7F4A_7C15;
 
-/// Of so many searches that are counted, the older half is forgotten.
-const COUNTED: u32 = 256;
+/// So many tries are made before they are judged.
+const JUDGED: usize = 64;
 
-/// So many searches are made before they are judged.
-const JUDGED: u32 = 64;
+/// Where fewer than one in so many tries find something, no more are made.
+const SELDOM: usize = 8;
 
-/// Where fewer than one in so many searches find something, it is seldom.
-const SELDOM: u32 = 8;
+/// Tries of one kind: how many were made, and how many of them found something.
+#[derive(Clone, Copy)]
+pub(crate) struct Tries {
+    made: usize,
+    found: usize,
+}
 
-/// Then each so many-th search is made.
-const TRIED: u32 = 16;
+impl Tries {
+    /// None yet.
+    fn none() -> Tries {
+        Tries { made: 0, found: 0 }
+    }
 
-/// The searches that were made lately, and what they found.
+    /// Whether more are to be made.
+    pub(crate) fn are_worthwhile(&self) -> bool {
+        self.made < JUDGED || self.found >= self.made / SELDOM
+    }
+
+    /// Notes that so many were made, and so many found something.
+    pub(crate) fn note(&mut self, made: usize, found: usize) {
+        self.made = self.made.saturating_add(made);
+        self.found = self.found.saturating_add(found);
+    }
+}
+
+/// What was tried since the last level was found.
 #[derive(Drop)]
 pub(crate) struct Lately {
     /// For each slot the one of the last level that is asked first.
     which: Vec<usize>,
-    searches: u32,
-    found: u32,
-    left_out: u32,
+    /// Looks at new entries: they find those that are below the cut.
+    pub(crate) looks: Tries,
+    /// Searches for another one than the one that is asked first.
+    pub(crate) searches: Tries,
 }
 
 impl Lately {
-    /// No search yet, with a number for each of many groups, or for one.
+    /// Nothing yet, with a number for each of many groups, or for one.
     pub(crate) fn of(alloc: Global, groups: &[usize]) -> Result<Lately, AllocError> {
         let slots = if groups.is_empty() { 1 } else { SLOTS };
         Ok(Lately {
             which: vec![in alloc; 0_usize; slots]?,
-            searches: 0,
-            found: 0,
-            left_out: 0,
+            looks: Tries::none(),
+            searches: Tries::none(),
         })
     }
 
@@ -68,27 +87,19 @@ impl Lately {
         }
     }
 
-    /// Whether the next search is to be made.
-    pub(crate) fn is_worthwhile(&mut self) -> bool {
-        if self.searches < JUDGED || self.found >= self.searches / SELDOM {
-            return true;
+    /// Notes what a search for a slot found.
+    pub(crate) fn note_search(&mut self, slot: usize, found: Option<usize>) {
+        self.searches.note(1, usize::from(found.is_some()));
+        if let Some(which) = found
+            && slot < self.which.len()
+        {
+            self.which[slot] = which;
         }
-        self.left_out = self.left_out.wrapping_add(1) % TRIED;
-        self.left_out == 0
     }
 
-    /// Notes what a search for a slot found.
-    pub(crate) fn note(&mut self, slot: usize, found: Option<usize>) {
-        if self.searches >= COUNTED {
-            self.searches /= 2;
-            self.found /= 2;
-        }
-        self.searches = self.searches.saturating_add(1);
-        if let Some(which) = found {
-            self.found = self.found.saturating_add(1);
-            if slot < self.which.len() {
-                self.which[slot] = which;
-            }
-        }
+    /// Begins anew, since another last level was found.
+    pub(crate) fn begin(&mut self) {
+        self.looks = Tries::none();
+        self.searches = Tries::none();
     }
 }

@@ -1,6 +1,6 @@
 //! Entries in the order of a question's keys: new ones are merged into those that are in order.
 
-ghost use Rattle.std.specs.Prelude.{◌≡◌, ◌<◌, ◌≤◌, ◌+◌, ◌++◌, ◌^◌, true, false, length, map, take, drop, IfOk, OnOk};
+ghost use Rattle.std.specs.Prelude.{◌≡◌, ◌<◌, ◌≤◌, ◌+◌, ◌++◌, ◌^◌, true, false, length, map, take, drop, List, IfOk, OnOk};
 ghost use Rattle.pref_sky.specs.Held.{AreLevelsBehind, AreTakenOver};
 ghost use Rattle.pref_sky.specs.OwnOrders.{AreInOrder, AreSorted, comes_before};
 ghost use Rattle.pref_sky.specs.Members.{Among};
@@ -43,8 +43,10 @@ fn count_before(order: &OwnOrder, entries: &[Entry], entry: &Entry) -> usize
 }
 
 /// Puts entries behind others, each by itself: for so long an element that is faster than `extend_from_slice`.
-fn push_all(all: &mut Vec<Entry>, entries: &[Entry]) -> Result<(), AllocError>
-    ensures { OnOk result (all.new.items ≡ all.old.items ++ entries.now) }
+/// Where it is out of memory, some of them.
+pub(crate) fn push_all(all: &mut Vec<Entry>, entries: &[Entry]) -> Result<(), AllocError>
+    ensures all { OnOk result (all.new.items ≡ all.old.items ++ entries.now) }
+    ensures some { (pushed : List Entry) × (all.new.items ≡ all.old.items ++ pushed) }
 {
     for entry in entries {
         all.push(copy_of(entry))?;

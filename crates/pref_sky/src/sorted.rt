@@ -13,7 +13,7 @@ use crate::grouped::compare_groups;
 use crate::item::Item;
 use crate::lately::Lately;
 use crate::lead::Lead;
-use crate::merging::{Merged, merge_all};
+use crate::merging::{Merged, merge_all, push_all};
 use crate::own_order::OwnOrder;
 use crate::ranking::{drop_below, in_order_of_level};
 use crate::sweep::find_levels;
@@ -174,25 +174,34 @@ impl Pruned {
         if self.dominates(self.lately.at(slot), entry) {
             return true;
         }
-        if !self.lately.is_worthwhile() {
+        if !self.lately.searches.are_worthwhile() {
             return false;
         }
         let found = self.find_over(entry);
-        self.lately.note(slot, found);
+        self.lately.note_search(slot, found);
         found.is_some()
     }
 
-    /// Puts the entries that are not seen to be below the cut behind the recent ones. Where it is out of memory, some of them.
+    /// Puts the entries that are not seen to be below the cut behind the recent ones: all of them where hardly any of those that came before
+    /// was seen to be. Where it is out of memory, some of them.
     fn keep_others(&mut self, recent: &mut Vec<Entry>, entries: &[Entry]) -> Result<(), AllocError>
         ensures same { (self.new.order ≡ self.old.order) × (self.new.entries ≡ self.old.entries) }
         ensures kept { (kept : List Entry) × (recent.new.items ≡ recent.old.items ++ kept)
             × OnOk result (HoldsUpper self.old.order self.old.entries.items entries.now kept) }
     {
+        if !self.lately.looks.are_worthwhile() {
+            return push_all(recent, entries);
+        }
+        let held = recent.len();
         for entry in entries {
             if !self.is_seen_below(entry) {
                 recent.push(copy_of(entry))?;
             }
         }
+        let kept = recent.len().saturating_sub(held);
+        self.lately
+            .looks
+            .note(entries.len(), entries.len().saturating_sub(kept));
         Ok(())
     }
 
@@ -255,6 +264,7 @@ impl Pruned {
         self.scales = scales;
         self.entries = entries;
         self.levels = levels;
+        self.lately.begin();
         recent.clear();
         Ok(())
     }

@@ -26,7 +26,7 @@ loop-entry-preserved c =
     let there : e ≡ get_or coming place e = ap (λ (x : Bor Entry). x.now) c.entry-item.is ∙ sym (get_or-map (λ (x : Bor Entry). x.now) lent place c.entry-item.result e c.loop-entry-test.true) in
     let later = drop (place + 1) coming in
     let inv = c.loop-entry.invariant in
-    let new : c.push.new.self.items ≡ (all ++ front) ++ e ∷ [] = (c.in_ok-push.ensures {u = tt}).items ∙ (ap (λ x. c.push_all.new.all.items ++ x ∷ []) c.copy_of.ensures ∙ ap (λ l. l ++ e ∷ []) (c.in_ok-push_all.ensures {u = tt})) in
+    let new : c.push.new.self.items ≡ (all ++ front) ++ e ∷ [] = (c.in_ok-push.ensures {u = tt}).items ∙ (ap (λ x. c.push_all.new.all.items ++ x ∷ []) c.copy_of.ensures ∙ ap (λ l. l ++ e ∷ []) (c.in_ok-push_all.ensures.all)) in
     let whole : c.push.new.self.items ++ back ≡ (all ++ front) ++ e ∷ back = ap (λ l. l ++ back) new ∙ append_assoc (all ++ front) (e ∷ []) back in
     let next : drop place coming ≡ e ∷ later = drop_more coming place e inside ∙ ap (λ x. x ∷ later) (sym there) in
     let ordered : AreInOrder order (e ∷ later) =
@@ -61,7 +61,7 @@ returns-clause-sorted c =
     let inv = c.loop-entry.invariant in
     let lent = c.args.coming.now in
     let coming = map (λ (e : Bor Entry). e.now) lent in
-    let all = sym (c.in_ok-push_all-2.ensures {u = tt}) in
+    let all = sym (c.in_ok-push_all-2.ensures.all) in
     record {
       moved = subst (λ l. IsPermutation (c.args.sorted.now ++ l) c.push_all-2.new.all.items) (take_all c.loop-entry.entry-index coming (omega (arith, length-map lent (λ (e : Bor Entry). e.now)))) (subst (IsPermutation (c.args.sorted.now ++ take c.loop-entry.entry-index coming)) all inv.moved);
       in_order = subst (AreInOrder c.args.order.now) all inv.sorted;
@@ -72,7 +72,7 @@ returns-clause-held c =
     let inv = c.loop-entry.invariant in
     let left = c.loop-entry.rest.now in
     let held = c.args.sorted.now in
-    subst (λ l. AreTakenOver held c.args.levels.now l c.push_levels-2.new.found.items) (sym (c.in_ok-push_all-2.ensures {u = tt}))
+    subst (λ l. AreTakenOver held c.args.levels.now l c.push_levels-2.new.found.items) (sym (c.in_ok-push_all-2.ensures.all))
     (taken_on held c.args.levels.now c.loop-entry.all.items c.loop-entry.held.items inv.long inv.taken left c.push_levels-2.new.found.items c.loop-entry.next (omega (arith, inv.next))
     (stretch_is held left left [] c.loop-entry.next inv.rest (sym (append-nil left))) (c.in_ok-push_levels-2.ensures {u = tt}))
 
