@@ -1,7 +1,7 @@
 -- The names that the proofs of this crate share, passed on from one place. Declares nothing.
 pub use Rattle.std.proofs.Common.{◌&&◌, ◌+◌, ◌++◌, ◌-◌, ◌/◌, ◌<◌, ◌==◌, Bool, Bor, Err, Global, List, Ok, Ordering, Result, Vec, [], ◌^◌, add-one, ap, append-nil, append_assoc, arith, cond, drop}
 pub use Rattle.std.proofs.Common.{drop_of_length-le, eq-eqb, eqb, false, filter, get_or, get_or-set_other, get_or-set_same, inl, inr, is_ok, leb, length, length-append, length-drop, length-take, ltb}
-pub use Rattle.std.proofs.Common.{map, max, nat_lt, not, pos, refl, rules, set, subst, suc, sym, take, true, vec_len, w64, zero, ◌||◌, ℕ, ℤ, ◌∙◌, ◌∷◌, ◌≡◌, ◌≤◌, ◌⊎◌}
+pub use Rattle.std.proofs.Common.{map, max, nat_lt, not, pos, refl, rules, set, subst, suc, sym, take, true, vec_len, zero, ◌||◌, ℕ, ℤ, ◌∙◌, ◌∷◌, ◌≡◌, ◌≤◌, ◌⊎◌}
 pub use Rattle.std.proofs.Math.Seq.{drop-append_seam, drop-cons, get_or-append_seam, take-append_seam, take-length}
 pub use Rattle.std.proofs.lemmas.Bool.{and_from, and_parts, and_right, both_ways, cases_Bool, cases_eq, cases_lt, cond-false, cond-true, cond_both, eqb-false, eqb-true, false_from_ne_true, false≢true}
 pub use Rattle.std.proofs.lemmas.Bool.{le-ltb, lt-ltb, ltb-false, ltb-true, not-true, not_from_false, or_cases, or_from}
@@ -16,18 +16,18 @@ pub use Rattle.std.proofs.lemmas.List.Sorted.{All-permutation, Contains-permutat
 pub use Rattle.std.proofs.lemmas.List.Sorted.{IsPartitionPoint-from_clause, IsPartitionedBy-leb, IsPartitionedBy-ltb, IsPermutation-append_right, IsPermutation-cons, IsPermutation-map}
 pub use Rattle.std.proofs.lemmas.List.Sorted.{IsPermutation-middle, IsPermutation-refl, IsPermutation-swap, IsPermutation-sym, IsPermutation-to_front, IsPermutation-trans, sorted_far}
 pub use Rattle.std.proofs.lemmas.List.Sorted.{sum_by-IsPermutation}
-pub use Rattle.std.proofs.lemmas.List.Sums.{count_by-le-length, length-filter, sum_by-append, sum_by-cons, sum_by-le-sum_by, sum_by-swap_remove, sum_by-take-drop, sum_by_push}
+pub use Rattle.std.proofs.lemmas.List.Sums.{count_by-le-length, length-filter, sum_by-append, sum_by-cons, sum_by-le-sum_by, sum_by-take-drop, sum_by_push}
 pub use Rattle.std.proofs.lemmas.Result.{IfOk-weaker}
 pub use Rattle.std.specs.Fn.{Called}
-pub use Rattle.std.specs.List.{count_by, flat_map, items_where_true, list_any, sum_by, swap_remove}
+pub use Rattle.std.specs.List.{count_by, flat_map, items_where_true, list_any, sum_by}
 pub use Rattle.std.specs.List.Sorted.{IsNonDecreasingBy, IsPartitionPoint, IsPartitionedBy, IsPermutation, IsSortedBy, IsSortedByClosure, IsSortedByKeyClosure}
 pub use Rattle.std.specs.Ordering.{int_eq, is_lt, nat_cmp, ordering_then}
-pub use Rattle.std.specs.Prelude.{All, IfSome, OnOk, bit_and, int_lt, min, slice_set}
+pub use Rattle.std.specs.Prelude.{All, IfSome, OnOk, int_lt, min, slice_set}
 pub use Rattle.pref_sky.specs.Answers.{answer_of, at_least, count_before, count_upto, selected}
-pub use Rattle.pref_sky.specs.Best.{IsAntichain, best, is_beaten, rest, without_best}
+pub use Rattle.pref_sky.specs.Best.{best, is_beaten, rest, without_best}
 pub use Rattle.pref_sky.specs.Levels.{HaveDifferentIds, at_level, entry_of, entry_order, held_after, in_order_of_id, levels, put_by_id}
 pub use Rattle.pref_sky.specs.Members.{Among}
-pub use Rattle.pref_sky.specs.Passes.{IsClear, IsMet, IsDecided, Parted, Passes, Passing, Sifted}
+pub use Rattle.pref_sky.specs.Passes.{IsClear, IsThere, Passing}
 pub use Rattle.pref_sky.specs.declared.entry.Entry.{Entry}
 pub use Rattle.pref_sky.specs.declared.entry.Ranked.{Ranked}
 pub use Rattle.pref_sky.specs.declared.item.Item.{Item}
@@ -42,6 +42,6 @@ pub use Rattle.pref_term.specs.declared.ask.Mode.TheVariants.{AtLeast, Best, Top
 pub use denote.Param.Members.{Mut}
 pub use Rattle.pref_sky.specs.Chains.{IsChain, IsInOrder, are_level, better_in, by_row, comes_first, earlier_in, in_turn}
 pub use Rattle.pref_sky.specs.OwnOrders.{AreInOrder, AreLeveled, AreLowest, AreSorted, HoldsUpper, comes_after, comes_before, count_above, is_below, level_of, own_levels, own_order}
-pub use Rattle.pref_sky.specs.Items.{AreItems, IsItem, entries_at, entry_at, is_word, item_order, signature_by}
+pub use Rattle.pref_sky.specs.Items.{IsItem, entry_at}
 pub use Rattle.pref_sky.specs.Partials.{KeepsAllBut, ranked_upto}
 pub use Rattle.pref_sky.specs.declared.own_order.OwnOrder.{OwnOrder}

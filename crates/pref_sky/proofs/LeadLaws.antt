@@ -5,7 +5,6 @@ use Rattle.pref_sky.proofs.Common.{All, AreInOrder, Among, Entry, IsChain, OwnOr
 use Rattle.pref_sky.proofs.Common.{entry_at, get_or, in_same_group, in_turn, is_better, is_same, is_worse}
 use Rattle.pref_sky.proofs.Common.{order_of, order_of_stays_in_groups, own_order}
 use Rattle.pref_sky.proofs.ChainLaws.{chain_in_turn, chain_of_entries, earlier_chain, keys_chain, same_group, same_in, worse_in}
-use Rattle.pref_sky.proofs.ItemsLaws.{suit_tells}
 use Rattle.pref_sky.proofs.ListLaws.{among_place}
 use Rattle.pref_sky.proofs.OwnOrders.{own_is_strict, stands_behind}
 use Rattle.pref_sky.specs.ChosenChains.{LeadAmong, SameInProduct}
@@ -257,7 +256,7 @@ module _ (order : OwnOrder) (lead : Lead) (entries : List Entry) (leads : LeadAm
   -- so where the scales suit the question
   pub signs_by_suit : Suit (order_of order.ask) lead.scales → Signs
   unfolding Signs
-  signs_by_suit suit a b m n same h = suit_tells (order_of order.ask) lead.scales suit a b h
+  signs_by_suit suit a b m n same h = grind (arith, h, suit.over a.row b.row, suit.twin a.row b.row)
 
   -- and where they are by the keys that are behind the chains that lead it, and the product of these is the same
   pub signs_behind : (all : List (List Key)) (keys : List Key) → Leads order.ask all keys → SameInProduct entries all (chains_of lead) → All (IsBy keys) lead.scales → Signs

@@ -4,8 +4,7 @@ use Rattle.pref_sky.proofs.Common.{cases_lt, cond-true, cond-false, Entry, count
 use Rattle.pref_sky.proofs.Common.{IsPermutation, IsSortedBy, cond, nat_tests, sorted_far, sum_by-IsPermutation, IsStrictOrder, OwnOrder, Ranked, best, rest}
 use Rattle.pref_sky.proofs.Common.{own_levels, own_order, level_of, HaveDifferentIds, at_level, entry_of, levels, nat_lt, ranked_upto, AreSorted, eqb, comes_after}
 use Rattle.pref_sky.proofs.IdOrder.{Differ, in_order_if_sorted, same_if_in_order}
-use Rattle.pref_sky.proofs.ItemsLaws.{count_map}
-use Rattle.pref_sky.proofs.ListLaws.{count_filter, count_filtered, from_filter, from_map, in_filter, in_map, SameMembers, same_if_permuted}
+use Rattle.pref_sky.proofs.ListLaws.{count_filter, count_filtered, count_map, from_filter, from_map, in_filter, in_map, SameMembers, same_if_permuted}
 use Rattle.pref_sky.proofs.Merges.{HoldsLevels, held_all, held_within, early_stays, on_level}
 use Rattle.pref_sky.proofs.OwnOrders.{own_is_strict}
 use Rattle.pref_sky.proofs.Ranks.{from_upto, levels_upto_is, ranks_are_ordered, ranks_before, upto_rises}

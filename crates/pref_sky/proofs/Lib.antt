@@ -2,7 +2,6 @@ pub mod Common
 pub mod IdOrder
 pub mod Merges
 pub mod PassesLaws
-pub mod ItemsLaws
 pub mod LevelLaws
 pub mod Worked
 pub mod ListLaws

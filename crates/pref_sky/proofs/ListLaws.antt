@@ -1,11 +1,11 @@
 -- What is among a list, what tests keep and count of it, where it is cut, and lists in an order.
 use Rattle.pref_sky.proofs.Common.{◌≡◌, ℕ, suc, zero, ◌<◌, Bool, true, false, cond, ◌⊎◌, inl, inr, List, [], ◌∷◌, ◌++◌, refl, sym, ◌∙◌, ap, subst, arith, filter, get_or, length, map, list_any, All}
-use Rattle.pref_sky.proofs.Common.{false≢true, ◌≤◌, ◌+◌, ◌&&◌, count_by, and_parts, length-filter, sum_by-cons, sum_by-le-sum_by, eqb, eq-eqb}
-use Rattle.pref_sky.proofs.Common.{sum_by, and_from, Item, Among, nil_from_length, take, take_more, drop, take-append_seam, drop-append_seam, append-nil, get_or-drop, filter_more}
+use Rattle.pref_sky.proofs.Common.{false≢true, ◌≤◌, ◌+◌, ◌&&◌, count_by, and_parts, length-filter, sum_by-cons, sum_by-le-sum_by}
+use Rattle.pref_sky.proofs.Common.{sum_by, count_by-le-length, Among, take, take_more, drop, take-append_seam, drop-append_seam, append-nil, get_or-drop, filter_more}
 use Rattle.pref_sky.proofs.Common.{IsPermutation-sym, Contains-permutation, IsPermutation, IsPartitionPoint, length-take, length-drop, get_or-take, take-append-drop, filter-append, get_or_default}
 use Rattle.pref_sky.proofs.Common.{IsNonDecreasingBy, sum_by-append, not, append_assoc, IsPartitionedBy, cases_lt, IsPermutation-cons, IsPermutation-middle, IsPermutation-to_front}
 use Rattle.pref_sky.proofs.Common.{IsPermutation-trans, IsChain, IsInOrder, Bor, Called, IsSortedBy, IsSortedByKeyClosure, Mut, always_returns_same, is_lt, nat_cmp, ordering_then}
-use Rattle.std.proofs.lemmas.List.Folds.{list_any_at, list_any_none}
+use Rattle.std.proofs.lemmas.List.Folds.{fold-map, list_any_at, list_any_none}
 pub use Rattle.pref_sky.specs.Members.{Among, SameMembers}
 
 -- what stands at a place of a list is among it
@@ -41,6 +41,9 @@ in_filter p (y ∷ ys) x m t = grind (arith, in_filter p ys x)
 pub from_filter : {E : Type 0} (p : E → Bool) (xs : List E) (x : E) → Among x (filter p xs) → Among x xs × (p x ≡ true)
 from_filter p [] x m = absurd m
 from_filter p (y ∷ ys) x m = grind (arith, from_filter p ys x)
+
+pub filter_shorter : {E : Type 0} (p : E → Bool) (xs : List E) → length (filter p xs) ≤ length xs
+filter_shorter p xs = omega (arith, length-filter p xs, count_by-le-length p xs)
 
 -- two tests that agree among a list keep the same of it
 pub filter_agree_among : {E : Type 0} (p q : E → Bool) (xs : List E) → ((x : E) → Among x xs → p x ≡ q x) → filter p xs ≡ filter q xs
@@ -130,9 +133,6 @@ same_list same = record { there = λ x. subst (Among x) same; back = λ x. subst
 pub same_sym : {E : Type 0} {xs ys : List E} → SameMembers xs ys → SameMembers ys xs
 same_sym same = record { there = same.back; back = same.there }
 
-pub same_then : {E : Type 0} {xs ys zs : List E} → SameMembers xs ys → SameMembers ys zs → SameMembers xs zs
-same_then a b = record { there = λ x m. b.there x (a.there x m); back = λ x m. a.back x (b.back x m) }
-
 pub same_beside : {E : Type 0} (xs ys zs : List E) → SameMembers xs ys → SameMembers (xs ++ zs) (ys ++ zs)
 same_beside xs ys zs same = grind (arith, in_either xs zs, in_left ys zs, in_right ys zs, in_either ys zs, in_left xs zs, in_right xs zs)
 
@@ -152,6 +152,9 @@ count_filtered p q xs = grind (arith, length-filter p (filter q xs), filter_filt
 pub count_filter : {E : Type 0} (p q : E → Bool) (xs : List E) → count_by p (filter q xs) ≤ count_by p xs
 count_filter p q xs = omega (arith, count_filtered p q xs, count_and p q xs)
 
+pub count_map : {E F : Type 0} (f : E → F) (p : F → Bool) (xs : List E) → count_by p (map f xs) ≡ count_by (λ x. p (f x)) xs
+count_map f p xs = fold-map (λ n y. n + cond (p y) 1 0) f 0 xs
+
 -- two tests of which an entry passes one at most, and then a third
 pub count_both : {E : Type 0} (p q r : E → Bool) (xs : List E) → ((x : E) → cond (p x) 1 0 + cond (q x) 1 0 ≤ cond (r x) 1 0) → count_by p xs + count_by q xs ≤ count_by r xs
 count_both p q r [] each = omega arith
@@ -162,32 +165,9 @@ pub count_split : {E : Type 0} (p q r : E → Bool) (xs : List E) → ((x : E) �
 count_split p q r [] each = omega arith
 count_split p q r (x ∷ xs) each = grind (arith, count_split p q r xs each, count_cons p x xs, count_cons q x xs, count_cons r x xs)
 
-abbrev same_item : Item → Item → Bool
-same_item x y = eqb x.signature y.signature && eqb x.place y.place
-
--- counts one item
-abbrev pub is_item : Item → Item → ℕ
-is_item x y = cond (same_item x y) 1 0
-
-pub some_of : (x : Item) (xs : List Item) → Among x xs → 0 < sum_by (is_item x) xs
-some_of x xs m = one_passes (same_item x) xs x m (and_from (eqb x.signature x.signature) (eqb x.place x.place) (eq-eqb x.signature x.signature refl) (eq-eqb x.place x.place refl))
-
-pub among_or : (x : Item) (xs : List Item) → Among x xs ⊎ (sum_by (is_item x) xs ≡ 0)
-among_or x [] = inr refl
-among_or x (y ∷ ys) = grind (arith, among_or x ys)
-
-pub among_if : (x : Item) (xs : List Item) → 0 < sum_by (is_item x) xs → Among x xs
-among_if x xs some = elim (among_or x xs) [ inl m ↦ m | inr none ↦ absurd (omega (arith, some, none)) ]
-
-pub none_by : {E : Type 0} (f : E → ℕ) (xs : List E) → length xs ≡ 0 → sum_by f xs ≡ 0
-none_by f xs none = ap (sum_by f) (nil_from_length xs none)
-
 pub sum_by-ones : {E : Type 0} (xs : List E) → sum_by (λ _. 1) xs ≡ length xs
 sum_by-ones [] = refl
 sum_by-ones (x ∷ xs) = omega (arith, sum_by-cons (λ _. 1) x xs, sum_by-ones xs)
-
-pub long_by : {E : Type 0} (xs ys zs : List E) → ((f : E → ℕ) → sum_by f xs + sum_by f ys ≡ sum_by f zs) → length xs + length ys ≡ length zs
-long_by xs ys zs bag = omega (arith, bag (λ _. 1), sum_by-ones xs, sum_by-ones ys, sum_by-ones zs)
 
 -- the front of a list, with one more
 pub front_more : {E : Type 0} (xs : List E) (i : ℕ) (x : E) → i < length xs → x ≡ get_or xs i x → take (i + 1) xs ≡ take i xs ++ x ∷ []

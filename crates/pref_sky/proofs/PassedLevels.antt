@@ -1,20 +1,40 @@
--- Levels found one after the other, each from what the levels before leave, in whatever order that is.
-use Rattle.pref_sky.proofs.Common.{◌≡◌, ℕ, zero, suc, ◌≤◌, Bool, not, inl, inr, List, [], ◌∷◌, refl, ◌∙◌, ap, arith, append-nil, cases_lt}
-use Rattle.pref_sky.proofs.Common.{Entry, HaveDifferentIds, best, is_beaten, rest, without_best, in_order_of_id, levels}
-use Rattle.pref_sky.specs.Members.{SameMembers}
-use Rattle.pref_sky.proofs.IdOrder.{same_in_order}
-use Rattle.pref_sky.proofs.Merges.{different_best, different_filter}
-use Rattle.pref_sky.proofs.SortedLevels.{best_of_same}
+-- Levels found one after the other, each from what the levels before leave: the entries without those that have an id of the best.
+use Rattle.pref_sky.proofs.Common.{◌≡◌, ◌==◌, ℕ, zero, suc, ◌≤◌, Bool, true, not, inl, inr, List, [], ◌∷◌, refl, sym, ◌∙◌, ap, arith, filter, list_any, append-nil, cases_lt, get_or, IsNonDecreasingBy, ltb, ltb-true, eqb-true, eq-eqb}
+use Rattle.pref_sky.proofs.Common.{Among, Entry, HaveDifferentIds, best, is_beaten, rest, without_best, in_order_of_id, levels, both_ways, cases_Bool, false_from_ne_true, not-true, subst}
+use Rattle.pref_sky.proofs.IdOrder.{among_in_order, different_later, different_tail, from_in_order, rises_in_order}
+use Rattle.pref_sky.proofs.ListLaws.{any_from, any_none, filter_agree_among, from_filter, in_filter, in_order_at}
+use Rattle.pref_sky.proofs.Merges.{different_filter}
 
--- the next level is the best of what is left
-pub next_level : (over : Entry → Entry → Bool) (all left : List Entry) (n : ℕ) → HaveDifferentIds all → HaveDifferentIds left → SameMembers left (rest over all n) → in_order_of_id (best over left) ≡ in_order_of_id (best over (rest over all n))
-next_level over all left n all_differ left_differ same =
-    same_in_order (best over left) (best over (rest over all n)) (different_filter (λ e. not (is_beaten over left e)) left left_differ) (different_best over all n all_differ) (best_of_same over left (rest over all n) same)
+pub rest_differ : (over : Entry → Entry → Bool) (all : List Entry) (n : ℕ) → HaveDifferentIds all → HaveDifferentIds (rest over all n)
+rest_differ over all zero different = different
+rest_differ over all (suc n) different = different_filter (is_beaten over (rest over all n)) (rest over all n) (rest_differ over all n different)
 
--- what has no members is empty
-pub none_left : {E : Type 0} (xs : List E) → SameMembers [] xs → xs ≡ []
-none_left [] same = refl
-none_left (x ∷ xs) same = absurd (same.back x (inl refl))
+pub ids_rise : (xs : List Entry) → HaveDifferentIds xs → IsNonDecreasingBy (λ (e : Entry). e.id) (in_order_of_id xs)
+ids_rise xs different i j d le inside =
+    elim (cases_lt i j) [
+      | inl less ↦ omega (arith, ltb-true _ _ (in_order_at (λ (e x : Entry). ltb e.id x.id) (in_order_of_id xs) i j d (rises_in_order xs different) less inside))
+      | inr past ↦ let same : i ≡ j = omega (arith, le, past) in omega (arith, ap (λ k. (get_or (in_order_of_id xs) k d).id) same)
+    ]
+
+-- there is one entry with an id
+one_by_id : (xs : List Entry) → HaveDifferentIds xs → (x y : Entry) → Among x xs → Among y xs → x.id ≡ y.id → x ≡ y
+one_by_id [] different x y mx my same = absurd mx
+one_by_id (z ∷ zs) different x y mx my same =
+    let later = different_later (λ (e : Entry). e.id) z zs different.once in
+    grind (arith, one_by_id zs (record { once = different_tail (λ (e : Entry). e.id) z zs different.once }) x y)
+
+-- what has no id of the best is dominated
+pub without_ids : (over : Entry → Entry → Bool) (xs : List Entry) → HaveDifferentIds xs → filter (λ e. not (list_any (λ (b : Entry). b.id == e.id) (in_order_of_id (best over xs)))) xs ≡ without_best over xs
+without_ids over xs different =
+    let top = in_order_of_id (best over xs) in
+    let is_best : Entry → Bool = λ x. not (is_beaten over xs x) in
+    filter_agree_among (λ e. not (list_any (λ (b : Entry). b.id == e.id) top)) (is_beaten over xs) xs (λ x m.
+    elim (cases_Bool (is_beaten over xs x)) [
+      | inl beaten ↦ ap not (any_none (λ (b : Entry). b.id == x.id) top (λ b mb.
+          let was = from_filter is_best xs b (from_in_order (best over xs) b mb) in
+          false_from_ne_true (b.id == x.id) (λ same. both_ways (is_beaten over xs x) (not-true (is_beaten over xs x) (subst (λ y. is_best y ≡ true) (one_by_id xs different b x was.0 m (eqb-true b.id x.id same)) was.1)) beaten))) ∙ sym beaten
+      | inr unbeaten ↦ ap not (any_from (λ (b : Entry). b.id == x.id) top x (among_in_order (best over xs) x (in_filter is_best xs x m (ap not unbeaten))) (eq-eqb x.id x.id refl)) ∙ sym unbeaten
+    ])
 
 none_later : (over : Entry → Entry → Bool) (all : List Entry) (n m : ℕ) → rest over all n ≡ [] → n ≤ m → rest over all m ≡ []
 none_later over all n zero none le = let same : 0 ≡ n = omega arith in ap (rest over all) same ∙ none

@@ -1,117 +1,166 @@
--- The steps of passes, and what they keep true: nothing is lost, each pass settles more, what goes to the rest is dominated, and what is early at the end of a pass is best.
-use Rattle.pref_sky.proofs.Common.{◌≡◌, ℕ, ◌<◌, ◌≤◌, ◌+◌, Bool, true, false, inl, inr, List, [], ◌∷◌, ◌++◌, length, sym, ◌∙◌, ap, arith, append-nil, append_assoc, get_or, swap_remove, IsPermutation}
-use Rattle.pref_sky.proofs.Common.{sum_by-IsPermutation, sum_by-cons, sum_by-append, sum_by-swap_remove, Item, IsAntichain, IsClear}
-use Rattle.pref_sky.proofs.Common.{Sifted, Among, cond, ◌⊎◌, refl, length-append, sum_by, both_ways, false_from_ne_true, IsStrictOrder, is_beaten, Parted, Passing, nil_from_length}
-use Rattle.std.specs.List.{AllWithin}
-use Rattle.pref_sky.proofs.ListLaws.{in_either, any_from, any_gives, from_filter, in_filter, among_if, among_or, is_item, long_by, none_by, some_of, sum_by-ones}
+-- The steps of passes, and what they keep true: no entry is lost that none dominates, and what is early at the end of a pass is best.
+use Rattle.pref_sky.proofs.Common.{◌≡◌, ℕ, ◌<◌, ◌+◌, Bool, true, false, not, inl, inr, refl, List, [], ◌∷◌, ◌++◌, length, filter, sym, subst, ◌∙◌, ap, arith, cond, ◌⊎◌, nat_lt, length-append}
+use Rattle.pref_sky.proofs.Common.{append-nil, ltb-true, ltb-false, both_ways, cases_Bool, not-true, false_from_ne_true, nil_from_length, Among, Entry, IsClear, IsStrictOrder, IsThere, Passing, best, is_beaten}
+use Rattle.pref_sky.specs.Windows.{WindowState, joined, not_below, window_at_begin, window_entries, Offers}
+use Rattle.pref_sky.specs.declared.window.Offer.{Offer}
+use Rattle.pref_sky.specs.declared.window.Offer.TheVariants.{Dropped, Joined, Overflow}
+use Rattle.pref_sky.proofs.ListLaws.{SameMembers, any_from, any_gives, count_append, count_cons, count_filter, filter_shorter, from_filter, in_either, in_filter, in_left, in_right}
 use Rattle.pref_sky.proofs.Merges.{unbeaten_over}
 
--- the first so many of a list are clear
-abbrev pub AreClear : {E : Type 0} → (E → E → Bool) → List E → E → ℕ → Type 0
-AreClear over xs e n = AllWithin (λ x. (over x e ≡ false) × (over e x ≡ false)) xs 0 n
-
--- nothing went out so far
-pub sifted_none : {over : Item → Item → Bool} {e : Item} {old : List Item} (rest : List Item) → Sifted over e old old rest rest
-sifted_none rest = record { gone = []; behind = sym (append-nil rest); bag = λ f. omega arith; below = λ x m. absurd m }
-
--- one more goes out, that the item dominates: the last one takes its place
-pub sifted_more : {over : Item → Item → Bool} {e : Item} {old held start rest held_now rest_now : List Item} → Sifted over e old held start rest → (i : ℕ) (x : Item) → i < length held → x ≡ get_or held i x → over e x ≡ true
-    → held_now ≡ swap_remove held i x → rest_now ≡ rest ++ x ∷ [] → Sifted over e old held_now start rest_now
-sifted_more {over = over} {e = e} {old = old} {held = held} {start = start} {rest = rest} s i x inside is above left out =
-    let more : Sifted over e old (swap_remove held i x) start (rest ++ x ∷ []) = record {
-      gone = s.gone ++ x ∷ [];
-      behind = ap (λ l. l ++ x ∷ []) s.behind ∙ append_assoc start s.gone (x ∷ []);
-      bag = λ f. omega (arith, s.bag f, sum_by-swap_remove f held i x inside, ap f is, sum_by-append f s.gone (x ∷ []), sum_by-cons f x []);
-      below = λ y m. elim (in_either s.gone (x ∷ []) y m) [ inl a ↦ s.below y a | inr b ↦ elim b [ inl this ↦ ap (over e) this ∙ above | inr void ↦ absurd void ] ];
-    } in
-    rw (left, out) more
-
--- what was asked place by place stays so where the last one is moved to a later place
-pub clear_after_move : {E : Type 0} (over : E → E → Bool) (xs ys : List E) (e : E) (n long : ℕ) → n < long
-    → ((k : ℕ) (d : E) → (k ≡ n → ⊥) → k + 1 < long → get_or ys k d ≡ get_or xs k d)
-    → AreClear over xs e n → AreClear over ys e n
-clear_after_move over xs ys e n long inside same each k d from below = grind (arith)
-
--- two of the list change places
-pub sifted_moved : {over : Item → Item → Bool} {e : Item} {old held start rest : List Item} (moved : List Item) → IsPermutation held moved → Sifted over e old held start rest → Sifted over e old moved start rest
-sifted_moved {held = held} moved permuted s = grind (arith, sum_by-IsPermutation)
+-- none of a list that does not beat an entry dominates it
+unbeaten_by : {E : Type 0} (over : E → E → Bool) (xs : List E) (e x : E) → is_beaten over xs e ≡ false → Among x xs → over x e ≡ false
+unbeaten_by over xs e x none m = false_from_ne_true (over x e) (λ h. both_ways (is_beaten over xs e) none (any_from (λ y. over y e) xs x m h))
 
 -- what is among a list with one more
 or_last : {E : Type 0} (xs : List E) (e x : E) → Among x (xs ++ e ∷ []) → Among x xs ⊎ (x ≡ e)
 or_last xs e x m = elim (in_either xs (e ∷ []) x m) [ inl old ↦ inl old | inr new ↦ elim new [ inl same ↦ inr same | inr none ↦ absurd none ] ]
 
-module _ {over : Item → Item → Bool} {window : ℕ} {input best : List Item} {before : ℕ} {left early late overflow rest : List Item} {e : Item} (p : Passing over window input best (e ∷ left) before early late overflow rest) where
-  pub early_apart : IsAntichain over early
-  early_apart x y mx my = p.apart x y (inr (inl mx)) (inr (inl my))
+none_below : (n : ℕ) → nat_lt 0 n ≡ false → n ≡ 0
+none_below n h = omega (arith, ltb-false 0 n h)
 
-  pub late_apart : IsAntichain over late
-  late_apart x y mx my = p.apart x y (inr (inr mx)) (inr (inr my))
+is_last : {E : Type 0} (xs : List E) (e : E) → Among e (xs ++ e ∷ [])
+is_last xs e = in_right xs (e ∷ []) e (inl refl)
 
-  -- what the next item dominates went out of the window
-  pub pass_sifted : {early_now late_now more most : List Item} → Sifted over e early early_now rest more → Sifted over e late late_now more most → Passing over window input best (e ∷ left) before early_now late_now overflow most
-  pass_sifted {early_now = early_now} {late_now = late_now} {more = more} {most = most} s t =
-      let first : (f : Item → ℕ) → sum_by f more ≡ sum_by f rest + sum_by f s.gone = λ f. ap (sum_by f) s.behind ∙ sum_by-append f rest s.gone in
-      let second : (f : Item → ℕ) → sum_by f most ≡ sum_by f more + sum_by f t.gone = λ f. ap (sum_by f) t.behind ∙ sum_by-append f more t.gone in
-      let early_less : length early_now + length s.gone ≡ length early = long_by early_now s.gone early s.bag in
-      let late_less : length late_now + length t.gone ≡ length late = long_by late_now t.gone late t.bag in
-      let longer : length most ≡ (length rest + length s.gone) + length t.gone = grind (arith, length-append more t.gone, length-append rest s.gone) in
-      grind (arith, among_if e input, is_item e, some_of e (e ∷ left) (inl refl), among_if, some_of, any_from)
+-- an entry joins the early ones where nothing overflowed so far, and else the late ones
+abbrev Joins : (early late overflow : List Entry) → Entry → (early_now late_now : List Entry) → Type 0
+Joins early late overflow e early_now late_now = ((early_now ≡ early ++ e ∷ []) × (late_now ≡ late) × (length overflow ≡ 0)) ⊎ ((early_now ≡ early) × (late_now ≡ late ++ e ∷ []) × (0 < length overflow))
 
-  -- the next item is dominated by one of the window
-  pub pass_dropped : ((is_beaten over early e ≡ true) ⊎ (is_beaten over late e ≡ true)) → Passing over window input best left before early late overflow (rest ++ e ∷ [])
-  pass_dropped beaten = grind (arith, length-append rest (e ∷ []), sum_by-cons, sum_by-append, any_gives, among_if, some_of, any_from)
+joins_from : (best early late overflow left : List Entry) (e : Entry) (early_now late_now : List Entry) → Joins early late overflow e early_now late_now → (x : Entry) → IsThere best early_now late_now overflow left x → IsThere best early late overflow (e ∷ left) x
+joins_from best early late overflow left e early_now late_now joins x there = grind (arith, or_last early e x, or_last late e x)
+
+joins_to : (best early late overflow left : List Entry) (e : Entry) (early_now late_now : List Entry) → Joins early late overflow e early_now late_now → (x : Entry) → IsThere best early late overflow (e ∷ left) x → IsThere best early_now late_now overflow left x
+joins_to best early late overflow left e early_now late_now joins x there = grind (arith, in_left early (e ∷ []) x, in_left late (e ∷ []) x, is_last early e, is_last late e)
+
+module _ {over : Entry → Entry → Bool} {all best : List Entry} {begun : ℕ} {window : WindowState} {overflow left : List Entry} {e : Entry} (p : Passing over all best begun window overflow (e ∷ left)) where
+  offered_within : Among e all
+  offered_within = p.within e (inr (inr (inr (inr (inl refl)))))
+
+  -- one of the window dominates the next entry
+  pass_dropped : is_beaten over (window_entries window) e ≡ true → Passing over all best begun window overflow left
+  pass_dropped beaten =
+      let by = any_gives (λ x. over x e) (window_entries window) beaten in
+      let is : is_beaten over all e ≡ true = any_from (λ x. over x e) all by.0 (p.within by.0 (elim (in_either window.early window.late by.0 by.1) [ inl early ↦ inr (inl early) | inr late ↦ inr (inr (inl late)) ])) by.2 in
+      grind (arith, count_cons)
 
   -- it overflows: the window is full
-  pub pass_overflows : (IsClear over early e) → (length late ≡ 0 → window ≤ length early) → Passing over window input best left before early late (overflow ++ e ∷ []) rest
-  pass_overflows is_clear full = grind (arith, sum_by-cons, sum_by-append, length-append overflow (e ∷ []), or_last overflow e)
+  pass_overflows : is_beaten over (window_entries window) e ≡ false → not_below over e (window_entries window) ≡ window_entries window → length (window_entries window) ≡ window.size
+      → Passing over all best begun (record window { overflowed = true }) (overflow ++ e ∷ []) left
+  pass_overflows unbeaten none_below full =
+      let above : (x : Entry) → Among x window.early → (over x e ≡ false) × (over e x ≡ false) = λ x m.
+      let there = in_left window.early window.late x m in (
+        unbeaten_by over (window_entries window) e x unbeaten there,
+        grind (arith, from_filter (λ w. not (over e w)) (window_entries window) x),
+      ) in
+      grind (arith, count_cons, count_append, length-append, or_last overflow e, is_last overflow e, in_left overflow (e ∷ []))
 
-  -- it joins the window: the early ones where nothing overflowed so far, and else the late ones
-  pub pass_joined : {early_now late_now : List Item} → IsStrictOrder over → (IsClear over early e × IsClear over late e) → length early + length late < window
-      → ((early_now ≡ early ++ e ∷ []) × (late_now ≡ late) × (length overflow ≡ 0)) ⊎ ((early_now ≡ early) × (late_now ≡ late ++ e ∷ []) × (0 < length overflow)) → Passing over window input best left before early_now late_now overflow rest
-  pass_joined {early_now = early_now} {late_now = late_now} strict is_clear room joined = grind (arith, sum_by-append, length-append early (e ∷ []), length-append late (e ∷ []), or_last early e, or_last late e, sum_by-cons, nil_from_length overflow)
+  -- what it dominates goes out
+  pass_sifted : Passing over all best begun (record { size = window.size; early = not_below over e window.early; late = not_below over e window.late; overflowed = window.overflowed }) overflow (e ∷ left)
+  pass_sifted =
+      let test : Entry → Bool = λ x. not (over e x) in
+      let shorter = filter_shorter test in
+      let stays : (xs : List Entry) (x : Entry) → Among x xs → is_beaten over all x ≡ false → Among x (filter test xs) = λ xs x m none. in_filter test xs x m (ap not (unbeaten_by over all x e none offered_within)) in
+      let was : (xs : List Entry) (x : Entry) → Among x (filter test xs) → Among x xs = λ xs x m. (from_filter test xs x m).0 in
+      record {
+        counts = λ q. omega (arith, p.counts q, count_filter q test window.early, count_filter q test window.late);
+        within = λ x there. p.within x (elim there [
+          | inl a ↦ inl a
+          | inr rest ↦ inr (elim rest [ inl a ↦ inl (was window.early x a) | inr rest ↦ inr (elim rest [ inl a ↦ inl (was window.late x a) | inr rest ↦ inr rest ]) ])
+        ]);
+        kept = λ x m none. elim (p.kept x m none) [
+          | inl a ↦ inl a
+          | inr rest ↦ inr (elim rest [ inl a ↦ inl (stays window.early x a none) | inr rest ↦ inr (elim rest [ inl a ↦ inl (stays window.late x a none) | inr rest ↦ inr rest ]) ])
+        ];
+        apart = grind (arith, was);
+        settled = grind (arith, was);
+        met = p.met;
+        overflowed = p.overflowed;
+        fresh = λ none. omega (arith, p.fresh none, shorter window.late);
+        room = p.room;
+        fits = omega (arith, p.fits, shorter window.early, shorter window.late);
+        falls = λ some. omega (arith, p.falls some, shorter window.late);
+      }
 
-module _ {over : Item → Item → Bool} {window : ℕ} {input best : List Item} {before : ℕ} {left early late overflow rest : List Item} (p : Passing over window input best left before early late overflow rest) where
-  pub pass_long : length best + length early + length late + length overflow + length left + length rest ≡ length input
-  pass_long = grind (arith, sum_by-ones best, sum_by-ones early, sum_by-ones late, sum_by-ones overflow, sum_by-ones left, sum_by-ones rest, sum_by-ones input)
+  -- it joins the window, of which it is clear
+  pass_joins : {early late : List Entry} → IsStrictOrder over → IsClear over window.early e → IsClear over window.late e → Joins window.early window.late overflow e early late
+      → Passing over all best begun (record { size = window.size; early = early; late = late; overflowed = window.overflowed }) overflow left
+  pass_joins {early = early} {late = late} strict early_clear late_clear joins =
+      let IsHeld : Entry → Type 0 = λ x. Among x best ⊎ (Among x window.early ⊎ Among x window.late) in
+      let was : (x : Entry) → Among x best ⊎ (Among x early ⊎ Among x late) → IsHeld x ⊎ (x ≡ e) = λ x m. grind (arith, or_last window.early e x, or_last window.late e x) in
+      let clear : (x : Entry) → IsHeld x → (over x e ≡ false) × (over e x ≡ false) = λ x m.
+      elim m [ inl top ↦ let met = p.met x top e (inl refl) in (met.1, met.0) | inr held ↦ elim held [ inl early ↦ early_clear x early | inr late ↦ late_clear x late ] ] in
+      let apart : (x y : Entry) → Among x best ⊎ (Among x early ⊎ Among x late) → Among y best ⊎ (Among y early ⊎ Among y late) → over x y ≡ false = λ x y mx my.
+      elim (was x mx) [
+        | inl a ↦ elim (was y my) [ inl b ↦ p.apart x y a b | inr is ↦ ap (over x) is ∙ (clear x a).0 ]
+        | inr is ↦ ap (λ v. over v y) is ∙ elim (was y my) [ inl b ↦ (clear y b).1 | inr also ↦ ap (over e) also ∙ strict.irreflexive e ]
+      ] in
+      grind (arith, apart, count_append, count_cons, length-append window.early (e ∷ []), length-append window.late (e ∷ []), or_last window.early e, joins_from best window.early window.late overflow left e early late joins, joins_to best window.early window.late overflow left e early late joins, nil_from_length overflow)
 
-  -- what holds of lists holds of the same ones
-  pub passing_same : {best_now left_now early_now late_now overflow_now rest_now : List Item} → best_now ≡ best → left_now ≡ left → early_now ≡ early → late_now ≡ late → overflow_now ≡ overflow → rest_now ≡ rest
-      → Passing over window input best_now left_now before early_now late_now overflow_now rest_now
-  passing_same b l e t o r = rw (b, l, e, t, o, r) p
+module _ {over : Entry → Entry → Bool} {all best : List Entry} {begun : ℕ} {window : WindowState} {overflow left : List Entry} {e : Entry} (p : Passing over all best begun window overflow (e ∷ left)) (strict : IsStrictOrder over) where
+  -- nothing held dominates it: it takes the place of what it dominates
+  pass_joined : is_beaten over (window_entries window) e ≡ false → Passing over all best begun (joined over window e) overflow left
+  pass_joined unbeaten =
+      let test : Entry → Bool = λ x. not (over e x) in
+      let early : List Entry = filter test window.early in
+      let late : List Entry = filter test window.late in
+      let apart : (x : Entry) → Among x (window_entries window) → over x e ≡ false = λ x m. unbeaten_by over (window_entries window) e x unbeaten m in
+      let early_clear : IsClear over early e = λ x m. let was = from_filter test window.early x m in (apart x (in_left window.early window.late x was.0), not-true (over e x) was.1) in
+      let late_clear : IsClear over late e = λ x m. let was = from_filter test window.late x m in (apart x (in_right window.early window.late x was.0), not-true (over e x) was.1) in
+      elim (cases_Bool window.overflowed) [
+        | inl late_now ↦ pass_joins (pass_sifted p) strict early_clear late_clear (inr (
+          ap (λ b. early ++ cond b [] (e ∷ [])) late_now ∙ append-nil early,
+          ap (λ b. late ++ cond b (e ∷ []) []) late_now,
+          ltb-true 0 (length overflow) (sym p.overflowed ∙ late_now),
+        ))
+        | inr early_now ↦ pass_joins (pass_sifted p) strict early_clear late_clear (inl (
+          ap (λ b. early ++ cond b [] (e ∷ [])) early_now,
+          ap (λ b. late ++ cond b (e ∷ []) []) early_now ∙ append-nil late,
+          none_below (length overflow) (sym p.overflowed ∙ early_now),
+        ))
+      ]
 
-module _ {over : Item → Item → Bool} {window : ℕ} {input best : List Item} {before : ℕ} {early late overflow rest : List Item} (p : Passing over window input best [] before early late overflow rest) where
-  -- a pass ends: what is early is best
-  pub pass_ends : 0 < window → Passing over window input (best ++ early) overflow (length rest) late [] [] rest
-  pass_ends some = grind (arith, sum_by-append, in_either best early)
+  -- the window drops the next entry, or takes it in
+  pub pass_stays : {new : WindowState} (offer : Offer) → (offer ≡ Joined) ⊎ (offer ≡ Dropped) → Offers over window e offer new → Passing over all best begun new overflow left
+  pass_stays {new = new} offer is offered =
+      elim is [
+        | inl is ↦ let so = subst (λ o. Offers over window e o new) is offered in subst (λ w. Passing over all best begun w overflow left) (sym so.1) (pass_joined so.0)
+        | inr is ↦ let so = subst (λ o. Offers over window e o new) is offered in subst (λ w. Passing over all best begun w overflow left) (sym so.1) (pass_dropped p so.0)
+      ]
 
-  -- more is settled at the end of a pass than at its begin
-  pub more_settled : length best + before < length input → length best + before < length best + length early + length rest
-  more_settled some = grind (arith, pass_long p)
+  -- or it overflows
+  pub pass_more : {new : WindowState} (offer : Offer) → offer ≡ Overflow → Offers over window e offer new → Passing over all best begun new (overflow ++ e ∷ []) left
+  pass_more {new = new} offer is offered =
+      let so = subst (λ o. Offers over window e o new) is offered in
+      subst (λ w. Passing over all best begun w (overflow ++ e ∷ []) left) (sym so.3) (pass_overflows p so.0 so.1 so.2)
 
--- all passes begin with an empty window
-pub passes_begin : (over : Item → Item → Bool) (window : ℕ) (items : List Item) → 0 < window → Passing over window items [] items 0 [] [] [] []
-passes_begin over window items room = grind (arith)
+-- what is there at the end of a pass
+moves_on : (top early late overflow : List Entry) (x : Entry) → IsThere top early late overflow [] x → IsThere (top ++ early) late [] [] overflow x
+moves_on top early late overflow x there =
+    elim there [
+      | inl a ↦ inl (in_left top early x a)
+      | inr rest ↦ elim rest [
+        | inl a ↦ inl (in_right top early x a)
+        | inr rest ↦ inr (elim rest [
+          | inl a ↦ inl a
+          | inr rest ↦ inr (inr (inr (elim rest [ inl a ↦ a | inr none ↦ absurd none ])))
+        ])
+      ]
+    ]
 
--- all passes end: the best are found, and the others are the rest
-pub passes_end : {over : Item → Item → Bool} {window : ℕ} {items top left : List Item} {before : ℕ} {early late overflow rest : List Item} → IsStrictOrder over → length left ≡ 0 → length early ≡ 0 → length late ≡ 0 → length overflow ≡ 0
-    → Passing over window items top left before early late overflow rest → Parted over items top rest
-passes_end {over = over} {items = items} {top = top} {left = left} {early = early} {late = late} {overflow = overflow} {rest = rest} strict left_none early_none late_none overflow_none p =
-    let bag : (f : Item → ℕ) → sum_by f top + sum_by f rest ≡ sum_by f items = grind (arith, none_by) in
-    let covers : (x : Item) → Among x items → Among x top ⊎ Among x rest = grind (arith, among_or, some_of) in
-    let within : (x : Item) → Among x top ⊎ Among x rest → Among x items = λ x m. among_if x items (elim m [ inl a ↦ omega (arith, bag (is_item x), some_of x top a) | inr b ↦ omega (arith, bag (is_item x), some_of x rest b) ]) in
-    let unbeaten : (x : Item) → Among x top → is_beaten over items x ≡ false =
-    λ x m. false_from_ne_true (is_beaten over items x) (λ h.
-    let over_all = unbeaten_over over strict (λ _. true) items x h in
-    elim (covers over_all.0 over_all.1) [
-      | inl a ↦ both_ways (over over_all.0 x) (p.apart over_all.0 x (inl a) (inl m)) over_all.3
-      | inr b ↦ both_ways (is_beaten over items over_all.0) over_all.4 (p.beaten over_all.0 b)
-    ]) in
-    record {
-      best_are = grind (arith, in_filter, from_filter);
-      others_are =
-          record {
-            there = λ x m. in_filter (is_beaten over items) items x (within x (inr m)) (p.beaten x m);
-            back = grind (arith, from_filter);
-          };
-      bag = λ q. bag (λ y. cond (q y) 1 0);
-    }
+-- a pass ends: what is early is best, and what overflowed comes next
+pub pass_ends : {over : Entry → Entry → Bool} {all top : List Entry} {begun : ℕ} {window : WindowState} {overflow : List Entry} → Passing over all top begun window overflow []
+    → Passing over all (top ++ window.early) (length window.late + length overflow) (window_at_begin window.size window.late) [] overflow
+pass_ends {top = top} {window = window} {overflow = overflow} p = grind (arith, moves_on top window.early window.late overflow, count_append, in_either top window.early)
+
+-- there is less to do then
+pub pass_falls : {over : Entry → Entry → Bool} {all top : List Entry} {begun : ℕ} {window : WindowState} {overflow : List Entry} → Passing over all top begun window overflow [] → 0 < begun → length window.late + length overflow < begun
+pass_falls p some = grind (arith)
+
+-- all passes end: the best are found
+pub passes_end : {over : Entry → Entry → Bool} {all top : List Entry} {begun : ℕ} {window : WindowState} → IsStrictOrder over → length window.early ≡ 0 → length window.late ≡ 0 → Passing over all top begun window [] [] → SameMembers top (best over all)
+passes_end {over = over} {all = all} {top = top} {window = window} strict early_none late_none p =
+    let found : (x : Entry) → Among x all → is_beaten over all x ≡ false → Among x top = λ x m none. grind (arith, p.kept x m none, nil_from_length window.early early_none, nil_from_length window.late late_none) in
+    let unbeaten : (x : Entry) → Among x top → is_beaten over all x ≡ false =
+    λ x m. false_from_ne_true (is_beaten over all x) (λ h.
+    let above = unbeaten_over over strict (λ _. true) all x h in
+    both_ways (over above.0 x) (p.apart above.0 x (inl (found above.0 above.1 above.4)) (inl m)) above.3) in
+    grind (arith, in_filter, from_filter)

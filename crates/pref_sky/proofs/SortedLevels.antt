@@ -1,28 +1,14 @@
 -- Lists with the same members have the same best, and entries that others are over change nothing of these. Lists with the same levels up to a cut, where the ids differ of what is of these: what is below may be left out, and may be there twice.
-use Rattle.pref_sky.proofs.Common.{◌≡◌, ◌≤◌, ◌+◌, Bool, true, not, inl, inr, List, ◌++◌, sym, ◌∙◌, ap, arith, eqb, count_by, IsStrictOrder, Entry, best, is_beaten}
-use Rattle.pref_sky.proofs.Common.{without_best, HaveDifferentIds, in_order_of_id, Among, false, filter}
+use Rattle.pref_sky.proofs.Common.{◌≡◌, ◌≤◌, ◌+◌, Bool, true, not, inl, inr, List, ◌++◌, sym, ◌∙◌, ap, arith, eqb, count_by, IsStrictOrder, Entry, best}
+use Rattle.pref_sky.proofs.Common.{HaveDifferentIds, in_order_of_id, Among, false, filter}
 use Rattle.pref_sky.proofs.Common.{ℕ, zero, suc, ◌&&◌, ◌⊎◌, [], ◌∷◌, map, refl, subst, append_assoc, ◌==◌, OwnOrder, rest, is_below, own_levels, own_order, entry_of}
 use Rattle.pref_sky.proofs.Common.{levels, HoldsUpper}
-use Rattle.pref_sky.proofs.ListLaws.{SameMembers, any_from, any_gives, in_either, in_left, in_right, same_answer, same_kept, count_append, count_and}
+use Rattle.pref_sky.proofs.ListLaws.{in_either, in_left, in_right, count_append, count_and}
 use Rattle.pref_sky.proofs.ListLaws.{count_filtered, count_split, count_within, count_cons}
 use Rattle.pref_sky.proofs.IdOrder.{count_in_order}
 use Rattle.pref_sky.proofs.Merges.{comes_after, comes_after_less, comes_after_among_more, best_of_rest_is, early_stays, same_chains, HoldsLevels, held_all, held_more, held_within}
 use Rattle.pref_sky.proofs.Merges.{is_at, same_by_level}
 use Rattle.pref_sky.proofs.OwnOrders.{own_is_strict}
-
--- what is beaten by more
-pub beaten_by_more : (over : Entry → Entry → Bool) (some all : List Entry) (e : Entry) → ((x : Entry) → Among x some → Among x all) → is_beaten over some e ≡ true → is_beaten over all e ≡ true
-beaten_by_more over some all e within h = let w = any_gives (λ x. over x e) some h in any_from (λ x. over x e) all w.0 (within w.0 w.1) w.2
-
-pub same_beaten : (over : Entry → Entry → Bool) (xs ys : List Entry) → SameMembers xs ys → (e : Entry) → is_beaten over xs e ≡ is_beaten over ys e
-same_beaten over xs ys same e = same_answer (is_beaten over xs e) (is_beaten over ys e) (beaten_by_more over xs ys e same.there) (beaten_by_more over ys xs e same.back)
-
--- the best of lists with the same members
-pub best_of_same : (over : Entry → Entry → Bool) (xs ys : List Entry) → SameMembers xs ys → SameMembers (best over xs) (best over ys)
-best_of_same over xs ys same = grind (arith, same_kept, same_beaten over xs ys same)
-
-pub without_of_same : (over : Entry → Entry → Bool) (xs ys : List Entry) → SameMembers xs ys → SameMembers (without_best over xs) (without_best over ys)
-without_of_same over xs ys same = grind (arith, same_kept (is_beaten over xs) (is_beaten over ys) xs ys, same_beaten over xs ys same)
 
 pub different_by_count : (xs ys zs : List Entry) → HaveDifferentIds (xs ++ ys) → ((p : Entry → Bool) → count_by p zs ≤ count_by p xs + count_by p ys) → HaveDifferentIds zs
 different_by_count xs ys zs different fewer = record { once = λ id. omega (arith, different.once id, fewer (λ (e : Entry). eqb e.id id), count_append (λ (e : Entry). eqb e.id id) xs ys) }

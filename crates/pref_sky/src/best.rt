@@ -1,71 +1,51 @@
 //! The best entries of a list, by block-nested-loops (Börzsönyi, Kossmann, Stocker 2001).
+//!
+//! ```text
+//! A window of two, and the entries a b c d, of which d dominates b:
+//!
+//!             early    late    overflow
+//! a and b     a b
+//! c           a b              c           the window is full
+//! d           a        d       c           d joined after c overflowed: these two have not met
+//! end         a is best: it has met all that overflowed
+//!
+//! next pass   d                            its input is c
+//! c           d c
+//! end         d and c are best
+//! ```
+//!
+//! The late ones stay in the window, where what overflowed meets them.
 
-ghost use Rattle.std.specs.Prelude.{◌≡◌, ◌<◌, ◌≤◌, Bool, All, length, IfOk};
-ghost use Rattle.std.specs.List.{count_by};
-ghost use Rattle.pref_sky.specs.Best.{best, without_best};
-ghost use Rattle.pref_sky.specs.Items.{entries_at};
+ghost use Rattle.std.specs.Prelude.{◌≡◌, ◌<◌, ◌≤◌, [], ℕ, List, length, IfOk};
+ghost use Rattle.pref_sky.specs.Best.{best};
 ghost use Rattle.pref_sky.specs.Levels.{HaveDifferentIds, entry_order, in_order_of_id};
-ghost use Rattle.pref_sky.specs.Members.{SameMembers};
+ghost use Rattle.pref_sky.specs.Passes.{Passing};
 ghost use Rattle.pref_sky.specs.declared.entry.Entry.{Entry};
-ghost use Rattle.pref_sky.specs.declared.item.Item.{Item};
 
 use crate::entry::Entry;
-use crate::item::Item;
-use crate::passes::best_and_rest;
-use crate::signatures::{items_of, scales_by};
+use crate::window::{Offer, Window};
 use pref_term::Dominance;
 use std::alloc::{AllocError, Global};
 
-/// The entries of a list that none of it dominates, in order of id, the others, in no order, and the number of passes.
-#[derive(Drop)]
-pub(crate) struct Parts {
-    pub(crate) best: Vec<Entry>,
-    pub(crate) others: Vec<Entry>,
-    pub(crate) passes: u64,
-}
-
-/// The entries of these items.
-fn entries_of_items(
-    alloc: Global,
-    entries: &[Entry],
-    items: &[Item],
-) -> Result<Vec<Entry>, AllocError>
-    requires { All (λ (item : Item). item.place < length entries.now) items.now }
-    ensures { IfOk result (λ taken. taken.items ≡ entries_at entries.now items.now) }
-{
-    let mut taken = Vec::with_capacity(alloc, items.len())?;
-    for item in items {
-        taken.push(entries[item.place])?;
-    }
-    Ok(taken)
-}
-
-/// Parts entries into the best and the others, by passes with a window of so many entries.
-pub(crate) fn part<D: Dominance>(
+/// Offers entries to a window in order. Gives those that overflow.
+fn offer_all<D: Dominance>(
     alloc: Global,
     dominance: &D,
-    window: usize,
+    window: &mut Window,
     entries: &[Entry],
-) -> Result<Parts, AllocError>
-    requires window { 0 < window }
-    requires ids { HaveDifferentIds entries.now }
-    ensures best { IfOk result (λ parts. parts.best.items ≡ in_order_of_id (best (entry_order (D.order dominance.now)) entries.now)) }
-    ensures others { IfOk result (λ parts. SameMembers parts.others.items (without_best (entry_order (D.order dominance.now)) entries.now)) }
-    ensures counts { IfOk result (λ parts. (p : Entry → Bool) → count_by p parts.others.items ≤ count_by p entries.now) }
-    ensures passes { IfOk result (λ parts. parts.passes ≤ length entries.now) }
-    ensures some_pass { IfOk result (λ parts. 0 < length entries.now → 0 < parts.passes) }
+) -> Result<Vec<Entry>, AllocError>
+    ensures { IfOk result (λ overflow. (all best : List Entry) (begun : ℕ)
+        → Passing (entry_order (D.order dominance.now)) all best begun window.old [] entries.now
+        → Passing (entry_order (D.order dominance.now)) all best begun window.new overflow.items []) }
 {
-    let scales = scales_by(alloc, dominance, entries)?;
-    let items = items_of(alloc, &scales, entries)?;
-    let found = best_and_rest(alloc, dominance, window, entries, &items)?;
-    let mut best = entries_of_items(alloc, entries, &found.best)?;
-    best.sort_unstable_by_key(|entry| entry.id);
-    let others = entries_of_items(alloc, entries, &found.rest)?;
-    Ok(Parts {
-        best,
-        others,
-        passes: found.passes,
-    })
+    let mut overflow = Vec::new(alloc);
+    for entry in entries {
+        match window.offer(dominance, *entry) {
+            Offer::Overflow => overflow.push(*entry)?,
+            Offer::Joined | Offer::Dropped => {}
+        }
+    }
+    Ok(overflow)
 }
 
 /// The entries that no entry dominates, in order of id, and the number of passes.
@@ -74,9 +54,9 @@ pub(crate) fn part<D: Dominance>(
 /// what overflows is the next pass's input. At the end of a pass the entries that were compared with
 /// all that overflowed are returned as best and leave the window. The list doesn't depend on `window`.
 ///
-/// Cost: for each entry of a pass one comparison with each entry of the window at most; one pass where nothing
-/// overflows, none where there is no entry, and no more passes than entries. Memory: some 60 bytes for each entry, and the answer.
-/// `Err` is out of memory.
+/// Cost: for each entry of a pass at most two comparisons with each entry of the window; one pass where nothing
+/// overflows, none where there is no entry, and no more passes than entries. Memory: 136 bytes for each entry, up to 272 for each of the
+/// window and for each that overflows, and the answer. `Err` is out of memory.
 pub fn best_rows_passes<D: Dominance>(
     alloc: Global,
     dominance: &D,
@@ -89,8 +69,18 @@ pub fn best_rows_passes<D: Dominance>(
     ensures passes { IfOk result (λ found. found.1 ≤ length entries.now) }
     ensures some_pass { IfOk result (λ found. 0 < length entries.now → 0 < found.1) }
 {
-    let parts = part(alloc, dominance, window, entries)?;
-    Ok((parts.best, parts.passes))
+    let mut best = Vec::new(alloc);
+    // No more than all entries are ever held.
+    let mut held = Window::new(alloc, window.min(entries.len()).max(1))?;
+    let mut input = Vec::from_slice(alloc, entries)?;
+    let mut passes = 0;
+    'each_pass: while !input.is_empty() {
+        input = offer_all(alloc, dominance, &mut held, &input)?;
+        held.end_pass(&mut best)?;
+        passes += 1;
+    }
+    best.sort_unstable_by_key(|entry| entry.id);
+    Ok((best, passes))
 }
 
 /// The entries that no entry dominates, in order of id: the list of [`best_rows_passes`], at its cost.

@@ -33,7 +33,6 @@ mod merging;
 mod numbering;
 mod own_order;
 mod partial;
-mod passes;
 mod passes_levels;
 mod ranking;
 mod signatures;

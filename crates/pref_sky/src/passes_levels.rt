@@ -1,9 +1,11 @@
 //! The levels of entries by an order that names no question: by block-nested-loops, level by level.
 
-ghost use Rattle.std.specs.Prelude.{◌≡◌, ◌<◌, ◌++◌, map, IfOk, OnOk};
+ghost use Rattle.std.specs.Prelude.{◌≡◌, ◌<◌, ◌++◌, ◌==◌, map, IfOk, OnOk};
+ghost use Rattle.std.specs.List.{list_any};
+ghost use Rattle.std.specs.List.Sorted.{IsNonDecreasingBy};
 ghost use Rattle.pref_sky.specs.Levels.{HaveDifferentIds, at_level, entry_order, levels};
 
-use crate::best::{Parts, part};
+use crate::best::best_rows;
 use crate::entry::{Entry, Ranked};
 use pref_term::Dominance;
 use std::alloc::{AllocError, Global};
@@ -20,6 +22,13 @@ fn push_level(ranked: &mut Vec<Ranked>, level: u32, entries: &[Entry]) -> Result
         })?;
     }
     Ok(())
+}
+
+/// Whether one of these, which are to be in order of id, has this id: a search by halves.
+fn have_id(entries: &[Entry], id: u64) -> bool
+    ensures { IsNonDecreasingBy (λ e. e.id) entries.now → result ≡ list_any (λ e. e.id == id) entries.now }
+{
+    entries.binary_search_by_key(&id, |entry| entry.id).is_ok()
 }
 
 /// The entries of the levels 1 to `cut`, in order of level, then id.
@@ -40,10 +49,10 @@ pub(crate) fn levels_by_passes<D: Dominance>(
     let mut left = Vec::from_slice(alloc, entries)?;
     let mut level = 0;
     'each_level: while level < cut && !left.is_empty() {
-        let Parts { best, others, .. } = part(alloc, dominance, window, &left)?;
+        let best = best_rows(alloc, dominance, window, &left)?;
+        left.retain(|entry| !have_id(&best, entry.id));
         level += 1;
         push_level(&mut ranked, level, &best)?;
-        left = others;
     }
     Ok(ranked)
 }

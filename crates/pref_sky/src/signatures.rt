@@ -1,16 +1,14 @@
-//! Signatures of entries, by which most pairs are decided without a comparison.
+//! Scales for signatures of entries, by which most pairs are decided without a comparison.
 
-ghost use Rattle.std.specs.Prelude.{◌≡◌, All, IfOk};
-ghost use Rattle.pref_sky.specs.Items.{AreItems, entries_at, signature_by};
+ghost use Rattle.std.specs.Prelude.{All, IfOk};
 ghost use Rattle.pref_term.specs.AskOrder.{order_of};
 ghost use Rattle.pref_term.specs.Chains.{AreInRow};
 ghost use Rattle.pref_term.specs.Signatures.{IsBy, Suit};
 
 use crate::entry::Entry;
-use crate::item::Item;
 use pref_table::Row;
+use pref_term::Ask;
 use pref_term::engine::{Leading, Scales};
-use pref_term::{Ask, Dominance};
 use std::alloc::{AllocError, Global};
 
 /// The fewest entries for which scales are made: fewer are compared in less time.
@@ -55,48 +53,4 @@ pub(crate) fn scales_behind(
     }
     let sample = sample_of(alloc, entries)?;
     leading.scales(alloc, &sample)
-}
-
-/// Scales that suit the order: those of its question, where it is one.
-pub(crate) fn scales_by<D: Dominance>(
-    alloc: Global,
-    dominance: &D,
-    entries: &[Entry],
-) -> Result<Scales, AllocError>
-    ensures { IfOk result (λ scales. Suit (D.order dominance.now) scales) }
-{
-    match dominance.question() {
-        Some(ask) => scales_of(alloc, ask, entries),
-        None => Ok(Scales::none()),
-    }
-}
-
-/// The signature of an entry.
-#[inline(always)]
-pub(crate) fn signature_of(scales: &Scales, entry: &Entry) -> u64
-    ensures { result ≡ signature_by scales.now entry.now }
-{
-    if scales.is_none() {
-        return 0;
-    }
-    scales.signature(&entry.row)
-}
-
-/// The items of these entries, in order.
-pub(crate) fn items_of(
-    alloc: Global,
-    scales: &Scales,
-    entries: &[Entry],
-) -> Result<Vec<Item>, AllocError>
-    ensures entries { IfOk result (λ items. entries_at entries.now items.items ≡ entries.now) }
-    ensures items { IfOk result (λ items. AreItems (signature_by scales.now) entries.now items.items) }
-{
-    let mut items = Vec::with_capacity(alloc, entries.len())?;
-    for (place, entry) in entries.iter().enumerate() {
-        items.push(Item {
-            signature: signature_of(scales, entry),
-            place,
-        })?;
-    }
-    Ok(items)
 }

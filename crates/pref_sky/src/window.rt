@@ -57,7 +57,7 @@ fn is_beaten_by<D: Dominance>(dominance: &D, entries: &[Entry], entry: &Entry) -
 }
 
 impl Window {
-    ghost use Rattle.std.specs.Prelude.{◌≡◌, ◌<◌, ◌≤◌, ◌⊎◌, [], length, IfOk};
+    ghost use Rattle.std.specs.Prelude.{◌≡◌, ◌<◌, ◌≤◌, ◌++◌, ◌⊎◌, [], length, IfOk, OnOk};
     ghost use Rattle.pref_sky.specs.Levels.{entry_order};
     ghost use Rattle.pref_sky.specs.Windows.{WindowState, Offers, window_at_begin, window_entries};
 
@@ -104,5 +104,18 @@ impl Window {
             self.early.push(entry).unwrap();
         }
         Offer::Joined
+    }
+
+    /// Ends a pass: the early entries leave, and stand behind the best. The late ones stay, as the early ones of the next pass.
+    ///
+    /// `Err` is out of memory.
+    pub(crate) fn end_pass(&mut self, best: &mut Vec<Entry>) -> Result<(), AllocError>
+        ensures { OnOk result ((best.new.items ≡ best.old.items ++ self.old.early) × (self.new ≡ window_at_begin self.old.size self.old.late)) }
+    {
+        best.extend_from_slice(&self.early)?;
+        self.early.clear();
+        std::mem::swap(&mut self.early, &mut self.late);
+        self.overflowed = false;
+        Ok(())
     }
 }

@@ -1,5 +1,4 @@
-use Rattle.pref_sky.proofs.Common.{◌≡◌, ◌≤◌, ◌-◌, HaveDifferentIds, entry_order, levels, rest}
-use Rattle.pref_sky.specs.Members.{SameMembers}
+use Rattle.pref_sky.proofs.Common.{◌≡◌, ◌≤◌, ◌-◌, entry_order, levels, rest}
 use Rattle.pref_sky.proofs.passes_levels.levels_by_passes.Given as goal
 
 abbrev pub invariant-each_level : goal.invariant-each_level
@@ -7,8 +6,7 @@ invariant-each_level g l =
     let over = entry_order (g.D.Dominance.order l.dominance) in
     record {
       found : l.ranked.items ≡ levels over l.entries l.level;
-      left : SameMembers l.left.items (rest over l.entries l.level);
-      ids : HaveDifferentIds l.left.items;
+      left : l.left.items ≡ rest over l.entries l.level;
       upto : l.level ≤ l.cut;
     }
 

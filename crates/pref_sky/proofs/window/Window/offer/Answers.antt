@@ -1,14 +1,12 @@
-use Rattle.pref_sky.proofs.Common.{Bool, List, Entry, ℕ, ◌≤◌, refl, append-nil, cond_both, length-filter, count_by-le-length}
+use Rattle.pref_sky.proofs.Common.{Bool, List, Entry, ℕ, ◌≤◌, refl, append-nil, cond_both}
 use Rattle.pref_sky.proofs.Common.{rules, ◌≡◌, ◌+◌, ◌∙◌, inr, true, false, not, [], ◌∷◌, ◌++◌, cond, filter, length, ap, subst, arith, is_ok, length-append, filter-append, is_beaten, entry_order}
 use Rattle.pref_sky.specs.Windows.{WindowState, joined, not_below, window_entries}
 use Rattle.std.proofs.lemmas.Fn.{filter_same}
 use Rattle.std.proofs.lemmas.List.Folds.{list_any-append}
+use Rattle.pref_sky.proofs.ListLaws.{filter_shorter}
 use Rattle.pref_sky.proofs.window.Window.offer.Given.{Over}
 use Rattle.pref_sky.proofs.window.Window.offer.Goals.{After-retain-2}
 use Rattle.pref_sky.proofs.window.Window.offer.Goals as goal
-
-filter_shorter : {E : Type 0} (p : E → Bool) (xs : List E) → length (filter p xs) ≤ length xs
-filter_shorter p xs = omega (arith, length-filter p xs, count_by-le-length p xs)
 
 -- a filter that keeps as many keeps all
 filter_whole : {E : Type 0} (p : E → Bool) (xs : List E) → length xs ≤ length (filter p xs) → filter p xs ≡ xs
