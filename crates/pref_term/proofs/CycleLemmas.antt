@@ -4,7 +4,7 @@ use Rattle.pref_term.proofs.Common.{left, right, star, ampersand, minus, Token, 
 use Rattle.pref_term.proofs.Common.{then_product, name, mark, opens, Names, own_fault, too_deep, unary_meaning, product_meaning, BaseKind, kind_word, named, UnaryHole, in_minus}
 use Rattle.pref_term.proofs.Common.{first_factor, next_factor, next_product, in_group, in_reverse, unary_depth, State, operand, reverse_named, reading, after, completed, ranked, next}
 use Rattle.pref_term.proofs.Common.{operand_word, Goes, Fails, IsOther, Passes, ReadsBase, ReadsUnary, ReadsFactors, ReadsProducts, ReadsProduct, ReadsPrior, ReadsGroup, FailsBase, NotNext, ahead, taken, seen, Unexpected, TooDeep, ◌≤◌}
-use Rattle.pref_term.proofs.Common.{FailsUnary, FailsGroup, FailsProduct, FailsPrior, Parses, grouped, Ok, Err, Preference, pareto, prior, reverse, Cursor, Lexeme, Word, Term, TermFault}
+use Rattle.pref_term.proofs.Common.{FailsUnary, FailsGroup, FailsProduct, FailsPrior, Parses, grouped, Ok, Err, Preference, pareto, prior, reverse, Cursor, Lexeme, Word, Term, TermFault, preference_of}
 use Rattle.pref_term.proofs.GrammarComplete.{ranked_goes_on, ranked_right}
 use Rattle.pref_term.proofs.LedLemmas.{at_place, goes_then, goes_fails, passes_goes, taken_is}
 
@@ -99,9 +99,15 @@ module _ (names : Names) (k : BaseKind) (t : Lexeme) (letters : Bor (List ℕ)) 
   word_goes h =
       passes_goes names (word letters.now) (taken t) (ahead t.next) (operand h) (reading h (named k)) (name (kind_word k)) (t.at, taken_is (taken t) t _ refl f) (ap (operand_word h) word_is ∙ by_kind h k) refl
 
+  pub taken_read : (p : Preference) (us : List Placed) → ReadsBase names k (ahead t.next) p us → (depth : ℕ) → ReadsUnary names depth (taken t) p us
+  taken_read p us b depth = record { tree = based b.tree; meaning = b.meaning; known = b.known; goes = λ h _. goes_then names (operand h) (reading h (named k)) (completed h (based b.tree)) (taken t) (ahead t.next) us (word_goes h) (b.goes h) }
+
+  pub taken_fails : (f : TermFault) → FailsBase names k (ahead t.next) f → (depth : ℕ) → FailsUnary names depth (taken t) f
+  taken_fails f b depth h _ = goes_fails names (operand h) (reading h (named k)) (taken t) (ahead t.next) f (word_goes h) (b h)
+
   pub taken_base : (r : Result (Term × Cursor) TermFault) → Parses (ReadsBase names k (ahead t.next)) (FailsBase names k (ahead t.next)) r → (depth : ℕ) → Parses (ReadsUnary names depth (taken t)) (FailsUnary names depth (taken t)) r
-  taken_base (Ok x) b depth = record { tree = based b.tree; meaning = b.meaning; known = b.known; goes = λ h _. goes_then names (operand h) (reading h (named k)) (completed h (based b.tree)) (taken t) (ahead t.next) (ahead x.1) (word_goes h) (b.goes h) }
-  taken_base (Err f) b depth = λ h _. goes_fails names (operand h) (reading h (named k)) (taken t) (ahead t.next) f (word_goes h) (b h)
+  taken_base (Ok x) b = taken_read (preference_of x.0) (ahead x.1) b
+  taken_base (Err f) b = taken_fails f b
 
 -- a group behind the word `reverse`
 module _ (names : Names) (depth : ℕ) (letters : List ℕ) (ts us : List Placed) (c : Passes (word letters) ts us) (e : keyword_of letters ≡ Some reverse_word) where

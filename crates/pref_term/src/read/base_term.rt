@@ -108,24 +108,6 @@ fn numbers<'a>(alloc: Global, cursor: Cursor<'a>, close: Sign) -> Parsed<'a, Vec
     }
 }
 
-/// Takes what follows `low`.
-fn low<'a>(schema: &Schema, cursor: Cursor<'a>) -> Parsed<'a, Term>
-    ensures parsed { led.Parses (led.ReadsBase schema.now reading.low_kind (ahead cursor.entry)) (led.FailsBase schema.now reading.low_kind (ahead cursor.entry)) result }
-    ensures shorter { IfOk result (λ x. length (ahead x.1) < length (ahead cursor.entry)) }
-{
-    let (col, rest) = opened_column(schema, cursor, Sign::Right)?;
-    Ok((Term::Low { col }, rest))
-}
-
-/// Takes what follows `high`.
-fn high<'a>(schema: &Schema, cursor: Cursor<'a>) -> Parsed<'a, Term>
-    ensures parsed { led.Parses (led.ReadsBase schema.now reading.high_kind (ahead cursor.entry)) (led.FailsBase schema.now reading.high_kind (ahead cursor.entry)) result }
-    ensures shorter { IfOk result (λ x. length (ahead x.1) < length (ahead cursor.entry)) }
-{
-    let (col, rest) = opened_column(schema, cursor, Sign::Right)?;
-    Ok((Term::High { col }, rest))
-}
-
 /// Takes what follows `around`.
 fn around<'a>(schema: &Schema, cursor: Cursor<'a>) -> Parsed<'a, Term>
     ensures parsed { led.Parses (led.ReadsBase schema.now reading.around_kind (ahead cursor.entry)) (led.FailsBase schema.now reading.around_kind (ahead cursor.entry)) result }
@@ -209,8 +191,14 @@ pub(super) fn base_term<'a>(
     ensures shorter { IfOk result (λ x. length (ahead x.1) < length (places.taken taken.entry)) }
 {
     match word_of_grammar(letters) {
-        Some(Keyword::Low) => low(schema, taken.next),
-        Some(Keyword::High) => high(schema, taken.next),
+        Some(Keyword::Low) => {
+            let (col, rest) = opened_column(schema, taken.next, Sign::Right)?;
+            Ok((Term::Low { col }, rest))
+        }
+        Some(Keyword::High) => {
+            let (col, rest) = opened_column(schema, taken.next, Sign::Right)?;
+            Ok((Term::High { col }, rest))
+        }
         Some(Keyword::Around) => around(schema, taken.next),
         Some(Keyword::Between) => between(schema, taken.next),
         Some(Keyword::Pos) => pos(alloc, schema, taken.next),
