@@ -6,6 +6,7 @@ import csv
 import io
 import os
 import random
+import tempfile
 import unittest
 import unittest.mock
 import warnings
@@ -24,6 +25,8 @@ except ImportError:
 QUESTIONS = int(os.environ.get("PREFQ_TEST_COUNT", 1000))
 SEED = int(os.environ.get("PREFQ_TEST_SEED", 20260501))
 QUESTIONS_OF_A_FRAME = 6
+# Types of pandas for the values of kinds.
+TYPES = {random_frames.Whole: ["Int64"], random_frames.Booleans: ["boolean"], random_frames.Floats: ["float64", "Float64"], random_frames.Texts: ["string", "category"]}
 MOST = 2**63 - 1
 
 
@@ -80,6 +83,39 @@ class Empty(Records):
         return frame
 
 
+class Query(Records):
+    """Rows of a cursor, which gives some at a time."""
+
+    def opened(self):
+        self.description = [(name, None) for name in self.columns]
+        rows = [list(self.record(record).values()) for record in self.records]
+        self.left = [self.random.choice([list, tuple, lambda row: dict(zip(self.columns, row))])(row) for row in rows]
+        return prefq.Frame.from_sql(self, kinds=self.given)
+
+    def fetchmany(self, _):
+        count = self.random.randrange(1, 4)
+        some, self.left = self.left[:count], self.left[count:]
+        return some
+
+
+class Lists(Texts):
+    """Rows without names, of columns that are given."""
+
+    def opened(self):
+        rows = [self.random.choice([list, tuple])(self.record(record).values()) for record in self.records]
+        return prefq.Frame([prefq.Column(name, kind.spelling) for name, kind in self.columns.items()], rows)
+
+
+class Saved(Records):
+    """A frame that was saved and opened again."""
+
+    def opened(self):
+        with tempfile.TemporaryDirectory() as folder, super().opened() as frame:
+            path = os.path.join(folder, "rows.prefq")
+            frame.save(path)
+            return prefq.Frame.open(path)
+
+
 class File(Door):
     def opened(self):
         text = io.StringIO()
@@ -112,6 +148,8 @@ class DataFrame(Records):
                 frame[name] = pandas.Categorical.from_codes(codes, kind.some, ordered=True)
             elif isinstance(kind, random_frames.Times) and self.random.random() < 0.5:
                 frame[name] = pandas.to_datetime(frame[name], utc=kind.zone is not None)
+            elif self.random.random() < 0.5:
+                frame[name] = frame[name].astype(self.random.choice(TYPES.get(type(kind), ["object"])))
         return frame
 
     def opened(self):
@@ -119,7 +157,7 @@ class DataFrame(Records):
         return prefq.Frame.from_dataframe(self.frame, kinds=self.given)
 
 
-DOORS = [Records, File, Texts, Chunks, Empty] + [DataFrame] * (pandas is not None)
+DOORS = [Records, File, Texts, Chunks, Empty, Query, Lists, Saved] + [DataFrame] * (pandas is not None)
 
 
 class RandomFrames(TestCase):
