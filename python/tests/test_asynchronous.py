@@ -348,16 +348,17 @@ class OfAFrame(TestCase):
     def test_who_is_told_of_a_change_may_wait_for_a_client(self):
         """The change was made by then, and is not made again."""
         async def main():
+            told = []
             async with await self.opened() as frame:
                 frame._frame.subscribe(lambda: frame._frame.best("best low(x)"))
                 queries = [await frame._call(frame._frame.query, "best low(x) * low(y)") for _ in range(self.CLIENTS)]
-                with self.assertRaises(prefq.Refused):
-                    await frame.insert([5, 5])
+                with mock.patch("threading.excepthook", lambda why: told.append(why.exc_type)):
+                    self.assertEqual(await frame.insert([5, 5]), 201)
                 for query in queries:
                     query.abandon()
-                return len(frame)
+                return len(frame), told
 
-        self.assertEqual(self.run_async(main), 201)
+        self.assertEqual(self.run_async(main), (201, [prefq.Refused]))
 
     def test_tasks_that_are_cancelled_at_random_moments(self):
         """Each change is made whole or not at all, each answer is one of rows that there were meanwhile, and no client is lost."""

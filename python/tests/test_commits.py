@@ -5,6 +5,7 @@ import random
 import unittest
 from decimal import Decimal
 from functools import partial
+from unittest import mock
 
 import prefq
 from prefq.desk import Desk
@@ -162,9 +163,9 @@ class Notices(TestCase):
                 with self.subTest(rows=type(rows)):
                     seen = []
                     ends = [rows.subscribe(raises(ValueError("a subscriber"))), rows.subscribe(lambda: seen.append(len(frame)))]
-                    with self.refuses(ValueError, "a subscriber"):
-                        desk.insert({"price": 1})
-                    self.assertEqual(seen, [len(frame)])
+                    with mock.patch("threading.excepthook", lambda why: seen.append(str(why.exc_value))):
+                        self.assertEqual(desk.insert({"price": 1}), len(frame))
+                    self.assertEqual(seen, ["a subscriber", len(frame)])
                     for end in ends:
                         end()
             self.assertEqual((len(frame), len(desk.picture("best low(price)").rows)), (4, 4))

@@ -111,10 +111,8 @@ class Desk:
             return
         with self._lock:
             self._closed = True
-        try:
-            self._wake()
-        finally:
-            self._frame.close()
+        self._wake()
+        self._frame.close()
 
     def _is_ours(self) -> bool:
         """Whether this is the process of the frame, and the lock no copy, which a fork may have made while it was held."""
@@ -178,7 +176,7 @@ class Desk:
         return self._change(change)
 
     def subscribe(self, call: Callable[[], None]) -> Callable[[], None]:
-        """Has this called after each change and at the close, by the thread that makes it, so it must be quick. Returns what ends it. Neither waits for a change that
+        """Has this called after each change and at the close, by the thread that makes it, so it must be quick; see `Frame.subscribe`. Returns what ends it. Neither waits for a change that
         is under way, so an event loop may call them."""
         return subscribed(self._subscribed, call)
 

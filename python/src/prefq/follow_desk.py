@@ -1,5 +1,4 @@
 """The rows of a table of a database on a page: what `prefq.server` and `prefq.asgi` show, while other programs change the rows there."""
-import sys
 import threading
 import time
 import weakref
@@ -43,17 +42,6 @@ class FollowedDesk(Desk):
         self._show(frame.version, frame.columns)
         # The thread keeps no desk that nobody has any more.
         threading.Thread(target=follows, args=[weakref.ref(self)], daemon=True).start()
-
-    def close(self) -> None:
-        """Ends the frame, and wakes who waits for a change."""
-        if not self._is_ours():
-            return
-        with self._lock:
-            self._closed = True
-        try:
-            self._wake()
-        finally:
-            self._frame.close()
 
     def _is_ours(self) -> bool:
         return bool(self._frame._is_ours())
@@ -125,10 +113,7 @@ def follows(held: "weakref.ref[FollowedDesk]") -> None:
         desk = held()
         if desk is None or desk.is_closed:
             return
-        try:
-            desk._look()
-        except Exception:       # of one who subscribed: the others are told of later changes too
-            threading.excepthook(threading.ExceptHookArgs([*sys.exc_info(), threading.current_thread()]))
+        desk._look()
         pause = PAUSE if desk._is_readable else PAUSE_REFUSED
         del desk
 

@@ -1,5 +1,6 @@
 """The rows of a frame: records that go in and come out, each change at one moment; and columns that become wider where a value needs it."""
 import os
+import sys
 import threading
 from contextlib import ExitStack, suppress
 from functools import partial
@@ -137,7 +138,7 @@ class LiveRows:
         return self._change(lambda: self._commit(check_changes(changes)))
 
     def subscribe(self, call: Callable[[], None]) -> Callable[[], None]:
-        """Has this called after each change, by the thread that made it, so it must be quick. Returns what ends it.
+        """Has this called after each change, by the thread that made it, so it must be quick; what it raises is shown by `threading.excepthook`. Returns what ends it.
 
         >>> import prefq
         >>> with prefq.Frame.from_records([{"x": 1}]) as frame:
@@ -317,7 +318,16 @@ def subscribed(calls: List[Callable[[], None]], call: Callable[[], None]) -> Cal
 
 
 def call_all(calls: Sequence[Callable[[], None]]) -> None:
-    """Makes these calls in their order, also those behind one that raises; what it has raised is raised at the end."""
+    """Makes these calls in their order. What one raises is shown as that of a thread, since it is of no call that is there: the others are made, and the change that they
+    are told of was made before."""
     with ExitStack() as left:
         for call in reversed(calls):
-            left.callback(call)
+            left.callback(showing, call)
+
+
+def showing(call: Callable[[], None]) -> None:
+    """Makes a call whose exception is shown."""
+    try:
+        call()
+    except Exception:
+        threading.excepthook(threading.ExceptHookArgs([*sys.exc_info(), threading.current_thread()]))
