@@ -18,6 +18,7 @@ import prefq
 from plain_values import REFUSED
 from prefq.kinds import kind_named
 from support import TestCase
+from test_ask import run
 
 try:
     import pandas
@@ -358,6 +359,22 @@ class KindsThatAreGiven(TestCase):
             with self.refuses(prefq.Refused, "no column 'prise'; did you mean price?"):
                 door({"prise": "decimal(2)"})
             door({"price": "decimal(2)"})
+
+
+    def test_that_is_none_for_a_column_that_nobody_asks(self):
+        """A slip would be forgotten as long as the question names another column."""
+        records, text = [{"price": 1, "x": 2}], "price,x\n1,2\n"
+        doors = [lambda kinds: prefq.Frame.from_csv(io.StringIO(text), columns=["x"], kinds=kinds), lambda kinds: prefq.Frame.from_records(records, columns=["x"], kinds=kinds),
+                 lambda kinds: prefq.psel(records, "low(x)", kinds=kinds), lambda kinds: prefq.parts.best([prefq.parts.Partition(["price", "x"], [[1, 2]])], "best low(x)", kinds=kinds)]
+        if pandas is not None:
+            dataframe = pandas.DataFrame(records)
+            doors += [lambda kinds: prefq.Frame.from_dataframe(dataframe, columns=["x"], kinds=kinds), lambda kinds: prefq.psel(dataframe, "low(x)", kinds=kinds)]
+        for door in doors:
+            with self.refuses(prefq.Refused, "no kind 'decimals(2)': there are whole, decimal(2)"):
+                door({"price": "decimals(2)"})
+        done = run("ask", "-", "best low(x)", "--kind", "price=decimals(2)", text=text)
+        self.assertEqual((done.returncode, done.stdout), (2, ""))
+        self.assertIn("no kind 'decimals(2)'", done.stderr)
 
 
 @skip_without_pandas

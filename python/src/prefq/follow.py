@@ -18,7 +18,7 @@ from .errors import Ended, Refused, no_such_row
 from .follow_source import Changes, Source
 from .kept import Answered, Kept
 from .keyed_values import column_at_keys, numbers_of_rows
-from .loading import check_known, records_of
+from .loading import check_kinds, records_of
 from .parts import RowsLeft
 from .preferences import Asked as AskedFor, Operand, text_asked
 from .records import Record
@@ -79,7 +79,7 @@ class Followed:
         self._dealt: Optional[Dealt] = None
         self._kept: Kept[Answered] = Kept(Answered.size)
         try:
-            check_known(list(kinds), source.columns)
+            check_kinds(kinds, source.columns)
             self._catch_up()
         except BaseException:
             source.withdraw()

@@ -16,7 +16,7 @@ from .hasse import Hasse, ranked
 from .kinds.forms import Form
 from .kept import Answered
 from .live_rows import LiveRows, Path
-from .loading import Encoded, File, Found, check_known, chosen, column_of_values, encoded, records_of
+from .loading import Encoded, File, Found, check_kinds, chosen, column_of_values, encoded, records_of
 from .missing import Missing
 from .opened import Ids, Opened
 from .options import check_options
@@ -102,7 +102,7 @@ class Frame(LiveRows):
             return cls.empty(columns, kinds or {}, **options)
         there = list(dict.fromkeys(name for row in rows for name in row))
         names = chosen(there, columns)
-        check_known(list(kinds or ()), there)
+        check_kinds(kinds, there)
         return cls._of_numbers([column_of_values(name, [row.get(name) for row in rows], kinds) for name in names], options)
 
     @classmethod
@@ -119,7 +119,7 @@ class Frame(LiveRows):
         check_options(options, ["columns", "kinds", *TABLE_OPTIONS], "Frame.from_sql")
         there = names_of(cursor)
         names = chosen(list(there), columns)
-        check_known(list(kinds or ()), there)
+        check_kinds(kinds, there)
         rows = list(fitting((row for some in fetched(cursor, there) for row in some), "rows of the query"))
         return cls._of_numbers([column_of_values(name, [row[there.index(name)] for row in rows], kinds) for name in names], options)
 
@@ -135,7 +135,7 @@ class Frame(LiveRows):
             raise Refused(f"the DataFrame has {len(dataframe)} rows, and a table holds {MOST_ROWS}: prefq.psel and prefq.parts ask more", "table")
         names = chosen(list(dataframe.columns), columns)
         check_names(name for name in dataframe.columns if name in names)
-        check_known(list(kinds or ()), list(dataframe.columns))
+        check_kinds(kinds, list(dataframe.columns))
         frame = native(dataframe)
         return cls._of_numbers([encoded_series(frame[name], name, kinds) for name in names], options, index_of(dataframe.index))
 
@@ -151,7 +151,7 @@ class Frame(LiveRows):
         <id 1: {'hotel': 'Ritz', 'price': Decimal('129.99')}>
         """
         names = check_names(columns)
-        check_known(list(kinds), names)
+        check_kinds(kinds, names)
         without = [name for name in names if name not in kinds]
         if without:
             raise Refused(f"without rows a column has to be given its kind: {listed(without)}", "table")

@@ -37,7 +37,7 @@ class File:
         self._kinds = dict(kinds or {})
         self._missing, self._form = missing, form
         self._columns: Dict[str, Encoded] = {}
-        check_known(list(self._kinds), cells.names)
+        check_kinds(self._kinds, cells.names)
 
     @property
     def notes(self) -> Dict[str, str]:
@@ -446,6 +446,13 @@ def check_known(names: Sequence[Any], known: Sequence[Any]) -> None:
     for name in names:
         if name not in there:
             raise Refused(unknown_column(str(name), [str(other) for other in known]), "table")
+
+
+def check_kinds(kinds: Kinds, known: Sequence[Any]) -> None:
+    """Refuses a kind for a column that is not there, and what is no kind, also where nobody asks the column."""
+    check_known(list(kinds or ()), known)
+    for name, kind in (kinds or {}).items():
+        Column(name, kind)
 
 
 def chosen(names: List[Any], columns: Optional[Sequence[str]]) -> Tuple[str, ...]:

@@ -8,7 +8,7 @@ from .cursors import found_of, is_cursor, parts_of_rows
 from .errors import Refused
 from .follow import Followed
 from .frame import TABLE_OPTIONS, Frame, mappings
-from .loading import check_known
+from .loading import check_kinds
 from .moment import Moment
 from .options import check_options
 from .partition import Numbered, Reading, is_of_dask
@@ -101,7 +101,7 @@ def mode_of(top_level: Optional[int], at_least: Optional[int]) -> Mode:
 
 def _of_dataframe(dataframe: Any, text: str, selection: Selection, kinds: Optional[Mapping[str, str]], options: Dict[str, Any]) -> Any:
     from .pandas_frames import encoded_series, native
-    check_known(list(kinds or ()), list(dataframe.columns))
+    check_kinds(kinds, list(dataframe.columns))
     dataframe = native(dataframe)
     moment = Moment(list(dataframe.columns), lambda name: encoded_series(dataframe[name], name, kinds))
     rows = selected(text, selection, moment, **options)

@@ -4,7 +4,7 @@ from typing import Any, Dict, Iterable, List, Sequence, Tuple
 
 from .carried import CellRows, FrameRows, Rows, ValueRows
 from .errors import Refused
-from .loading import Encoded, File, check_known, column_of_values
+from .loading import Encoded, File, check_kinds, column_of_values
 from .missing import Missing
 from .partition import Numbered, Partition, Reading, Source, is_frame, values_of_rows
 from .reading import check_names, read_csv
@@ -71,7 +71,7 @@ class OpenedRows(Opened):
     def __init__(self, partition: Partition, reading: Reading) -> None:
         super().__init__(check_names(partition.columns))
         self._kinds = reading.kinds
-        check_known(list(self._kinds), self.names)
+        check_kinds(self._kinds, self.names)
         self._rows: List[Sequence[Any]] = list(values_of_rows(partition))
 
     @property
@@ -93,7 +93,7 @@ class OpenedFrame(Opened):
         from .pandas_frames import native
         super().__init__(frame.columns)
         self._frame, self._kinds = native(frame), reading.kinds
-        check_known(list(self._kinds), self.names)
+        check_kinds(self._kinds, self.names)
 
     @property
     def count(self) -> int:
