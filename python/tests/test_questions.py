@@ -107,6 +107,7 @@ REFUSED_IN_EXPRESSIONS = [
     ("best low((Stars + x)", "the question breaks off. Here could stand a )", 1, ""),
     ("best low((Stars + x", "the question breaks off. Here could stand an operator or a )", 1, ""),
     ("best low(Stars / (x - 0.5))", "row 1 has 0 behind the /, by which nothing is divided", 1, "/ ("),
+    ('best low("Stars / x")', "an expression has no quotes, in Python expr(..) around it, and there is no column 'Stars / x'; did you mean Stars?", 2, '"Stars / x"'),
     ("best low(Stars + Zzz)", "no column 'Zzz'; there are City", 2, "Zzz"),
     ("best low(Stars + stars)", "did you mean Stars?", 2, "stars"),
     ("best true(City = null)", "Opened, Pool, x. Write is missing", 2, "null"),

@@ -172,6 +172,13 @@ class FrameReader(Reader):
         is_alone = self._next.is_name() and after.kind == "sign" and after.text in ",)"
         return self._name() if is_alone else self._expression()
 
+    def _name(self) -> Column:
+        token = self._next
+        if token.kind == "name" and set(token.text) & set("+-*/<>=") and self._column(token.text) is None:
+            refuse(self._question, token.place, f"an expression has no quotes, in Python expr(..) around it, and there is {unknown_column(token.text, self._names)}",
+                   UNKNOWN_COLUMN)
+        return super()._name()
+
     def _expression(self) -> Column:
         first = self._next
         self.hints = IN_EXPRESSIONS
