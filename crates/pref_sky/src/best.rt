@@ -83,7 +83,8 @@ pub fn best_rows_passes<D: Dominance>(
     Ok((best, passes))
 }
 
-/// The entries that no entry dominates, in order of id: the list of [`best_rows_passes`], at its cost.
+/// The entries that no entry dominates, in order of id: the list of [`best_rows_passes`], at its cost. Of a question,
+/// [`levels`](crate::levels) with a cut of 1 finds the same ones, and for many entries in much less time.
 pub fn best_rows<D: Dominance>(
     alloc: Global,
     dominance: &D,
