@@ -1,24 +1,8 @@
-/* A table: how it is opened, taken for a call, given a line, and closed. */
+/* A table: how it is opened, taken for a call, and closed. */
 #define _GNU_SOURCE
 #include "table.h"
-#include "refusal.h"
 #include <signal.h>
 #include <stdlib.h>
-
-/* ---- the proved calls: crates/prefq_c/src/calls.rt says what each does ---- */
-
-enum { SAID = 0, REFUSED = 1, OUTSIDE = 3 };
-
-struct said {
-    size_t length;
-    uint8_t outcome;
-};
-
-struct said prefq_table_open(uint8_t clients, uint32_t capacity, uint32_t block, uint32_t window, const char *text, size_t length, struct proved *table,
-                             char *said, size_t room);
-struct said prefq_table_reply(struct proved *table, const char *line, size_t length, char *said, size_t room);
-struct said prefq_table_said(struct proved *table, char *said, size_t room);
-void prefq_table_close(struct proved *table);
 
 /* ---- one call at a time ---- */
 
@@ -39,16 +23,6 @@ static void begin_to_count_forks(void)
 static int is_ours(const prefq *table)
 {
     return table->forks == atomic_load(&forks);
-}
-
-prefq_result wrong_argument(const char *text)
-{
-    return refused(PREFQ_ARGUMENTS, 0, "%s", text);
-}
-
-prefq_result out_of_memory(void)
-{
-    return not_done(PREFQ_OUT_OF_MEMORY, "out of memory");
 }
 
 prefq_result ended(const prefq *table)
@@ -73,7 +47,7 @@ static prefq_result test_stack(void)
         pthread_attr_destroy(&thread);
     }
     if (here >= lowest && here < highest && here - lowest < PREFQ_STACK)
-        return refused(PREFQ_ARGUMENTS, 0, "the thread has less than %d bytes of stack left", PREFQ_STACK);
+        return refused((prefq_refusal){PREFQ_ARGUMENTS, 0, -1, -1, 0, NULL}, "the thread has less than %d bytes of stack left", PREFQ_STACK);
     return PREFQ_OK;
 }
 
@@ -120,106 +94,17 @@ prefq_result enter(prefq *table)
         return result;
     }
     pthread_mutex_lock(&table->lock);
-    table->said.length = 0;
     return table->proved.at != NULL && !atomic_load(&table->is_ending) ? PREFQ_OK : leave(table, ended(table));
 }
 
 prefq_result leave(prefq *table, prefq_result result)
 {
-    if (table->said.room > KEPT_REPLIES) {
-        free(table->said.bytes);
-        table->said = (struct buffer){NULL, 0, 0};
-    }
     pthread_mutex_unlock(&table->lock);
     end_call();
     return result;
 }
 
-/* ---- lines ---- */
-
-static int make_room(struct buffer *buffer, size_t more)
-{
-    if (buffer->length + more < buffer->room)
-        return 1;
-    size_t room = 2 * buffer->length + more + 1;
-    char *bytes = realloc(buffer->bytes, room);
-    if (bytes == NULL)
-        return 0;
-    buffer->bytes = bytes;
-    buffer->room = room;
-    return 1;
-}
-
-prefq_result give(prefq *table, const char *line, size_t length)
-{
-    struct buffer *said = &table->said;
-    /* A short reply is never lost for want of memory: the table would have done what is asked. */
-    if (!make_room(said, SHORT_REPLY))
-        return out_of_memory();
-    size_t room = said->room - said->length - 1;
-    struct said now = prefq_table_reply(&table->proved, line, length, said->bytes + said->length, room);
-    if (now.outcome != SAID)
-        return out_of_memory();
-    if (now.length > room) {
-        if (!make_room(said, now.length))
-            return out_of_memory();
-        prefq_table_said(&table->proved, said->bytes + said->length, now.length);
-    }
-    said->length += now.length;
-    said->bytes[said->length] = '\0';
-    return PREFQ_OK;
-}
-
-char *begin_line(prefq *table, uint32_t client, const char *verb)
-{
-    return put_text(put_natural(put_text(table->line, "as "), client), verb);
-}
-
-prefq_result ask(prefq *table, char *end, size_t blanks, const char *words, const char **reply)
-{
-    uint64_t client;
-    table->said.length = 0;
-    prefq_result result = give(table, table->line, (size_t)(end - table->line));
-    if (result != PREFQ_OK)
-        return result;
-    *reply = table->said.bytes;
-    return take_natural(reply, &client) && take_text(reply, words) ? PREFQ_OK : refused_with(table->said.bytes, blanks);
-}
-
 /* ---- opening ---- */
-
-static int is_letter(char byte)
-{
-    return (byte >= 'a' && byte <= 'z') || (byte >= 'A' && byte <= 'Z');
-}
-
-/* Makes the question for all rows, of the first name in a text that begins with names. */
-static void make_all_rows(prefq *table, const char *names, size_t length)
-{
-    const char *end = names + length;
-    char *to = put_text(table->all_rows, "best between(");
-    while (names < end && !is_letter(*names))
-        names++;
-    for (size_t count = 0; count < LONGEST_NAME && names < end; count++, names++) {
-        if (!is_letter(*names) && !(*names >= '0' && *names <= '9') && *names != '_' && *names != '.')
-            break;
-        *to++ = *names;
-    }
-    *put_text(to, ", -9223372036854775808, 9223372036854775807)") = '\0';
-}
-
-/* Finds the number of columns: so many values, for a row that is never there, are refused as a row that is not there alone. */
-static prefq_result find_width(prefq *table)
-{
-    static const int64_t zeros[MOST_COLUMNS];
-    const char *reply;
-    while (++table->width <= MOST_COLUMNS) {
-        prefq_result result = ask(table, put_row(begin_line(table, 1, " update 0 "), zeros, table->width), 0, " updated ", &reply);
-        if (result != PREFQ_REFUSED || prefq_last_refusal()->kind == PREFQ_CLIENT)
-            return result == PREFQ_REFUSED ? PREFQ_OK : result;
-    }
-    return not_done(PREFQ_ENDED, "the table has no number of columns");
-}
 
 /* The setup with what its zeros stand for. */
 static prefq_setup complete(const prefq_setup *given, size_t rows)
@@ -232,33 +117,11 @@ static prefq_setup complete(const prefq_setup *given, size_t rows)
                          .window = setup.window != 0 ? setup.window : 64};
 }
 
-/* Opens the table of a text in a handle that has only a lock yet. */
-static prefq_result open_text(prefq *table, const char *text, size_t length, const prefq_setup *setup)
-{
-    if (!make_room(&table->said, SHORT_REPLY))
-        return out_of_memory();
-    uint8_t clients = setup->clients <= MOST_CLIENTS ? (uint8_t)setup->clients : 0;
-    struct said now = prefq_table_open(clients, setup->capacity, setup->block, setup->window, text, length, &table->proved, table->said.bytes, SHORT_REPLY);
-    if (now.outcome == SAID) {
-        table->capacity = setup->capacity;
-        make_all_rows(table, text, length);
-        return find_width(table);
-    }
-    if (now.outcome != REFUSED)
-        return now.outcome == OUTSIDE ? wrong_argument("a number of the setup is outside its range") : out_of_memory();
-    table->said.bytes[now.length] = '\0';
-    return refused_with(table->said.bytes, 0);
-}
-
-prefq_result prefq_open_text(const char *text, size_t length, const prefq_setup *given, prefq **table)
+/* Makes a table that has no rows yet. */
+static prefq_result make(const prefq_setup *setup, prefq **table)
 {
     static pthread_once_t once = PTHREAD_ONCE_INIT;
-    *table = NULL;
-    size_t rows = 0;
-    for (size_t at = 0; text != NULL && at < length; at++)
-        rows += text[at] == '\n';
-    const prefq_setup setup = complete(given, rows);
-    prefq_result result = text == NULL ? wrong_argument("the text is NULL") : test_stack();
+    prefq_result result = test_stack();
     if (result != PREFQ_OK)
         return result;
     pthread_once(&once, begin_to_count_forks);
@@ -268,7 +131,15 @@ prefq_result prefq_open_text(const char *text, size_t length, const prefq_setup 
         return out_of_memory();
     }
     made->forks = atomic_load(&forks);
-    result = open_text(made, text, length, &setup);
+    made->capacity = setup->capacity;
+    *table = made;
+    return PREFQ_OK;
+}
+
+/* Gives a table that was opened, whose result is its number of columns. */
+static prefq_result opened(prefq *made, struct ended now, prefq **table)
+{
+    prefq_result result = answered(made, now, &made->width);
     if (result == PREFQ_OK)
         *table = made;
     else
@@ -276,36 +147,43 @@ prefq_result prefq_open_text(const char *text, size_t length, const prefq_setup 
     return result;
 }
 
+/* The sizes of a setup as the proved calls take them. What is too many clients for their type is outside its range as 0 is. */
+#define SIZES(setup) (uint8_t)((setup).clients <= MOST_CLIENTS ? (setup).clients : 0), (setup).capacity, (setup).block, (setup).window
+
+prefq_result prefq_open_text(const char *text, size_t length, const prefq_setup *given, prefq **table)
+{
+    prefq *made;
+    size_t rows = 0;
+    *table = NULL;
+    if (text == NULL)
+        return wrong_argument("the text is NULL");
+    for (size_t at = 0; at < length; at++)
+        rows += text[at] == '\n';
+    const prefq_setup setup = complete(given, rows);
+    prefq_result result = make(&setup, &made);
+    return result == PREFQ_OK ? opened(made, prefq_table_open(SIZES(setup), text, length, &made->proved, WORDS(made)), table) : result;
+}
+
 prefq_result prefq_open(const char *columns, size_t length, const int64_t *values, size_t rows, size_t width, const prefq_setup *given, prefq **table)
 {
+    static const int64_t none[1];
+    prefq *made;
+    int64_t names = 1;
     *table = NULL;
-    size_t names = 1;
     if (columns == NULL || (values == NULL && rows > 0))
         return wrong_argument("the columns or the rows are NULL");
     for (size_t at = 0; at < length; names += columns[at++] == ',')
         if (columns[at] == '\n' || columns[at] == '\r')
-            return refused(PREFQ_TABLE, 3, "bad name col %zu", names);
-    /* Of rows that are refused for their number, one more than a table has tells that. */
-    size_t written = width == names && width <= MOST_COLUMNS ? (rows <= MOST_ROWS ? rows : MOST_ROWS + 1) : 0;
+            return refused((prefq_refusal){PREFQ_TABLE, 3, names, -1, 0, NULL}, "bad name col %lld", (long long)names);
     const prefq_setup setup = complete(given, rows);
-    char *text = malloc(length + 1 + written * (width * (LONGEST_NUMBER + 1))), *to = text;
-    if (text == NULL)
-        return out_of_memory();
-    memcpy(to, columns, length);
-    to[length] = '\n';
-    to += length + 1;
-    for (size_t row = 0; row < written; row++) {
-        to = put_row(to, values + row * width, width);
-        *to++ = '\n';
-    }
-    prefq_result result = prefq_open_text(text, (size_t)(to - text), &setup, table);
-    free(text);
-    if (result == PREFQ_OK && rows > 0 && width != names) {
-        prefq_close(*table);
-        *table = NULL;
-        return refused(PREFQ_TABLE, 5, "width row 1");
-    }
-    return result;
+    prefq_result result = make(&setup, &made);
+    if (result != PREFQ_OK)
+        return result;
+    /* Of too many rows or columns no number is looked at. */
+    size_t count = rows <= MOST_ROWS && width <= MOST_COLUMNS ? rows * width : 0;
+    if (count == 0)
+        values = none;
+    return opened(made, prefq_table_open_rows(SIZES(setup), columns, length, rows, width, values, count, &made->proved, WORDS(made)), table);
 }
 
 /* ---- the end ---- */
@@ -352,7 +230,6 @@ void prefq_close(prefq *table)
     }
     for (size_t client = 0; client < MOST_CLIENTS; client++)
         free(table->answers[client].numbers);
-    free(table->said.bytes);
     free(table->replies.bytes);
     free(table);
 }

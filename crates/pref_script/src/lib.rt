@@ -34,3 +34,8 @@ pub use output::{fault_line, write_output};
 pub use run::run_script;
 pub use threads::{OpenGate, run_script_on_threads, run_threads};
 pub use watched::Watched;
+
+/// How refusals are printed, for who prints them in no line of a reply.
+pub mod engine {
+    pub use crate::text::{push_core_fault, push_table_fault, push_term_fault};
+}

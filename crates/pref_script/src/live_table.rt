@@ -8,7 +8,8 @@ use pref_core::{Machine, Setup};
 use pref_table::{Schema, read_table};
 use std::alloc::Global;
 
-/// A table with its clients and their open queries, and the number of the line that comes next.
+/// A table with its clients and their open queries, and the number of the line that comes next. Who makes calls of its own
+/// beside the lines makes them on the machine.
 ///
 /// ```rust
 /// let mut live = LiveTable::open(alloc, setup, b"price\n50\n", 5)?;
@@ -17,9 +18,9 @@ use std::alloc::Global;
 /// ```
 #[derive(Drop)]
 pub struct LiveTable {
-    schema: Schema,
-    machine: Machine,
-    number: u64,
+    pub schema: Schema,
+    pub machine: Machine,
+    pub number: u64,
 }
 
 impl LiveTable {

@@ -1,1 +1,4 @@
-pub mod CallsLaws
+pub mod LinesLaws
+pub mod EndLaws
+pub mod NumbersLaws
+pub mod RowsLaws

@@ -7,7 +7,7 @@ ghost use Rattle.prefq_c.specs.declared.table.Table.{Table};
 use crate::table::Table;
 use std::alloc::Global;
 use std::marker::Model;
-use std::ptr;
+use std::{mem, ptr};
 
 /// A table in memory, or none, where the pointer is null. To C it is a struct of one pointer, which it only keeps and hands back.
 #[repr(C)]
@@ -48,4 +48,13 @@ pub fn thaw(alloc: Global, handle: Handle) -> Box<Table>
 {
     let Handle { at } = handle;
     unsafe { Box::from_raw(alloc, at as *mut Table) }
+}
+
+/// Takes the table out of a handle.
+pub fn take(alloc: Global, handle: &mut Handle) -> Box<Table>
+    requires { IsSome handle.old.value }
+    ensures table { handle.old.value ≡ Some result.value }
+    ensures left { handle.new.value ≡ None }
+{
+    thaw(alloc, mem::replace(handle, none()))
 }

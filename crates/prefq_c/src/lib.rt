@@ -4,7 +4,15 @@
 //! caller may rely on, from its opening on.
 #![tactic(auto)]
 
-mod calls;
+mod acts;
+mod answer;
+mod changes;
+mod ended;
+mod fault;
 mod handle;
+mod lines;
+mod opening;
+mod queries;
+mod rows;
 mod said;
 mod table;

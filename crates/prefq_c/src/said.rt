@@ -1,20 +1,8 @@
-//! What a call answers to a program of another language.
+//! Texts in an array of the caller's.
 ghost use Rattle.std.specs.Prelude.{◌≡◌, length};
-ghost use Rattle.prefq_c.specs.Calls.{Copied};
+ghost use Rattle.prefq_c.specs.Lines.{Answers, Copied};
 
-/// The text is there.
-pub const SAID: u8 = 0;
-
-/// The table is refused; the text says why.
-pub const REFUSED: u8 = 1;
-
-/// There was no memory, and there is no table.
-pub const OUT_OF_MEMORY: u8 = 2;
-
-/// A number of the setup is outside its range.
-pub const OUTSIDE: u8 = 3;
-
-/// How a call ended, and how long its text is, of which the caller's array has as much as fits.
+/// How long a text is, of which the caller's array has as much as fits; whether there was no memory for it.
 #[repr(C)]
 #[derive(Clone, Copy)]
 pub struct Said {
@@ -28,4 +16,16 @@ pub fn copy_text(text: &[u8], array: &mut [u8])
 {
     let count = text.len().min(array.len());
     array[..count].copy_from_slice(&text[..count]);
+}
+
+/// A text as an answer.
+pub fn say(text: &[u8], array: &mut [u8]) -> Said
+    ensures outcome { result.outcome ≡ 0 }
+    ensures answers { Answers text.now array.old array.new result }
+{
+    copy_text(text, array);
+    Said {
+        length: text.len(),
+        outcome: 0,
+    }
 }

@@ -1,8 +1,8 @@
--- What a call behind a handle leaves.
+-- What a line behind a handle leaves.
 use Rattle.std.proofs.Common.{◌≡◌, Option, Some, IfSome, string_bytes, ℕ, List, [], Ok, Err, Result, OnOk, false, is_err, subst, sym}
 use Rattle.pref_script.specs.LiveTable.{PrintsLine}
 use Rattle.pref_script.specs.declared.fault.RunFault.{RunFault}
-use Rattle.prefq_c.specs.Calls.{Answers, TakesLines, Takes}
+use Rattle.prefq_c.specs.Lines.{Answers, TakesLines, Takes}
 use Rattle.prefq_c.specs.declared.said.Said.{Said}
 use Rattle.prefq_c.specs.declared.table.Table.{Table}
 

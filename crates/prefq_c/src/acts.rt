@@ -1,0 +1,138 @@
+//! What the calls on rows and queries do to a table.
+ghost use Rattle.std.specs.Prelude.{◌≡◌, ◌≤◌, [], take, length};
+ghost use Rattle.prefq_c.specs.Acts.{Abandons, Begins, BeginsAll, Commits, Deletes, Finishes, Gets, Inserts, Scans, TellsRoom, Updates, answer_numbers};
+
+use crate::answer::put_rows;
+use crate::changes::{Piece, commit_of};
+use crate::fault::Fault;
+use crate::table::Table;
+use pref_core::RankedList;
+use pref_table::{Row, TableFault};
+use pref_term::{Ask, Mode, Term, read_ask};
+use std::alloc::Global;
+
+/// The client whose acts change rows and look them up.
+const CLIENT: u8 = 1;
+
+/// Copies the first cells of a row, as many as there are places.
+fn copy_cells(row: &Row, numbers: &mut [i64])
+    requires { length numbers.old ≤ 16 }
+    ensures { numbers.new ≡ take (length numbers.old) row.now }
+{
+    for col in 0..numbers.len() {
+        numbers[col] = row.cell(col);
+    }
+}
+
+impl Table {
+    /// Inserts a row, and returns its id.
+    pub fn insert(&mut self, alloc: Global, numbers: &[i64]) -> Result<u64, Fault>
+        ensures { Inserts numbers.now self.old result self.new }
+    {
+        let row = Row::of(&self.live.schema, numbers)?;
+        Ok(self.live.machine.insert(alloc, CLIENT, &row)?)
+    }
+
+    /// Puts another row in place of the one of this id.
+    pub fn update(&mut self, alloc: Global, id: u64, numbers: &[i64]) -> Result<u64, Fault>
+        ensures { Updates id numbers.now self.old result self.new }
+    {
+        let row = Row::of(&self.live.schema, numbers)?;
+        self.live.machine.update(alloc, CLIENT, id, &row)?;
+        Ok(id)
+    }
+
+    /// Deletes the row of this id.
+    pub fn delete(&mut self, alloc: Global, id: u64) -> Result<u64, Fault>
+        ensures { Deletes id self.old result self.new }
+    {
+        self.live.machine.delete(alloc, CLIENT, id)?;
+        Ok(id)
+    }
+
+    /// Makes the changes of a commit at one moment, and returns the id of the first row that they add, 0 where they add none.
+    pub fn commit(&mut self, alloc: Global, pieces: &[Piece]) -> Result<u64, Fault>
+        ensures { Commits pieces.now self.old result self.new }
+    {
+        let commit = match commit_of(&self.live.schema, pieces) {
+            Ok(commit) => commit,
+            Err(why) => return Err(Fault::Changes(why)),
+        };
+        Ok(self.live.machine.commit(alloc, CLIENT, &commit)?.first)
+    }
+
+    /// Copies the values of the row of this id, for which there are as many places as columns.
+    pub fn get(&self, id: u64, numbers: &mut [i64]) -> Result<u64, Fault>
+        ensures { Gets id numbers.old numbers.new self.now result self.now }
+    {
+        if numbers.len() != self.live.schema.width() {
+            return Err(Fault::Values(TableFault::Width { row: 0 }));
+        }
+        let row = self.live.machine.get(CLIENT, id)?;
+        copy_cells(&row, numbers);
+        Ok(id)
+    }
+
+    /// Returns how many more versions there is room for.
+    pub fn room(&self) -> Result<u64, Fault>
+        ensures { TellsRoom self.now result self.now }
+    {
+        Ok(u64::from(self.live.machine.room(CLIENT)?))
+    }
+
+    /// Begins a client's query of a question text, and returns how many blocks it has to scan.
+    pub fn begin(&mut self, alloc: Global, client: u8, text: &[u8]) -> Result<u64, Fault>
+        ensures { Begins client text.now self.old result self.new }
+    {
+        let ask = read_ask(alloc, &self.live.schema, text)?;
+        Ok(u64::from(self.live.machine.begin(client, ask)?))
+    }
+
+    /// Begins a client's query of all rows, and returns how many blocks it has to scan.
+    pub fn begin_all(&mut self, alloc: Global, client: u8) -> Result<u64, Fault>
+        ensures { BeginsAll client self.old result self.new }
+    {
+        let any_value = Term::Between {
+            col: 0,
+            left: i64::MIN,
+            right: i64::MAX,
+        };
+        let Ok(ask) = Ask::of(alloc, any_value, Vec::new(alloc), Mode::Best) else {
+            return Err(Fault::Memory);
+        };
+        Ok(u64::from(self.live.machine.begin(client, ask)?))
+    }
+
+    /// Scans the next block of a client's query, and returns how many are left.
+    pub fn scan(&mut self, alloc: Global, client: u8) -> Result<u64, Fault>
+        ensures { Scans client self.old result self.new }
+    {
+        Ok(u64::from(self.live.machine.scan(alloc, client)?))
+    }
+
+    /// Ends a client's query with its answer, which is kept, and returns how many rows it has.
+    pub fn finish(&mut self, alloc: Global, client: u8) -> Result<u64, Fault>
+        ensures { Finishes client self.old result self.new }
+    {
+        self.answer = self.live.machine.finish(alloc, client)?;
+        Ok(self.answer.len() as u64)
+    }
+
+    /// Ends a client's query without an answer.
+    pub fn abandon(&mut self, client: u8) -> Result<u64, Fault>
+        ensures { Abandons client self.old result self.new }
+    {
+        self.live.machine.abandon(client)?;
+        Ok(0)
+    }
+
+    /// Puts the numbers of the answer that is kept into an array of so many places, and keeps it no longer.
+    pub fn hand_over(&mut self, alloc: Global, numbers: &mut [i64])
+        requires { length numbers.old ≡ length (answer_numbers self.old) }
+        ensures numbers { numbers.new ≡ answer_numbers self.old }
+        ensures taken { self.new ≡ record self.old { answer = [] } }
+    {
+        put_rows(self.live.schema.width(), self.answer.as_slice(), numbers);
+        self.answer = RankedList::of(Vec::new(alloc));
+    }
+}

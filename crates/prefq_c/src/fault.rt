@@ -1,0 +1,203 @@
+//! Why a call is refused, in numbers and as a text.
+ghost use Rattle.std.specs.Prelude.{◌≡◌, IfOk, string_bytes};
+ghost use Rattle.prefq_c.specs.Faults.{act_fault, core_refusal, question_fault, refusal_numbers, refusal_text, table_refusal, term_refusal, values_fault};
+ghost use Rattle.prefq_c.specs.Ended.{numbered};
+ghost use Rattle.prefq_c.specs.declared.fault.Fault.TheVariants.{Memory};
+
+use crate::ended::{Ended, numbered};
+use pref_core::CoreFault;
+use pref_script::engine::{push_core_fault, push_table_fault, push_term_fault};
+use pref_table::TableFault;
+use pref_term::TermFault;
+use std::alloc::{AllocError, Global};
+
+/// Why a call is refused.
+#[derive(Clone, Copy)]
+pub enum Fault {
+    /// What a client wants cannot be done now.
+    Act(CoreFault),
+    /// Names or values make no table, or no row of it.
+    Values(TableFault),
+    /// The question is none.
+    Question(TermFault),
+    /// The changes are no commit.
+    Changes(CoreFault),
+    /// There are more opening rows than there is room for.
+    Opening(CoreFault),
+    /// An allocation was refused.
+    Memory,
+}
+
+impl From<AllocError> for Fault {
+    ghost from_gives = { λ _ fault. fault ≡ Memory };
+
+    fn from(_error: AllocError) -> Fault {
+        Fault::Memory
+    }
+}
+
+/// The refusal of a client's act.
+impl From<CoreFault> for Fault {
+    ghost from_gives = { λ why fault. fault ≡ act_fault why };
+
+    fn from(why: CoreFault) -> Fault {
+        match why {
+            CoreFault::OutOfMemory => Fault::Memory,
+            _ => Fault::Act(why),
+        }
+    }
+}
+
+impl From<TableFault> for Fault {
+    ghost from_gives = { λ why fault. fault ≡ values_fault why };
+
+    fn from(why: TableFault) -> Fault {
+        match why {
+            TableFault::OutOfMemory => Fault::Memory,
+            _ => Fault::Values(why),
+        }
+    }
+}
+
+impl From<TermFault> for Fault {
+    ghost from_gives = { λ why fault. fault ≡ question_fault why };
+
+    fn from(why: TermFault) -> Fault {
+        match why {
+            TermFault::OutOfMemory => Fault::Memory,
+            _ => Fault::Question(why),
+        }
+    }
+}
+
+/// The kinds of refusals, as prefq.h numbers them.
+const CLIENT: u8 = 1;
+
+const TABLE: u8 = 2;
+
+const TERM: u8 = 3;
+
+const COMMIT: u8 = 4;
+
+const OPENING: u8 = 5;
+
+const TABLE_END: u8 = 7;
+
+/// A refusal that names a place, in a question, among names or among changes.
+fn at_place(kind: u8, number: u8, place: u64) -> Ended
+    ensures { result ≡ record (numbered kind number) { place = place } }
+{
+    let mut ended = numbered(kind, number);
+    ended.place = place;
+    ended
+}
+
+/// A refusal that names an amount.
+fn of_amount(kind: u8, number: u8, amount: u64) -> Ended
+    ensures { result ≡ record (numbered kind number) { amount = amount } }
+{
+    let mut ended = numbered(kind, number);
+    ended.amount = amount;
+    ended
+}
+
+/// A refusal that names a value of a table.
+fn at_value(number: u8, row: u64, col: u64) -> Ended
+    ensures { result ≡ record (numbered 2 number) { place = col; row = row } }
+{
+    let mut ended = at_place(TABLE, number, col);
+    ended.row = row;
+    ended
+}
+
+/// A refusal of a row.
+fn at_row(number: u8, row: u64) -> Ended
+    ensures { result ≡ record (numbered 2 number) { row = row } }
+{
+    let mut ended = numbered(TABLE, number);
+    ended.row = row;
+    ended
+}
+
+/// The numbers of a refusal of the engine, which may be about changes or opening rows.
+fn core_refusal(kind: u8, why: CoreFault) -> Ended
+    ensures { result ≡ core_refusal kind why }
+{
+    match why {
+        CoreFault::NoSuchClient => numbered(kind, 1),
+        CoreFault::Spent => numbered(kind, 2),
+        CoreFault::QueryOpen => numbered(kind, 3),
+        CoreFault::NoQuery => numbered(kind, 4),
+        CoreFault::AllScanned => numbered(kind, 5),
+        CoreFault::NotDone { left } => of_amount(kind, 6, left),
+        CoreFault::NoSuchRow { id } => of_amount(kind, 7, id),
+        CoreFault::Full { needed } => of_amount(kind, 8, needed),
+        CoreFault::OutOfMemory => numbered(kind, 9),
+        CoreFault::Twice { place } => at_place(kind, 12, place),
+        CoreFault::ChangeCount => numbered(kind, 13),
+    }
+}
+
+/// Those of names and values.
+fn table_refusal(why: TableFault) -> Ended
+    ensures { result ≡ table_refusal why }
+{
+    match why {
+        TableFault::NoColumns => numbered(TABLE, 1),
+        TableFault::TooManyColumns => numbered(TABLE, 2),
+        TableFault::BadName { col } => at_place(TABLE, 3, col),
+        TableFault::SameName { col } => at_place(TABLE, 4, col),
+        TableFault::Width { row } => at_row(5, row),
+        TableFault::NotWhole { row, col } => at_value(6, row, col),
+        TableFault::OutOfRange { row, col } => at_value(7, row, col),
+        TableFault::TooManyRows => numbered(TABLE, 8),
+        TableFault::OutOfMemory => numbered(TABLE, 9),
+    }
+}
+
+/// Those of a question.
+fn term_refusal(why: TermFault) -> Ended
+    ensures { result ≡ term_refusal why }
+{
+    match why {
+        TermFault::Unexpected { at } => at_place(TERM, 1, at),
+        TermFault::UnknownColumn { at } => at_place(TERM, 2, at),
+        TermFault::NumberRange { at } => at_place(TERM, 3, at),
+        TermFault::TooDeep { at } => at_place(TERM, 4, at),
+        TermFault::TooLong => numbered(TERM, 5),
+        TermFault::BadCount { at } => at_place(TERM, 6, at),
+        TermFault::NoMinOrMax => numbered(TERM, 7),
+        TermFault::OutOfMemory => numbered(TERM, 8),
+        TermFault::EmptyRange { at } => at_place(TERM, 9, at),
+    }
+}
+
+/// The numbers of a refusal, before its text is there.
+pub fn refusal_numbers(why: Fault) -> Ended
+    ensures { result ≡ refusal_numbers why }
+{
+    match why {
+        Fault::Act(why) => core_refusal(CLIENT, why),
+        Fault::Values(why) => table_refusal(why),
+        Fault::Question(why) => term_refusal(why),
+        Fault::Changes(why) => core_refusal(COMMIT, why),
+        Fault::Opening(why) => core_refusal(OPENING, why),
+        Fault::Memory => numbered(TABLE_END, 0),
+    }
+}
+
+/// The number of a refusal and what the program says behind it.
+pub fn refusal_text(alloc: Global, why: Fault) -> Result<String, AllocError>
+    ensures { IfOk result (λ text. string_bytes text ≡ refusal_text why) }
+{
+    let mut text = String::new(alloc);
+    match why {
+        Fault::Act(why) | Fault::Changes(why) | Fault::Opening(why) => {
+            push_core_fault(&mut text, why)?
+        }
+        Fault::Values(why) => push_table_fault(&mut text, why)?,
+        Fault::Question(why) => push_term_fault(&mut text, why)?,
+        Fault::Memory => {}
+    }
+    Ok(text)
+}
