@@ -14,7 +14,7 @@ from .kinds.booleans import WORDS as WORDS_OF_TRUTH
 from .kinds.booleans import is_truth
 from .kinds.forms import NUMBER, PLAIN, Form
 from .kinds.moments import DAY, MOMENT, are_of_one_name, offset_of, shows_times
-from .kinds.numbers import FLOAT, WIDE, Number, are_in_range, decimals_of, is_number, shown, whole_numbers
+from .kinds.numbers import FLOAT, WIDE, Number, decimals_of, is_number, shown
 from .missing import WORDS, folded
 
 WHOLE = re.compile(r"[+-]?\d+")
@@ -83,15 +83,11 @@ def plain_numbers(texts: Sequence[str], form: Form) -> Optional[List[str]]:
 
 def kind_of_numbers(texts: Sequence[str]) -> Kind:
     """Whole numbers or decimals where they fit; floats where nothing is lost by that; else texts, which keep them as they are."""
-    if all(map(WHOLE.fullmatch, texts)):
-        wholes = whole_numbers(texts)
-        if wholes and are_in_range(wholes):
-            return Whole()
-    elif all(map(NUMBER.fullmatch, texts)):
+    if all(map(NUMBER.fullmatch, texts)):
         has_exponents = any("e" in text or "E" in text for text in texts)
         decimals = max(map(decimals_of, texts)) if has_exponents else most_decimals(texts)
         if decimals <= MOST_DECIMALS and max(Decimal(text).copy_abs() for text in texts) <= Decimal(MOST).scaleb(-decimals, WIDE):
-            return Decimals(decimals)
+            return Whole() if all(map(WHOLE.fullmatch, texts)) else Decimals(decimals)
     return Floats() if first_inexact(texts) is None else Texts()
 
 

@@ -289,15 +289,6 @@ def are_in_range(numbers: Sequence[int]) -> bool:
     return not numbers or LEAST < min(numbers) and max(numbers) <= MOST
 
 
-def whole_numbers(texts: Sequence[str]) -> Optional[List[int]]:
-    """The whole numbers that plain texts spell, each by digits alone; None where one of them spells none. (Python reads 1_000, which is no number here.)"""
-    try:
-        numbers = list(map(int, texts))
-    except ValueError:
-        return None
-    return None if "_" in "".join(texts) else numbers
-
-
 def scaled_numbers(texts: Sequence[str], decimals: int) -> Optional[List[int]]:
     """The numbers that plain texts spell without an exponent, in units of the last of so many decimals; None where one of them has to be looked at by itself."""
     plain = PlainTexts.of(texts) if texts else None
