@@ -1,5 +1,5 @@
 """Whole rows as they came from a source: they go with the columns that are asked, and are understood once they are in an answer."""
-from itertools import chain, groupby, islice
+from itertools import groupby, islice
 from typing import Any, Iterable, List, Sequence, Tuple
 
 from .loading import CellRefused, Encoded, column_of_texts, column_of_values
