@@ -27,7 +27,7 @@ try:
 except ImportError:
     pandas = None
 
-QUESTIONS = int(os.environ.get("PREFQ_TEST_COUNT", 300))
+QUESTIONS = int(os.environ.get("PREFQ_TEST_COUNT", 200))
 SEED = int(os.environ.get("PREFQ_TEST_SEED", 20261130))
 QUESTIONS_OF_A_FRAME = 5
 # What a table does not have, and what is no comparison.
