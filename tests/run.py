@@ -300,7 +300,8 @@ def proofs_at_once():
 
 def let_proofs_go_first(run):
     """Until `rt ci` ends, its edits get the processors that its proofs leave free: the proofs of the crates wait for one another."""
-    edits = f"{tempfile.gettempdir()}/rt-edit-{run.pid}-"
+    # Those of other runs are in such folders too: not each kit puts the number of its run into the name.
+    edits = f"{tempfile.gettempdir()}/rt-edit-"
     while run.poll() is None:
         for process in Path("/proc").glob("[0-9]*"):
             # It may have ended, or be another user's.
