@@ -9,7 +9,7 @@ use Rattle.pref_core.specs.declared.fault.CoreFault.TheVariants.{Full}
 use Rattle.pref_core.specs.Step.{opened}
 use Rattle.pref_core.specs.Systems.{StandsForSystem}
 use Rattle.pref_core.specs.Limits.{Limits}
-use Rattle.pref_script.specs.LiveTable.{IsOpened, OpeningFault, names_of, next_number, running_of}
+use Rattle.pref_script.specs.LiveTable.{IsOpened, OpeningFault, names_of, running_of}
 use Rattle.pref_script.specs.declared.fault.RunFault.{RunFault}
 use Rattle.pref_script.specs.declared.fault.RunFault.TheVariants as run
 use Rattle.prefq_c.specs.Lines.{TakesLines}
