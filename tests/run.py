@@ -18,6 +18,7 @@ line that says so, and counted apart from the checks, which pass without them. L
 import contextlib
 import os
 import re
+import resource
 import shutil
 import signal
 import subprocess
@@ -349,14 +350,16 @@ def whole(count, *words):
     say(f"runs {' '.join(['rt ci', *words])}: the proofs, the must-fail edits and the tests of all crates; after it")
     say_what_runs([*FIRST, *BUILT])
     gate(count, words)
-    say(f"== rt ci took {minutes_since(begun)} minutes")
+    say(f"== rt ci took {taken_since(begun)}")
     for found in chain(results(FIRST), results(BUILT)):
         say(f"== {found.name}", f"{found.said}== {found.seconds} seconds")
         count.add(found)
 
 
-def minutes_since(begun):
-    return int(time.monotonic() - begun) // 60
+def taken_since(begun):
+    """How long it took by the clock, and what all programs that have ended took of the processors, which does not hang on what else ran."""
+    used = resource.getrusage(resource.RUSAGE_CHILDREN)
+    return f"{int(time.monotonic() - begun) // 60} minutes, {int(used.ru_utime + used.ru_stime) // 60} of one processor"
 
 
 # ---- release ----
@@ -407,7 +410,7 @@ def main():
     if sys.argv[1] == "quick":
         say(f"{counts}, in {int(time.monotonic() - begun)} seconds")
     else:
-        say(f"all tests took {minutes_since(begun)} minutes", counts)
+        say(f"all tests took {taken_since(begun)}", counts)
     sys.exit(1 if count.failed else 0)
 
 
