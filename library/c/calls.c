@@ -261,7 +261,7 @@ prefq_result prefq_abandon(prefq *table, uint32_t client)
 
 /* ---- any lines ---- */
 
-enum { SHORT_REPLY = 512, /* more than any reply has that is no answer */ KEPT_REPLIES = 65536 /* a longer buffer is not kept */ };
+enum { SHORT_REPLY = 512 /* more than any reply has that is no answer */ };
 
 static int make_room(struct replies *replies, size_t more)
 {
@@ -277,9 +277,8 @@ static int make_room(struct replies *replies, size_t more)
 }
 
 /* Gives a line without its end, and puts its replies behind those before. */
-static prefq_result give(prefq *table, const char *line, size_t length)
+static prefq_result give(prefq *table, const char *line, size_t length, struct replies *replies)
 {
-    struct replies *replies = &table->replies;
     /* A short reply is never lost for want of memory: the table would have done what is asked. */
     if (!make_room(replies, SHORT_REPLY))
         return out_of_memory();
@@ -299,22 +298,22 @@ static prefq_result give(prefq *table, const char *line, size_t length)
 
 prefq_result prefq_lines(prefq *table, const char *lines, size_t length, const char **replies, size_t *replies_length)
 {
+    struct replies said = {NULL, 0, 0}; /* apart from those before, among which the lines may be */
     prefq_result result = enter_with(table, lines, "the lines are NULL");
     if (result != PREFQ_OK)
         return result;
-    if (table->replies.room > KEPT_REPLIES) {
-        free(table->replies.bytes);
-        table->replies = (struct replies){NULL, 0, 0};
-    }
-    table->replies.length = 0;
     for (size_t at = 0, size; at < length && result == PREFQ_OK; at += size + 1) {
         const char *feed = memchr(lines + at, '\n', length - at);
         size = feed != NULL ? (size_t)(feed - lines) - at : length - at;
-        result = give(table, lines + at, size > 0 && lines[at + size - 1] == '\r' ? size - 1 : size);
+        result = give(table, lines + at, size > 0 && lines[at + size - 1] == '\r' ? size - 1 : size, &said);
     }
-    if (result == PREFQ_OK) {
-        *replies = table->replies.length > 0 ? table->replies.bytes : "";
-        *replies_length = table->replies.length;
+    if (result != PREFQ_OK) {
+        free(said.bytes);
+        return leave(table, result);
     }
-    return leave(table, result);
+    free(table->replies.bytes);
+    table->replies = said;
+    *replies = said.length > 0 ? said.bytes : "";
+    *replies_length = said.length;
+    return leave(table, PREFQ_OK);
 }

@@ -54,7 +54,8 @@ prefq_result answered(const prefq *table, struct ended ended, uint64_t *amount)
     }
     if (ended.outcome != REFUSED)
         return ended.outcome == OUTSIDE ? wrong_argument("a number of the setup is outside its range") : out_of_memory();
-    const char *text = memchr(table->words, ' ', ended.length); /* behind the number */
-    int length = (int)(table->words + ended.length - text);
-    return refused((prefq_refusal){ended.kind, ended.number, (int64_t)ended.place, (int64_t)ended.row, ended.amount, NULL}, "%.*s", length - 1, text + 1);
+    /* The text is behind the number; there is neither where there was no memory for them. */
+    const char *end = table->words + ended.length, *blank = memchr(table->words, ' ', ended.length);
+    const char *text = blank != NULL ? blank + 1 : end;
+    return refused((prefq_refusal){ended.kind, ended.number, (int64_t)ended.place, (int64_t)ended.row, ended.amount, NULL}, "%.*s", (int)(end - text), text);
 }

@@ -32,7 +32,7 @@ extern "C" {
 #define PREFQ_VERSION "0.6.3"
 
 /* What a call may need of the caller's stack: at least twice what the deepest questions take (library/out/calls --stack measures it, and fails otherwise). */
-#define PREFQ_STACK 327680
+#define PREFQ_STACK 786432
 
 /* A table with its clients. */
 typedef struct prefq prefq;
@@ -64,7 +64,7 @@ typedef struct prefq_refusal {
     int64_t place;    /* the byte of the question, from 0 on; the column of a value or a name, or the change of a commit, from 1 on; -1 where there is none */
     int64_t row;      /* of a value of a table, from 1 on; 0 of a single row; -1 where there is none */
     uint64_t amount;  /* the id of a row that is not there, the versions that would be needed, or the blocks that are left; else 0 */
-    const char *text; /* what the program says behind the number, as "no such row 7"; it ends with a zero */
+    const char *text; /* what the program says behind the number, as "no such row 7"; it ends with a zero, and is empty where there was no memory for it */
 } prefq_refusal;
 
 /* Sizes of a table. A zero stands for what is given here in brackets. */

@@ -228,6 +228,7 @@ int main(int count, char **words)
     test_refusals();
     test_large_blocks();
     refuse_each_request();
+    refuse_requests_of_refusals();
     test_threads();
     test_end_beside_calls();
     test_forks();

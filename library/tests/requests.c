@@ -130,6 +130,48 @@ void refuse_each_request(void)
     printf("%ld requests for memory refused in turn\n", number - 1);
 }
 
+/* Each refused call, by its number: one without memory for what it says is refused all the same, and the table goes on. */
+static prefq_result refused_call(prefq *table, int call)
+{
+    const prefq_change twice[] = {{PREFQ_UPDATE, 1, hotels}, {PREFQ_DELETE, 1, NULL}};
+    const int64_t *answer;
+    size_t count;
+    uint64_t id;
+    uint32_t left;
+    int64_t row[2];
+    switch (call) {
+    case 0: return prefq_insert(table, hotels, 1, &id);
+    case 1: return prefq_update(table, 99, hotels, 2);
+    case 2: return prefq_delete(table, 99);
+    case 3: return prefq_get(table, 99, row, 2);
+    case 4: return prefq_commit(table, twice, 2, 2, &id);
+    case 5: return prefq_scan(table, 1, 1, &left);
+    case 6: return prefq_finish(table, 1, &answer, &count);
+    default: return prefq_abandon(table, 9);
+    }
+}
+
+void refuse_requests_of_refusals(void)
+{
+    uint32_t left;
+    prefq *table = open_hotels();
+    for (int call = 0; call < 8; call++) {
+        EXPECT(refused_call(table, call) == PREFQ_REFUSED);
+        const prefq_refusal why = *prefq_last_refusal();
+        for (long number = 1; number < 4; number++) {
+            atomic_store(&requests, 0);
+            atomic_store(&refused_request, number);
+            prefq_result result = refused_call(table, call);
+            atomic_store(&refused_request, 0);
+            const prefq_refusal *now = prefq_last_refusal();
+            EXPECT(result == PREFQ_REFUSED && now->kind == why.kind && now->number == why.number && now->place == why.place && now->amount == why.amount);
+            EXPECT((now->text[0] == '\0') == (atomic_load(&requests) >= number));
+        }
+    }
+    EXPECT(prefq_room(table, &left) == PREFQ_OK);
+    prefq_close(table);
+}
+
 static void call_within(prefq *table)
 {
     uint32_t left;

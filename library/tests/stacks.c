@@ -4,23 +4,46 @@
 #include <pthread.h>
 #include <sys/mman.h>
 
-/* The deepest nesting that is allowed: 64 of `-` and `(` inside one another, of each kind and of both in turn. */
+/* The kinds of the deepest questions: the deepest nesting that is allowed, 64 of `-`, of `(` and of both in turn inside one another; and as many terms as a question
+   has room for, between them `*`, `&` and both in turn. */
+enum { KINDS = 6, LONGEST = 4096 };
+
+static char *nest(char *to, int kind)
+{
+    for (int level = 0; level < 64; level++)
+        *to++ = kind == 0 || (kind == 2 && level % 2 == 0) ? '-' : '(';
+    to += sprintf(to, "low(a)");
+    for (int level = 0; level < 64; level++)
+        if (kind == 1 || (kind == 2 && level % 2 == 1))
+            to += sprintf(to, kind == 1 && level % 2 == 0 ? " * high(b))" : " & around(b, 5))");
+    return to;
+}
+
+static char *chain(char *to, int kind, const char *end)
+{
+    to += sprintf(to, "low(a)");
+    for (int term = 1; end - to >= 7; term++)
+        to += sprintf(to, "%clow(%c)", kind == 3 || (kind == 5 && term % 2 == 0) ? '*' : '&', "ab"[term % 2]);
+    return to;
+}
+
 static size_t deepest(char *question, int kind)
 {
     char *to = question + sprintf(question, "best ");
-    for (int level = 0; level < 64; level++)
-        *to++ = kind == 0 || (kind == 2 && level % 2 == 0) ? '-' : '(';
-    to += sprintf(to, "low(price)");
-    for (int level = 0; level < 64; level++)
-        if (kind == 1 || (kind == 2 && level % 2 == 1))
-            to += sprintf(to, kind == 1 && level % 2 == 0 ? " * high(dist))" : " & around(dist, 5))");
-    return (size_t)(to - question);
+    return (size_t)((kind < 3 ? nest(to, kind) : chain(to, kind, question + LONGEST)) - question);
+}
+
+static prefq *open_short_names(void)
+{
+    prefq *table;
+    EXPECT(prefq_open("a,b", 3, hotels, 3, 2, NULL, &table) == PREFQ_OK);
+    return table;
 }
 
 static void *ask_deepest(void *given)
 {
-    for (int kind = 0; kind < 3; kind++) {
-        char question[4096];
+    for (int kind = 0; kind < KINDS; kind++) {
+        char question[LONGEST + 1];
         const int64_t *answer;
         size_t count, length = deepest(question, kind);
         prefq_result result = prefq_ask(given, 1, question, length, &answer, &count);
@@ -33,7 +56,7 @@ static void *ask_deepest(void *given)
 /* On a thread with a stack of so many bytes: 1 if the deepest questions are answered, 2 if they are refused. */
 static intptr_t on_a_stack_of(size_t size)
 {
-    prefq *table = open_hotels();
+    prefq *table = open_short_names();
     pthread_attr_t attributes;
     pthread_t thread;
     void *result;
@@ -60,7 +83,7 @@ void measure_stack(void)
 {
     enum { SIZE = 1 << 20 };
     unsigned char *stack = mmap(NULL, SIZE, PROT_READ | PROT_WRITE, MAP_PRIVATE | MAP_ANONYMOUS, -1, 0);
-    prefq *table = open_hotels();
+    prefq *table = open_short_names();
     pthread_attr_t attributes;
     pthread_t thread;
     void *result;

@@ -34,6 +34,7 @@ static inline prefq *open_hotels(void)
 /* requests.c */
 void test_large_blocks(void);
 void refuse_each_request(void);
+void refuse_requests_of_refusals(void);
 void test_calls_around_requests(void);
 void test_close_within_calls(void);
 

@@ -1,8 +1,8 @@
 -- What a call behind a handle answers. (this project)
-use Rattle.std.specs.Prelude.{ℕ, ◌≡◌, ◌⊎◌, List, length, Option, None, Some, Result, Ok, Err}
+use Rattle.std.specs.Prelude.{ℕ, ◌≡◌, ◌⊎◌, List, Option, None, Some, Result, Ok, Err}
 use Rattle.prefq_c.specs.Lines.{Copied}
 use Rattle.prefq_c.specs.Ended.{done}
-use Rattle.prefq_c.specs.Faults.{refusal_numbers, refusal_text}
+use Rattle.prefq_c.specs.Faults.{refusal, refusal_numbers, refusal_text}
 use Rattle.prefq_c.specs.declared.ended.Ended.{Ended}
 use Rattle.prefq_c.specs.declared.fault.Fault.{Fault}
 use Rattle.prefq_c.specs.declared.fault.Fault.TheVariants.{Memory}
@@ -10,12 +10,12 @@ use Rattle.prefq_c.specs.declared.table.Table.{Table}
 
 -- a call is refused with the numbers and the text of this refusal
 abbrev pub IsRefusal : Fault → List ℕ → List ℕ → Ended → Type 0
-IsRefusal why old new ended = (ended ≡ record (refusal_numbers why) { length = length (refusal_text why) }) × Copied (refusal_text why) old new
+IsRefusal why old new ended = (ended ≡ refusal why) × Copied (refusal_text why) old new
 
--- the same, unless there was no memory for it
+-- the same, or its numbers alone, without memory for the text
 abbrev pub Refused : Fault → List ℕ → List ℕ → Ended → Type 0
 Refused Memory old new ended = ended.outcome ≡ 2
-Refused why old new ended = (ended.outcome ≡ 2) ⊎ IsRefusal why old new ended
+Refused why old new ended = ((ended ≡ refusal_numbers why) × (new ≡ old)) ⊎ IsRefusal why old new ended
 
 -- what is answered of what was returned
 abbrev pub Answered : Result ℕ Fault → List ℕ → List ℕ → Ended → Type 0

@@ -9,7 +9,7 @@ use Rattle.pref_core.specs.declared.fault.CoreFault.TheVariants.{Full}
 use Rattle.pref_core.specs.Step.{opened}
 use Rattle.pref_core.specs.Systems.{StandsForSystem}
 use Rattle.pref_core.specs.Limits.{Limits}
-use Rattle.pref_script.specs.LiveTable.{IsOpened, OpeningFault, names_of, running_of}
+use Rattle.pref_script.specs.LiveTable.{IsOpened, OpeningFault, names_of, next_number, running_of}
 use Rattle.pref_script.specs.declared.fault.RunFault.{RunFault}
 use Rattle.pref_script.specs.declared.fault.RunFault.TheVariants as run
 use Rattle.prefq_c.specs.Lines.{TakesLines}
@@ -73,7 +73,7 @@ numbers_table header count width numbers = do
 
 -- what a table of names and rows stands for as it is opened
 abbrev pub Stands : Limits → TableIs → Table → Type 0
-Stands limits (names, rows) opening = (names_of opening.live ≡ names) × ((running_of opening.live).limits ≡ limits) × StandsForSystem (running_of opening.live) (opened limits rows)
+Stands limits (names, rows) opening = (names_of opening.live ≡ names) × (next_number opening.live ≡ 1) × ((running_of opening.live).limits ≡ limits) × StandsForSystem (running_of opening.live) (opened limits rows)
 
 -- why there is none: more rows than there is room for
 abbrev pub IsTooFull : Limits → TableIs → Fault → Type 0

@@ -11,7 +11,7 @@ use crate::table::Table;
 use pref_sky::Ranked;
 use std::alloc::Global;
 
-/// The refusal of a call, with its text in the array, unless there is no memory for that.
+/// The refusal of a call, with its text in the array; without one where there is no memory for it.
 pub fn refuse(alloc: Global, why: Fault, said: &mut [u8]) -> Ended
     ensures { Refused why said.old said.new result }
 {
@@ -25,7 +25,7 @@ pub fn refuse(alloc: Global, why: Fault, said: &mut [u8]) -> Ended
             ended.length = text.len();
             ended
         }
-        Err(_) => without(OUT_OF_MEMORY),
+        Err(_) => refusal_numbers(why),
     }
 }
 

@@ -45,7 +45,7 @@ pub extern "C" fn prefq_table_open(
     said: &mut [u8],
 ) -> Ended
     ensures opens { AreAllowed (sizes clients capacity block window) → Opens (OpensText (sizes clients capacity block window) text.now) handle.old.value handle.new.value said.old said.new result }
-    ensures outside { (AreAllowed (sizes clients capacity block window) → ⊥) → result.outcome ≡ 3 }
+    ensures outside { (AreAllowed (sizes clients capacity block window) → ⊥) → (result.outcome ≡ 3) × (handle.new.value ≡ handle.old.value) }
 {
     match Setup::new(clients, capacity, block, window) {
         Some(setup) => give(alloc, Table::open(alloc, setup, text), handle, said),
@@ -71,7 +71,7 @@ pub extern "C" fn prefq_table_open_rows(
     requires { count ≤ 65536 → width ≤ 16 → HaveRows width count numbers.now }
     ensures opens { AreAllowed (sizes clients capacity block window) →
         Opens (OpensNumbers (sizes clients capacity block window) (numbers_table header.now count width numbers.now)) handle.old.value handle.new.value said.old said.new result }
-    ensures outside { (AreAllowed (sizes clients capacity block window) → ⊥) → result.outcome ≡ 3 }
+    ensures outside { (AreAllowed (sizes clients capacity block window) → ⊥) → (result.outcome ≡ 3) × (handle.new.value ≡ handle.old.value) }
 {
     match Setup::new(clients, capacity, block, window) {
         Some(setup) => give(
