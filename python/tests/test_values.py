@@ -432,6 +432,18 @@ class DataFrames(TestCase):
                     ask()
         self.assertEqual(list(prefq.psel(dataframe, "pos(x, 'Lyon') & low(y)").index), [1])
 
+    def test_categories_without_a_row_say_the_kind_of_a_column_without_a_value(self):
+        """As behind a condition, or in a group. Of numbers, bools and dates the order was not asked: the column was one of texts."""
+        for categories, kind in (([1, 2], "whole"), ([1.5, 2.5], "float"), ([True, False], "bool"), ([datetime.date(2024, 1, 1)], "date"), (["Bern", "Lyon"], "text")):
+            dataframe = pandas.DataFrame({"x": pandas.Categorical([None, None], categories), "y": [2, 1]})
+            with self.subTest(categories), prefq.Frame.from_dataframe(dataframe) as frame:
+                self.assertEqual(str(frame.columns[0].kind), kind)
+                if kind == "text":
+                    with self.assertWarns(prefq.UnknownValue):
+                        frame.best("best pos(x, 'Lyon')")
+                elif kind != "bool":
+                    self.assertEqual(list(prefq.psel(dataframe, "low(x) & low(y)").index), [1])
+
     def test_texts_with_a_nul(self):
         some = ["x\0y", "x", "x\0z", "\0", ""]
         for texts, dtype in ((some, "object"), ([*some, None], "object"), ([*some, None], "string")):

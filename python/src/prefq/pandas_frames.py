@@ -155,14 +155,16 @@ def _check_same(found: Any, given: Any, name: str, why: str) -> None:
 
 
 def _categories(series: Any, name: str) -> Tuple[Kind, Optional[List[int]]]:
-    if not series.cat.ordered and series.nunique() < len(series.cat.categories):
-        series = series.cat.remove_unused_categories()      # which are no values of the column
     categories = series.cat.categories.tolist()
-    of = kind_of_values(name, categories, what="category")
+    if not series.cat.ordered and series.nunique() < len(categories):
+        # Those of which there is no row are no values of the column, but say the kind of one that has none.
+        series = series.cat.remove_unused_categories()
+    there = series.cat.categories.tolist()
+    of = kind_of_values(name, there or categories, what="category")
     if not series.cat.ordered and not isinstance(of, Texts):
         return of, None
     try:
-        kind: Kind = Choices(categories, of) if series.cat.ordered else Texts(categories)
+        kind: Kind = Choices(there, of) if series.cat.ordered else Texts(there)
     except ValueError as why:
         raise Refused(f"column {name!r} has a category that its kind, {of}, does not have: {why}", "table") from None
     return kind, [code + 1 if code >= 0 else LEAST for code in series.cat.codes.tolist()]
