@@ -345,6 +345,19 @@ class OfAFrame(TestCase):
 
         self.assertEqual(self.run_async(main), ([range(2, 4), range(4, 5), 5, None, 6, range(0), range(7, 8), None], [(2, 2), (3, 3), (4, 4), (5, 6), (6, 7)]))
 
+    def test_one_record_that_is_another_one_each_time(self):
+        """All rows were the last one, though not by the frame's own call."""
+        def records():
+            record = {}
+            for record["x"] in range(3):
+                yield record
+
+        async def main():
+            async with await self.opened(1) as frame:
+                await frame.insert_many(records())
+                return [row.x for row in await frame.rows()][1:]
+        self.assertEqual(self.run_async(main), [0, 1, 2])
+
     def test_who_is_told_of_a_change_may_wait_for_a_client(self):
         """The change was made by then, and is not made again."""
         async def main():

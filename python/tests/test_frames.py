@@ -91,6 +91,7 @@ class Records(TestCase):
         with prefq.Frame.from_records(records()) as frame:
             frame.insert_many(records())
             self.assertEqual([row.x for row in frame.rows()], [0, 1, 2, 0, 1, 2])
+        self.assertEqual([row.x for row in prefq.psel(records(), "top_level 3 low(x)")], [0, 1, 2])
 
     def test_what_is_no_column_or_no_cursor(self):
         """It was an AttributeError of Python's own, and a text was a list of its letters."""

@@ -259,6 +259,17 @@ class Files(unittest.TestCase):
         found = best([Partition(COLUMNS, iter(rows))], "at_least 9 low(price) * low(dist)")
         self.assertEqual(answered(found), [(level, level) for level in range(1, 10)])
 
+    def test_one_list_that_has_another_row_each_time(self):
+        """All rows were the last one."""
+        def rows():
+            row = [0, 7, 1]
+            for row[0] in range(3):
+                yield row
+
+        job = Job("top_level 3 low(price)")
+        for found in (best([Partition(COLUMNS, rows())], job.question), job.answer([job.part(Partition(COLUMNS, rows()))]).rows):
+            self.assertEqual([row.price for row in found] if isinstance(found, prefq.Answer) else list(found.places), [0, 1, 2])
+
 
 class Refusals(unittest.TestCase):
     def test_a_line_is_no_command(self):

@@ -13,7 +13,7 @@ from .frame import Frame
 from .hasse import Hasse
 from .live_rows import Path
 from .preferences import Asked, Operand, text_asked
-from .records import Record
+from .records import Record, values_of_each
 from .selection import Names, Selection
 
 
@@ -60,7 +60,7 @@ class AsyncFrame(Awaited):
 
         def insert_many() -> Sequence[int]:
             if not listed:      # once, also where the insert is made again; a generator may ask the frame itself, and waits for a client then
-                listed.append(hastily(list, records, is_hasty=False))
+                listed.append(hastily(list, values_of_each(records, self.columns, "record {}".format), is_hasty=False))
             return self._frame.insert_many(listed[0])
         return await self._asks(insert_many)
 

@@ -101,7 +101,7 @@ def values_of_rows(partition: Partition) -> Iterator[Sequence[Any]]:
     """The rows of a partition in memory, each with a value for each column."""
     check_rows(partition.rows)
     width = len(partition.columns)
-    for number, row in enumerate(partition.rows, 1):
+    for number, row in enumerate(_as_they_come(partition.rows), 1):
         values = _numbers(number, row) if isinstance(row, NO_LISTS) else in_order(row, partition.columns)
         if not isinstance(values, Sequence):
             if not hasattr(values, "tolist"):
@@ -123,5 +123,10 @@ def _numbers(number: int, row: Union[str, bytes, bytearray, memoryview]) -> List
 def _readable_again(source: Source) -> Source:
     """The same, whose rows can be read as often as one likes."""
     if isinstance(source, Partition) and iter(source.rows) is source.rows:
-        return Partition(source.columns, list(source.rows))
+        return Partition(source.columns, list(_as_they_come(source.rows)))
     return source
+
+
+def _as_they_come(rows: Iterable[Any]) -> Iterable[Any]:
+    """The rows; what makes them one by one may change a list for the next one, so of these each is copied."""
+    return (list(row) if isinstance(row, list) else row for row in rows) if iter(rows) is rows else rows

@@ -68,7 +68,7 @@ def _of_records(frame: Any, text: str, selection: Selection, kinds: Optional[Map
         job = _job(text, selection, kinds, options)
         return answer_of(found_of(frame, job), job)
     check_rows(frame, "records")
-    records = frame if isinstance(frame, list) else list(frame)
+    records = frame if isinstance(frame, list) else list(mappings(frame))
     if len(records) > MOST_ROWS:
         job = _job(text, selection, kinds, options)
         return answer_of(found_in(job, _partitions_of(records), map), job)
