@@ -171,6 +171,23 @@ class Tasks(TestCase):
         finally:
             gc.enable()
 
+    def test_a_client_that_becomes_garbage_behind_the_first_look_is_found(self):
+        """Such a look is left out where another one was just made, too. A task waited without an end where the program made no other garbage."""
+        async def main():
+            async with await self.open(clients=1) as table:
+                query = await table.query(QUESTION)
+                query.itself = query
+                waiting = asyncio.ensure_future(table.best(QUESTION))
+                await asyncio.sleep(1.5)
+                del query
+                return [row.id for row in await asyncio.wait_for(waiting, 20)]
+
+        gc.disable()
+        try:
+            self.assertEqual(self.run_async(main), SKYLINE)
+        finally:
+            gc.enable()
+
     def test_closed(self):
         async def main():
             table = await self.open()

@@ -8,7 +8,7 @@ from functools import partial
 from typing import Any, Callable, Deque, Generator, Iterable, List, Optional, Sequence, Tuple, Type, TypeVar, Union
 
 from .answer import Answer
-from .clients import SECONDS_TO_COLLECTION, NoClient, hastily
+from .clients import SECONDS_TO_COLLECTION, Clients, NoClient, hastily
 from .errors import Ended, Refused
 from .frame import Frame
 from .query import Query
@@ -311,11 +311,11 @@ class AsyncQuery:
             return self
         self._table._usable()
         free = self._table._free
-        collection = asyncio.get_running_loop().call_later(SECONDS_TO_COLLECTION, self._table._table._free.collect)
+        collections = Collections(self._table._table._free)
         try:
             client = await free.get()
         finally:
-            collection.cancel()
+            collections.cancel()
         try:
             job = self._table._submit(self._table._table.query, self.question, client)
         except BaseException:
@@ -329,6 +329,24 @@ class AsyncQuery:
         self._query = query
         self._give_back = weakref.finalize(self, _give_up, free, client, job)
         return self
+
+
+class Collections:
+    """Has queries that are garbage found again and again until it is cancelled: one look may come too early, or be left out so soon behind another one."""
+
+    def __init__(self, clients: Clients) -> None:
+        self._clients = clients
+        self._later()
+
+    def _later(self) -> None:
+        self._next = asyncio.get_running_loop().call_later(SECONDS_TO_COLLECTION, self._collect)
+
+    def _collect(self) -> None:
+        self._clients.collect()
+        self._later()
+
+    def cancel(self) -> None:
+        self._next.cancel()
 
 
 def _give_up(free: FreeClients, client: int, job: "Future[Query]") -> None:
