@@ -65,6 +65,7 @@ class Values(TestCase):
         for make, says in [(lambda: low(5), "low(..) takes the name of a column, or expr(..), and not 5"), (lambda: pos("x"), "pos(..) takes at least one value"),
                            (lambda: layered("x", "abc"), "layered(..) takes a list of values for each layer"),
                            (lambda: layered("x", [4, 6], 8), "layered(..) takes a list of values for each layer"), (lambda: layered("x", b"8"), "layered(..) takes a list of values"),
+                           (lambda: layered("x", bytearray(b"8")), "layered(..) takes a list of values"),
                            (lambda: layered("x", []), "a layer has at least one value"),
                            (lambda: low("x") * 5, "* stands between two preferences, and 5 is of type int"), (lambda: low("x") & "y", "& stands between two preferences"),
                            (lambda: empty() | 5, "| stands between two preferences"), (lambda: low("x") + low("y"), "there is no +, rPref's disjoint union"),

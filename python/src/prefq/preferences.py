@@ -7,6 +7,7 @@ from decimal import Decimal
 from fractions import Fraction
 from typing import Any, Tuple, Union
 
+from .checks import NO_LISTS
 from .columns import is_missing, quoted, spelled
 from .kinds.booleans import is_truth
 from .kinds.forms import PLAIN
@@ -219,7 +220,7 @@ def layered(column: Operand, *layers: "Iterable[Any]") -> Preference:
     >>> layered("City", ["Lyon", "Bern"], ["Köln"])
     layered(City, {'Lyon', 'Bern'}, {'Köln'})
     """
-    if not layers or any(isinstance(layer, (str, bytes)) or not isinstance(layer, Iterable) for layer in layers):
+    if not layers or any(isinstance(layer, NO_LISTS) or not isinstance(layer, Iterable) for layer in layers):
         raise TypeError("layered(..) takes a list of values for each layer, as layered('City', ['Lyon', 'Bern'], ['Köln'])")
     return _base("layered", column, *(f"{{{_listed(tuple(layer), 'a layer')}}}" for layer in layers))
 
