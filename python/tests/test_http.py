@@ -14,7 +14,7 @@ from unittest import mock
 from prefq import replies
 from prefq import server as server_module
 from prefq.hosts import Hosts
-from support import TestCase
+from support import TestCase, raises
 from test_serve import Events, Served, ask, exchange, get, picture, served
 
 HEAD = b"POST /rows HTTP/1.1\r\nHost: 127.0.0.1\r\nContent-Type: application/json\r\n"
@@ -24,6 +24,19 @@ ROW = b'{"Hotel": "x"}'
 def statuses(reply):
     """Those of several replies to one connection."""
     return re.findall(rb"HTTP/1.1 (\d+) ", reply)
+
+
+class Subscribers(TestCase):
+    """Who is told of each change."""
+
+    def test_a_change_of_which_somebody_is_told_and_raises_is_replied_as_made(self):
+        told = []
+        with served() as server, mock.patch("threading.excepthook", lambda why: told.append(str(why.exc_value))):
+            count = len(server.desk)
+            server.desk.subscribe(raises(ValueError("a subscriber")))
+            self.assertEqual(ask(server, "POST", "/rows", {"Hotel": "New"}), (201, {"id": count + 1}))
+            self.assertEqual(ask(server, "DELETE", f"/rows/{count + 1}")[0], 200)
+            self.assertEqual((len(server.desk), told), (count, ["a subscriber"] * 2))
 
 
 class Sites(Served):

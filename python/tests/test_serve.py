@@ -23,7 +23,7 @@ from prefq import replies
 from prefq.desk import Desk, Held
 from prefq.replies import MOST_BODY
 from prefq.server import Server
-from support import TestCase, raises
+from support import TestCase
 
 PAGE = Path(replies.__file__).with_name("page")
 EXAMPLES = Path(__file__).resolve().parents[2] / "examples"
@@ -334,15 +334,6 @@ class OfADesk(TestCase):
             self.assertEqual(server.site.about["questions"], ["best pos(Hotel, 'b''')"])
             shown = pictures.picture(desk, pictures.Asked(server.site.about["questions"][0]))
             self.assertEqual(([row["cells"] for row in shown["best"]], shown["axes"]), ([["b'"]], [None, None]))
-
-    def test_a_change_of_which_somebody_is_told_and_raises_is_replied_as_made(self):
-        told = []
-        with served() as server, mock.patch("threading.excepthook", lambda why: told.append(str(why.exc_value))):
-            count = len(server.desk)
-            server.desk.subscribe(raises(ValueError("a subscriber")))
-            self.assertEqual(ask(server, "POST", "/rows", {"Hotel": "New"}), (201, {"id": count + 1}))
-            self.assertEqual(ask(server, "DELETE", f"/rows/{count + 1}")[0], 200)
-            self.assertEqual((len(server.desk), told), (count, ["a subscriber"] * 2))
 
     def test_a_large_table_is_sampled(self):
         records = [{"Hotel": str(number), "Price (EUR)": number, "Distance": 5} for number in range(3000)]
