@@ -10,7 +10,7 @@ from pathlib import Path
 
 TOP = Path(__file__).resolve().parent.parent
 BLOCK = re.compile(r"^(?:pub(?:\(\w+\))? )?(?:impl|(trait))\b(.*)$")
-HEAD = re.compile(r"^( *)(?:pub(?:\(\w+\))? )?(?:const )?fn (\w+)\b")
+HEAD = re.compile(r'^( *)(?:pub(?:\(\w+\))? )?(?:const )?(?:extern "C" )?fn (\w+)\b')
 CLAUSE = re.compile(r"^ *(requires|ensures)(?: (\w+))? \{")
 INVARIANT = re.compile(r"the invariant (?:`(\w+)` )?of `(\w+)`")
 QUOTED = re.compile(r"`([^`]+)`")

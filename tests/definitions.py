@@ -33,7 +33,7 @@ SPOKEN_OF = {"read_input", "write_result", "LiveTable"}
 
 HEAD = re.compile(r"(?:(?:abbrev|unfoldable|pub|record|data)\s+)+([^\s:(]+)")
 IMPORT = re.compile(r"use Rattle\.(\w+)\.specs\.([\w.]+?)(?:\.\{([^}]*)\}| as (\w+))(?=[\s;]|$)")
-ITEM = re.compile(r"^(?:impl(?:<[^>]*>)? (?:[\w<>: ]+ for )?(\w+)|pub trait (\w+)|( *)(?:pub )?fn (\w+))", re.MULTILINE)
+ITEM = re.compile(r'^(?:impl(?:<[^>]*>)? (?:[\w<>: ]+ for )?(\w+)|pub trait (\w+)|( *)(?:pub )?(?:extern "C" )?fn (\w+))', re.MULTILINE)
 MUTUAL = re.compile(r"(?:(?:abbrev|unfoldable)\s+)?mutual\s*$")
 WORD = re.compile(r"[A-Za-z_]\w*|<>|>>=")
 
