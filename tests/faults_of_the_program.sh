@@ -2,12 +2,12 @@
 # Shows what the program says and how it ends where its input or output fails, or has too many bytes or rows, and that `threads` gives each
 # client's lines.
 #
-#     (cd crates/prefq && rt run prefq < stdin) && tests/faults_of_the_program.sh
+#     (cd crates/prefq && rt run prefq < stdin) && tests/faults_of_the_program.sh [PROGRAM]
 #
 # Needs Linux, for /dev/full.
 set -euo pipefail
 cd "$(dirname "$0")/.."
-prefq=crates/prefq/out/prefq
+prefq=${1:-crates/prefq/out/prefq}
 room=$(mktemp -d)
 trap 'rm -rf "$room"' EXIT
 

@@ -5,8 +5,9 @@
                                      documents, each test without its proof, the stored run, the scripts, the examples, what the documents and the doc
                                      comments show, the man page, and the wheel of dist/. The tests of the Python package run too, where the library is
                                      built or PREFQ_LIBRARY names one
-    python3 tests/run.py all         before a merge: the proofs, the must-fail edits and the tests by `rt ci`, which proves from nothing what it has not passed
-                                     before on this machine, in just these files; then the lists, and each check over the built programs that takes seconds
+    python3 tests/run.py all         before a merge: the proofs, the must-fail edits and the tests by `rt ci`; beside it the lists and the checks over the
+                                     program and the library, which are those of the wheel in dist/ where nothing that they are made of has changed since.
+                                     Else these come after it, and ask what is built
     python3 tests/run.py release     before a release: all that, every proof from nothing; then the wheel of dist/ built anew from its commit, the edits of
                                      tests/must-fail, and whether each edit turns an answer
 
@@ -16,6 +17,7 @@ mkdocs, and tests of the Python package need pandas, matplotlib, dask, uvicorn, 
 line that says so, and counted apart from the checks, which pass without them. Leaves nothing behind but the folders out/, which git ignores.
 """
 import contextlib
+import filecmp
 import os
 import re
 import resource
@@ -37,6 +39,7 @@ from typing import Callable, Optional
 TOP = Path(__file__).resolve().parent.parent
 PROGRAM = "crates/prefq/out/prefq"
 LIBRARY = "library/out/libprefq.so"
+PROGRAM_OF_THE_WHEEL = "library/out/prefq"
 # What it is made of.
 MADE_OF = ["crates", "library", "crates.txt", "HANDLES"]
 CHECKS_AT_ONCE = 2
@@ -121,16 +124,23 @@ def result(check):
         return Result(check.name, is_passed, log.read(), int(time.monotonic() - begun))
 
 
-def results(checks):
-    """The result of each check, as soon as it ends. Some run at once; none begins any more where this is interrupted."""
+@contextlib.contextmanager
+def started(checks):
+    """The results to come of checks. Some run at once; none begins any more where this is interrupted."""
     with ThreadPoolExecutor(CHECKS_AT_ONCE) as pool:
-        begun = [pool.submit(result, check) for check in checks]
+        to_come = [pool.submit(result, check) for check in checks]
         try:
-            for each in as_completed(begun):
-                yield each.result()
+            yield to_come
         finally:
-            for each in begun:
+            for each in to_come:
                 each.cancel()
+
+
+def results(checks):
+    """The result of each check, as soon as it ends."""
+    with started(checks) as to_come:
+        for each in as_completed(to_come):
+            yield each.result()
 
 
 def say(*lines):
@@ -256,41 +266,54 @@ def wheel_of_the_same_library():
     return None if changed.returncode or new.returncode or new.stdout else wheel
 
 
-def library(room, log):
-    """The library of the wheel, where it is the same, with the tests that need no more; else one that is built, with all its tests. Building one proves the
-    crates once more."""
-    wheel = wheel_of_the_same_library()
-    if not wheel:
-        return run(log, "library/tests/run.sh")
-    print(f"skipped: the tests of the library in C, since nothing that it is made of has changed since {wheel.name} was", file=log, flush=True)
+def unpacked(wheel):
+    """The program of a wheel, which lies now beside its library, where the tests of the Python package look for that."""
     (TOP / LIBRARY).parent.mkdir(exist_ok=True)
-    (TOP / LIBRARY).write_bytes(zipfile.ZipFile(wheel).read("prefq/lib/libprefq.so"))
-    return run(log, "python3", "library/tests/python_ends.py", LIBRARY) and run(log, "python3", "library/tests/campaign.py", LIBRARY, PROGRAM, "--count", "400")
+    with zipfile.ZipFile(wheel) as files:
+        (TOP / LIBRARY).write_bytes(files.read("prefq/lib/libprefq.so"))
+        (TOP / PROGRAM_OF_THE_WHEEL).write_bytes(files.read("prefq/bin/prefq"))
+    (TOP / PROGRAM_OF_THE_WHEEL).chmod(0o755)
+    return PROGRAM_OF_THE_WHEEL
 
 
-# The checks that come after it ask the library.
-FIRST = [Check("library", library)]
-BUILT = [
+def same_library(program):
+    """The library of the wheel, with the tests that need no more than that."""
+
+    def work(room, log):
+        print("skipped: the tests of the library in C, since nothing that it is made of has changed since the wheel in dist/ was", file=log, flush=True)
+        return run(log, "python3", "library/tests/python_ends.py", LIBRARY) and run(log, "python3", "library/tests/campaign.py", LIBRARY, program, "--count", "400")
+
+    return Check("library", work)
+
+
+# These ask nothing that is proved and built here.
+LISTS = [
     command("python3", "tests/reads_take_no_lock.py"),
+    command(*DOC_EXAMPLES),
+    command("python3", "tests/wheel.py"),
+    SITE,
     command(*DEFINITIONS),
     command(*EDITS),
     command(*SENTENCES),
     command(*MAN_PAGE),
-    SITE,
-    command(*DOC_EXAMPLES),
-    command("python3", "examples/check.py"),
-    command("python3", "tests/scripts.py"),
-    command("python3", "tests/model/compare.py"),
-    command("python3", "tests/model/threads.py"),
-    command("python3", "tests/live.py"),
-    command("python/tests/run.sh"),
-    command("python3", "tests/wheel.py"),
-    command("python3", "examples/parts/parts.py", "--check", "120000"),
-    command("python3", "tests/arguments.py"),
-    command("tests/faults_of_the_program.sh"),
-    command("tests/count_begin_and_abandon.sh"),
-    command("tests/refuse_each_allocation.sh"),
 ]
+# These ask the tests of the crates, as `rt ci` built them.
+TESTS_BUILT = [command("tests/count_begin_and_abandon.sh"), command("tests/refuse_each_allocation.sh")]
+
+
+def asking(program):
+    """The checks that ask a program and the library that is there."""
+    return [
+        command("python/tests/run.sh"),
+        command("python3", "tests/model/compare.py", program),
+        command("python3", "tests/model/threads.py", program),
+        command("python3", "tests/live.py", program),
+        command("python3", "examples/check.py", program),
+        command("python3", "examples/parts/parts.py", "--check", "120000"),
+        command("python3", "tests/scripts.py", program),
+        command("python3", "tests/arguments.py", program),
+        command("tests/faults_of_the_program.sh", program),
+    ]
 
 
 def proofs_at_once():
@@ -344,15 +367,51 @@ def gate(count, words):
         count.fail("rt ci does not say how many passed")
 
 
-def whole(count, *words):
-    """Shows what each check said. `rt ci` gets the words."""
+def show(found):
+    say(f"== {found.name}\n{found.said}== {found.seconds} seconds")
+
+
+def show_at_its_end(to_come):
+    if not to_come.cancelled():
+        show(to_come.result())
+
+
+def is_the_one_built(program):
+    """Whether `rt ci` built the same program, byte for byte."""
+    return (TOP / PROGRAM).is_file() and filecmp.cmp(TOP / program, TOP / PROGRAM, shallow=False)
+
+
+def gate_beside(count, words, checks):
+    """`rt ci`, which leaves processors free at its begin, and beside it checks that ask nothing that it builds."""
     begun = time.monotonic()
-    say(f"runs {' '.join(['rt ci', *words])}: the proofs, the must-fail edits and the tests of all crates; after it")
-    say_what_runs([*FIRST, *BUILT])
-    gate(count, words)
-    say(f"== rt ci took {taken_since(begun)}")
-    for found in chain(results(FIRST), results(BUILT)):
-        say(f"== {found.name}", f"{found.said}== {found.seconds} seconds")
+    with started(checks) as to_come:
+        for each in to_come:
+            each.add_done_callback(show_at_its_end)
+        gate(count, words)
+        say(f"== rt ci took {int(time.monotonic() - begun) // 60} minutes")
+        for each in to_come:
+            count.add(each.result())
+
+
+def whole(count, *words):
+    """Shows what each check said. `rt ci` gets the words. Where the wheel is of the same sources, its program and library are asked beside it; its program
+    is asked for what was proved only if that has the same bytes."""
+    wheel = wheel_of_the_same_library()
+    program = unpacked(wheel) if wheel else PROGRAM
+    beside = [*([same_library(program), *asking(program)] if wheel else []), *LISTS]
+    say(f"runs {' '.join(['rt ci', *words])}: the proofs, the must-fail edits and the tests of all crates; beside it")
+    say_what_runs(beside)
+    gate_beside(count, words, beside)
+    if not wheel:
+        after = [[command("library/tests/run.sh")], [*asking(PROGRAM), *TESTS_BUILT]]
+    elif is_the_one_built(program):
+        after = [TESTS_BUILT]
+    else:
+        after = [[*asking(PROGRAM), *TESTS_BUILT]]
+    say("after it")
+    say_what_runs([*chain.from_iterable(after)])
+    for found in chain.from_iterable(map(results, after)):
+        show(found)
         count.add(found)
 
 
@@ -365,9 +424,15 @@ def taken_since(begun):
 # ---- release ----
 
 
+def anew():
+    """What has `rt ci` take nothing from earlier runs. A kit that keeps nothing has no word for it, and refuses this one."""
+    said = subprocess.run(["rt", "help"], stdout=subprocess.PIPE, stderr=subprocess.STDOUT, encoding="utf-8").stdout
+    return ["--anew"] if "--anew" in said else []
+
+
 def release(count):
     """All, with nothing taken from earlier runs; then what takes hours, shown as it comes."""
-    whole(count, "--anew")
+    whole(count, *anew())
     for words in (["library/tests/run.sh"], ["python3", "dist/release.py", "--check"], ["tests/wrong_edits.sh"], ["python3", "tests/edits_turn_answers.py"]):
         say(f"== {' '.join(words)}")
         lines, is_passed = run_and_show(*words)
