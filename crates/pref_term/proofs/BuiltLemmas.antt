@@ -30,19 +30,6 @@ first_skips_at fault xs i d lt none = at_drop_more (first_among fault) xs i d lt
 pub first_ends : {X : Type 0} (fault : X → Option AskFault) (xs : List X) (i : ℕ) → length xs ≤ i → first_among fault (drop i xs) ≡ None
 first_ends fault xs i le = at_drop_all (first_among fault) xs i le
 
--- that of the term, of the group, and of how many are wanted
-pub of_term : (p : Preference) (group : List ℕ) (mode : Mode) (f : AskFault) → term_fault p ≡ Some f → first_fault p group mode ≡ Some f
-of_term p group mode f h = ap (λ found. option_or found (option_or (first_among column_fault group) (count_fault (cut_of mode)))) h
-
-pub of_group : (p : Preference) (group : List ℕ) (mode : Mode) → term_fault p ≡ None → first_fault p group mode ≡ option_or (first_among column_fault group) (count_fault (cut_of mode))
-of_group p group mode h = ap (λ found. option_or found (option_or (first_among column_fault group) (count_fault (cut_of mode)))) h
-
-pub of_group_found : (p : Preference) (group : List ℕ) (mode : Mode) (f : AskFault) → term_fault p ≡ None → first_among column_fault group ≡ Some f → first_fault p group mode ≡ Some f
-of_group_found p group mode f h k = of_group p group mode h ∙ ap (λ found. option_or found (count_fault (cut_of mode))) k
-
-pub of_count : (p : Preference) (group : List ℕ) (mode : Mode) → term_fault p ≡ None → first_among column_fault group ≡ None → first_fault p group mode ≡ count_fault (cut_of mode)
-of_count p group mode h k = of_group p group mode h ∙ ap (λ found. option_or found (count_fault (cut_of mode))) k
-
 -- refused for what was found
 pub refused_for : (q : Question) (f : AskFault) → first_fault q.preference q.group q.mode ≡ Some f → IsRefused q f
 refused_for q f h = subst (λ found. IsRefusedFor q found f) (sym h) refl

@@ -1,5 +1,5 @@
 -- What is shown of a clause that keeps one of equal rows spells it; and so does what is shown of any ask.
-use Rattle.pref_term.proofs.Common.{[], ◌≡◌, ◌<◌, ◌≤◌, ℕ, List, ◌∷◌, ◌++◌, map, Bool, true, false, cond, Some, Ok, length, refl, sym, ap, ◌∙◌, append_assoc, codes, fold, AllByRecursion, option_map}
+use Rattle.pref_term.proofs.Common.{[], arith, ◌≡◌, ◌<◌, ◌≤◌, ℕ, List, ◌∷◌, ◌++◌, map, Bool, true, false, cond, Some, Ok, length, refl, sym, ap, ◌∙◌, append_assoc, codes, fold, AllByRecursion, option_map}
 use Rattle.pref_term.proofs.Common.{recursion_from_All, is_name_byte, schema_of, comma, Token, word, sign, Placed, tokens_of, minimal, maximal, different, direction_word, DimText, AskText, skyline}
 use Rattle.pref_term.proofs.Common.{Leaf, mark, column_name, cased, last, IsWritten, dim_leaves, ask_leaves, says_distinct, plain, column, low, high, Preference, scored, pareto, Question}
 use Rattle.pref_term.proofs.Common.{FitsWidth, IsAsk, IsClause, IsDimension, IsSkyline, Names, Spells, IsGood, tokens_in, tokens_on, orders_of, groups_of, product_of, question, name_at, nests}
@@ -37,9 +37,7 @@ named_lexed (c ∷ cs) b bs rest h k e =
     ∙ ap (λ ts. word (c ∷ cs) ∷ ts) (place_free 0 1 0 ((b ∷ bs) ++ rest) ∙ word_lexed b bs rest k e))
 
 dim_lexed : (names : Names) (p : Preference) (rest : List ℕ) → IsDimension p → CanShow names p → Ends is_name_byte rest → lexed (shown_dims names p ++ rest) ≡ word (dim_of names p).column ∷ word (dim_of names p).written ∷ lexed rest
-dim_lexed names (scored (low col)) rest d h e = named_lexed (name_at names col) 109 (105 ∷ 110 ∷ []) rest h.0.0 (refl, (refl, (refl, tt))) e
-dim_lexed names (scored (high col)) rest d h e = named_lexed (name_at names col) 109 (97 ∷ 120 ∷ []) rest h.0.0 (refl, (refl, (refl, tt))) e
-dim_lexed names p rest d h e = absurd d
+dim_lexed names p rest d h e = grind (arith, named_lexed)
 
 clause_lexed : (names : Names) (p : Preference) (ds : List DimText) (rest : List ℕ) → IsClause p → CanShow names p → Ends is_name_byte rest → lexed rest ≡ tokens_on (after_commas dim_leaves ds ++ last ∷ [])
     → lexed (shown_dims names p ++ rest) ≡ tokens_on (dim_leaves (first_dim names p) ++ (after_commas dim_leaves (later_dims names p ds) ++ last ∷ []))
@@ -69,13 +67,7 @@ diffs_lexed names (c ∷ cs) h =
 
 -- behind the three words
 words_lexed : (rest : List ℕ) → lexed (codes "skyline of distinct " ++ rest) ≡ word (codes "skyline") ∷ word (codes "of") ∷ word (codes "distinct") ∷ lexed rest
-words_lexed rest =
-    word_lexed 115 (107 ∷ 121 ∷ 108 ∷ 105 ∷ 110 ∷ 101 ∷ []) (codes " of distinct " ++ rest) (refl, (refl, (refl, (refl, (refl, (refl, (refl, tt))))))) refl
-    ∙ ap (λ ts. word (codes "skyline") ∷ ts) (place_free 0 1 0 (codes "of distinct " ++ rest)
-    ∙ (word_lexed 111 (102 ∷ []) (codes " distinct " ++ rest) (refl, (refl, tt)) refl
-    ∙ ap (λ ts. word (codes "of") ∷ ts) (place_free 0 1 0 (codes "distinct " ++ rest)
-    ∙ (word_lexed 100 (105 ∷ 115 ∷ 116 ∷ 105 ∷ 110 ∷ 99 ∷ 116 ∷ []) (32 ∷ rest) (refl, (refl, (refl, (refl, (refl, (refl, (refl, (refl, tt)))))))) refl
-    ∙ ap (λ ts. word (codes "distinct") ∷ ts) (place_free 0 1 0 rest)))))
+words_lexed rest = grind (arith, word_lexed, place_free)
 
 -- such a text says `distinct`, since the second token behind it is a word
 said_tokens : (ts : List Placed) (t w : List ℕ) (rest : List Token) → tokens_in ts ≡ word (codes "skyline") ∷ word (codes "of") ∷ word (codes "distinct") ∷ word t ∷ word w ∷ rest
@@ -100,14 +92,10 @@ dims_all names P each (pareto p q) ds c h k = dims_all names P each p (dim_of na
 dims_all names P each _ ds c h k = absurd c
 
 dim_written : (names : Names) (p : Preference) → IsDimension p → CanShow names p → OfDim IsWritten (dim_of names p)
-dim_written names (scored (low col)) d h = (tt, refl)
-dim_written names (scored (high col)) d h = (tt, refl)
-dim_written names p d h = absurd d
+dim_written names p d h = grind (arith)
 
 dim_good : (names : Names) (p : Preference) → IsDimension p → CanShow names p → OfDim (IsGood names) (dim_of names p)
-dim_good names (scored (low col)) d h = (column_fine names col h.0, refl)
-dim_good names (scored (high col)) d h = (column_fine names col h.0, refl)
-dim_good names p d h = absurd d
+dim_good names p d h = grind (arith, column_fine)
 
 diffs_written : (names : Names) (cs : List ℕ) → AllByRecursion (OfDim IsWritten) (map (diff_dim names) cs)
 diffs_written names [] = tt
@@ -120,21 +108,16 @@ diffs_good names (c ∷ cs) h = ((column_fine names c h.0, refl), diffs_good nam
 -- ---- its meaning
 
 dim_order : (names : Names) (p : Preference) (ds : List DimText) → IsDimension p → CanShow names p → orders_of names (dim_of names p ∷ ds) ≡ p ∷ orders_of names ds
-dim_order names (scored (low col)) ds d h = ap (λ c. scored (low c) ∷ orders_of names ds) (column_same names col h.0)
-dim_order names (scored (high col)) ds d h = ap (λ c. scored (high c) ∷ orders_of names ds) (column_same names col h.0)
-dim_order names p ds d h = absurd d
+dim_order names p ds d h = grind (arith, column_same)
 
 -- the product of its MIN and MAX columns is the preference again, since that is left-grouped
 clause_product : (names : Names) (p : Preference) (ds : List DimText) → IsClause p → CanShow names p → product_of (orders_of names (first_dim names p ∷ later_dims names p ds)) ≡ Some (fold pareto p (orders_of names ds))
 clause_product names (scored t) ds c h = ap product_of (dim_order names (scored t) ds c h)
-clause_product names (pareto p q) ds c h =
-    clause_product names p (dim_of names q ∷ ds) c.0 h.0 ∙ ap (λ os. Some (fold pareto p os)) (dim_order names q ds c.1 h.1)
+clause_product names (pareto p q) ds c h = grind (arith, clause_product names p, dim_order)
 clause_product names _ ds c h = absurd c
 
 dim_groups : (names : Names) (p : Preference) (ds : List DimText) → IsDimension p → groups_of names (dim_of names p ∷ ds) ≡ groups_of names ds
-dim_groups names (scored (low col)) ds d = refl
-dim_groups names (scored (high col)) ds d = refl
-dim_groups names p ds d = absurd d
+dim_groups names p ds d = grind (arith)
 
 clause_groups : (names : Names) (p : Preference) (ds : List DimText) → IsClause p → groups_of names (first_dim names p ∷ later_dims names p ds) ≡ groups_of names ds
 clause_groups names (scored t) ds c = dim_groups names (scored t) ds c
@@ -147,8 +130,7 @@ diffs_orders names (c ∷ cs) = diffs_orders names cs
 
 diffs_groups : (names : Names) (cs : List ℕ) → AllByRecursion (IsNamed names) cs → groups_of names (map (diff_dim names) cs) ≡ cs
 diffs_groups names [] h = refl
-diffs_groups names (c ∷ cs) h =
-    ap (λ x. x ∷ groups_of names (map (diff_dim names) cs)) (column_same names c h.0) ∙ ap (λ xs. c ∷ xs) (diffs_groups names cs h.1)
+diffs_groups names (c ∷ cs) h = grind (arith, column_same names c h.0, diffs_groups names cs h.1)
 
 -- ---- the clause
 
@@ -171,12 +153,7 @@ module _ (names : Names) (q : Question) (keeps : q.distinct ≡ true) (clause : 
       (clause_lexed names q.preference diffs (shown_diffs names q.group) clause.preference can (diffs_end names q.group) (diffs_lexed names q.group columns))))
 
   meaning_is : question names true tree ≡ Some q
-  meaning_is =
-      ap (option_map (λ p. record { preference = p; group = groups_of names (first_dim names q.preference ∷ later); mode = Best; distinct = true }))
-      (clause_product names q.preference diffs clause.preference can ∙ ap (λ os. Some (fold pareto q.preference os)) (diffs_orders names q.group))
-      ∙ (ap (λ g. Some (record { preference = q.preference; group = g; mode = Best; distinct = true })) (clause_groups names q.preference diffs clause.preference ∙ diffs_groups names q.group columns)
-      ∙ (ap (λ m. Some (record { preference = q.preference; group = q.group; mode = m; distinct = true })) (sym clause.mode)
-      ∙ ap (λ d. Some (record { preference = q.preference; group = q.group; mode = q.mode; distinct = d })) (sym keeps)))
+  meaning_is = grind (arith, clause_product, diffs_orders, clause_groups, diffs_groups)
 
   clause_spells : length (shown names q) ≤ 4096 → Spells names (shown names q) q
   clause_spells short =

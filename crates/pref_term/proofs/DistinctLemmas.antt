@@ -42,9 +42,7 @@ behind_said k at ts h = grind arith
 -- behind the word the second token decides
 pub third_decides : (ts : List Placed) (w : List ℕ) (at : ℕ) (second third : Lexeme) → ts ≡ word_ahead w at (taken second) → seen second.token ≢ finish → ahead second.next ≡ taken third → bytes_eq (codes "distinct") (str_to_ascii_lowercase w) ≡ true
     → is_distinct_ahead ts ≡ is_word (seen third.token)
-third_decides ts w at second third e more h is =
-    ap is_distinct_ahead (e ∙ ap (λ us. word_ahead w at (at_place (seen second.token) second.at ∷ us)) (behind_more second.token (ahead second.next) more ∙ h))
-    ∙ ap (λ b. b && is_word (seen third.token)) is
+third_decides ts w at second third e more h is = grind (arith, at_place, behind_more)
 
 pub not_word : (k : code.Token) → ((letters : Bor (List ℕ)) → k ≢ Word letters) → is_word (seen k) ≡ false
 not_word k h = grind arith

@@ -51,12 +51,8 @@ priority_extended r s c d h k = record { same = grind (arith, h.same, k.same); b
 
 pub all_extend : (p : Preference) (s : Bool) (a b : List ℤ) → Extends (by_chain (all_keys p s) a b) (directed s p a b)
 all_extend (scored t) s a b = itself_extends (by_chain (key_for t s ∷ []) a b) (directed s (scored t) a b) (one_key (key_for t s) a b ∙ key_law t s a b)
-all_extend (pareto p q) s a b =
-    rw (directed_product s p q a b, chain-append (all_keys p s) (all_keys q s) a b)
-    (product_extended (directed s p a b) (directed s q a b) (by_chain (all_keys p s) a b) (by_chain (all_keys q s) a b) (all_extend p s a b) (all_extend q s a b))
-all_extend (prior p q) s a b =
-    rw (directed_priority s p q a b, chain-append (all_keys p s) (all_keys q s) a b)
-    (priority_extended (directed s p a b) (directed s q a b) (by_chain (all_keys p s) a b) (by_chain (all_keys q s) a b) (all_extend p s a b) (all_extend q s a b))
+all_extend (pareto p q) s a b = grind (arith, directed_product, chain-append, product_extended, all_extend p s a b, all_extend q s a b)
+all_extend (prior p q) s a b = grind (arith, directed_priority, chain-append, priority_extended, all_extend p s a b, all_extend q s a b)
 all_extend (reverse p) s a b = subst (Extends (by_chain (all_keys p (not s)) a b)) (directed_reverse s p a b) (all_extend p (not s) a b)
 
 -- they read its columns
@@ -76,15 +72,10 @@ group_in_row (col ∷ columns) h =
 -- rows of one group are the same by the keys of the groups
 pub group_same : (columns : List ℕ) (a b : List ℤ) → is_same (by_chain (group_keys columns) a b) ≡ in_same_group columns a b
 group_same [] a b = refl
-group_same (col ∷ columns) a b =
-    priority-same (by_key (key_for (low col) false) a b) (by_chain (group_keys columns) a b)
-    ∙ (λ i. (ap is_same (key_law (low col) false a b) ∙ scores-same (cell a col) (cell b col)) i && group_same columns a b i)
+group_same (col ∷ columns) a b = grind (arith, ints, priority-same, key_law, scores-same, group_same columns a b)
 
 pub ask_same : (q : Question) (a b : List ℤ) → is_same (by_chain (ask_keys q) a b) ≡ alike q a b
-ask_same q a b =
-    ap is_same (chain-append (group_keys q.group) (all_keys q.preference false) a b)
-    ∙ (priority-same (by_chain (group_keys q.group) a b) (by_chain (all_keys q.preference false) a b)
-    ∙ (λ i. group_same q.group a b i && ((all_extend q.preference false a b).same ∙ walked_same q.preference a b) i))
+ask_same q a b = grind (arith, chain-append, priority-same, group_same, all_extend, walked_same)
 
 -- behind chains in which two rows are the same, the next one decides
 behind_same : (c d : Relation) → is_same c ≡ true → is_better d ≡ true → is_better (in_priority c d) ≡ true
@@ -120,17 +111,12 @@ same_opposed false x y = scores-same x y
 
 -- rows are the same in keys of one column and score, whichever way these are turned
 pub same_either_way : (k j : Key) (a b : List ℤ) → k.col ≡ j.col → k.score ≡ j.score → is_same (by_key k a b) ≡ is_same (by_key j a b)
-same_either_way k j a b e h =
-    same_opposed k.turned (from_zero k.score (cell a k.col)) (from_zero k.score (cell b k.col))
-    ∙ ((λ i. int_eq (from_zero (h i) (cell a (e i))) (from_zero (h i) (cell b (e i))))
-    ∙ sym (same_opposed j.turned (from_zero j.score (cell a j.col)) (from_zero j.score (cell b j.col))))
+same_either_way k j a b e h = grind (arith, same_opposed)
 
 -- rows that are the same in a chain are the same in each of its keys
 same_in_each : (xs : List Key) (a b : List ℤ) → is_same (by_chain xs a b) ≡ true → All (λ key. is_same (by_key key a b) ≡ true) xs
 same_in_each [] a b h = All-nil (λ key. is_same (by_key key a b) ≡ true)
-same_in_each (x ∷ xs) a b h =
-    let both = and_parts (is_same (by_key x a b)) (is_same (by_chain xs a b)) (sym (priority-same (by_key x a b) (by_chain xs a b)) ∙ h) in
-    All-cons (λ key. is_same (by_key key a b) ≡ true) x xs both.0 (same_in_each xs a b both.1)
+same_in_each (x ∷ xs) a b h = grind (arith, h, priority-same, All-cons (λ key. is_same (by_key key a b) ≡ true) x xs, same_in_each xs a b)
 
 pub same_in_one : (keys : List Key) (key : Key) (a b : List ℤ) → Contains keys key → is_same (by_chain keys a b) ≡ true → is_same (by_key key a b) ≡ true
 same_in_one keys key a b h e = All-contains (λ key. is_same (by_key key a b) ≡ true) keys key (same_in_each keys a b e) h

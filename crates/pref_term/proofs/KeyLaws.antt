@@ -24,10 +24,6 @@ negated x y = grind (arith, ints)
 pub centred : (c v : ℤ) → outside c c v ≡ pos (unsigned_abs (v -ℤ c))
 centred c v = grind (arith, ints)
 
--- a value to the left of a range
-pub left_of : (left right value : ℤ) → int_lt value left ≡ true → pos (unsigned_abs (left -ℤ value)) ≡ outside left right value
-left_of left right value h = grind (arith, ints)
-
 -- one set is a list of sets
 one_missed : (set : List ℤ) (v : ℤ) → pos (sets_before (set ∷ []) v) ≡ missed set v
 one_missed set v = grind (arith, ints)
@@ -97,10 +93,7 @@ keys-append (x ∷ xs) ys a b = ap (in_product (by_key x a b)) (keys-append xs y
 
 -- of a product they are the whole order
 pub leading_law : (p : Preference) (s : Bool) (a b : List ℤ) → is_product p ≡ true → by_keys (leading p s) a b ≡ directed s p a b
-leading_law (pareto p q) s a b h =
-    let both = and_parts (is_product p) (is_product q) h in
-    keys-append (leading p s) (leading q s) a b
-    ∙ ((λ i. in_product (leading_law p s a b both.0 i) (leading_law q s a b both.1 i)) ∙ sym (directed_product s p q a b))
+leading_law (pareto p q) s a b h = grind (arith, h, keys-append, leading_law p s a b, leading_law q s a b, directed_product)
 leading_law (reverse p) s a b h = leading_law p (not s) a b h ∙ directed_reverse s p a b
 leading_law p s a b h = grind (arith, product_same, key_law, keys-append, directed_product, false≢true, directed_reverse)
 
@@ -114,9 +107,7 @@ first_or_later : (set : List ℤ) (sets : List (List ℤ)) (a b : ℤ) (x y : Bo
     → by_scores (pos (sets_before sets a)) (pos (sets_before sets b)) ≡ option_map_or (λ s. by_scores (missed s a) (missed s b)) (find (holds_one a b) sets) Same
     → by_scores (pos (sets_before (set ∷ sets) a)) (pos (sets_before (set ∷ sets) b))
     ≡ option_map_or (λ s. by_scores (missed s a) (missed s b)) (find (holds_one a b) (set ∷ sets)) Same
-first_or_later set sets a b true y first second rest = grind (arith, ints)
-first_or_later set sets a b false true first second rest = grind (arith, ints)
-first_or_later set sets a b false false first second rest = grind (arith, ints)
+first_or_later set sets a b x y first second rest = grind (arith, ints)
 
 -- the first set that holds one of two values decides
 pub first_decides : (sets : List (List ℤ)) (a b : ℤ)

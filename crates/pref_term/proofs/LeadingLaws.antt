@@ -130,13 +130,9 @@ one_held xs ys all y h stands =
 
 -- all keys of a chain are its order
 chain_is_keys : (p : Preference) (s : Bool) (a b : List ℤ) → is_chain p ≡ true → by_chain (all_keys p s) a b ≡ directed s p a b
-chain_is_keys (scored t) s a b h = one_key (key_for t s) a b ∙ key_law t s a b
-chain_is_keys (pareto p q) s a b h = absurd (false≢true h)
-chain_is_keys (prior p q) s a b h =
-    let both = and_parts (is_chain p) (is_chain q) h in
-    chain-append (all_keys p s) (all_keys q s) a b
-    ∙ ((λ i. in_priority (chain_is_keys p s a b both.0 i) (chain_is_keys q s a b both.1 i)) ∙ sym (directed_priority s p q a b))
+chain_is_keys (prior p q) s a b h = grind (arith, h, chain-append, chain_is_keys p s a b, chain_is_keys q s a b, directed_priority)
 chain_is_keys (reverse p) s a b h = chain_is_keys p (not s) a b h ∙ directed_reverse s p a b
+chain_is_keys p s a b h = grind (arith, h, one_key, key_law)
 
 -- a key leads it
 leading_some : (p : Preference) (s : Bool) → 0 < length (leading p s)
@@ -150,72 +146,22 @@ not_alone p s keys is none = let some = leading_some p s in let e : length (lead
 
 -- no chain leads it, and its leading keys are behind none
 pub none_leads : (p : Preference) (s : Bool) (keys : List Key) → keys ≡ leading p s → IsLedBy p s [] keys false
-none_leads p s keys is =
-    subst (λ (ks : List Key). IsLedBy p s [] ks false) (sym is)
-    record {
-      in_row = λ _. All-nil AreInRow;
-      keys_in_row = leading_in_row p s;
-      decides = λ a b. refl;
-      all = λ e. absurd (false≢true e);
-      in_order = λ a b. refl;
-      behind = λ a b _ h. keep p s a b h;
-      alone = λ e. absurd (not_alone p s (leading p s) refl e);
-    }
+none_leads p s keys is = grind (arith, All-nil, leading_in_row, false≢true, keep, not_alone)
 
 -- it is led by itself
 pub chain_leads : (p : Preference) (s : Bool) → is_chain p ≡ true → IsLedBy p s (all_keys p s ∷ []) [] true
-chain_leads p s h =
-    let is : (a b : List ℤ) → by_product (all_keys p s ∷ []) a b ≡ directed s p a b = λ a b. product_same (by_chain (all_keys p s) a b) ∙ chain_is_keys p s a b h in
-    record {
-      in_row = λ reads. All-push AreInRow [] (all_keys p s) (All-nil AreInRow) (all_in_row p s reads);
-      keys_in_row = λ _. All-nil (λ key. key.col < 16);
-      decides = λ a b. itself_decides (by_product (all_keys p s ∷ []) a b) (directed s p a b) (is a b);
-      all = λ _. is;
-      in_order = λ a b. itself_decides (by_chain (joined (all_keys p s ∷ [])) a b) (by_chain (all_keys p s) a b) (chain-append (all_keys p s) [] a b ∙ priority_same (by_chain (all_keys p s) a b));
-      behind = λ a b _ _. All-nil (IsNoGreater a b);
-      alone = λ _. refl;
-    }
+chain_leads p s h = grind (arith, product_same, chain_is_keys, All-push, All-nil, all_in_row, itself_decides, chain-append, priority_same)
 
 pub one_leads : (p : Preference) (turned : Bool) (chain keys : List Key) (chains : List (List Key)) → is_chain p ≡ true → chain ≡ all_keys p turned → chains ≡ chain ∷ [] → keys ≡ [] → IsLedBy p turned chains keys true
-one_leads p turned chain keys chains h k e none =
-    subst (λ (ks : List Key). IsLedBy p turned chains ks true) (sym none) (subst (λ (cs : List (List Key)). IsLedBy p turned cs [] true) (sym (e ∙ ap (λ (c : List Key). c ∷ []) k)) (chain_leads p turned h))
+one_leads p turned chain keys chains h k e none = grind (arith, chain_leads)
 
 -- the chains of both factors lead a product of chains
 pub both_lead : (p q : Preference) (s : Bool) (xs ys all : List (List Key)) (keys others : List Key) → IsLedBy p s xs keys true → IsLedBy q s ys others true → AreBoth xs ys all → IsLedBy (pareto p q) s all [] true
-both_lead p q s xs ys all keys others h k both =
-    let is : (a b : List ℤ) → by_product all a b ≡ directed s (pareto p q) a b =
-    λ a b. both.product a b ∙ ((λ i. in_product (h.all refl a b i) (k.all refl a b i)) ∙ sym (directed_product s p q a b)) in
-    record {
-      in_row = λ reads. both.in_row (h.in_row reads.0) (k.in_row reads.1);
-      keys_in_row = λ _. All-nil (λ key. key.col < 16);
-      decides = λ a b. itself_decides (by_product all a b) (directed s (pareto p q) a b) (is a b);
-      all = λ _. is;
-      in_order = λ a b.
-          rw (both.in_order a b, chain-append (all_keys p s) (all_keys q s) a b)
-          (both_decide (by_chain (joined xs) a b) (by_chain (joined ys) a b) (by_chain (all_keys p s) a b) (by_chain (all_keys q s) a b)
-          (h.in_order a b) (same_joined xs a b ∙ (ap is_same (h.all refl a b) ∙ sym (all_extend p s a b).same)) (k.in_order a b));
-      behind = λ a b _ _. All-nil (IsNoGreater a b);
-      alone = λ _. refl;
-    }
+both_lead p q s xs ys all keys others h k both = grind (arith, directed_product, All-nil, itself_decides, chain-append, both_decide, same_joined, all_extend)
 
 -- what leads the second part of a priority leads it behind the first, where that is a chain
 pub behind_leads : (p q : Preference) (s whole : Bool) (chains : List (List Key)) (keys : List Key) → is_chain p ≡ true → IsLedBy q s chains keys whole → IsLedBy (prior p q) s (each_behind (all_keys p s) chains) keys whole
-behind_leads p q s whole chains keys h k =
-    let behind : (a b : List ℤ) → by_product (each_behind (all_keys p s) chains) a b ≡ in_priority (directed s p a b) (by_product chains a b) =
-    λ a b. product_behind_chain (all_keys p s) chains a b ∙ ap (λ r. in_priority r (by_product chains a b)) (chain_is_keys p s a b h) in
-    record {
-      in_row = λ reads. behind_in_row (all_keys p s) chains (all_in_row p s reads.0) (k.in_row reads.1);
-      keys_in_row = λ reads. k.keys_in_row reads.1;
-      decides = λ a b. rw (behind a b, directed_priority s p q a b) (behind_decides (directed s p a b) (by_product chains a b) (directed s q a b) (k.decides a b));
-      all = λ e a b. behind a b ∙ (ap (in_priority (directed s p a b)) (k.all e a b) ∙ sym (directed_priority s p q a b));
-      in_order = λ a b.
-          rw (joined_behind_chain (all_keys p s) chains a b, chain-append (all_keys p s) (all_keys q s) a b)
-          (behind_decides (by_chain (all_keys p s) a b) (by_chain (joined chains) a b) (by_chain (all_keys q s) a b) (k.in_order a b));
-      behind = λ a b same h.
-          let level = both_same (directed s p a b) (by_product chains a b) (sym (ap is_same (behind a b)) ∙ same) in
-          k.behind a b level.1 (second_fits (directed s p a b) (directed s q a b) level.0 (sym (ap fits (directed_priority s p q a b)) ∙ h));
-      alone = k.alone;
-    }
+behind_leads p q s whole chains keys h k = grind (arith, product_behind_chain, chain_is_keys p s, behind_in_row, all_in_row, directed_priority, behind_decides, joined_behind_chain, chain-append, both_same, second_fits)
 
 -- else what leads the first part, where the keys do not miss what the second part decides
 pub first_leads : (p q : Preference) (s whole : Bool) (chains : List (List Key)) (keys found : List Key) → IsLedBy p s chains keys whole
@@ -223,28 +169,15 @@ pub first_leads : (p q : Preference) (s whole : Bool) (chains : List (List Key))
     → ((a b : List ℤ) → is_same (by_product chains a b) ≡ true → fits (in_priority (directed s p a b) (directed s q a b)) ≡ true → All (IsNoGreater a b) found)
     → (found ≡ [] → false ≡ true)
     → IsLedBy (prior p q) s chains found false
-first_leads p q s whole chains keys found h within rest some = record {
-  in_row = λ reads. h.in_row reads.0;
-  keys_in_row = within;
-  decides = λ a b. rw (directed_priority s p q a b) (first_decides (by_product chains a b) (directed s p a b) (directed s q a b) (h.decides a b));
-  all = λ e. absurd (false≢true e);
-  in_order = λ a b.
-      rw (chain-append (all_keys p s) (all_keys q s) a b) (first_decides (by_chain (joined chains) a b) (by_chain (all_keys p s) a b) (by_chain (all_keys q s) a b) (h.in_order a b));
-  behind = λ a b same k. rest a b same (sym (ap fits (directed_priority s p q a b)) ∙ k);
-  alone = some;
-}
+first_leads p q s whole chains keys found h within rest some = grind (arith, directed_priority, first_decides, chain-append)
 
 -- chains that are the whole of the first part leave the rest to the second one
 pub whole_leads : (p q : Preference) (s : Bool) (chains : List (List Key)) (keys found : List Key) → IsLedBy p s chains keys true → found ≡ leading q s → IsLedBy (prior p q) s chains found false
-whole_leads p q s chains keys found h is =
-    first_leads p q s true chains keys found h (λ reads. subst AreInRow (sym is) (leading_in_row q s reads.1))
-    (λ a b same k. subst (All (IsNoGreater a b)) (sym is) (keep q s a b (second_fits (directed s p a b) (directed s q a b) (sym (ap is_same (h.all refl a b)) ∙ same) k)))
-    (λ e. absurd (not_alone q s found is e))
+whole_leads p q s chains keys found h is = grind (arith, first_leads, leading_in_row, keep, second_fits, not_alone)
 
 -- others keep their keys
 pub part_leads : (p q : Preference) (s : Bool) (chains : List (List Key)) (keys : List Key) → IsLedBy p s chains keys false → IsLedBy (prior p q) s chains keys false
-part_leads p q s chains keys h =
-    first_leads p q s false chains keys keys h (λ reads. h.keys_in_row reads.0) (λ a b same k. h.behind a b same (priority_fits (directed s p a b) (directed s q a b) k)) h.alone
+part_leads p q s chains keys h = grind (arith, first_leads, priority_fits)
 
 -- ---- a question, within its groups
 
@@ -259,18 +192,4 @@ not_worse r s t h k l = grind (arith, h, k)
 
 -- the chains that lead the preference of a question lead it
 pub leading_lead : (q : Question) (chains : List (List Key)) (keys : List Key) (whole : Bool) → IsAsk q → IsLedBy q.preference false chains keys whole → Leads q chains keys
-leading_lead q chains keys whole known led = record {
-  in_row = led.in_row known.columns.preference;
-  keys_in_row = led.keys_in_row known.columns.preference;
-  better = λ a b near h.
-      and_from (in_same_group q.group a b) (better q.preference a b) near
-      (sym (walked_better q.preference a b) ∙ better_decides (by_product chains a b) (directed false q.preference a b) (led.decides a b) h);
-  decided = λ a b h.
-      better_or_same (by_product chains a b) (directed false q.preference a b) (led.decides a b)
-      (walked_better q.preference a b ∙ (and_parts (in_same_group q.group a b) (better q.preference a b) h).1);
-  in_order = λ a b near h.
-      not_worse (by_chain (group_keys q.group) a b) (by_chain (joined chains) a b) (by_chain (all_keys q.preference false) a b)
-      (group_same q.group a b ∙ near) (led.in_order a b) (ap is_worse (sym (chain-append (group_keys q.group) (all_keys q.preference false) a b)) ∙ h);
-  behind = λ a b same h. led.behind a b same (fits_asked q a b h);
-  alone = λ e. led.all (led.alone e);
-}
+leading_lead q chains keys whole known led = grind (arith, known.columns.preference, and_from, and_parts, walked_better, better_decides, better_or_same, not_worse, group_same, chain-append, fits_asked)

@@ -8,6 +8,7 @@ use Rattle.pref_term.proofs.Common.{Question, FitsWidth, IsCount, is_count, cut_
 use Rattle.pref_term.proofs.Common.{empty_range, Base, low, high, around, one_of, Preference, scored, pareto, prior, reverse, between, layered, is_prior, is_composed, held_nests, nests, name_at}
 use Rattle.pref_term.proofs.Common.{shown_term, shown_mode, shown_group, shown, shown_dims, shown_diffs, Mode, Best, TopLevel, AtLeast, Option, is_name_byte, IsWritten, Leaf, NumberText}
 use Rattle.pref_term.proofs.Common.{number_digits, signed_leaves, after_commas, column_leaves}
+use Rattle.std.proofs.lemmas.List.Sums.{AllPass-from_list_all}
 use Rattle.std.specs.Int.{w64}
 use Rattle.pref_term.proofs.ShownNames.{IsNamed, is_named}
 use Rattle.pref_term.proofs.ShownLemmas.{AreInRange, CanShow, leaves_text, leaves_text-append, head_text, head_shown, group_shown, columns_same, number_text, base_text, Shape, factor, as_prior}
@@ -18,18 +19,13 @@ use Rattle.pref_term.proofs.ShownTokens.{lexed, IsDigitsText, said, rated_lexed,
 
 digits_text : (ds : List ℕ) → all_ascii_digits ds ≡ true → 0 < length ds → IsDigitsText ds
 digits_text [] h n = absurd (omega arith)
-digits_text (d ∷ ds) h n = all_digits (d ∷ ds) h
-  where
-    all_digits : (ds : List ℕ) → all_ascii_digits ds ≡ true → AllByRecursion (λ c. is_ascii_digit c ≡ true) ds
-    all_digits [] h = tt
-    all_digits (d ∷ ds) h = let k = and_parts (is_ascii_digit d) (all_ascii_digits ds) h in (k.0, all_digits ds k.1)
+digits_text (d ∷ ds) h n = recursion_from_All (λ c. is_ascii_digit c ≡ true) (d ∷ ds) (AllPass-from_list_all is_ascii_digit (d ∷ ds) h)
 
 decimal_text : (n : ℕ) → n < 2 ^ 64 → IsDigitsText (decimal n)
 decimal_text n h = digits_text (decimal n) (digits_decimal own_numerals n h) (decimal_nonempty n h)
 
 number_fine : (v : ℤ) → FitsSigned w64 v → IsDigitsText (number_text v).digits
-number_fine (pos n) h = let small : n < 2 ^ 64 = omega (arith, h.sfits) in decimal_text n small
-number_fine (negsuc n) h = let small : suc n < 2 ^ 64 = omega (arith, h.sfits) in decimal_text (suc n) small
+number_fine v h = grind (arith, h.sfits, decimal_text)
 
 -- ---- the leaves of what is shown
 
@@ -93,26 +89,14 @@ module _ (names : Names) where
   apart_base : (b : Base) (rest : List ℕ) → IsNamed names (column b) → IsWritableBase b → Apart names (base_leaves (base_text names b)) rest
   apart_base (low col) rest h w = (tt, refl, refl, opened col (mark right ∷ []) rest h refl (tt, refl, tt, tt))
   apart_base (high col) rest h w = (tt, refl, refl, opened col (mark right ∷ []) rest h refl (tt, refl, tt, tt))
-  apart_base (around col centre) rest h w =
-      let number = apart_both names (number_leaves (number_text centre)) (mark right ∷ []) rest (apart_number None centre (codes ")" ++ rest) w refl refl) (tt, refl, tt, tt) in
-      (tt, refl, refl, opened col (mark comma ∷ number_leaves (number_text centre) ++ mark right ∷ []) rest h refl (tt, refl, tt, number))
-  apart_base (between col l r) rest h w =
-      let above = ap (λ x. cond (int_lt r x) (Some empty_range) None) (number_same l w.0) ∙ ap (λ b. cond b (Some empty_range) None) w.2 in
-      let right_end = apart_both names (end_leaves (number_text l) (number_text r)) (mark right ∷ []) rest (apart_number (Some (number_text l)) r (codes ")" ++ rest) w.1 above refl) (tt, refl, tt, tt) in
-      let behind = mark comma ∷ end_leaves (number_text l) (number_text r) ++ mark right ∷ [] in
-      let numbers = apart_both names (number_leaves (number_text l)) behind rest (apart_number None l (leaves_text behind ++ rest) w.0 refl refl) (tt, refl, tt, right_end) in
-      (tt, refl, refl, opened col (mark comma ∷ number_leaves (number_text l) ++ behind) rest h refl (tt, refl, tt, numbers))
+  apart_base (around col centre) rest h w = grind (arith, w, opened, apart_both, apart_number None centre)
+  apart_base (between col l r) rest h w = grind (arith, w, number_same, opened, apart_both, apart_number None l, apart_number (Some (number_text l)) r)
   apart_base (one_of col []) rest h w = absurd (w.0 refl)
   apart_base (one_of col (v ∷ vs)) rest h w =
       let numbers = apart_list v vs right rest (recursion_from_All (FitsSigned w64) (v ∷ vs) w.1) refl in
       (tt, refl, refl, opened col (mark comma ∷ list_leaves (number_text v) (map number_text vs) right) rest h refl (tt, refl, tt, numbers))
   apart_base (layered col []) rest h w = absurd (w.0 refl)
-  apart_base (layered col (s ∷ ss)) rest h w =
-      let each = recursion_from_All IsWritableSet (s ∷ ss) w.1 in
-      let behind = after_commas set_leaves (map set_text ss) ++ mark right ∷ [] in
-      let more = apart_both names (after_commas set_leaves (map set_text ss)) (mark right ∷ []) rest (apart_sets ss (codes ")" ++ rest) each.1) (tt, refl, tt, tt) in
-      let sets = apart_both names (set_leaves (set_text s)) behind rest (apart_set s (leaves_text behind ++ rest) each.0) more in
-      (tt, refl, refl, opened col (mark comma ∷ set_leaves (set_text s) ++ behind) rest h refl (tt, refl, tt, sets))
+  apart_base (layered col (s ∷ ss)) rest h w = grind (arith, recursion_from_All IsWritableSet (s ∷ ss) w.1, opened, apart_both, apart_set, apart_sets)
 
   -- within so many open nestings, whatever follows
   abbrev ApartWithin : Preference → Type 0
@@ -136,30 +120,16 @@ module _ (names : Names) where
 
   apart_shape : (p : Preference) → CanShow names p → ApartWithin p
   apart_shape (scored b) h depth rest k = apart_base b rest h.0 h.1
-  apart_shape (pareto p q) h depth rest k =
-      let x : held_nests (is_prior p) (nests p) + depth ≤ 64 = omega arith in
-      let y : held_nests (is_composed q) (nests q) + depth ≤ 64 = omega arith in
-      let behind = mark star ∷ unary_leaves (as_factor (shape_of names q)) depth in
-      apart_both names (product_leaves (as_product (shape_of names p)) depth) behind rest
-      (apart_product p depth (leaves_text behind ++ rest) (apart_shape p h.0) x) (tt, refl, tt, apart_factor q depth rest (apart_shape q h.1) y)
-  apart_shape (prior p q) h depth rest k =
-      let x : nests p + depth ≤ 64 = omega arith in
-      let y : held_nests (is_prior q) (nests q) + depth ≤ 64 = omega arith in
-      let behind = mark ampersand ∷ product_leaves (as_product (shape_of names q)) depth in
-      apart_both names (prior_leaves (as_prior (shape_of names p)) depth) behind rest
-      (apart_prior (shape_of names p) depth (leaves_text behind ++ rest) (apart_shape p h.0 depth (leaves_text behind ++ rest) x)) (tt, refl, tt, apart_product q depth rest (apart_shape q h.1) y)
+  apart_shape (pareto p q) h depth rest k = grind (arith, k, apart_both, apart_product, apart_factor, apart_shape p h.0, apart_shape q h.1)
+  apart_shape (prior p q) h depth rest k = grind (arith, k, apart_both, apart_prior, apart_product, apart_shape p h.0, apart_shape q h.1)
   apart_shape (reverse p) h depth rest k =
       (tt, depth_good names depth minus (omega arith), tt, apart_factor p (depth + 1) rest (apart_shape p h) (omega arith))
 
   count_fine : (k : ℕ) → IsCount k → own_fault names (count_digits (decimal k)) ≡ None
-  count_fine k h =
-      let e : is_count k ≡ true = grind (arith, nat_tests, h.0, h.1) in
-      ap (λ n. cond (is_count n) None (Some bad_count)) (digits_value-decimal own_numerals k (count_small k h)) ∙ ap (λ b. cond b None (Some bad_count)) e
+  count_fine k h = grind (arith, digits_value-decimal, own_numerals, count_small)
 
   apart_head : (m : Mode) (rest : List ℕ) → IsCount (cut_of m) → Apart names (head_leaves (head_text m)) rest
-  apart_head Best rest h = (tt, refl, tt, tt)
-  apart_head (TopLevel k) rest h = (tt, refl, tt, (decimal_text k (count_small k h), count_fine k h, tt, tt))
-  apart_head (AtLeast k) rest h = (tt, refl, tt, (decimal_text k (count_small k h), count_fine k h, tt, tt))
+  apart_head m rest h = grind (arith, decimal_text, count_small, count_fine)
 
   columns_end : (cs : List ℕ) → Ends is_name_byte (leaves_text (after_commas column_leaves (map (name_at names) cs)) ++ [])
   columns_end [] = tt
@@ -175,17 +145,10 @@ module _ (names : Names) where
 
   apart_said : (q : Question) → IsCount (cut_of q.mode) → CanShow names q.preference → AllByRecursion (IsNamed names) q.group → nests q.preference ≤ 64
       → Apart names (said (head_text q.mode) (as_prior (shape_of names q.preference)) (map (name_at names) q.group)) []
-  apart_said q count can columns deep =
-      let room : nests q.preference + 0 ≤ 64 = omega arith in
-      let group = group_leaves (map (name_at names) q.group) in
-      let term = prior_leaves (as_prior (shape_of names q.preference)) 0 in
-      apart_both names (head_leaves (head_text q.mode)) (term ++ group) [] (apart_head q.mode (leaves_text (term ++ group) ++ []) count)
-      (apart_both names term group [] (apart_prior (shape_of names q.preference) 0 (leaves_text group ++ []) (apart_shape q.preference can 0 (leaves_text group ++ []) room)) (apart_group q.group columns))
+  apart_said q count can columns deep = grind (arith, as_prior, shape_of, apart_both, head_text, apart_head, leaves_text, apart_prior, apart_shape, apart_group)
 
 head_same : (m : Mode) → IsCount (cut_of m) → mode_of (head_text m) ≡ m
-head_same Best h = refl
-head_same (TopLevel k) h = ap TopLevel (digits_value-decimal own_numerals k (count_small k h))
-head_same (AtLeast k) h = ap AtLeast (digits_value-decimal own_numerals k (count_small k h))
+head_same m h = grind (arith, digits_value-decimal, own_numerals, count_small)
 
 -- ---- what can be shown is what contracts see of an ask over the columns of a schema
 
@@ -202,18 +165,7 @@ module _ (names : Names) (each : (col : ℕ) → col < length names → IsNamed 
 
 -- where all equal rows are kept, a question is shown as a term
 tree_text : (names : Names) (q : Question) → CanShow names q.preference → q.distinct ≡ false → leaves_text (said (head_text q.mode) (as_prior (shape_of names q.preference)) (map (name_at names) q.group)) ≡ shown names q
-tree_text names q h all =
-    let head = head_leaves (head_text q.mode) in
-    let term = prior_leaves (as_prior (shape_of names q.preference)) 0 in
-    let group = group_leaves (map (name_at names) q.group) in
-    leaves_text-append head (term ++ group)
-    ∙ (ap (λ xs. xs ++ leaves_text (term ++ group)) (head_shown q.mode)
-    ∙ (ap (λ xs. shown_mode q.mode ++ xs)
-    (leaves_text-append term group
-    ∙ (ap (λ xs. xs ++ leaves_text group) (prior_text (shape_of names q.preference) 0 ∙ text_shown names q.preference h 0)
-    ∙ ap (λ xs. shown_term names q.preference ++ xs) (group_shown names q.group)))
-    ∙ (sym (append_assoc (shown_mode q.mode) (shown_term names q.preference) (shown_group names q.group))
-    ∙ sym (ap (λ b. cond b (codes "skyline of distinct " ++ (shown_dims names q.preference ++ shown_diffs names q.group)) (shown_mode q.mode ++ shown_term names q.preference ++ shown_group names q.group)) all))))
+tree_text names q h all = grind (arith, all, leaves_text-append, head_shown, prior_text, text_shown names q.preference h 0, group_shown, append_assoc)
 
 -- where the shown text keeps the limits of length and nesting, it spells what was shown
 pub plain_spells : (names : Names) (q : Question) → schema_of names ≡ Ok names → IsAsk q → q.distinct ≡ false → FitsWidth (length names) q → nests q.preference ≤ 64 → length (shown names q) ≤ 4096 → Spells names (shown names q) q
@@ -233,9 +185,5 @@ plain_spells names q schema ask all width deep short =
       short = short;
       tokens = plain_tokens (tokens_of (shown names q)) _ lexed_is (head_said head term group (tokens_of (shown names q)) lexed_is);
       good = rated_all names head term group apart (IsGood names) (λ leaf _ k. k) refl;
-      meaning =
-          ap (λ p. Some (record { preference = p; group = map (column_at names) group; mode = mode_of head; distinct = false })) (prior_same shape names ∙ meaning_same names q.preference can)
-          ∙ (ap (λ cs. Some (record { preference = q.preference; group = cs; mode = mode_of head; distinct = false })) (columns_same names q.group columns)
-          ∙ (ap (λ m. Some (record { preference = q.preference; group = q.group; mode = m; distinct = false })) (head_same q.mode ask.count)
-          ∙ ap (λ d. Some (record { preference = q.preference; group = q.group; mode = q.mode; distinct = d })) (sym all)));
+      meaning = grind (arith, all, prior_same shape names, meaning_same names q.preference can, columns_same names q.group columns, head_same q.mode ask.count);
     }

@@ -212,13 +212,7 @@ base_shown names (between col l r) h = grind (arith, leaves_text-append, number_
 base_shown names (one_of col []) h = absurd (h.0 refl)
 base_shown names (one_of col (v ∷ vs)) h = grind (arith, list_shown, append_assoc)
 base_shown names (layered col []) h = absurd (h.0 refl)
-base_shown names (layered col (s ∷ ss)) h =
-    let each = recursion_from_All IsWritableSet (s ∷ ss) h.1 in
-    ap (λ xs. codes "layered(" ++ (name_at names col ++ (codes ", " ++ xs)))
-    (leaves_text-append (set_leaves (set_text s)) (after_commas set_leaves (map set_text ss) ++ mark right ∷ [])
-    ∙ (ap (λ ys. ys ++ leaves_text (after_commas set_leaves (map set_text ss) ++ mark right ∷ [])) (set_shown s each.0)
-    ∙ ap (λ ys. shown_set s ++ ys) (leaves_text-append (after_commas set_leaves (map set_text ss)) (mark right ∷ []) ∙ ap (λ ys. ys ++ codes ")") (sets_shown ss each.1))))
-    ∙ simp append_assoc
+base_shown names (layered col (s ∷ ss)) h = grind (arith, recursion_from_All IsWritableSet (s ∷ ss) h.1, leaves_text-append, set_shown, sets_shown, append_assoc)
 
 abbrev pub Shows : Names → Preference → Type 0
 Shows names p = (depth : ℕ) → leaves_text (shape_leaves (shape_of names p) depth) ≡ shown_term names p

@@ -34,19 +34,11 @@ after_says earlier col name h = grind (arith)
 all_from-at : {A E : Type 0} (f : ℕ → A → Result A E) (n : ℕ) (xs ys : List A) (i : ℕ) (d : A) → all_from f n xs ≡ Ok ys → i < length xs → f (n + i) (get_or xs i d) ≡ Ok (get_or ys i d)
 all_from-at f n [] ys i d h k = absurd (omega arith)
 all_from-at f n (x ∷ xs) ys zero d h k = grind (arith, all_from-parts)
-all_from-at f n (x ∷ xs) ys (suc i) d h k =
-    let (w, ws, at_x, at_xs, whole) = all_from-parts f n x xs ys h in
-    let here : n + suc i ≡ n + 1 + i = omega arith in
-    let inside : i < length xs = omega arith in
-    ap (λ m. f m (get_or xs i d)) here ∙ (all_from-at f (n + 1) xs ws i d at_xs inside ∙ ap (λ zs. Ok (get_or zs (suc i) d)) (sym whole))
+all_from-at f n (x ∷ xs) ys (suc i) d h k = grind (arith, all_from-parts, all_from-at f (n + 1) xs)
 
 -- the first place at which a test passes
 first_place : {A : Type 0} (p : A → Bool) (xs : List A) (i : ℕ) (d : A) → i < length xs → p (get_or xs i d) ≡ true → list_any p (take i xs) ≡ false → position_or_len p xs ≡ i
-first_place p (x ∷ xs) (suc i) d k here before =
-    let inside : i < length xs = omega arith in
-    let one : 1 + i ≡ suc i = omega arith in
-    let parts = or_parts (p x) (list_any p (take i xs)) before in
-    ap (λ c. cond (not c) (1 + position_or_len p xs) 0) parts.0 ∙ (ap (λ n. 1 + n) (first_place p xs i d inside here parts.1) ∙ one)
+first_place p (x ∷ xs) (suc i) d k here before = grind (arith, or_parts, first_place p xs i)
 first_place p xs i d k here before = grind (arith)
 
 first_position : {A : Type 0} (p : A → Bool) (xs : List A) (i : ℕ) → i < length xs → position_or_len p xs ≡ i → position p xs ≡ Some i

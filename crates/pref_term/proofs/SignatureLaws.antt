@@ -32,9 +32,7 @@ scores_fit x y h = grind (arith, ints, scores-better x y, scores-same x y)
 pub keep : (p : Preference) (s : Bool) (a b : List ℤ) → fits (directed s p a b) ≡ true → All (IsNoGreater a b) (leading p s)
 unfolding IsNoGreater
 keep (scored t) s a b h = grind (arith, All-cons, IsNoGreater, scores_fit, key_law, All-nil)
-keep (pareto p q) s a b h =
-    let parts = product_fits (directed s p a b) (directed s q a b) (sym (ap fits (directed_product s p q a b)) ∙ h) in
-    All-append (IsNoGreater a b) (leading p s) (leading q s) (keep p s a b parts.0) (keep q s a b parts.1)
+keep (pareto p q) s a b h = grind (arith, h, product_fits, directed_product, All-append (IsNoGreater a b) (leading p s) (leading q s), keep p s a b, keep q s a b)
 keep (prior p q) s a b h = keep p s a b (priority_fits (directed s p a b) (directed s q a b) (sym (ap fits (directed_priority s p q a b)) ∙ h))
 keep (reverse p) s a b h = keep p (not s) a b (ap fits (directed_reverse s p a b) ∙ h)
 

@@ -1,5 +1,5 @@
 -- Worked examples, by computation: rows that a term ranks, as a reader would rank them by hand.
-use Rattle.pref_term.proofs.Common.{◌≡◌, true, false, pos, [], ◌∷◌, refl, negsuc, ◌^◌, ◌-◌, better, same, score, Base, Preference, low, high, around, between, one_of, layered, scored, pareto, prior}
+use Rattle.pref_term.proofs.Common.{◌≡◌, true, false, pos, [], ◌∷◌, negsuc, ◌^◌, ◌-◌, better, same, score, Base, Preference, low, high, around, between, one_of, layered, scored, pareto, prior}
 use Rattle.pref_term.proofs.Common.{reverse}
 
 abbrev x_low : Preference
@@ -63,26 +63,4 @@ pub record Worked : Type 0 where
 
 -- each by computation
 pub worked : Worked
-worked = record {
-  smaller_is_better = refl;
-  equal_rows_are_the_same = refl;
-  equal_rows_are_both_kept = refl;
-  a_distance_does_not_wrap = refl;
-  below_a_range = refl;
-  at_the_ends_of_a_range = refl;
-  above_a_range = refl;
-  farthest_from_a_range = refl;
-  first_column_decides = refl;
-  neither_of_both_decides = refl;
-  grouping_matters = refl;
-  neither_better_is_not_same = refl;
-  converse_of_a_product = refl;
-  a_member_is_better = refl;
-  of_two_members_the_smaller = refl;
-  in_the_first_set = refl;
-  in_the_second_set = refl;
-  in_no_set = refl;
-  of_one_set_the_smaller = refl;
-  of_two_sets_the_first = refl;
-  a_set_twice = refl;
-}
+worked = search

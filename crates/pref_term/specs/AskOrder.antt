@@ -14,21 +14,11 @@ order_of q = record { over = over q; twin = twins q }
 
 -- no row dominates itself, and dominance is transitive
 pub order_of_is_strict : (q : Question) → IsStrictOrder (order_of q).over
-order_of_is_strict q =
-    let p = q.preference in
-    record {
-      irreflexive = λ a. grind (arith, better_is p a a);
-      transitive = λ a b c h k. grind (arith, better_is p a b, better_is p b c, better_is p a c, as_good_on p a b c, as_good_on p b c a, group_on q.group a b c);
-    }
+order_of_is_strict q = grind (arith, better_is, as_good_on, group_on)
 
 -- rows of one group that are the same are alike in it
 pub order_of_alike : (q : Question) (a b : List ℤ) → alike q a b ≡ true → StandAlike (order_of q).over a b
-order_of_alike q a b h =
-    let p = q.preference in
-    record {
-      above = λ c. grind (arith, better_is p c a, better_is p c b, same_is p a b, as_good_on p c a b, as_good_on p c b a, as_good_on p a b c, as_good_on p b a c, group_on q.group c a b, group_on q.group c b a, group_back q.group a b);
-      below = λ c. grind (arith, better_is p a c, better_is p b c, same_is p a b, as_good_on p a b c, as_good_on p b a c, as_good_on p c a b, as_good_on p c b a, group_on q.group a b c, group_on q.group b a c, group_back q.group a b);
-    }
+order_of_alike q a b h = grind (arith, better_is, same_is, as_good_on, group_on, group_back)
 
 -- it is a row order: its twins are of one group, and the same
 pub order_of_is_row_order : (q : Question) → IsRowOrder (order_of q)
@@ -47,12 +37,7 @@ order_of_twins_are_alike q known a b =
 
 -- and the same rows are their twins, since an ask that keeps one of equal rows is a skyline clause
 pub order_of_twins_alike : (q : Question) → IsAsk q → (a b : List ℤ) → alike q a b ≡ true → StandAlike (order_of q).twin a b
-order_of_twins_alike q known a b h =
-    let twins_are = order_of_twins_are_alike q known a b in
-    record {
-      above = λ c. grind (arith, twins_are, twins_back q a b, twins_on q c a b, twins_on q c b a);
-      below = λ c. grind (arith, twins_are, twins_back q a b, twins_on q a b c, twins_on q b a c);
-    }
+order_of_twins_alike q known a b h = grind (arith, order_of_twins_are_alike, twins_back, twins_on)
 
 -- a row dominates rows of its own group alone
 pub order_of_stays_in_groups : (q : Question) (a b : List ℤ) → (order_of q).over a b ≡ true → in_same_group q.group a b ≡ true

@@ -1,7 +1,7 @@
 -- No public contract cites this.
 -- A code of preferences and of questions, by which proofs distinguish their values. It says nothing of what they mean. (this project)
 use Rattle.std.specs.Prelude.{◌≡◌, Bool, ℕ, ℤ, List, ◌⊎◌, refl}
-use Rattle.std.proofs.Common.{inl, inr, ap}
+use Rattle.std.proofs.Common.{inl, inr, ap, arith}
 use base.Stored.{Gv, gnum, gcons}
 use Rattle.std.specs.Coded.{Coded, code_by, coded_ℕ, coded_ℤ, coded_list, coded_bool, coded×, coded⊎}
 use Rattle.pref_term.specs.Preference.{Base, low, high, around, one_of, Preference, scored, pareto, prior, reverse, between, layered}
@@ -43,19 +43,9 @@ code_of (reverse p) = gcons (gnum 3) (code_of p)
 
 pub code_again : (x y : Preference) → code_of x ≡ code_of y → x ≡ y
 code_again (scored b) (scored c) h = let e : coded_base.code b ≡ coded_base.code c = cc in ap scored (coded_base.inj b c e)
-code_again (pareto p q) (pareto r s) h =
-    let e : code_of p ≡ code_of r = cc in
-    let f : code_of q ≡ code_of s = cc in
-    let g = code_again p r e in
-    let k = code_again q s f in
-    cc
-code_again (prior p q) (prior r s) h =
-    let e : code_of p ≡ code_of r = cc in
-    let f : code_of q ≡ code_of s = cc in
-    let g = code_again p r e in
-    let k = code_again q s f in
-    cc
-code_again (reverse p) (reverse r) h = let e : code_of p ≡ code_of r = cc in ap reverse (code_again p r e)
+code_again (pareto p q) (pareto r s) h = grind (arith, code_again p r, code_again q s)
+code_again (prior p q) (prior r s) h = grind (arith, code_again p r, code_again q s)
+code_again (reverse p) (reverse r) h = grind (arith, code_again p r)
 code_again _ _ h = cc
 
 abbrev coded_preference : Coded Preference

@@ -40,9 +40,7 @@ twins_on q a b c h k = grind (arith, group_on (q.group ++ columns_in q.preferenc
 
 -- in a skyline clause rows that are the same are equal in each column
 dimension_equal : (p : Preference) (a b : List ℤ) → IsDimension p → same p a b ≡ in_same_group (columns_in p) a b
-dimension_equal (scored (low col)) a b d = grind (arith, ints)
-dimension_equal (scored (high col)) a b d = grind (arith, ints)
-dimension_equal p a b d = absurd d
+dimension_equal p a b d = grind (arith, ints)
 
 clause_equal : (p : Preference) (a b : List ℤ) → IsClause p → same p a b ≡ in_same_group (columns_in p) a b
 clause_equal (scored t) a b c = dimension_equal (scored t) a b c

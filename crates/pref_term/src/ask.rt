@@ -218,6 +218,7 @@ impl Ask {
     /// Compares two rows by the term alone. Inlined where rows are compared, since each of its two ways is a call of its own, with the
     /// registers that it needs and no more.
     #[inline(always)]
+    #[tactic(auto, using(crate::proofs::KeyLaws::leading_law, crate::proofs::KeyLaws::leading_in_row, crate::proofs::KeyLaws::leading_numbers, crate::proofs::WalkLaws::walked_better, crate::proofs::WalkLaws::walked_worse, crate::proofs::WalkLaws::walked_same))]
     fn compare_in_group(&self, a: &Row, b: &Row) -> Relation
         ensures better { is_better result ≡ better self.now.preference a.now b.now }
         ensures worse { is_worse result ≡ better self.now.preference b.now a.now }
@@ -240,6 +241,7 @@ impl Ask {
 
     /// Whether the first row is better by the term alone. Inlined as [`Ask::compare_in_group`] is.
     #[inline(always)]
+    #[tactic(auto, using(crate::proofs::KeyLaws::leading_law, crate::proofs::KeyLaws::leading_in_row, crate::proofs::KeyLaws::leading_numbers, crate::proofs::WalkLaws::walked_better))]
     fn is_better_in_group(&self, a: &Row, b: &Row) -> bool
         ensures { result ≡ better self.now.preference a.now b.now }
     {

@@ -68,6 +68,7 @@ impl Ask {
     }
 
     /// A question of these parts. Of equal rows one is kept only where the best are wanted.
+    #[tactic(auto, using(crate::proofs::BuiltLemmas::made, crate::proofs::BuiltLemmas::no_clause, crate::proofs::BuiltLemmas::refused_exit, crate::proofs::BuiltLemmas::refused_for))]
     fn of_parts(
         alloc: Global,
         term: Term,
@@ -88,6 +89,7 @@ impl Ask {
 }
 
 /// Looks for the first fault of these parts.
+#[tactic(auto, using(crate::proofs::BuiltLemmas::refused_exit))]
 fn check_parts(term: &Term, group: &[usize], mode: Mode) -> Result<(), AskFault>
     ensures found { IfOk result (λ _. ReadsBelow 16 (preference_of term.now) × IsWritable (preference_of term.now) × All (λ col. col < 16) group.now × IsCount (cut_of mode)) }
     ensures first { let first = first_fault (preference_of term.now) group.now mode in

@@ -113,6 +113,7 @@ fn contains(chains: &[Chain], chain: &Chain) -> bool
 }
 
 /// Puts those of some chains behind others that are not there already.
+#[tactic(auto, using(crate::proofs::LeadingLaws::one_added, crate::proofs::LeadingLaws::one_held))]
 fn push_others(chains: &mut Vec<Chain>, others: Vec<Chain>) -> Result<(), AllocError>
     ensures { OnOk result (AreBoth chains.old.items others.items chains.new.items) }
 {
@@ -162,6 +163,7 @@ pub(crate) struct LeadingChains {
 
 impl LeadingChains {
     /// No chain: behind none are the keys that lead the term, or its converse.
+    #[tactic(auto, using(crate::proofs::LeadingLaws::none_leads))]
     fn none(alloc: Global, term: &Term, turned: bool) -> Result<LeadingChains, AllocError>
         ensures { IfOk result (λ lead. IsLedBy (preference_of term.now) turned lead.chains.items lead.behind.items lead.is_whole) }
     {
@@ -173,6 +175,7 @@ impl LeadingChains {
     }
 
     /// All keys of a term that is a chain: this chain is all that it says.
+    #[tactic(auto, using(crate::proofs::LeadingLaws::one_leads))]
     fn one(alloc: Global, term: &Term, turned: bool) -> Result<LeadingChains, AllocError>
         ensures { IfOk result (λ lead. is_chain (preference_of term.now) ≡ true
             → IsLedBy (preference_of term.now) turned lead.chains.items lead.behind.items lead.is_whole) }
@@ -187,6 +190,7 @@ impl LeadingChains {
     }
 
     /// The chains of a product of two terms in one, where those of each are the whole.
+    #[tactic(auto, using(crate::proofs::LeadingLaws::both_lead))]
     fn product(
         alloc: Global,
         term: &Term,
@@ -221,6 +225,7 @@ impl LeadingChains {
     }
 
     /// The first part of a priority, where it is a chain, before each of these, which lead the second part, or before none of many.
+    #[tactic(auto, using(crate::proofs::LeadingLaws::behind_leads))]
     fn with_prefix(
         self,
         alloc: Global,

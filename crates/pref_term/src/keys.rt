@@ -132,6 +132,7 @@ fn is_ranked(keys: &[Key], key: &Key) -> bool
 }
 
 /// The keys without those that see no difference where the ones before them see none.
+#[tactic(auto, using(crate::proofs::ExtensionLaws::none_shortened, crate::proofs::ExtensionLaws::one_new, crate::proofs::ExtensionLaws::one_repeated))]
 fn without_repeats(alloc: Global, keys: Vec<Key>) -> Result<Vec<Key>, AllocError>
     ensures { IfOk result (λ kept. IsShortened keys.items kept.items) }
 {
@@ -189,6 +190,7 @@ pub fn in_same_group(columns: &[usize], a: &Row, b: &Row) -> bool
 ///
 /// One loop, which stops at the first key after which neither row can be better. Takes no memory.
 #[inline(never)]
+#[tactic(auto, using(crate::proofs::KeyLaws::decided))]
 pub(crate) fn compare_by_keys(keys: &[Key], a: &Row, b: &Row) -> Relation
     requires columns { All (λ key. key.col < 16) keys.now }
     requires numbers { All (λ key. is_number key.score ≡ true) keys.now }
@@ -211,6 +213,7 @@ pub(crate) fn compare_by_keys(keys: &[Key], a: &Row, b: &Row) -> Relation
 ///
 /// One loop, which stops at the first key by which the second row is better. Takes no memory.
 #[inline(never)]
+#[tactic(auto, using(crate::proofs::KeyLaws::spoiled))]
 pub(crate) fn is_better_by_keys(keys: &[Key], a: &Row, b: &Row) -> bool
     requires columns { All (λ key. key.col < 16) keys.now }
     requires numbers { All (λ key. is_number key.score ≡ true) keys.now }

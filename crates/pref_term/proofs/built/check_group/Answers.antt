@@ -12,6 +12,3 @@ loop-col-preserved c = (
 
 pub returns-clause-found : goal.returns-clause-found
 returns-clause-found c = all_of_them (λ col. col < 16) _ c.loop-col.col-index (search (rules, arith)) c.loop-col.invariant.0
-
-pub returns-clause-first : goal.returns-clause-first
-returns-clause-first c = c.loop-col.invariant.1 ∙ first_ends column_fault _ c.loop-col.col-index (search (rules, arith))
