@@ -1,6 +1,6 @@
 -- Eight bytes of a text at once: how many of them are digits before another byte, and the value of these.
 use Rattle.pref_table.proofs.Common.{◌≡◌, ℕ, zero, suc, ◌+◌, ◌-◌, ◌*◌, ◌^◌, ◌<◌, ◌≤◌, Bool, true, not, List, [], ◌∷◌, length, take, drop, get_or, map, refl, sym, ap, subst, ◌∙◌, arith, ◌==◌, if◌then◌else◌}
-use Rattle.pref_table.proofs.Common.{add-zero, digits_value, get_or-drop, length-drop, length-map, le-ltb, lt-ltb, nat_lt, inl, inr}
+use Rattle.pref_table.proofs.Common.{add-zero, eqb-true, digits_value, get_or-drop, length-drop, length-map, le-ltb, lt-ltb, nat_lt, inl, inr}
 use Rattle.std.proofs.Common.{◌/◌, ◌%◌, Fits, w8, bit_and}
 use Rattle.std.proofs.Math.Nat.{mul-le-mul_right, pow-le-pow_right, pow-suc}
 use Rattle.std.proofs.lemmas.Nat.{pow-add}
@@ -83,17 +83,7 @@ all_of a b ha hb = omega arith
 
 pub value_of_digits : (digit : ℕ → ℕ) (digits : ℕ) → ((k : ℕ) → k < 8 → digit k < 10) → digits ≡ eight_bytes digit
     → bit_and (bit_and (digits * 2561 % 2 ^ 64 / 2 ^ 8) 71777214294589695 * 6553601 % 2 ^ 64 / 2 ^ 16) 281470681808895 * 42949672960001 % 2 ^ 64 / 2 ^ 32 ≡ eight_digits digit
-value_of_digits digit digits small are =
-    let at = λ (k : ℕ) (h : k < 8). small k h in
-    let pairs = ap (λ n. bit_and (n * 2561 % 2 ^ 64 / 2 ^ 8) 71777214294589695) are
-    ∙ pairs_of (digit 0) (digit 1) (digit 2) (digit 3) (digit 4) (digit 5) (digit 6) (digit 7) (at 0 (omega arith)) (at 1 (omega arith)) (at 2 (omega arith)) (at 3 (omega arith)) (at 4 (omega arith)) (at 5 (omega arith)) (at 6 (omega arith)) (at 7 (omega arith)) in
-    let fours = ap (λ n. bit_and (n * 6553601 % 2 ^ 64 / 2 ^ 16) 281470681808895) pairs
-    ∙ fours_of (10 * digit 0 + digit 1) (10 * digit 2 + digit 3) (10 * digit 4 + digit 5) (10 * digit 6 + digit 7)
-    (omega (arith, at 0 (omega arith), at 1 (omega arith))) (omega (arith, at 2 (omega arith), at 3 (omega arith))) (omega (arith, at 4 (omega arith), at 5 (omega arith))) (omega (arith, at 6 (omega arith), at 7 (omega arith))) in
-    ap (λ n. n * 42949672960001 % 2 ^ 64 / 2 ^ 32) fours
-    ∙ all_of (100 * (10 * digit 0 + digit 1) + (10 * digit 2 + digit 3)) (100 * (10 * digit 4 + digit 5) + (10 * digit 6 + digit 7))
-    (omega (arith, at 0 (omega arith), at 1 (omega arith), at 2 (omega arith), at 3 (omega arith))) (omega (arith, at 4 (omega arith), at 5 (omega arith), at 6 (omega arith), at 7 (omega arith)))
-    ∙ omega arith
+value_of_digits digit digits small are = grind (arith, pairs_of, fours_of, all_of)
 
 -- ---- the value of those at the front
 
@@ -117,11 +107,7 @@ module _ (byte : ℕ → ℕ) (count : ℕ) where
   digit_first few = ap (λ n. if nat_lt n 8 then 0 else byte (n - 8) - 48) {x = 0 + count} {y = count} (omega arith) ∙ rw (lt-ltb count 8 few) refl
 
 pub digit_below : (byte : ℕ → ℕ) (count : ℕ) → count ≤ 8 → ((k : ℕ) → k < count → IsDigit (byte k)) → (k : ℕ) → k < 8 → digit_at byte count k < 10
-digit_below byte count few are k early =
-    elim (cases_lt (k + count) 8) [
-      | inl before ↦ grind (arith)
-      | inr here ↦ grind (arith, are (k + count - 8) (omega arith))
-    ]
+digit_below byte count few are k early = grind (arith, cases_lt)
 
 module _ (text : List ℕ) where
   value_next : (k : ℕ) → k < length text → IsDigit (get_or text k 0) → digits_value 10 (take (k + 1) text) ≡ 10 * digits_value 10 (take k text) + (get_or text k 0 - 48)
@@ -144,9 +130,7 @@ module _ (text : List ℕ) where
 
   -- one digit more moves the others up by one place
   digits_next : (byte : ℕ → ℕ) (count : ℕ) → count < 8 → eight_digits (digit_at byte (suc count)) ≡ 10 * eight_digits (digit_at byte count) + (byte count - 48)
-  digits_next byte count few =
-      let up = λ (k : ℕ). digit_up byte count k in
-      omega (arith, up 0, up 1, up 2, up 3, up 4, up 5, up 6, digit_last byte count, digit_first byte count few)
+  digits_next byte count few = grind (arith, digit_last, digit_first)
 
   -- what these digits write
   pub value_of_front : (count : ℕ) → count ≤ 8 → count ≤ length text → AreDigits text count → eight_digits (digit_at (λ k. get_or text k 0) count) ≡ digits_value 10 (take count text)
@@ -183,14 +167,8 @@ module _ (text : List ℕ) where
           reads = omega (arith, value_joined 8 count (omega (arith, size)), first.reads, behind.reads, ap (λ v. v * 10 ^ count) first.reads);
         }
 
-pub power_is : (count : ℕ) → count ≤ 8 → get_or (1 ∷ 10 ∷ 100 ∷ 1000 ∷ 10000 ∷ 100000 ∷ 1000000 ∷ 10000000 ∷ 100000000 ∷ []) count 0 ≡ 10 ^ count
-power_is zero few = refl
-power_is (suc zero) few = refl
-power_is (suc (suc zero)) few = refl
-power_is (suc (suc (suc zero))) few = refl
-power_is (suc (suc (suc (suc zero)))) few = refl
-power_is (suc (suc (suc (suc (suc zero))))) few = refl
-power_is (suc (suc (suc (suc (suc (suc zero)))))) few = refl
-power_is (suc (suc (suc (suc (suc (suc (suc zero))))))) few = refl
-power_is (suc (suc (suc (suc (suc (suc (suc (suc zero)))))))) few = refl
-power_is (suc (suc (suc (suc (suc (suc (suc (suc (suc n))))))))) few = absurd (omega arith)
+abbrev powers : List ℕ
+powers = 1 ∷ 10 ∷ 100 ∷ 1000 ∷ 10000 ∷ 100000 ∷ 1000000 ∷ 10000000 ∷ 100000000 ∷ []
+
+pub power_is : (count : ℕ) → count ≤ 8 → get_or powers count 0 ≡ 10 ^ count
+power_is count few = eqb-true _ _ (agree_below_at (λ k. get_or powers k 0 == 10 ^ k) (λ _. true) 9 count refl (omega arith))

@@ -1,5 +1,5 @@
 -- The digits that a text begins with, by their places.
-use Rattle.pref_table.proofs.Common.{◌≡◌, ℕ, ◌+◌, ◌-◌, ◌*◌, ◌^◌, ◌<◌, ◌≤◌, true, false, List, [], ◌∷◌, length, take, get_or, refl, sym, ap, subst, ◌∙◌, arith, suc, digits_value, all_ascii_digits, prefix_len}
+use Rattle.pref_table.proofs.Common.{◌≡◌, ℕ, ◌+◌, ◌-◌, ◌*◌, ◌^◌, ◌<◌, ◌≤◌, true, false, List, [], ◌∷◌, length, take, get_or, refl, sym, ap, ◌∙◌, arith, suc, digits_value, all_ascii_digits, prefix_len}
 use Rattle.pref_table.proofs.Common.{below_more, get_or-take, inl, inr, length-take, length-take-le, le-leb}
 use Rattle.std.proofs.Math.Nat.{pow-le-pow_right}
 use Rattle.std.proofs.lemmas.Bool.{cases_lt}
@@ -52,14 +52,10 @@ module _ (most : ℕ) (text : List ℕ) (count : ℕ) where
         digit_is (get_or text k 0) (ap is_ascii_digit (sym (get_or-take most text k 0 (omega (arith, leading_few)))) ∙ passes)
 
     pub leading_stops : StopsAt most text count
-    leading_stops less more =
-        let stops = prefix_len_stops is_ascii_digit (take most text) 0 (omega (arith, all, length-take most text)) in
-        ap is_ascii_digit (sym (get_or-take most text count 0 less)) ∙ subst (λ n. is_ascii_digit (get_or (take most text) n 0) ≡ false) (sym all) stops
+    leading_stops less more = grind (arith, prefix_len_stops, length-take, get_or-take)
 
     pub leading_digits-are : AreDigits (take count text) (length (take count text))
-    leading_digits-are k h =
-        let size = length-take-le count text leading_inside in
-        subst IsDigit (sym (get_or-take count text k 0 (omega (arith, size)))) (leading_are k (omega (arith, size)))
+    leading_digits-are k h = grind (arith, length-take-le, leading_inside, get_or-take, leading_are)
 
     pub leading_below : digits_value 10 (take count text) < 10 ^ count
     leading_below =

@@ -6,7 +6,7 @@ use Rattle.pref_table.proofs.Common.{start_field, step, default_config, is_bom, 
 use Rattle.pref_table.proofs.Common.{◌>>=◌, ArePlain, IsPlain, is_comma, table_of_records, TableFault}
 use Rattle.memchr.specs.Find.{IsFirstByte, is_byte}
 use Rattle.pref_table.proofs.RecordsFacts.{next-facts, next-shorter, records-none, records-some}
-use Rattle.pref_table.proofs.TablesFacts.{table-names, table-rows}
+use Rattle.pref_table.proofs.TablesFacts.{table_names, table-rows}
 use Rattle.csv.specs.declared.parser.State.TheVariants as st
 use Rattle.csv.specs.declared.parser.Action.TheVariants as act
 
@@ -150,7 +150,7 @@ module _ (header lines : List ℕ) (plain : IsPlainLine header) (ends : IsLineEn
   same_names = ap header_names (records-line header lines plain ends) ∙ sym (ap header_names (rw (append-nil header) at (records-line header [] plain (inl refl))))
 
   pub table-no_names : (fault : TableFault) → header_names (records default_config header) ≡ Err fault → table_of_records (records default_config (header ++ lines)) ≡ Err fault
-  table-no_names fault h = table-names (records default_config (header ++ lines)) fault (same_names ∙ h)
+  table-no_names fault h = table_names (records default_config (header ++ lines)) fault (same_names ∙ h)
 
   pub table-lines : (names : List (List ℕ)) (rows : Result (List (List ℤ)) TableFault) → header_names (records default_config header) ≡ Ok names
       → rows_with (length names) [] (records default_config lines) ≡ rows → table_of_records (records default_config (header ++ lines)) ≡ (rows >>= λ rows. Ok (names, rows))
@@ -182,14 +182,9 @@ line-inside text line size (inl parts) none k inside = let at = line-byte text l
 line-inside text line size (inr parts) none k inside = let at = line-byte text line (13 ∷ []) size k parts inside in rw at.1 at (none k at.0)
 
 line-before : (text line : List ℕ) (size : ℕ) → IsLineBefore (take size text) line [] → IsLineBefore text line (drop size text)
-line-before text line size (inl parts) = inl (sym (take-append-drop size text) ∙ ap (λ (t : List ℕ). t ++ drop size text) (parts ∙ append-nil line))
-line-before text line size (inr parts) =
-    inr (sym (take-append-drop size text) ∙ ap (λ (t : List ℕ). t ++ drop size text) parts ∙ append_assoc line (13 ∷ []) (drop size text))
+line-before text line size parts = grind (arith, take-append-drop size text, append-nil, append_assoc)
 
 -- a text cut at its first line feed, or at its end
-pub feed-inside : (text : List ℕ) (found : Option ℕ) → IsFirstByte (is_byte 10) text found → unwrap_or found (length text) ≤ length text
-feed-inside text found none = grind (arith)
-
 pub line-cut : (text line : List ℕ) (found : Option ℕ) (size : ℕ) → IsFirstByte (is_byte 10) text found → size ≡ unwrap_or found (length text)
     → IsLineBefore (take size text) line [] → IsCutAtLine text line (drop size text)
 line-cut text line None size none at parts = grind (arith, line-before text line size parts, line-inside, drop_of_length-le text)

@@ -2,7 +2,6 @@
 use Rattle.pref_table.proofs.Common.{◌≡◌, ◌∙◌, ℕ, suc, ◌+◌, ◌<◌, ◌≤◌, Bool, true, false, List, [], ◌∷◌, ◌++◌, length, drop, get_or, Some, sym, ap, refl, arith, ◌⊎◌, inl, inr, drop_more}
 use Rattle.pref_table.proofs.Common.{length-append, drop_of_length-le, Read, ends_at_end, fields_after, field_after, is_end, next_record, step, default_config, records}
 use Rattle.pref_table.proofs.Common.{records_from, State, BytesReader, HasLeft, IsNarrow, IsNext, IsWide, ReadsFirst, ReadsNext, state_at}
-use Rattle.std.specs.Bool.{MatchBool}
 use Rattle.std.specs.Borrow.{Bor}
 use Rattle.csv.specs.declared.parser.Action.{Action}
 use Rattle.pref_table.specs.declared.records.Next.{Next}
@@ -123,11 +122,7 @@ outside-none place apart = grind (arith)
 -- a reader that has the records of a text left reads the first of them, where it is narrow
 pub reads-narrow : (old new : BytesReader) (found : Bool) (fields : List (List ℕ)) (text after : List ℕ) → HasLeft old (records default_config text) → ReadsFirst old new found fields → (first : List (List ℕ)) × IsNarrow text first after
     → IsNarrow text fields after × HasLeft new (records default_config after)
-reads-narrow old new found fields text after has reads (first, (is, few)) = by found (reads (records default_config text) has)
-  where
-    by : (found : Bool) → MatchBool found ((rest : List (List (List ℕ))) × (records default_config text ≡ fields ∷ rest) × HasLeft new rest) (records default_config text ≡ [])
-        → IsNarrow text fields after × HasLeft new (records default_config after)
-    by found none = grind (arith)
+reads-narrow old new found fields text after has reads (first, (is, few)) = grind (arith, reads (records default_config text) has)
 
 pub reads-other : (new : BytesReader) (text : List ℕ) (fields : List (List ℕ)) (next : Next) → ((rest : Bor (List ℕ)) → next ≡ Narrow rest → ⊥) → IsNext text next → ReadsNext new text fields next
 reads-other new text fields next other is = grind (arith)

@@ -66,6 +66,7 @@ fn is_name_text(name: &[u8]) -> bool
         && all_name_bytes(name)
 }
 
+#[tactic(auto, using(crate::proofs::NamesFacts::list_any_map))]
 fn is_taken(earlier: &[&[u8]], name: &[u8]) -> bool
     ensures { result ≡ list_any (λ other. bytes_eq other name.now) (map (λ other. other.now) earlier.now) }
 {
@@ -96,6 +97,7 @@ fn check_each_name(names: &[&[u8]]) -> Result<(), TableFault>
     Ok(())
 }
 
+#[tactic(auto, unfolding(crate::specs::Names::schema_of))]
 fn check_names(names: &[&[u8]]) -> Result<(), TableFault>
     ensures { let texts = map (λ name. name.now) names.now in
         MatchResult result (λ _. schema_of texts ≡ Ok texts) (λ fault. schema_of texts ≡ Err fault) }

@@ -138,6 +138,7 @@ fn read_header<'text>(
 }
 
 /// Reads the rows of a text behind those that are read already, up to its end.
+#[tactic(auto, using(crate::proofs::TablesFacts::rows_with_none))]
 fn read_rows(
     schema: &Schema,
     mut rows: Vec<Row>,
@@ -184,6 +185,7 @@ fn read_lines(alloc: Global, header: &[u8], lines: &[u8]) -> Result<(Schema, Vec
 }
 
 /// The table of a text whose records csv reads.
+#[tactic(auto, using(crate::proofs::TablesFacts::fails_on, crate::proofs::TablesFacts::table_names))]
 fn read_records(alloc: Global, text: &[u8]) -> Result<(Schema, Vec<Row>), TableFault>
     requires { strip_bom text.now ≡ text.now }
     ensures { Gives (λ table. (table.0, table.1.items)) result (table_of_records (records default_config text.now)) }

@@ -1,8 +1,5 @@
-use Rattle.pref_table.proofs.LinesFacts.{feed-inside, line-cut}
+use Rattle.pref_table.proofs.LinesFacts.{line-cut}
 use Rattle.pref_table.proofs.lines.cut_line.Goals as goal
-
-pub split_at-requires : goal.split_at-requires
-split_at-requires c = rw c.unwrap_or-size.ensures (feed-inside c.args.text.now c.memchr.result c.memchr.ensures)
 
 pub returns : goal.returns
 returns c =

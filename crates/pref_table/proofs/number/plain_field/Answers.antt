@@ -2,7 +2,7 @@ use Rattle.pref_table.proofs.Common.{◌≡◌, ◌∙◌, ◌<◌, ◌+◌, ◌
 use Rattle.pref_table.specs.Fields.{AreLeadingDigits}
 use Rattle.pref_table.proofs.FieldsFacts.{comma_there, leading_within, plain_is, small-fits, without_sign_front}
 use Rattle.pref_table.proofs.LeadingFacts.{leading_small}
-use Rattle.pref_table.proofs.NumberFacts.{cell-fits}
+use Rattle.pref_table.proofs.NumberFacts.{cell_fits}
 use Rattle.pref_table.proofs.number.plain_field.Goals as goal
 
 pub plain_signed-requires : goal.plain_signed-requires
@@ -20,5 +20,5 @@ returns c =
     let behind : size ≡ length line - length (without_leading_sign line) + count = ap (λ ds. length line - length ds + count) c.without_sign-digits.ensures in
     let comma : size < length line → get_or line size 0 ≡ 44 = comma_there size (length line) (get_or line size 0) (sym c.ends_after.ensures ∙ c.if-not-ends_after.false) in
     let number : c.plain_signed.result ≡ signed_by (starts_with_minus line) value = c.plain_signed.ensures ∙ ap (λ n. signed_by n value) c.is_negative.ensures in
-    let fits = to_z-of_z w64 c.plain_signed.result (cell-fits _ (ap fits_cell number ∙ small-fits (starts_with_minus line) value (leading_small _ value count led))) in
+    let fits = to_z-of_z w64 c.plain_signed.result (cell_fits _ (ap fits_cell number ∙ small-fits (starts_with_minus line) value (leading_small _ value count led))) in
     rw (fits, number) (plain_is line value count size (omega arith) led behind comma)

@@ -6,9 +6,6 @@ use Rattle.pref_table.proofs.records.next_in.Goals as goal
 pub loop-at-init : goal.loop-at-init
 loop-at-init c = (record { fields = []; field = []; same = refl; counted = refl }, omega arith)
 
-pub overflow_add-fields : goal.overflow_add-fields
-overflow_add-fields c = omega (arith, c.loop-at.invariant.1)
-
 pub returns-then-fields-eq-MAX_COLUMNS : goal.returns-then-fields-eq-MAX_COLUMNS
 returns-then-fields-eq-MAX_COLUMNS c =
     wide c.args.text.now (c.loop-at.at + 1) (rw c.if-fields-eq-MAX_COLUMNS.true at (stands-comma c.args.text.now c.loop-at.at _ _ c.loop-at-test.true c.loop-at.invariant.0 c.in-EndsField.ensures))

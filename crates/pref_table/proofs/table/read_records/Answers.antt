@@ -1,13 +1,6 @@
 use Rattle.pref_table.proofs.Common.{Ok, Err, err_from_is_err_and, default_config, records}
-use Rattle.pref_table.proofs.TablesFacts.{fails-on, table-names, table-rows}
+use Rattle.pref_table.proofs.TablesFacts.{fails_on, table-rows}
 use Rattle.pref_table.proofs.table.read_records.Goals as goal
-
-pub returns-in_err-schema : goal.returns-in_err-schema
-returns-in_err-schema c =
-    let left = records default_config c.args.text.now in
-    let fault = c.in_err-schema.field-0.0 in
-    let p = err_from_is_err_and c.from_residual.result c.from_residual.ensures.1 in
-    rw (p.1, p.2) (fails-on fault _ _ c.in_err-schema.ensures.names (table-names left fault))
 
 pub returns-in_err-rows : goal.returns-in_err-rows
 returns-in_err-rows c =
@@ -15,7 +8,7 @@ returns-in_err-rows c =
     let fault = c.in_err-rows.field-0.0 in
     let schema = c.in_ok-schema.schema in
     let p = err_from_is_err_and c.from_residual-in_err-rows.result c.from_residual-in_err-rows.ensures.1 in
-    rw (p.1, p.2) (fails-on fault _ _ (rw (c.new.ensures.items, c.in_ok-schema.ensures.rest) at c.in_err-rows.ensures) (table-rows left schema (Err fault) c.in_ok-schema.ensures.names))
+    rw (p.1, p.2) (fails_on fault _ _ (rw (c.new.ensures.items, c.in_ok-schema.ensures.rest) at c.in_err-rows.ensures) (table-rows left schema (Err fault) c.in_ok-schema.ensures.names))
 
 pub returns : goal.returns
 returns c =
