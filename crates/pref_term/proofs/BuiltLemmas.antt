@@ -1,11 +1,11 @@
 -- What building a question finds of its parts.
 use Rattle.pref_term.proofs.Common.{ℕ, Bool, true, List, ◌≡◌, ◌<◌, ◌≤◌, ◌+◌, arith, refl, subst, sym, length, take, All, get_or, Result, MatchResult, IsErrAnd}
-use Rattle.pref_term.proofs.Common.{Preference, Question, IsAsk, IsClause, cut_of, Mode, inl, inr}
+use Rattle.pref_term.proofs.Common.{Preference, Question, IsAsk, IsClause, Mode, inl, inr}
 use Rattle.pref_term.proofs.Common.{◌∙◌, ap, drop, Option, Some, None, option_or}
-use Rattle.pref_term.specs.Built.{IsRefused, IsRefusedFor, count_fault, first_among, first_fault, term_fault, column_fault}
+use Rattle.pref_term.specs.Built.{IsRefused, IsRefusedFor, first_among, first_fault}
 use Rattle.pref_term.specs.declared.fault.AskFault.{AskFault}
 use Rattle.pref_term.specs.declared.fault.AskFault.TheVariants.{NotSkyline, OutOfMemory}
-use Rattle.std.proofs.lemmas.List.{at_drop_all, at_drop_more, take_all}
+use Rattle.std.proofs.lemmas.List.{at_drop_more, take_all}
 use Rattle.std.proofs.lemmas.Result.{MatchResult-weaker}
 
 -- what a loop over a list has found of the elements so far is so of all
@@ -25,10 +25,6 @@ first_skips fault xs i x lt at none =
 pub first_skips_at : {X : Type 0} (fault : X → Option AskFault) (xs : List X) (i : ℕ) (d : X) → i < length xs → fault (get_or xs i d) ≡ None
     → first_among fault (drop i xs) ≡ first_among fault (drop (i + 1) xs)
 first_skips_at fault xs i d lt none = at_drop_more (first_among fault) xs i d lt ∙ ap (λ found. option_or found (first_among fault (drop (i + 1) xs))) none
-
--- behind the last there is none
-pub first_ends : {X : Type 0} (fault : X → Option AskFault) (xs : List X) (i : ℕ) → length xs ≤ i → first_among fault (drop i xs) ≡ None
-first_ends fault xs i le = at_drop_all (first_among fault) xs i le
 
 -- refused for what was found
 pub refused_for : (q : Question) (f : AskFault) → first_fault q.preference q.group q.mode ≡ Some f → IsRefused q f

@@ -1,9 +1,9 @@
 -- What is shown of a clause that keeps one of equal rows spells it; and so does what is shown of any ask.
-use Rattle.pref_term.proofs.Common.{[], arith, ◌≡◌, ◌<◌, ◌≤◌, ℕ, List, ◌∷◌, ◌++◌, map, Bool, true, false, cond, Some, Ok, length, refl, sym, ap, ◌∙◌, append_assoc, codes, fold, AllByRecursion, option_map}
+use Rattle.pref_term.proofs.Common.{[], arith, ◌≡◌, ◌<◌, ◌≤◌, ℕ, List, ◌∷◌, ◌++◌, map, Bool, true, false, cond, Some, Ok, length, refl, sym, ap, ◌∙◌, append_assoc, codes, fold, AllByRecursion}
 use Rattle.pref_term.proofs.Common.{recursion_from_All, is_name_byte, schema_of, comma, Token, word, sign, Placed, tokens_of, minimal, maximal, different, direction_word, DimText, AskText, skyline}
-use Rattle.pref_term.proofs.Common.{Leaf, mark, column_name, cased, last, IsWritten, dim_leaves, ask_leaves, says_distinct, plain, column, low, high, Preference, scored, pareto, Question}
+use Rattle.pref_term.proofs.Common.{Leaf, mark, column_name, cased, last, IsWritten, dim_leaves, ask_leaves, says_distinct, plain, column, high, Preference, scored, pareto, Question}
 use Rattle.pref_term.proofs.Common.{FitsWidth, IsAsk, IsClause, IsDimension, IsSkyline, Names, Spells, IsGood, tokens_in, tokens_on, orders_of, groups_of, product_of, question, name_at, nests}
-use Rattle.pref_term.proofs.Common.{shown_mode, shown_term, shown_group, shown_dims, shown_diffs, shown, Best, after_commas}
+use Rattle.pref_term.proofs.Common.{shown_mode, shown_term, shown_group, shown_dims, shown_diffs, shown, after_commas}
 use Rattle.pref_term.proofs.ShownNames.{IsWordText, IsNamed, is_named}
 use Rattle.pref_term.proofs.ShownLemmas.{CanShow, column_same}
 use Rattle.pref_term.proofs.ShownTokens.{lexed, Ends, place_free, word_lexed, sign_lexed}

@@ -5,7 +5,7 @@ use Rattle.pref_term.proofs.Common.{cased_letters, cased, IsWritten, DimText, He
 use Rattle.pref_term.proofs.Common.{ask_leaves, IsText, is_distinct_ahead, says_distinct, without_third, plain, is_word, Names, orders_of}
 use Rattle.pref_term.proofs.Common.{product_of, tokens_in, tokens_on, IsGood, Spells, question, meant, start, dim_due, run, word_ahead}
 use Rattle.pref_term.proofs.Common.{IsBehindDistinct, Preference, scored, pareto, Question, IsClause, IsDimension, TermFault}
-use Rattle.pref_term.proofs.Common.{and_from, ◌&&◌, Bor, Lexeme, Word, ahead, taken, Result, subst, sym, Gives, AsksWhole, AsksClause}
+use Rattle.pref_term.proofs.Common.{and_from, Bor, Lexeme, Word, ahead, taken, Result, subst, sym, Gives, AsksWhole, AsksClause}
 use Rattle.pref_term.proofs.GrammarComplete.{cased_found, no_keyword}
 use Rattle.pref_term.proofs.LedLemmas.{at_place, run_step}
 use Rattle.pref_term.specs.declared.front.Token as code

@@ -1,6 +1,6 @@
 -- The chain of all keys of a question extends its order: what dominates is better by the chain, and rows are the same by it just where they are of one group and the same.
 use Rattle.pref_term.proofs.Common.{◌≡◌, arith, ◌<◌, ℕ, ℤ, Bool, true, false, not, List, [], ◌∷◌, ◌++◌, refl, sym, ap, subst, ◌∙◌, ◌&&◌, and_parts, ints, int_eq, order_of, order_of_alike}
-use Rattle.pref_term.proofs.Common.{All, All-append, All-cons, All-contains, All-head, All-nil, All-tail, better, cell, in_same_group, by_chain, AreInRow, by_key, from_zero, key_for, opposed, is_better, is_same, low}
+use Rattle.pref_term.proofs.Common.{All, All-append, All-cons, All-contains, All-head, All-nil, All-tail, better, in_same_group, by_chain, AreInRow, by_key, key_for, opposed, is_better, is_same, low}
 use Rattle.pref_term.proofs.Common.{Preference, scored, pareto, prior, reverse, Question, IsAsk, alike, ReadsBelow, order_of_twins_are_alike, by_scores, in_priority, in_product, Key, Relation}
 use Rattle.std.proofs.lemmas.List.Elements.{All-pop, All-push}
 use Rattle.std.specs.Prelude.{Contains, Some}

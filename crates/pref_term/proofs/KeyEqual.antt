@@ -1,11 +1,10 @@
 -- The derived `==` of keys is true exactly where they are the same.
-use Rattle.pref_term.proofs.Common.{◌≡◌, arith, ints, true, refl, ap, subst, and_parts, Key}
+use Rattle.pref_term.proofs.Common.{◌≡◌, arith, ints, true, refl, ap, subst, Key}
 use Rattle.std.specs.Bool.{Decides}
 use Rattle.std.specs.Cmp.{booleans_Decides, signed_Decides, unsigned_Decides}
-use Rattle.std.specs.Cmp.Derive.{both_true}
 use Rattle.pref_term.specs.EqualLaws.{set_lists}
 use Rattle.pref_term.specs.declared.key.Score.{Score}
-use Rattle.pref_term.specs.declared.key.Score.TheVariants.{Value, Distance, Sets}
+use Rattle.pref_term.specs.declared.key.Score.TheVariants.{Sets}
 use Rattle.pref_term.specs.contracts.key.KeyPartialEq.TheImpl as key
 use Rattle.pref_term.specs.contracts.key.ScorePartialEq.TheImpl as score
 

@@ -1,6 +1,6 @@
 -- The key law: keys compare rows as scores do; and the product of the keys that lead a preference without a priority is its order.
 use Rattle.pref_term.proofs.Common.{◌≡◌, ◌<◌, ℤ, pos, Bool, true, false, not, List, [], ◌∷◌, ◌++◌, refl, sym, ap, subst, ◌∙◌, arith, ◌^◌, ◌-ℤ◌, ◌+ℤ◌, neg_ℤ, unsigned_abs}
-use Rattle.pref_term.proofs.Common.{All, false≢true, ints, All-append, All-cons, All-nil, missed, int_lt, outside, score, sets_before, ReadsBelow, column, by_key, by_keys, is_number}
+use Rattle.pref_term.proofs.Common.{All, false≢true, ints, All-append, All-cons, All-nil, missed, outside, score, sets_before, ReadsBelow, column, by_key, by_keys, is_number}
 use Rattle.pref_term.proofs.Common.{is_product, key_for, leading, opposed, and_parts, Base, Preference, scored, pareto, prior, reverse, by_scores}
 use Rattle.pref_term.proofs.Common.{by_sides, in_priority, in_product, is_better, Key, Relation, Neither, Same}
 use Rattle.pref_term.proofs.Common.{find, int_eq, list_any}

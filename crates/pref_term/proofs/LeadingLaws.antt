@@ -1,10 +1,10 @@
 -- Where the product of the chains that lead a preference sees a difference, it decides; and these chains, one after the other, lead the chain of all keys.
-use Rattle.pref_term.proofs.Common.{◌≡◌, arith, ◌<◌, ℤ, Bool, true, false, not, List, [], ◌∷◌, ◌++◌, refl, sym, ap, subst, ◌∙◌, ◌⊎◌, length, length-append, and_from, and_parts, false≢true}
-use Rattle.pref_term.proofs.Common.{All, All-append, All-cons, All-contains, All-nil, All-head, All-tail, AreInRow, ReadsBelow, by_chain, is_chain, in_same_group, better, is_better, is_same, is_worse, key_for}
+use Rattle.pref_term.proofs.Common.{◌≡◌, arith, ◌<◌, ℤ, Bool, true, false, not, List, [], ◌∷◌, ◌++◌, refl, sym, ap, ◌∙◌, ◌⊎◌, length, length-append, and_from, and_parts, false≢true}
+use Rattle.pref_term.proofs.Common.{All, All-append, All-cons, All-contains, All-nil, All-head, All-tail, AreInRow, ReadsBelow, by_chain, is_chain, is_better, is_same, is_worse}
 use Rattle.pref_term.proofs.Common.{Preference, scored, pareto, prior, reverse, Question, IsAsk, in_priority, in_product, Key, Relation, Same}
 use Rattle.std.proofs.lemmas.List.Elements.{All-pop, All-push, All-weaker}
 use Rattle.std.specs.Prelude.{Contains, Some}
-use Rattle.pref_term.specs.Extension.{all_keys, group_keys}
+use Rattle.pref_term.specs.Extension.{all_keys}
 use Rattle.pref_term.specs.Keys.{IsNoGreater, leading}
 use Rattle.pref_term.specs.LeadingChains.{AreBoth, IsLedBy, Leads, by_product, each_behind, joined}
 use Rattle.pref_term.specs.RelationLaws.{priority-same, product-same}

@@ -1,12 +1,12 @@
 -- What is shown of an ask that keeps all equal rows spells it.
-use Rattle.pref_term.proofs.Common.{[], ◌≡◌, ◌<◌, ◌≤◌, ◌^◌, ◌+◌, ℕ, ℤ, pos, negsuc, suc, List, ◌∷◌, ◌++◌, map, true, cond, Some, None, Ok, length, refl, sym, ap, ◌∙◌, append_assoc, arith, int_lt}
+use Rattle.pref_term.proofs.Common.{[], ◌≡◌, ◌<◌, ◌≤◌, ◌^◌, ◌+◌, ℕ, ℤ, pos, negsuc, List, ◌∷◌, ◌++◌, map, true, cond, Some, None, Ok, length, refl, sym, ap, ◌∙◌, append_assoc, arith}
 use Rattle.pref_term.proofs.Common.{false, FitsSigned, decimal, is_none, codes, AllByRecursion, is_ascii_digit, all_ascii_digits, digits_value-decimal, digits_decimal, decimal_nonempty}
-use Rattle.pref_term.proofs.Common.{recursion_from_All, nat_tests, left, right, star, ampersand, minus, comma, tokens_of, Sign, right_brace, PriorText, one_product, then_product, then_factor, grouped}
+use Rattle.pref_term.proofs.Common.{recursion_from_All, nat_tests, left, right, minus, comma, tokens_of, Sign, right_brace, PriorText, one_product, then_product, then_factor, grouped}
 use Rattle.pref_term.proofs.Common.{rated, mark, column_name, count_digits, head_leaves, group_leaves, number_leaves, base_leaves, prior_leaves, product_leaves}
-use Rattle.pref_term.proofs.Common.{unary_leaves, end_leaves, list_leaves, set_leaves, schema_of, fits_cell, and_parts, column, ReadsBelow, IsWritableSet, IsWritableBase, IsWritable}
-use Rattle.pref_term.proofs.Common.{Question, FitsWidth, IsCount, is_count, cut_of, IsAsk, Names, Spells, IsGood, own_fault, mode_of, column_at, unknown_column, number_range, bad_count, below}
-use Rattle.pref_term.proofs.Common.{empty_range, Base, low, high, around, one_of, Preference, scored, pareto, prior, reverse, between, layered, is_prior, is_composed, held_nests, nests, name_at}
-use Rattle.pref_term.proofs.Common.{shown_term, shown_mode, shown_group, shown, shown_dims, shown_diffs, Mode, Best, TopLevel, AtLeast, Option, is_name_byte, IsWritten, Leaf, NumberText}
+use Rattle.pref_term.proofs.Common.{unary_leaves, list_leaves, set_leaves, schema_of, fits_cell, column, ReadsBelow, IsWritableSet, IsWritableBase, IsWritable}
+use Rattle.pref_term.proofs.Common.{Question, FitsWidth, IsCount, cut_of, IsAsk, Names, Spells, IsGood, own_fault, mode_of, unknown_column, number_range, below}
+use Rattle.pref_term.proofs.Common.{Base, low, high, around, one_of, Preference, scored, pareto, prior, reverse, between, layered, is_prior, is_composed, held_nests, nests, name_at}
+use Rattle.pref_term.proofs.Common.{shown, Mode, Option, is_name_byte, IsWritten, Leaf, NumberText}
 use Rattle.pref_term.proofs.Common.{number_digits, signed_leaves, after_commas, column_leaves}
 use Rattle.std.proofs.lemmas.List.Sums.{AllPass-from_list_all}
 use Rattle.std.specs.Int.{w64}

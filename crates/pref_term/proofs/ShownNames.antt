@@ -1,6 +1,6 @@
 -- Each name of a schema is a word, and its first column is its own.
-use Rattle.pref_term.proofs.Common.{or_parts, ◌≡◌, ◌<◌, ◌+◌, ℕ, zero, suc, List, [], ◌∷◌, length, take, get_or, Bool, true, false, cond, not, ◌&&◌, Some, Result, Ok}
-use Rattle.pref_term.proofs.Common.{sym, ap, ◌∙◌, arith, position, is_ascii_alphabetic, AllByRecursion, list_any, list_all, position_or_len, bytes_eq, bytes_eq-Decides}
+use Rattle.pref_term.proofs.Common.{or_parts, ◌≡◌, ◌<◌, ◌+◌, ℕ, zero, suc, List, [], ◌∷◌, length, take, get_or, Bool, true, false, ◌&&◌, Some, Result, Ok}
+use Rattle.pref_term.proofs.Common.{arith, position, is_ascii_alphabetic, AllByRecursion, list_any, list_all, position_or_len, bytes_eq, bytes_eq-Decides}
 use Rattle.pref_term.proofs.Common.{is_name, is_name_byte, name_after, schema_of, and_parts, Names, name_at}
 use Rattle.pref_table.specs.Columns.{column_of}
 use Rattle.pref_table.specs.Numbered.{all_from}

@@ -12,10 +12,9 @@ use Rattle.std.specs.Cmp.Lexicographic.{pointwise}
 use Rattle.std.specs.Cmp.Rules.{signed_items}
 use Rattle.std.specs.Ordering.{int_eq, on}
 use Rattle.pref_term.specs.Equal.{base_eq, preference_eq, mode_eq, question_eq}
-use Rattle.pref_term.specs.Preference.{Base, low, high, around, one_of, Preference, scored, pareto, prior, reverse, preference_of, between, layered}
+use Rattle.pref_term.specs.Preference.{Base, Preference, scored, pareto, prior, reverse, preference_of, layered}
 use Rattle.pref_term.specs.Question.{Question}
 use Rattle.pref_term.specs.declared.ask.Mode.{Mode}
-use Rattle.pref_term.specs.declared.ask.Mode.TheVariants.{Best, TopLevel, AtLeast}
 
 -- lists of sets
 pub set_lists : (s t : List (List ℤ)) → Decides (pointwise (pointwise int_eq) s t) (s ≡ t)

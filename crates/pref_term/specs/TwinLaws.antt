@@ -5,7 +5,7 @@ use Rattle.std.specs.Prelude.{◌&&◌}
 use Rattle.std.proofs.lemmas.Bool.{and_parts}
 use Rattle.std.proofs.lemmas.Bool.Decides.{Decides-int_eq}
 use Rattle.std.proofs.lemmas.Int.{ints}
-use Rattle.pref_term.specs.Preference.{Base, low, high, Preference, scored, pareto, prior, reverse}
+use Rattle.pref_term.specs.Preference.{Base, low, Preference, scored, pareto, prior, reverse}
 use Rattle.pref_term.specs.Better.{cell, score, same, in_same_group}
 use Rattle.pref_term.specs.Columns.{column, columns_in}
 use Rattle.pref_term.specs.OrderLaws.{group_back, group_on}

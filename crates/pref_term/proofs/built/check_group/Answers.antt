@@ -1,6 +1,6 @@
 use Rattle.pref_term.proofs.Common.{rules, arith, ◌<◌, ◌∙◌}
 use Rattle.pref_term.specs.Built.{column_fault}
-use Rattle.pref_term.proofs.BuiltLemmas.{all_of_them, first_ends, first_skips_at}
+use Rattle.pref_term.proofs.BuiltLemmas.{all_of_them, first_skips_at}
 use Rattle.std.proofs.lemmas.List.Elements.{All-more}
 use Rattle.pref_term.proofs.built.check_group.Goals as goal
 
