@@ -97,7 +97,6 @@ fn first_eight(text: &[u8]) -> (u64, usize)
 
 /// Goes on from digits that were read, one by one. A call of its own, since few digits are read so.
 #[inline(never)]
-#[tactic(auto, using(crate::proofs::LeadingFacts::leading_room))]
 fn one_by_one(text: &[u8], so_far: u64, begin: usize) -> (u64, usize)
     requires few { begin ≤ 16 }
     requires digits { AreLeadingDigits begin text.now so_far begin }

@@ -1,10 +1,16 @@
 use Rattle.pref_table.proofs.Common.{◌≡◌, ◌<◌, ◌≤◌, get_or, length, sym, arith}
-use Rattle.pref_table.proofs.LeadingFacts.{leading_ends, leading_inside, leading_next}
+use Rattle.pref_table.proofs.LeadingFacts.{leading_ends, leading_inside, leading_next, leading_room}
 use Rattle.pref_table.proofs.digits.one_by_one.Goals as goal
 
 pub returns-then-not-is_ascii_digit : goal.returns-then-not-is_ascii_digit
 returns-then-not-is_ascii_digit c =
     leading_ends c.args.text.now c.loop-place.value c.loop-place.place c.loop-place.place 18 c.loop-place.invariant (omega arith) (λ _ _ _. sym (c.if-not-is_ascii_digit.ensures {u = tt}).value)
+
+pub overflow_mul-value : goal.overflow_mul-value
+overflow_mul-value c = omega (arith, leading_room c.args.text.now c.loop-place.value c.loop-place.place c.loop-place.invariant (omega arith))
+
+pub overflow_add-value : goal.overflow_add-value
+overflow_add-value c = omega (arith, leading_room c.args.text.now c.loop-place.value c.loop-place.place c.loop-place.invariant (omega arith), c.from.ensures)
 
 pub loop-place-preserved : goal.loop-place-preserved
 loop-place-preserved c =
