@@ -1,9 +1,9 @@
--- What an ask for at least k selects: k levels always hold enough, and of ranked entries in order of level those on the levels before one stand in front.
+-- What an ask for at least k selects: k levels always hold enough.
 use Rattle.pref_sky.proofs.Common.{◌≡◌, ℕ, zero, suc, ◌≤◌, Bool, true, false, not, ◌&&◌, inl, inr, List, [], ◌∷◌, ◌++◌, map, length, ltb, refl, sym, ◌∙◌, ap, arith, filter, append-nil}
 use Rattle.pref_sky.proofs.Common.{cases_lt, nat_tests, count_by-le-length, false_from_ne_true, length-map, entry_of, and_parts, and_from, lt-ltb, le-ltb, length-filter, filter-append, IsStrictOrder}
 use Rattle.pref_sky.proofs.Common.{Row, Entry, Ranked, best, rest, in_order_of_id, at_level, levels, count_before, at_least, Among, length-filter_both, ◌<◌, ◌-◌, get_or, take, leb, IsNonDecreasingBy}
 use Rattle.pref_sky.proofs.Common.{IsPartitionPoint, IsPartitionedBy, get_or_append_left, get_or-append_right, get_or-map, length-append, count_by, filter_agree, in_same_group, IsPartitionedBy-ltb}
-use Rattle.pref_sky.proofs.ListLaws.{sum_by-ones, filter_agree_among, from_map, in_map, none_pass, one_passes, among_place, all_pass, fails_behind, filter_parted, passes_before}
+use Rattle.pref_sky.proofs.ListLaws.{sum_by-ones, filter_agree_among, from_map, in_map, none_pass, one_passes, among_place, all_pass}
 use Rattle.pref_sky.proofs.ListLaws.{count_append, count_cons}
 use Rattle.pref_sky.proofs.Merges.{comes_after, comes_after_upto, unbeaten_over, best_of_rest_is, is_at, on_level, to_level}
 use Rattle.pref_sky.proofs.IdOrder.{among_in_order, from_in_order}
@@ -97,9 +97,6 @@ past_all over strict all (suc m) le =
 pub enough : (over : Entry → Entry → Bool) → IsStrictOrder over → (same : Row → Row → Bool) → StaysInGroups over same → (all : List Entry) (k : ℕ) → at_least same k (levels over all (length all)) ≡ at_least same k (levels over all k)
 enough over strict same within all k = grind (arith, past_all over strict all k, past_k over strict same within all k (length all))
 
-filter_front : {E : Type 0} (p : E → Bool) (xs : List E) (n : ℕ) → IsPartitionPoint (λ x. p x ≡ true) (λ x. p x ≡ false) xs n → filter p xs ≡ take n xs
-filter_front p xs n point = filter_parted p xs n (passes_before p xs n point) (fails_behind p xs n point)
-
 -- where what passes stands in front, a place is in front where fewer places are than pass
 pub place_passes : {E : Type 0} (p : E → Bool) (xs : List E) → IsPartitionedBy p xs → (k : ℕ) (d : E) → k < length xs → p (get_or xs k d) ≡ ltb k (count_by p xs)
 place_passes p [] parted k d inside = absurd (omega (arith, inside))
@@ -113,40 +110,3 @@ place_passes p (x ∷ xs) parted zero d inside =
     ]
 place_passes p (x ∷ xs) parted (suc k) d inside =
     grind (arith, nat_tests, count_cons p x xs, place_passes p xs (λ i j e le l. parted (suc i) (suc j) e (omega (arith, le)) (omega (arith, l))) k d (omega (arith, inside)), parted 0 (suc k) d (omega arith) inside)
-
--- levels are in order
-pub levels_sorted : (over : Entry → Entry → Bool) (all : List Entry) (n : ℕ) → IsNonDecreasingBy (λ (r : Ranked). r.level) (levels over all n)
-levels_sorted over all zero i j d le l = absurd (omega (arith, l))
-levels_sorted over all (suc n) i j d le l =
-    let front = levels over all n in
-    let level = in_order_of_id (best over (rest over all n)) in
-    elim (cases_lt j (length front)) [
-      | inl early ↦
-          let at_i = ap (λ (r : Ranked). r.level) (get_or_append_left front (map (at_level (suc n)) level) d i (omega (arith, le, early))) in
-          let at_j = ap (λ (r : Ranked). r.level) (get_or_append_left front (map (at_level (suc n)) level) d j early) in
-          omega (arith, at_i, at_j, levels_sorted over all n i j d le early)
-      | inr late ↦
-          let back = map (at_level (suc n)) level in
-          let inside : j - length front < length level = omega (arith, l, late, length-append front back, length-map level (at_level (suc n))) in
-          let at_j = ap (λ (r : Ranked). r.level) (get_or-append_right front back (length front) j d refl late ∙ get_or-map (at_level (suc n)) level (j - length front) (record { id = 0; row = [] }) d inside) in
-          omega (arith, at_j, levels_upto over all (suc n) (get_or (front ++ back) i d) (among_place (front ++ back) i d (omega (arith, le, l))))
-    ]
-
-module _ (xs : List Ranked) (sorted : IsNonDecreasingBy (λ (r : Ranked). r.level) xs) where
-  -- the levels up to that of the entry at a place are the first ones that hold one more than the place says
-  pub first_ranked : (place count : ℕ) (d : Ranked) → place < length xs
-      → IsPartitionPoint (λ (r : Ranked). leb r.level (get_or xs place d).level ≡ true) (λ (r : Ranked). leb r.level (get_or xs place d).level ≡ false) xs count
-      → take count xs ≡ at_least (in_same_group []) (suc place) xs
-  first_ranked place count d within point =
-      let last = (get_or xs place d).level in
-      let few : Ranked → Bool = λ r. ltb (count_before (in_same_group []) xs r) (suc place) in
-      let same : (r : Ranked) → few r ≡ leb r.level last =
-      λ r. grind (arith, nat_tests, place_passes (λ (s : Ranked). ltb s.level r.level) xs (IsPartitionedBy-ltb (λ (s : Ranked). s.level) xs r.level sorted) place d within) in
-      sym (filter_agree few (λ r. leb r.level last) same xs ∙ filter_front (λ (r : Ranked). leb r.level last) xs count point)
-
--- all are answered where they are fewer, and none where none is asked for
-pub all_ranked : (least : ℕ) (xs : List Ranked) → length xs < least → xs ≡ at_least (in_same_group []) least xs
-all_ranked least xs few = grind (arith, all_pass, count_by-le-length)
-
-pub none_ranked : (xs : List Ranked) → [] ≡ at_least (in_same_group []) 0 xs
-none_ranked xs = sym (none_pass (λ r. ltb (count_before (in_same_group []) xs r) 0) xs (λ r m. le-ltb (count_before (in_same_group []) xs r) 0 (omega arith)))

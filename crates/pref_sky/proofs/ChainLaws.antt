@@ -21,11 +21,6 @@ level_above f chain a b c level = grind (arith, level, chain.between c a b, chai
 pub level_below : {E : Type 0} (f : E → E → Bool) → IsChain f → (a b c : E) → are_level f a b ≡ true → f a c ≡ f b c
 level_below f chain a b c level = grind (arith, level, chain.between a c b, chain.between b c a)
 
--- what passes a filter stays in order
-pub filter_in_order : {E : Type 0} (before : E → E → Bool) (p : E → Bool) (xs : List E) → IsInOrder before xs → IsInOrder before (filter p xs)
-filter_in_order before p [] h = h
-filter_in_order before p (e ∷ others) h = grind (arith, filter_in_order before p others h.1, from_filter p others)
-
 -- ---- chains
 
 no_chain : {E : Type 0} → IsChain {E = E} (λ a b. false)

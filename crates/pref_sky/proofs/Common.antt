@@ -42,6 +42,6 @@ pub use Rattle.pref_term.specs.declared.ask.Mode.TheVariants.{AtLeast, Best, Top
 pub use denote.Param.Members.{Mut}
 pub use Rattle.pref_sky.specs.Chains.{IsChain, IsInOrder, are_level, better_in, by_row, comes_first, earlier_in, in_turn}
 pub use Rattle.pref_sky.specs.OwnOrders.{AreInOrder, AreLeveled, AreLowest, AreSorted, HoldsUpper, comes_after, comes_before, count_above, is_below, level_of, own_levels, own_order}
-pub use Rattle.pref_sky.specs.Items.{IsItem, entry_at}
+pub use Rattle.pref_sky.specs.Items.{entry_at}
 pub use Rattle.pref_sky.specs.Partials.{KeepsAllBut, ranked_upto}
 pub use Rattle.pref_sky.specs.declared.own_order.OwnOrder.{OwnOrder}

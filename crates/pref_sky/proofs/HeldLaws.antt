@@ -1,63 +1,26 @@
 -- Entries that were held already, when others come: as many levels are above them as before, or more, and none that was of a level is over one that was of it or of one above.
 use Rattle.pref_sky.proofs.Common.{◌≡◌, ℕ, suc, ◌<◌, ◌≤◌, ◌-◌, Bool, true, false, not, ◌&&◌, inl, inr, List, [], ◌∷◌, refl, sym, ◌∙◌, ap, subst, arith, length, get_or, get_or-map, map, filter, nat_lt, All}
-use Rattle.pref_sky.proofs.Common.{and_from, both_ways, cases_lt, false_from_ne_true, IsStrictOrder, Entry, Among, comes_after, count_above, entry_at, entry_of, level_of, own_levels, own_order, AreInOrder, AreLeveled, AreLowest, comes_before, HaveDifferentIds, Item, OwnOrder}
-use Rattle.pref_sky.proofs.Common.{◌+◌, ◌++◌, drop, get_or_append_left, get_or_push, length_push}
-use Rattle.std.proofs.lemmas.List.{get_or-append_right, get_or-drop, length-append}
-use Rattle.pref_sky.proofs.ChainLaws.{filter_in_order}
+use Rattle.pref_sky.proofs.Common.{and_from, both_ways, cases_lt, false_from_ne_true, IsStrictOrder, Entry, Among, comes_after, count_above, entry_at, entry_of, level_of, own_levels, own_order, AreLeveled, AreLowest, HaveDifferentIds, Item, OwnOrder}
+use Rattle.pref_sky.proofs.Common.{length-map}
 use Rattle.pref_sky.proofs.OwnOrders.{own_is_strict}
 use Rattle.pref_sky.proofs.LeveledLaws.{HasChain, kept_are, level_is, levels_of_kept}
 use Rattle.pref_sky.proofs.ListLaws.{among_place, any_from, from_filter, in_filter}
 use Rattle.pref_sky.proofs.Merges.{comes_after_among_more, comes_after_upto, same_chains}
 use Rattle.pref_sky.proofs.SweepLaws.{chain_of_count}
-use Rattle.pref_sky.specs.Held.{AreHeld, AreLevelsBehind, AreTakenOver, IsTakenOver}
+use Rattle.pref_sky.specs.Held.{AreHeld, AreMarked, AreTakenOver, IsTakenOver, marked_entries, marked_levels}
+use Rattle.pref_sky.specs.declared.merging.Marked.{Marked}
 
 -- ---- among more entries
 
--- one level more
-pub levels_more : (levels : List ℕ) (begin n : ℕ) (found more : List ℕ) (level : ℕ) → AreLevelsBehind levels begin n found more → level ≡ get_or levels (begin + n) 0
-    → AreLevelsBehind levels begin (n + 1) found (more ++ level ∷ [])
-levels_more levels begin n found more level are is =
-    record {
-      long = omega (arith, are.long, length_push more level);
-      before = λ k inside. get_or_append_left more (level ∷ []) 0 k (omega (arith, are.long)) ∙ are.before k inside;
-      behind = λ k inside. elim (cases_lt k n) [
-        | inl old ↦ get_or_append_left more (level ∷ []) 0 (length found + k) (omega (arith, are.long)) ∙ are.behind k old
-        | inr last ↦
-            let same : k ≡ n = omega (arith, last, inside) in
-            get_or_push more level 0 (length found + k) (omega (arith, are.long, same)) ∙ is ∙ ap (λ j. get_or levels (begin + j) 0) (sym same)
-      ];
-    }
-
--- a front of those from a place on
-pub stretch_is : (held left front back : List Entry) (next : ℕ) → left ≡ drop next held → left ≡ front ++ back → (k : ℕ) → k < length front → entry_at front k ≡ entry_at held (next + k)
-stretch_is held left front back next behind parts k inside =
-    let none : Entry = record { id = 0; row = [] } in
-    sym (get_or_append_left front back none k inside) ∙ ap (λ l. get_or l k none) (sym parts ∙ behind) ∙ get_or-drop next held k none
-
-module _ (held : List Entry) (levels : List ℕ) (all : List Entry) (found : List ℕ) (long : length found ≡ length all) (before : AreTakenOver held levels all found) where
-  -- a new one behind them
-  pub taken_new : (e : Entry) → AreTakenOver held levels (all ++ e ∷ []) (found ++ 0 ∷ [])
-  taken_new e p inside =
-      elim (cases_lt p (length all)) [
-        | inl old ↦ subst (λ x. IsTakenOver held levels x (get_or (found ++ 0 ∷ []) p 0)) (sym (get_or_append_left all (e ∷ []) (record { id = 0; row = [] }) p old))
-            (subst (IsTakenOver held levels (entry_at all p)) (sym (get_or_append_left found (0 ∷ []) 0 p (omega (arith, old, long)))) (before p old))
-        | inr past ↦ inl (get_or_push found 0 0 p (omega (arith, past, inside, long, length_push all e)))
-      ]
-
-  -- a stretch of those that were held, with their levels
-  pub taken_on : (front : List Entry) (more : List ℕ) (next : ℕ) → next + length front ≤ length held → ((k : ℕ) → k < length front → entry_at front k ≡ entry_at held (next + k))
-      → AreLevelsBehind levels next (length front) found more → AreTakenOver held levels (all ++ front) more
-  taken_on front more next within is behind p inside =
-      elim (cases_lt p (length all)) [
-        | inl old ↦ subst (λ x. IsTakenOver held levels x (get_or more p 0)) (sym (get_or_append_left all front (record { id = 0; row = [] }) p old))
-            (subst (IsTakenOver held levels (entry_at all p)) (sym (behind.before p (omega (arith, old, long)))) (before p old))
-        | inr past ↦
-            let k = p - length all in
-            let near : k < length front = omega (arith, past, inside, length-append all front) in
-            let here : entry_at (all ++ front) p ≡ entry_at held (next + k) = get_or-append_right all front (length all) p (record { id = 0; row = [] }) refl past ∙ is k near in
-            let level : get_or more p 0 ≡ get_or levels (next + k) 0 = ap (λ j. get_or more j 0) {x = p} {y = length found + k} (omega (arith, long, past)) ∙ behind.behind k near in
-            inr (next + k, omega (arith, near, within), sym here, sym level)
-      ]
+-- where each that is marked has a level that it was held with, or none, so have the entries
+pub taken_over : (held : List Entry) (levels : List ℕ) (marked : List Marked) → AreMarked held levels marked → AreTakenOver held levels (marked_entries marked) (marked_levels marked)
+taken_over held levels [] all p inside = absurd (omega (arith, inside))
+taken_over held levels (m ∷ ms) all p inside =
+    let entry : Marked → Entry = λ x. x.entry.now in
+    let level : Marked → ℕ = λ x. x.level in
+    let near : p < length (m ∷ ms) = omega (arith, inside, length-map (m ∷ ms) entry) in
+    subst (λ e. IsTakenOver held levels e (get_or (map level (m ∷ ms)) p 0)) (sym (get_or-map entry (m ∷ ms) p m (record { id = 0; row = [] }) near))
+    (subst (IsTakenOver held levels (entry (get_or (m ∷ ms) p m))) (sym (get_or-map level (m ∷ ms) p m 0 near)) (all p m near))
 
 pub held_among : (over : Entry → Entry → Bool) (cut : ℕ) (held all : List Entry) (levels found : List ℕ) → AreHeld over cut (λ k. get_or levels k 0) held → AreTakenOver held levels all found
     → ((x : Entry) → Among x held → Among x all) → AreHeld over cut (λ p. get_or found p 0) all
@@ -172,9 +135,6 @@ module _ (order : OwnOrder) (held all : List Entry) (levels : List ℕ) (differe
   level_there : (p : ℕ) → p < length some → get_or left p 0 ≡ level (entry_at some p)
   level_there p inside = ap (λ l. get_or l p 0) (left_is ∙ ap (map level) same) ∙ get_or-map level some p (record { id = 0; row = [] }) 0 inside
 
-  pub kept_in_order : AreInOrder order kept
-  kept_in_order = subst (AreInOrder order) (sym same) (filter_in_order (λ a b. not (comes_before order b a)) (λ e. not (comes_after (own_order order) all order.cut e)) all are.sorted.in_order)
-
   pub kept_lowest : (items : List Item) → All (λ (item : Item). (item.place < length kept) × (get_or left item.place 0 ≡ order.cut)) items → AreLowest order kept items
   kept_lowest items lowest = subst (λ l. AreLowest order l items) (sym same) (λ k d inside.
       let at = lowest k d inside in
@@ -186,4 +146,4 @@ module _ (order : OwnOrder) (held all : List Entry) (levels : List ℕ) (differe
   kept_held = subst (AreHeld (own_order order) order.cut (λ k. get_or left k 0)) (sym same) (upper_held (own_order order) (own_is_strict order) all order.cut (λ k. get_or left k 0) level_there)
 
   pub kept_levels : own_levels order kept ≡ own_levels order held
-  kept_levels = ap (own_levels order) same ∙ levels_of_kept order held all different are.sorted
+  kept_levels = ap (own_levels order) same ∙ levels_of_kept order held all different are.moved

@@ -2,7 +2,7 @@
 use Rattle.pref_sky.proofs.Common.{◌≡◌, ℕ, suc, zero, ◌<◌, ◌≤◌, Bool, true, false, not, inl, inr, List, [], ◌∷◌, refl, sym, ◌∙◌, ap, subst, arith}
 use Rattle.pref_sky.proofs.Common.{cases_lt, cond-true, cond-false, Entry, count_above, Among, map, filter, filter_agree, count_by}
 use Rattle.pref_sky.proofs.Common.{IsPermutation, IsSortedBy, cond, nat_tests, sorted_far, sum_by-IsPermutation, IsStrictOrder, OwnOrder, Ranked, best, rest}
-use Rattle.pref_sky.proofs.Common.{own_levels, own_order, level_of, HaveDifferentIds, at_level, entry_of, levels, nat_lt, ranked_upto, AreSorted, eqb, comes_after}
+use Rattle.pref_sky.proofs.Common.{own_levels, own_order, level_of, HaveDifferentIds, at_level, entry_of, levels, nat_lt, ranked_upto, eqb, comes_after}
 use Rattle.pref_sky.proofs.IdOrder.{Differ, in_order_if_sorted, same_if_in_order}
 use Rattle.pref_sky.proofs.ListLaws.{count_filter, count_filtered, count_map, from_filter, from_map, in_filter, in_map, SameMembers, same_if_permuted}
 use Rattle.pref_sky.proofs.Merges.{HoldsLevels, held_all, held_within, early_stays, on_level}
@@ -132,12 +132,12 @@ module _ (over : Entry → Entry → Bool) (strict : IsStrictOrder over) (all : 
 
 -- ---- of entries that are held in some order
 
-module _ (order : OwnOrder) (held all : List Entry) (different : HaveDifferentIds (map entry_of (own_levels order held))) (sorted : AreSorted order held all) where
+module _ (order : OwnOrder) (held all : List Entry) (different : HaveDifferentIds (map entry_of (own_levels order held))) (moved : IsPermutation held all) where
   moved_holds : HoldsLevels (own_order order) all held order.cut
-  moved_holds = let same = same_if_permuted held all sorted.moved in record { within = same.back; kept = λ x m early. same.there x m }
+  moved_holds = let same = same_if_permuted held all moved in record { within = same.back; kept = λ x m early. same.there x m }
 
   as_often : (p : Entry → Bool) → count_by p all ≤ count_by p held
-  as_often p = omega (arith, sum_by-IsPermutation (λ e. cond (p e) 1 0) held all sorted.moved)
+  as_often p = omega (arith, sum_by-IsPermutation (λ e. cond (p e) 1 0) held all moved)
 
   all_differ : HaveDifferentIds (map entry_of (own_levels order all))
   all_differ = some_differ (own_order order) (own_is_strict order) all held order.cut moved_holds as_often different

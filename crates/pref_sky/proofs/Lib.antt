@@ -20,5 +20,4 @@ pub mod HeldLaws
 pub mod ChosenLaws
 pub mod LeadLaws
 pub mod PassedLevels
-pub mod GallopLaws
 pub mod NumberedLaws

@@ -80,17 +80,9 @@ pub in_map : {E F : Type 0} (f : E → F) (xs : List E) (x : E) → Among x xs �
 in_map f [] x m = absurd m
 in_map f (y ∷ ys) x m = elim m [ inl same ↦ inl (ap f same) | inr later ↦ inr (in_map f ys x later) ]
 
--- two functions that agree among a list
-pub map_agree_among : {E F : Type 0} (f g : E → F) (xs : List E) → ((x : E) → Among x xs → f x ≡ g x) → map f xs ≡ map g xs
-map_agree_among f g [] agree = refl
-map_agree_among f g (x ∷ xs) agree = ap (λ y. y ∷ map f xs) (agree x (inl refl)) ∙ ap (λ l. g x ∷ l) (map_agree_among f g xs (λ y m. agree y (inr m)))
-
 -- what all of a list have, each that is among it has
 pub all_among : {E : Type 0} (P : E → Type 0) (xs : List E) → All P xs → (x : E) → Among x xs → P x
 all_among P xs all x m = let w = place_of xs x x m in subst P w.2 (all w.0 x w.1)
-
-pub among_all : {E : Type 0} (P : E → Type 0) (xs : List E) → ((x : E) → Among x xs → P x) → All P xs
-among_all P xs each = λ k d inside. each (get_or xs k d) (among_place xs k d inside)
 
 pub same_answer : (a b : Bool) → (a ≡ true → b ≡ true) → (b ≡ true → a ≡ true) → a ≡ b
 same_answer x1 x2 f g = grind (arith)
@@ -126,16 +118,6 @@ same_if_permuted xs ys moved =
 pub same_kept : {E : Type 0} (p q : E → Bool) (xs ys : List E) → ((x : E) → Among x xs → p x ≡ true → Among x ys × (q x ≡ true)) → ((x : E) → Among x ys → q x ≡ true → Among x xs × (p x ≡ true)) → SameMembers (filter p xs) (filter q ys)
 same_kept p q xs ys there back = grind (arith, from_filter p xs, in_filter q ys, from_filter q ys, in_filter p xs)
 
--- lists with the same members
-pub same_list : {E : Type 0} {xs ys : List E} → xs ≡ ys → SameMembers xs ys
-same_list same = record { there = λ x. subst (Among x) same; back = λ x. subst (Among x) (sym same) }
-
-pub same_sym : {E : Type 0} {xs ys : List E} → SameMembers xs ys → SameMembers ys xs
-same_sym same = record { there = same.back; back = same.there }
-
-pub same_beside : {E : Type 0} (xs ys zs : List E) → SameMembers xs ys → SameMembers (xs ++ zs) (ys ++ zs)
-same_beside xs ys zs same = grind (arith, in_either xs zs, in_left ys zs, in_right ys zs, in_either ys zs, in_left xs zs, in_right xs zs)
-
 pub same_behind : {E : Type 0} (xs ys zs : List E) → SameMembers ys zs → SameMembers (xs ++ ys) (xs ++ zs)
 same_behind xs ys zs same = grind (arith, in_either xs ys, in_left xs zs, in_right xs zs, in_either xs zs, in_left xs ys, in_right xs ys)
 
@@ -155,12 +137,7 @@ count_filter p q xs = omega (arith, count_filtered p q xs, count_and p q xs)
 pub count_map : {E F : Type 0} (f : E → F) (p : F → Bool) (xs : List E) → count_by p (map f xs) ≡ count_by (λ x. p (f x)) xs
 count_map f p xs = fold-map (λ n y. n + cond (p y) 1 0) f 0 xs
 
--- two tests of which an entry passes one at most, and then a third
-pub count_both : {E : Type 0} (p q r : E → Bool) (xs : List E) → ((x : E) → cond (p x) 1 0 + cond (q x) 1 0 ≤ cond (r x) 1 0) → count_by p xs + count_by q xs ≤ count_by r xs
-count_both p q r [] each = omega arith
-count_both p q r (x ∷ xs) each = grind (arith, count_both p q r xs each, count_cons p x xs, count_cons q x xs, count_cons r x xs)
-
--- and just where it passes the third
+-- two tests of which an entry passes one just where it passes a third, and never both
 pub count_split : {E : Type 0} (p q r : E → Bool) (xs : List E) → ((x : E) → cond {A = ℕ} (p x) 1 0 + cond (q x) 1 0 ≡ cond (r x) 1 0) → count_by p xs + count_by q xs ≡ count_by r xs
 count_split p q r [] each = omega arith
 count_split p q r (x ∷ xs) each = grind (arith, count_split p q r xs each, count_cons p x xs, count_cons q x xs, count_cons r x xs)
@@ -173,9 +150,6 @@ sum_by-ones (x ∷ xs) = omega (arith, sum_by-cons (λ _. 1) x xs, sum_by-ones x
 pub front_more : {E : Type 0} (xs : List E) (i : ℕ) (x : E) → i < length xs → x ≡ get_or xs i x → take (i + 1) xs ≡ take i xs ++ x ∷ []
 front_more xs i x within is = take_more xs i x within ∙ ap (λ y. take i xs ++ y ∷ []) (sym is)
 
-pub cut_at : {E : Type 0} (zs front back : List E) (n : ℕ) → zs ≡ front ++ back → n ≡ length front → (take n zs ≡ front) × (drop n zs ≡ back)
-cut_at zs front back n whole long = grind (arith, take-append_seam front back, drop-append_seam front back)
-
 -- lists that are the same from a place on have the same element there
 pub same_there : {E : Type 0} (xs ys : List E) (i : ℕ) (d : E) → drop i ys ≡ drop i xs → get_or ys i d ≡ get_or xs i d
 same_there xs ys i d same = grind (arith, get_or-drop i ys 0 d, get_or-drop i xs 0 d)
@@ -186,24 +160,6 @@ module _ {E : Type 0} (p : E → Bool) (xs : List E) (i : ℕ) (d : E) (inside :
 
   pub stays : p (get_or xs i d) ≡ true → filter p (take (i + 1) xs) ≡ filter p (take i xs) ++ get_or xs i d ∷ []
   stays kept = filter_more p xs i d inside ∙ ap (λ b. filter p (take i xs) ++ cond b (get_or xs i d ∷ []) []) kept
-
--- what stands before a place where a test changes, and behind it
-pub passes_before : {E : Type 0} (p : E → Bool) (xs : List E) (n : ℕ) → IsPartitionPoint (λ x. p x ≡ true) (λ x. p x ≡ false) xs n → (x : E) → Among x (take n xs) → p x ≡ true
-passes_before p xs n point x m = grind (arith, place_of (take n xs) x x m, length-take n xs, get_or-take n xs)
-
-pub fails_behind : {E : Type 0} (p : E → Bool) (xs : List E) (n : ℕ) → IsPartitionPoint (λ x. p x ≡ true) (λ x. p x ≡ false) xs n → (x : E) → Among x (drop n xs) → p x ≡ false
-fails_behind p xs n point x m = grind (arith, place_of (drop n xs) x x m, length-drop n xs, get_or-drop n xs)
-
--- where what passes a test stands in front of a place, and what fails it behind, that is what passes
-pub filter_parted : {E : Type 0} (p : E → Bool) (xs : List E) (n : ℕ) → ((x : E) → Among x (take n xs) → p x ≡ true) → ((x : E) → Among x (drop n xs) → p x ≡ false) → filter p xs ≡ take n xs
-filter_parted p xs n passes fails =
-    let back = drop n xs in
-    grind (arith, take-append-drop n xs, filter-append p (take n xs) back, all_pass p (take n xs) passes, none_pass p back fails, append-nil (take n xs))
-
--- where a list is in order of a number, and one has another than the least, all from there on are above that
-pub later_behind : {E : Type 0} (number : E → ℕ) (xs : List E) (n least : ℕ) (none : E) → n < length xs → (number (get_or xs n none) ≡ least → ⊥) → IsNonDecreasingBy number xs → All (λ x. least ≤ number x) xs
-    → All (λ x. least < number x) (drop n xs)
-later_behind number xs n least none within other in_order from k d inside = grind (arith, get_or_default xs n d none within, get_or-drop n xs k d, length-drop n xs)
 
 -- ---- lists in an order, one behind the other
 
@@ -230,10 +186,6 @@ pub in_order_back : {E : Type 0} (le : E → E → Bool) (xs ys : List E) → Is
 in_order_back le [] ys h = h
 in_order_back le (x ∷ xs) ys h = in_order_back le xs ys h.1
 
-pub in_order_across : {E : Type 0} (le : E → E → Bool) (xs ys : List E) → IsInOrder le (xs ++ ys) → (a b : E) → Among a xs → Among b ys → le a b ≡ true
-in_order_across le [] ys h a b ma mb = absurd ma
-in_order_across le (x ∷ xs) ys h a b ma mb = elim ma [ inl same ↦ ap (λ v. le v b) same ∙ h.0 b (in_right xs ys b mb) | inr later ↦ in_order_across le xs ys h.1 a b later mb ]
-
 pub in_order_at : {E : Type 0} (le : E → E → Bool) (xs : List E) (i j : ℕ) (d : E) → IsInOrder le xs → i < j → j < length xs → le (get_or xs i d) (get_or xs j d) ≡ true
 in_order_at le [] i j d h before inside = absurd (omega (arith, inside))
 in_order_at le (x ∷ xs) i zero d h before inside = absurd (omega (arith, before))
@@ -248,30 +200,6 @@ module _ {E : Type 0} (before : E → E → Bool) (chain : IsChain before) where
         | inl less ↦ let far = in_order_at (λ a b. not (before b a)) xs i j d ordered less inside in chain.between (get_or xs j d) (get_or xs i d) e passes (grind (arith, far))
         | inr past ↦ let same : i ≡ j = omega (arith, le, past) in ap (λ k. before (get_or xs k d) e) same ∙ passes
       ]
-
-  -- one entry more is merged, behind those that come before it
-  module _ (all front back : List E) (e : E) (later : List E) (sorted : IsInOrder (λ a b. not (before b a)) (all ++ (front ++ back))) (coming : IsInOrder (λ a b. not (before b a)) (e ∷ later))
-      (below : (a b : E) → Among a all → Among b (e ∷ later) → before b a ≡ false) (passed : (x : E) → Among x front → before x e ≡ true) (left : (x : E) → Among x back → before x e ≡ false) where
-    pub merged_more : IsInOrder (λ a b. not (before b a)) ((all ++ front) ++ e ∷ back)
-    merged_more =
-        in_order_with (λ a b. not (before b a)) (all ++ front) back e (subst (IsInOrder (λ a b. not (before b a))) (sym (append_assoc all front back)) sorted)
-        (λ a m. elim (in_either all front a m) [
-          | inl old ↦ ap not (below a e old (inl refl))
-          | inr new ↦ grind (arith, passed a new, chain.strict.transitive a e a, chain.strict.irreflexive a)
-        ])
-        (λ b m. ap not (left b m))
-
-    -- and the others come no earlier
-    pub below_later : (a b : E) → Among a ((all ++ front) ++ e ∷ []) → Among b later → before b a ≡ false
-    below_later a b m k = grind (arith, in_either (all ++ front) (e ∷ []) a m, in_either all front a)
-
--- and no entry is lost
-pub moved_more : {E : Type 0} (before all front back : List E) (e : E) → IsPermutation before (all ++ (front ++ back)) → IsPermutation (before ++ e ∷ []) ((all ++ front) ++ e ∷ back)
-moved_more before all front back e moved =
-    let placed = all ++ front in
-    let kept = IsPermutation-cons e before (placed ++ back) (subst (IsPermutation before) (sym (append_assoc all front back)) moved) in
-    IsPermutation-trans (before ++ e ∷ []) (e ∷ before) (placed ++ e ∷ back) (IsPermutation-to_front before e)
-    (IsPermutation-trans (e ∷ before) (e ∷ (placed ++ back)) (placed ++ e ∷ back) kept (IsPermutation-sym (placed ++ e ∷ back) (e ∷ (placed ++ back)) (IsPermutation-middle placed e back)))
 
 -- what a sort by two numbers ensures: by the first, and where that is the same by the second
 pub sorted_by_both : {E F : Type 0} {g : Mut F (Bor E × Unit {0}) (ℕ × ℕ)} {f : F} (key : E → ℕ × ℕ) (xs : List E) → IsSortedByKeyClosure g (λ x y. ordering_then (nat_cmp x.0 y.0) (nat_cmp x.1 y.1)) f xs

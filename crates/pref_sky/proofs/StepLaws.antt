@@ -1,9 +1,9 @@
 -- What is kept of a level in a sweep: its steps and its run tell whether an entry of the level dominates the next entry, and how they stand for one entry more.
-use Rattle.pref_sky.proofs.Common.{◌≡◌, ℕ, suc, ◌<◌, ◌≤◌, ◌+◌, ◌-◌, Bool, true, false, not, ◌&&◌, ◌⊎◌, inl, inr, List, [], ◌∷◌, ◌++◌, refl, sym, ◌∙◌, ap, subst, arith, length, get_or, take, drop, ◌^◌}
+use Rattle.pref_sky.proofs.Common.{◌≡◌, ℕ, suc, ◌<◌, ◌≤◌, ◌+◌, ◌-◌, Bool, true, false, not, ◌&&◌, ◌⊎◌, inl, inr, List, [], ◌∷◌, ◌++◌, refl, sym, ◌∙◌, ap, subst, arith, length, get_or, take, drop}
 use Rattle.pref_sky.proofs.Common.{Vec, Global, length-take, length-drop, get_or-take, get_or-drop, take-append-drop}
-use Rattle.pref_sky.proofs.Common.{All, both_ways, and_from, and_right, cases_Bool, or_cases, cases_eq, cases_lt, false_from_ne_true, Entry, entry_at, Item, IsItem, Among, StandAlike, IsChain, IsInOrder}
+use Rattle.pref_sky.proofs.Common.{All, both_ways, and_from, and_right, cases_Bool, or_cases, cases_eq, cases_lt, false_from_ne_true, Entry, entry_at, Item, Among, StandAlike, IsChain, IsInOrder}
 use Rattle.pref_sky.proofs.ChainLaws.{level_above, level_below}
-use Rattle.pref_sky.proofs.ListLaws.{among_all, among_place, any_from, place_of, in_either, in_left, in_right, in_order_at, in_order_back, in_order_front, in_order_joined, in_order_with}
+use Rattle.pref_sky.proofs.ListLaws.{among_place, any_from, place_of, in_either, in_left, in_right, in_order_at, in_order_back, in_order_front, in_order_joined, in_order_with}
 use Rattle.pref_sky.proofs.Merges.{comes_after, unbeaten_over}
 use Rattle.pref_sky.specs.Sweep.{AreSwept, IsAskedOf, IsClass, IsKept, IsMember, IsOneMore, IsSameLevel, StandsFor, are_level_in, is_ahead, is_at}
 use Rattle.pref_sky.specs.Held.{AreHeld}
@@ -72,16 +72,6 @@ module _ (over second third : Entry → Entry → Bool) (rule : Entry → ℕ) (
     -- no entry so far is of a class that begins behind them
     pub new_class : (later : ℕ) → i ≤ later → StandsFor over second third rule mark all later i n kept
     new_class later behind = grind (arith)
-
-    -- what is kept are places
-    pub steps_inside : i ≤ length all → All (λ p. p < length all) kept.steps.items
-    steps_inside inside = among_all (λ p. p < length all) kept.steps.items (λ p m. omega (arith, inside, (stands.steps_within p m).0))
-
-    pub run_inside : All (λ (x : Item). x.place < length all) kept.run.items
-    run_inside = among_all (λ (x : Item). x.place < length all) kept.run.items (λ x m. (stands.kept_within x (inl m)).1.within)
-
-    pub fresh_inside : All (λ (x : Item). x.place < length all) kept.fresh.items
-    fresh_inside = among_all (λ (x : Item). x.place < length all) kept.fresh.items (λ x m. (stands.kept_within x (inr m)).1.within)
 
     earlier : (j : ℕ) → IsMember over all i n j → IsMember over all (i + 1) n j
     earlier j member = (omega (arith, member.0), member.1)
@@ -333,9 +323,10 @@ module _ (over first second third : Entry → Entry → Bool) (all : List Entry)
           let x = w.1.0 in
           let over_it : over (entry_at all x.place) next_one ≡ true = w.1.2.below next_one ∙ above in
           let of_all = stands.kept_within x w.1.1 in
-          let level_x = level_too x.place j of_all.1.within (omega (arith, member.0, inside)) w.1.2 level over_it in
+          let x_inside : x.place < length all = omega (arith, of_all.0.0, inside) in
+          let level_x = level_too x.place j x_inside (omega (arith, member.0, inside)) w.1.2 level over_it in
           let within : is_within x.signature (rule next_one) ≡ true =
-          ap (λ (signature : ℕ). is_within signature (rule next_one)) of_all.1.signed ∙ signed (entry_at all x.place) next_one (among x.place of_all.1.within) (among i inside) level_x over_it in
+          ap (λ (signature : ℕ). is_within signature (rule next_one)) of_all.1 ∙ signed (entry_at all x.place) next_one (among x.place x_inside) (among i inside) level_x over_it in
           (w.0, (x, w.1.1, and_from (is_within x.signature (rule next_one)) (over (entry_at all x.place) next_one) within over_it))
 
       -- of those that were of this level none is over one that was held too, of this level or of one above
@@ -346,7 +337,7 @@ module _ (over first second third : Entry → Entry → Bool) (all : List Entry)
             | inr old ↦
                 let at = stands.run_held x m in
                 let w = stands.kept_within x (inl m) in
-                let apart = held.apart i x.place inside w.1.within (omega (arith, old)) (omega (arith, near, at)) in
+                let apart = held.apart i x.place inside (omega (arith, w.0.0, inside)) (omega (arith, old)) (omega (arith, near, at)) in
                 inr (and_right (is_within x.signature (rule next_one)) (over (entry_at all x.place) next_one) apart)
           ]
 
@@ -489,9 +480,9 @@ module _ (over first second third : Entry → Entry → Bool) (all : List Entry)
 
       -- what is kept then: the class begins anew where it is another
       module _ (new before : Level) (x : Item) (steps_are : new.steps.items ≡ put_steps) (class_is : new.class ≡ class) (more : IsOneMore mark n before x new)
-          (place_is : x.place ≡ i) (signed : x.signature ≡ rule next_one) (word : x.signature < 2 ^ 64)
+          (place_is : x.place ≡ i) (signed : x.signature ≡ rule next_one)
           (goes_on : GoesOn kept class before) where
-        kept_within_more : (y : Item) → IsKept y new → IsMember over all (i + 1) n y.place × IsItem rule all y
+        kept_within_more : (y : Item) → IsKept y new → IsMember over all (i + 1) n y.place × (y.signature ≡ rule (entry_at all y.place))
         kept_within_more y m =
             elim (more.within y m) [
               | inl old ↦ let w = stands.kept_within y (goes_on.within y old) in ((omega (arith, w.0.0), w.0.1), w.1)

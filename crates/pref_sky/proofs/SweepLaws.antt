@@ -8,9 +8,8 @@ use Rattle.pref_sky.proofs.ListLaws.{among_place, place_of}
 use Rattle.pref_sky.proofs.Merges.{comes_after_upto, unbeaten_over}
 use Rattle.pref_sky.proofs.StepLaws.{alike_stays, new_class, same_level, stays}
 use Rattle.pref_sky.specs.Held.{AreHeld}
-use Rattle.pref_sky.specs.Sweep.{AreSwept, HasBegun, HasFoundClass, HasSwept, IsClass, IsMember, IsSameLevel, StandsFor, are_level_in, is_at}
+use Rattle.pref_sky.specs.Sweep.{ArePlaces, AreSwept, HasSwept, IsClass, IsMember, IsSameLevel, StandsFor, are_level_in, is_at}
 use Rattle.pref_sky.specs.declared.level.Level.{Level}
-use Rattle.pref_sky.specs.declared.sweep.Sweep.{Sweep}
 
 -- ---- lists of which each element has a property
 
@@ -62,7 +61,7 @@ chain_of_count over (suc cut) all e =
 alike_after : {E : Type 0} (over : E → E → Bool) (all : List E) (a b : E) → StandAlike over a b → (n : ℕ) → comes_after over all n a ≡ comes_after over all n b
 alike_after over all a b alike n = grind (arith)
 
-count_alike : {E : Type 0} (over : E → E → Bool) (all : List E) (a b : E) → StandAlike over a b → (cut : ℕ) → count_above over all cut a ≡ count_above over all cut b
+pub count_alike : {E : Type 0} (over : E → E → Bool) (all : List E) (a b : E) → StandAlike over a b → (cut : ℕ) → count_above over all cut a ≡ count_above over all cut b
 count_alike over all a b alike zero = refl
 count_alike over all a b alike (suc cut) = grind (arith, alike_after over all a b alike (suc cut), count_alike over all a b alike cut)
 
@@ -137,14 +136,12 @@ module _ {E : Type 0} (first second third : E → E → Bool) (f : IsChain first
 
 module _ {over second third : Entry → Entry → Bool} {rule : Entry → ℕ} {mark : ℕ → ℕ} {all : List Entry} {class i n : ℕ} {kept : Level} (inside : i < length all)
     (stands : StandsFor over second third rule mark all class i n kept) where
-  pub steps_inside : All (λ p. p < length all) kept.steps.items
-  steps_inside k d there = omega (arith, inside, (stands.steps_within (get_or kept.steps.items k d) (among_place kept.steps.items k d there)).0)
-
-  pub run_inside : All (λ (x : Item). x.place < length all) kept.run.items
-  run_inside k d there = omega (arith, inside, (stands.kept_within (get_or kept.run.items k d) (inl (among_place kept.run.items k d there))).0.0)
-
-  pub fresh_inside : All (λ (x : Item). x.place < length all) kept.fresh.items
-  fresh_inside k d there = omega (arith, inside, (stands.kept_within (get_or kept.fresh.items k d) (inr (among_place kept.fresh.items k d there))).0.0)
+  pub are_places : ArePlaces all kept
+  are_places = record {
+    steps = λ k d there. omega (arith, inside, (stands.steps_within (get_or kept.steps.items k d) (among_place kept.steps.items k d there)).0);
+    run = λ k d there. omega (arith, inside, (stands.kept_within (get_or kept.run.items k d) (inl (among_place kept.run.items k d there))).0.0);
+    fresh = λ k d there. omega (arith, inside, (stands.kept_within (get_or kept.fresh.items k d) (inr (among_place kept.fresh.items k d there))).0.0);
+  }
 
 -- ---- the next entry
 
@@ -156,7 +153,7 @@ module _ {over first second third : Entry → Entry → Bool} {all : List Entry}
   Class class i = IsClass first second third all class i
 
   -- an entry that is level with the one before it is of its class
-  class_goes_on : (class i : ℕ) → 0 < i → Class class (i - 1) → is_level (i - 1) i ≡ true → Class class i
+  pub class_goes_on : (class i : ℕ) → 0 < i → Class class (i - 1) → is_level (i - 1) i ≡ true → Class class i
   class_goes_on class i some is level =
       let f = swept.led.first_is_chain in
       let s = swept.led.second_is_chain in
@@ -174,7 +171,7 @@ module _ {over first second third : Entry → Entry → Bool} {all : List Entry}
       }
 
   -- another begins a class: what is before the one before it is no nearer
-  class_begins : (i : ℕ) → i < length all → (0 < i → is_level (i - 1) i ≡ false) → Class i i
+  pub class_begins : (i : ℕ) → i < length all → (0 < i → is_level (i - 1) i ≡ false) → Class i i
   class_begins i inside apart =
       let f = swept.led.first_is_chain in
       let s = swept.led.second_is_chain in
@@ -217,15 +214,23 @@ known_more over all cut i count known next j n early member = elim (cases_eq j i
   | inr other ↦ known j n early (omega (arith, member.0, other), member.1)
 ]
 
-here_again : (i : ℕ) → i + 1 - 1 ≡ i
-here_again i = omega arith
+-- no entry so far is of a level that is begun
+pub swept_longer : (over second third : Entry → Entry → Bool) (rule : Entry → ℕ) (mark : ℕ → ℕ) (cut : ℕ) (all : List Entry) (i class : ℕ) (levels : List Level) (empty : Level)
+    → HasSwept over second third rule mark cut all i class levels → length levels < cut
+    → (((j : ℕ) → IsMember over all i (length levels) j → ⊥) → StandsFor over second third rule mark all class i (length levels) empty)
+    → HasSwept over second third rule mark cut all i class (levels ++ empty ∷ [])
+swept_longer over second third rule mark cut all i class levels empty so_far early is_empty =
+    let long = length_push levels empty in
+    let stands = is_empty (λ j member. absurd (omega (arith, so_far.known j (length levels) early member))) in
+    record {
+      within = omega (arith, long, early);
+      stand = each_pushed (StandsFor over second third rule mark all class i) levels empty so_far.stand stands;
+      known = λ j n early_n member. omega (arith, long, so_far.known j n early_n member);
+    }
 
 module _ {over first second third : Entry → Entry → Bool} {all : List Entry} (rule : Entry → ℕ) (mark : ℕ → ℕ) (cut : ℕ) (swept : AreSwept over first second third all) (i : ℕ) (inside : i < length all) where
   abbrev e : Entry
   e = entry_at all i
-
-  abbrev level_before : Bool
-  level_before = are_level_in first second third (entry_at all (i - 1)) e
 
   abbrev count : Entry → ℕ
   count x = count_above over all cut x
@@ -233,54 +238,38 @@ module _ {over first second third : Entry → Entry → Bool} {all : List Entry}
   abbrev Stands : ℕ → ℕ → ℕ → Level → Type 0
   Stands class j n kept = StandsFor over second third rule mark all class j n kept
 
-  abbrev AllStand : ℕ → ℕ → List Level → Type 0
-  AllStand class j levels = (n : ℕ) (d : Level) → n < length levels → Stands class j n (get_or levels n d)
+  abbrev Swept : ℕ → ℕ → List Level → Type 0
+  Swept j class levels = HasSwept over second third rule mark cut all j class levels
 
-  abbrev Swept : ℕ → Sweep → Type 0
-  Swept j sweep = HasSwept over first second third rule mark cut all j sweep
-
-  abbrev Found : Sweep → Type 0
-  Found sweep = HasFoundClass over first second third rule mark cut all i sweep
-
-  -- ---- its class
-
-  pub found_same : (sweep : Sweep) → Swept i sweep → 0 < i → level_before ≡ true → Found sweep
-  found_same sweep so_far some level = record { within = so_far.within; stand = so_far.stand; known = so_far.known; class = class_goes_on swept sweep.class i some (so_far.class some) level }
-
-  pub found_new : (sweep new : Sweep) → Swept i sweep → (0 < i → level_before ≡ false) → new.levels.items ≡ sweep.levels.items → new.class ≡ i → Found new
-  found_new sweep new so_far apart same begins = record {
-    within = omega (arith, so_far.within, ap length same);
-    stand = subst (AllStand new.class i) (sym same)
-        (λ n d known. new_class over second third rule mark all sweep.class i n (get_or sweep.levels.items n d) (so_far.stand n d known) new.class (omega (arith, begins)));
-    known = λ j n early member. omega (arith, so_far.known j n early member, ap length same);
-    class = subst (λ class. IsClass first second third all class i) (sym begins) (class_begins swept i inside apart);
+  -- no entry so far is of a class that begins here
+  pub swept_anew : (class : ℕ) (levels : List Level) → Swept i class levels → Swept i i levels
+  swept_anew class levels so_far = record {
+    within = so_far.within;
+    stand = λ n d there. new_class over second third rule mark all class i n (get_or levels n d) (so_far.stand n d there) i (omega arith);
+    known = so_far.known;
   }
 
   -- ---- its level
 
   -- one of the levels so far stands for its members
-  pub stands_there : (sweep : Sweep) (n : ℕ) (kept : Level) → Found sweep → n < length sweep.levels.items → kept ≡ get_or sweep.levels.items n kept → Stands sweep.class i n kept
-  stands_there sweep n kept so_far there is = subst (Stands sweep.class i n) (sym is) (so_far.stand n kept there)
+  pub stands_there : (class : ℕ) (levels : List Level) (n : ℕ) (kept : Level) → Swept i class levels → n < length levels → kept ≡ get_or levels n kept → Stands class i n kept
+  stands_there class levels n kept so_far there is = subst (Stands class i n) (sym is) (so_far.stand n kept there)
 
   -- a level that was asked has another order of its run at most
-  pub found_asked : (sweep new : Sweep) (n : ℕ) (kept asked : Level) → Found sweep → n < length sweep.levels.items → kept ≡ get_or sweep.levels.items n kept → IsSameLevel kept asked
-      → new.levels.items ≡ set sweep.levels.items n asked → new.class ≡ sweep.class → Found new
-  found_asked sweep new n kept asked so_far there here same is class =
-      let levels = sweep.levels.items in
-      let long : length new.levels.items ≡ length levels = ap length is ∙ length-set levels n asked in
-      let stands = same_level over second third rule mark all sweep.class i n kept asked same (stands_there sweep n kept so_far there here) in
-      let all_stand = each_set (Stands sweep.class i) levels n asked there stands (λ k d old other. so_far.stand k d old) in
+  pub swept_asked : (class : ℕ) (levels : List Level) (n : ℕ) (kept asked : Level) → Swept i class levels → n < length levels → kept ≡ get_or levels n kept → IsSameLevel kept asked → Swept i class (set levels n asked)
+  swept_asked class levels n kept asked so_far there here same =
+      let long = length-set levels n asked in
+      let stands = same_level over second third rule mark all class i n kept asked same (stands_there class levels n kept so_far there here) in
       record {
         within = omega (arith, so_far.within, long);
-        stand = subst (λ c. AllStand c i new.levels.items) (sym class) (subst (AllStand sweep.class i) (sym is) all_stand);
+        stand = each_set (Stands class i) levels n asked there stands (λ k d old other. so_far.stand k d old);
         known = λ j k early member. omega (arith, so_far.known j k early member, long);
-        class = subst (λ c. IsClass first second third all c i) (sym class) so_far.class;
       }
 
   -- where more levels were above it than are known, one would have an entry before it
-  all_known : (sweep : Sweep) → Found sweep → (n : ℕ) → n ≤ cut → comes_after over all n e ≡ true → n ≤ length sweep.levels.items
-  all_known sweep so_far n early chain =
-      let known = length sweep.levels.items in
+  all_known : (class : ℕ) (levels : List Level) → Swept i class levels → (n : ℕ) → n ≤ cut → comes_after over all n e ≡ true → n ≤ length levels
+  all_known class levels so_far n early chain =
+      let known = length levels in
       elim (cases_lt known n) [
         | inl past ↦
             let w = level_over swept i inside known (comes_after_upto over all (suc known) n e (omega (arith, past)) chain) in
@@ -289,131 +278,69 @@ module _ {over first second third : Entry → Entry → Bool} {all : List Entry}
       ]
 
   -- one that was held is sought from its level on
-  pub sought_held : AreHeld over cut mark all → (sweep : Sweep) → Found sweep → (low high : ℕ) → low ≡ mark i - 1 → high ≡ length sweep.levels.items → IsSought over all e sweep.levels.items low high
-  sought_held held sweep so_far low high low_is high_is =
+  pub sought_held : AreHeld over cut mark all → (class : ℕ) (levels : List Level) → Swept i class levels → (low high : ℕ) → low ≡ mark i - 1 → high ≡ length levels → IsSought over all e levels low high
+  sought_held held class levels so_far low high low_is high_is =
       let after : comes_after over all low e ≡ true = subst (λ n. comes_after over all n e ≡ true) (sym low_is) (held.after i inside) in
-      let known = all_known sweep so_far low (omega (arith, low_is, held.within i inside)) after in
+      let known = all_known class levels so_far low (omega (arith, low_is, held.within i inside)) after in
       record { ordered = omega (arith, known, high_is); within = omega (arith, high_is); above = after; next = λ less. absurd (omega (arith, less, high_is)) }
 
   -- as many levels are above it as a search among those so far finds
-  pub count_found : (sweep : Sweep) (low high : ℕ) → Found sweep → IsSought over all e sweep.levels.items low high → high ≤ low → low ≡ count e
-  count_found sweep low high so_far sought met =
+  pub count_found : (class : ℕ) (levels : List Level) (low high : ℕ) → Swept i class levels → IsSought over all e levels low high → high ≤ low → low ≡ count e
+  count_found class levels low high so_far sought met =
       let same : low ≡ high = omega (arith, sought.ordered, met) in
       sym (count_is over cut all e low (record {
         within = omega (arith, same, sought.within, so_far.within);
         after = sought.above;
-        no_more = λ early. elim (cases_lt low (length sweep.levels.items)) [
+        no_more = λ early. elim (cases_lt low (length levels)) [
           | inl known ↦ subst (λ n. comes_after over all (suc n) e ≡ false) (sym same) (sought.next (omega (arith, known, same)))
           | inr all_known ↦ false_from_ne_true (comes_after over all (suc low) e) (λ h. let w = level_over swept i inside low h in absurd (omega (arith, all_known, so_far.known w.0 low early w.1)))
         ];
       }))
 
-  -- a level for it is there, so that it can be kept
-  pub record HasLevel (sweep new : Sweep) : Type 0 where
-    pub found : Found new
-    pub there : new.above < length new.levels.items
-    pub above : new.above ≡ sweep.above
-
-  above_within : (sweep : Sweep) → Found sweep → sweep.above ≡ count e → sweep.above < cut → sweep.above ≤ length sweep.levels.items
-  above_within sweep so_far above early =
-      all_known sweep so_far sweep.above (omega (arith, early)) (subst (λ n. comes_after over all n e ≡ true) (sym above) (chain_of_count over cut all e).after)
-
-  -- no entry so far is of a level that is begun
-  found_longer : (sweep new : Sweep) (empty : Level) → Found sweep → length sweep.levels.items < cut
-      → (((j : ℕ) → IsMember over all i (length sweep.levels.items) j → ⊥) → Stands sweep.class i (length sweep.levels.items) empty)
-      → new.levels.items ≡ sweep.levels.items ++ empty ∷ [] → new.class ≡ sweep.class → Found new
-  found_longer sweep new empty so_far early is_empty is class =
-      let known = length sweep.levels.items in
-      let long : length new.levels.items ≡ known + 1 = ap length is ∙ length_push sweep.levels.items empty in
-      let stands = is_empty (λ j member. absurd (omega (arith, so_far.known j known early member))) in
-      let all_stand = each_pushed (Stands sweep.class i) sweep.levels.items empty so_far.stand stands in
-      record {
-        within = omega (arith, long, early);
-        stand = subst (λ c. AllStand c i new.levels.items) (sym class) (subst (AllStand sweep.class i) (sym is) all_stand);
-        known = λ j n early_n member. omega (arith, long, so_far.known j n early_n member);
-        class = subst (λ c. IsClass first second third all c i) (sym class) so_far.class;
-      }
-
-  pub found_begun : (sweep new : Sweep) → Found sweep → sweep.above ≡ count e → sweep.above < cut → HasBegun sweep new → HasLevel sweep new
-  found_begun sweep new so_far above early begun =
-      let levels = sweep.levels.items in
-      elim (cases_eq sweep.above (length levels)) [
-        | inl last ↦
-            let w = begun.begun last in
-            record {
-              found = found_longer sweep new w.0 so_far (omega (arith, last, early)) (w.2 over second third rule mark all sweep.class i (length levels)) w.1 begun.class;
-              there = omega (arith, begun.above, last, ap length w.1, length_push levels w.0);
-              above = begun.above;
-            }
-        | inr other ↦
-            let same = begun.known other in
-            record {
-              found = record {
-                within = omega (arith, so_far.within, ap length same);
-                stand = subst (λ c. AllStand c i new.levels.items) (sym begun.class) (subst (AllStand sweep.class i) (sym same) so_far.stand);
-                known = λ j n early_n member. omega (arith, so_far.known j n early_n member, ap length same);
-                class = subst (λ c. IsClass first second third all c i) (sym begun.class) so_far.class;
-              };
-              there = omega (arith, begun.above, above_within sweep so_far above early, other, ap length same);
-              above = begun.above;
-            }
-      ]
+  -- its level is known, or the next one
+  pub above_within : (class : ℕ) (levels : List Level) (n : ℕ) → Swept i class levels → n ≡ count e → n < cut → n ≤ length levels
+  above_within class levels n so_far above early =
+      all_known class levels so_far n (omega (arith, early)) (subst (λ k. comes_after over all k e ≡ true) (sym above) (chain_of_count over cut all e).after)
 
   -- ---- what is known behind it
 
   -- it is alike to the one before it
-  pub swept_alike : (sweep : Sweep) → Swept i sweep → 0 < i → StandAlike over (entry_at all (i - 1)) e → level_before ≡ true → Swept (i + 1) sweep
-  swept_alike sweep so_far some alike level =
+  pub swept_alike : (class : ℕ) (levels : List Level) → Swept i class levels → 0 < i → class ≤ i - 1 → StandAlike over (entry_at all (i - 1)) e → are_level_in first second third (entry_at all (i - 1)) e ≡ true → Swept (i + 1) class levels
+  swept_alike class levels so_far some begins alike level =
       let before = entry_at all (i - 1) in
       let same = alike_at over all before e alike in
-      let class = so_far.class some in
       record {
         within = so_far.within;
         stand = λ n d there.
-            let kept = get_or sweep.levels.items n d in
+            let kept = get_or levels n d in
             let stands = so_far.stand n d there in
             elim (cases_Bool (is_at over all n before)) [
-              | inl at ↦ alike_stays over second third rule mark all sweep.class i n kept stands first swept.led.second_is_chain swept.led.third_is_chain some class.begins at alike level
-              | inr apart ↦ stays over second third rule mark all sweep.class i n kept stands (sym (same n) ∙ apart)
+              | inl at ↦ alike_stays over second third rule mark all class i n kept stands first swept.led.second_is_chain swept.led.third_is_chain some begins at alike level
+              | inr apart ↦ stays over second third rule mark all class i n kept stands (sym (same n) ∙ apart)
             ];
-        known = known_more over all cut i (length sweep.levels.items) so_far.known (λ n early at. so_far.known (i - 1) n early (omega (arith, some), same n ∙ at));
-        class = λ _. subst (IsClass first second third all sweep.class) (sym (here_again i)) (class_goes_on swept sweep.class i some class level);
-        last = λ _. so_far.last some ∙ (count_alike over all before e alike cut ∙ ap (λ k. count (entry_at all k)) (sym (here_again i)));
+        known = known_more over all cut i (length levels) so_far.known (λ n early at. so_far.known (i - 1) n early (omega (arith, some), same n ∙ at));
       }
 
   -- it is below the cut
-  pub swept_below : (sweep : Sweep) → Found sweep → sweep.above ≡ count e → cut ≤ sweep.above → Swept (i + 1) sweep
-  swept_below sweep so_far above past =
-      let none : (n : ℕ) → n < cut → is_at over all n e ≡ false =
-      λ n early. false_from_ne_true (is_at over all n e) (λ at. absurd (omega (arith, level_is over cut all e n early at, above, past, early))) in
+  pub swept_below : (class : ℕ) (levels : List Level) (n : ℕ) → Swept i class levels → n ≡ count e → cut ≤ n → Swept (i + 1) class levels
+  swept_below class levels n so_far above past =
+      let none : (k : ℕ) → k < cut → is_at over all k e ≡ false =
+      λ k early. false_from_ne_true (is_at over all k e) (λ at. absurd (omega (arith, level_is over cut all e k early at, above, past, early))) in
       record {
         within = so_far.within;
-        stand = λ n d there. stays over second third rule mark all sweep.class i n (get_or sweep.levels.items n d) (so_far.stand n d there) (none n (omega (arith, there, so_far.within)));
-        known = known_more over all cut i (length sweep.levels.items) so_far.known (λ n early at. absurd (both_ways (is_at over all n e) (none n early) at));
-        class = λ _. subst (IsClass first second third all sweep.class) (sym (here_again i)) so_far.class;
-        last = λ _. above ∙ ap (λ k. count (entry_at all k)) (sym (here_again i));
+        stand = λ k d there. stays over second third rule mark all class i k (get_or levels k d) (so_far.stand k d there) (none k (omega (arith, there, so_far.within)));
+        known = known_more over all cut i (length levels) so_far.known (λ k early at. absurd (both_ways (is_at over all k e) (none k early) at));
       }
 
   -- it is kept in its level
-  pub swept_put : (sweep new : Sweep) (put : Level) → Found sweep → sweep.above ≡ count e → sweep.above < length sweep.levels.items → Stands sweep.class (i + 1) sweep.above put
-      → new.levels.items ≡ set sweep.levels.items sweep.above put → new.class ≡ sweep.class → new.above ≡ sweep.above → Swept (i + 1) new
-  swept_put sweep new put so_far above there stands is class same =
-      let n = sweep.above in
-      let levels = sweep.levels.items in
-      let long : length new.levels.items ≡ length levels = ap length is ∙ length-set levels n put in
+  pub swept_put : (class : ℕ) (levels : List Level) (n : ℕ) (put : Level) → Swept i class levels → n ≡ count e → n < length levels → Stands class (i + 1) n put → Swept (i + 1) class (set levels n put)
+  swept_put class levels n put so_far above there stands =
+      let long = length-set levels n put in
       let apart : (k : ℕ) → k < length levels → (k ≡ n → ⊥) → is_at over all k e ≡ false =
       λ k old other. false_from_ne_true (is_at over all k e) (λ at. absurd (other (sym (level_is over cut all e k (omega (arith, old, so_far.within)) at) ∙ sym above))) in
-      let all_stand = each_set (Stands sweep.class (i + 1)) levels n put there stands
-      (λ k d old other. stays over second third rule mark all sweep.class i k (get_or levels k d) (so_far.stand k d old) (apart k old other)) in
       record {
         within = omega (arith, long, so_far.within);
-        stand = subst (λ c. AllStand c (i + 1) new.levels.items) (sym class) (subst (AllStand sweep.class (i + 1)) (sym is) all_stand);
-        known = known_more over all cut i (length new.levels.items) (λ j k early member. omega (arith, long, so_far.known j k early member))
+        stand = each_set (Stands class (i + 1)) levels n put there stands (λ k d old other. stays over second third rule mark all class i k (get_or levels k d) (so_far.stand k d old) (apart k old other));
+        known = known_more over all cut i (length (set levels n put)) (λ j k early member. omega (arith, long, so_far.known j k early member))
             (λ k early at. omega (arith, level_is over cut all e k early at, above, there, long));
-        class = λ _. subst (λ c. IsClass first second third all c (i + 1 - 1)) (sym class) (subst (IsClass first second third all sweep.class) (sym (here_again i)) so_far.class);
-        last = λ _. same ∙ (above ∙ ap (λ k. count (entry_at all k)) (sym (here_again i)));
       }
-
-  -- so many levels are above it
-  pub chain_of_last : (sweep : Sweep) → Swept (i + 1) sweep → HasChain over cut all e sweep.above
-  chain_of_last sweep so_far = subst (HasChain over cut all e) (sym (so_far.last (omega arith) ∙ ap (λ k. count (entry_at all k)) (here_again i))) (chain_of_count over cut all e)

@@ -1,9 +1,10 @@
 -- No public contract cites this.
 -- Entries that were held already when others come, and the levels that they were of.
-use Rattle.std.specs.Prelude.{◌≡◌, ◌<◌, ◌≤◌, ◌+◌, ◌-◌, ◌⊎◌, Bool, true, false, ℕ, List, get_or, length}
+use Rattle.std.specs.Prelude.{◌≡◌, ◌<◌, ◌≤◌, ◌-◌, ◌⊎◌, Bool, true, false, ℕ, List, All, get_or, length, map}
 use Rattle.pref_sky.specs.Items.{entry_at}
 use Rattle.pref_sky.specs.OwnOrders.{comes_after}
 use Rattle.pref_sky.specs.declared.entry.Entry.{Entry}
+use Rattle.pref_sky.specs.declared.merging.Marked.{Marked}
 
 -- marks of entries by their places, 0 of a new one: of one that was held already its level, from 1 on to the cut. So many levels less one are above it, and none that was of its level or of one below is over it
 pub record AreHeld (over : Entry → Entry → Bool) (cut : ℕ) (mark : ℕ → ℕ) (all : List Entry) : Type 0 where
@@ -15,11 +16,16 @@ pub record AreHeld (over : Entry → Entry → Bool) (cut : ℕ) (mark : ℕ →
 abbrev pub IsTakenOver : List Entry → List ℕ → Entry → ℕ → Type 0
 IsTakenOver held levels e level = (level ≡ 0) ⊎ ((k : ℕ) × (k < length held) × (entry_at held k ≡ e) × (get_or levels k 0 ≡ level))
 
--- behind some levels stand so many of others, from a place on
-pub record AreLevelsBehind (levels : List ℕ) (begin count : ℕ) (found more : List ℕ) : Type 0 where
-  pub long : length more ≡ length found + count
-  pub before : (k : ℕ) → k < length found → get_or more k 0 ≡ get_or found k 0
-  pub behind : (k : ℕ) → k < count → get_or more (length found + k) 0 ≡ get_or levels (begin + k) 0
+-- so it is of each that is marked
+abbrev pub AreMarked : List Entry → List ℕ → List Marked → Type 0
+AreMarked held levels = All (λ (m : Marked). IsTakenOver held levels m.entry.now m.level)
+
+-- the entries that are marked, and their levels
+abbrev pub marked_entries : List Marked → List Entry
+marked_entries = map (λ m. m.entry.now)
+
+abbrev pub marked_levels : List Marked → List ℕ
+marked_levels = map (λ m. m.level)
 
 -- such levels of the entries of a list
 abbrev pub AreTakenOver : List Entry → List ℕ → List Entry → List ℕ → Type 0

@@ -3,7 +3,6 @@
 use Rattle.std.specs.Prelude.{◌≡◌, ◌<◌, Bool, true, not, ◌&&◌, cond, nat_lt, ℕ, zero, suc, List, [], ◌∷◌, length, map, All}
 use Rattle.std.specs.List.{list_any}
 use Rattle.std.specs.List.Sorted.{IsPermutation}
-use Rattle.std.specs.Coded.{Coded-set, Unit-prop, coded_bool, ×_prop, Π_prop, →_prop}
 use Rattle.pref_term.specs.AskOrder.{order_of}
 use Rattle.pref_term.specs.Extension.{ask_keys}
 use Rattle.pref_sky.specs.Chains.{IsInOrder, better_in, by_row, in_turn}
@@ -62,14 +61,7 @@ AreLowest order entries items = All (λ (item : Item). (item.place < length entr
 abbrev pub HoldsUpper : OwnOrder → List Entry → List Entry → List Entry → Type 0
 HoldsUpper order sorted = KeepsAllBut (λ e. is_below order sorted e ≡ true)
 
--- the entries of a list, in order, and their levels
+-- the entries of a list in some order, and their levels
 pub record AreLeveled (order : OwnOrder) (held all : List Entry) (levels : List ℕ) : Type 0 where
-  pub sorted : AreSorted order held all
+  pub moved : IsPermutation held all
   pub level : levels ≡ map (level_of (own_order order) all order.cut) all
-
-IsInOrder-prop : {E : Type 0} (before : E → E → Bool) (xs : List E) → IsProp (IsInOrder before xs)
-IsInOrder-prop before [] = Unit-prop
-IsInOrder-prop before (e ∷ others) = ×_prop (Π_prop (λ x. →_prop (Coded-set coded_bool (before e x) true))) (IsInOrder-prop before others)
-
-pub AreInOrder-prop : (order : OwnOrder) (entries : List Entry) → IsProp (AreInOrder order entries)
-AreInOrder-prop order entries = IsInOrder-prop _ entries

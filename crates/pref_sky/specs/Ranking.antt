@@ -1,13 +1,12 @@
 -- No public contract cites this.
 -- Entries of a list with their levels, and where they stand in an answer.
-use Rattle.std.specs.Prelude.{◌≡◌, ◌<◌, nat_lt, Bool, ℕ, List, All, filter, length, map}
+use Rattle.std.specs.Prelude.{nat_lt, Bool, ℕ, List, filter, map}
 use Rattle.std.specs.List.Sorted.{IsPermutation, IsSortedBy}
 use Rattle.std.specs.Ordering.{is_lt, nat_cmp, ordering_then}
-use Rattle.pref_sky.specs.Items.{entry_at}
 use Rattle.pref_sky.specs.Levels.{at_level}
 use Rattle.pref_sky.specs.declared.entry.Entry.{Entry}
 use Rattle.pref_sky.specs.declared.entry.Ranked.{Ranked}
-use Rattle.pref_sky.specs.declared.ranking.Rank.{Rank}
+use Rattle.pref_sky.specs.declared.merging.Marked.{Marked}
 
 -- those of some entries that have a level, from 1 on, each with it
 abbrev pub leveled : (Entry → ℕ) → List Entry → List Ranked
@@ -22,14 +21,6 @@ pub record AreInRanks (some sorted : List Ranked) : Type 0 where
   pub moved : IsPermutation some sorted
   pub in_order : IsSortedBy ranks_before sorted
 
--- a rank has the place of an entry of the list, and its id
-abbrev pub IsRankOf : List Entry → Rank → Type 0
-IsRankOf entries rank = (rank.place < length entries) × (rank.id ≡ (entry_at entries rank.place).id)
-
--- each of these is one
-abbrev pub AreRanks : List Entry → List Rank → Type 0
-AreRanks entries = All (IsRankOf entries)
-
--- the entry at the place of a rank, with its level
-abbrev pub ranked_at : List Entry → Rank → Ranked
-ranked_at entries rank = at_level rank.level (entry_at entries rank.place)
+-- an entry with the level that it is marked with
+abbrev pub ranked_as : Marked → Ranked
+ranked_as m = at_level m.level m.entry.now

@@ -1,15 +1,14 @@
 -- No public contract cites this.
 -- One pass over entries in order: three chains that lead their order, and what is kept of each level so far, as far as later entries are compared with it.
-use Rattle.std.specs.Prelude.{◌≡◌, ◌<◌, ◌≤◌, ◌-◌, get_or, Bool, true, false, not, ◌&&◌, ◌||◌, ℕ, suc, List, [], ◌∷◌, ◌++◌, ◌⊎◌, length}
+use Rattle.std.specs.Prelude.{◌≡◌, ◌<◌, ◌≤◌, ◌-◌, get_or, Bool, true, false, not, ◌&&◌, ◌||◌, ℕ, suc, List, All, ◌⊎◌, length}
 use Rattle.pref_term.specs.Order.{IsStrictOrder, StandAlike}
-use Rattle.pref_sky.specs.OwnOrders.{comes_after, count_above}
-use Rattle.pref_sky.specs.Items.{IsItem, entry_at}
+use Rattle.pref_sky.specs.OwnOrders.{comes_after}
+use Rattle.pref_sky.specs.Items.{entry_at}
 use Rattle.pref_sky.specs.Members.{Among, SameMembers}
 use Rattle.pref_sky.specs.Chains.{IsChain, IsInOrder, are_level, comes_first}
 use Rattle.pref_sky.specs.declared.entry.Entry.{Entry}
 use Rattle.pref_sky.specs.declared.item.Item.{Item}
 use Rattle.pref_sky.specs.declared.level.Level.{Level}
-use Rattle.pref_sky.specs.declared.sweep.Sweep.{Sweep}
 
 -- no worse in each of three chains, and better in one of them
 abbrev pub is_ahead : {E : Type 0} → (E → E → Bool) → (E → E → Bool) → (E → E → Bool) → E → E → Bool
@@ -64,9 +63,15 @@ pub record StandsFor (over second third : Entry → Entry → Bool) (rule : Entr
   pub steps_cover : (j : ℕ) → IsMember over all i n j → (p : ℕ) × Among p kept.steps.items × (second (entry_at all j) (entry_at all p) ≡ false) × (third (entry_at all j) (entry_at all p) ≡ false)
   pub by_second : IsInOrder (λ p q. not (second (entry_at all q) (entry_at all p))) kept.steps.items
   pub by_third : IsInOrder (λ p q. not (third (entry_at all p) (entry_at all q))) kept.steps.items
-  pub kept_within : (x : Item) → IsKept x kept → IsMember over all i n x.place × IsItem rule all x
+  pub kept_within : (x : Item) → IsKept x kept → IsMember over all i n x.place × (x.signature ≡ rule (entry_at all x.place))
   pub run_held : (x : Item) → Among x kept.run.items → mark x.place ≡ suc n
   pub kept_cover : (j : ℕ) → class ≤ j → IsMember over all i n j → (kept.class ≡ class) × ((x : Item) × IsKept x kept × StandAlike over (entry_at all x.place) (entry_at all j))
+
+-- what is kept are places of entries
+pub record ArePlaces (all : List Entry) (kept : Level) : Type 0 where
+  pub steps : All (λ p. p < length all) kept.steps.items
+  pub run : All (λ (x : Item). x.place < length all) kept.run.items
+  pub fresh : All (λ (x : Item). x.place < length all) kept.fresh.items
 
 -- the same, but for the order of what is kept in the class
 pub record IsSameLevel (old new : Level) : Type 0 where
@@ -84,25 +89,8 @@ pub record IsOneMore (mark : ℕ → ℕ) (n : ℕ) (before : Level) (x : Item) 
   pub here : IsKept x new
   pub others : (y : Item) → IsKept y before → IsKept y new
 
--- what a sweep that goes up to a cut knows before the i-th entry: what is kept stands for each level so far, none is left out, and how the last entry stands
-pub record HasSwept (over first second third : Entry → Entry → Bool) (rule : Entry → ℕ) (mark : ℕ → ℕ) (cut : ℕ) (all : List Entry) (i : ℕ) (sweep : Sweep) : Type 0 where
-  pub within : length sweep.levels.items ≤ cut
-  pub stand : (n : ℕ) (d : Level) → n < length sweep.levels.items → StandsFor over second third rule mark all sweep.class i n (get_or sweep.levels.items n d)
-  pub known : (j n : ℕ) → n < cut → IsMember over all i n j → n < length sweep.levels.items
-  pub class : 0 < i → IsClass first second third all sweep.class (i - 1)
-  pub last : 0 < i → sweep.above ≡ count_above over all cut (entry_at all (i - 1))
-
--- the same once the class of the i-th entry is found, before its level is
-pub record HasFoundClass (over first second third : Entry → Entry → Bool) (rule : Entry → ℕ) (mark : ℕ → ℕ) (cut : ℕ) (all : List Entry) (i : ℕ) (sweep : Sweep) : Type 0 where
-  pub within : length sweep.levels.items ≤ cut
-  pub stand : (n : ℕ) (d : Level) → n < length sweep.levels.items → StandsFor over second third rule mark all sweep.class i n (get_or sweep.levels.items n d)
-  pub known : (j n : ℕ) → n < cut → IsMember over all i n j → n < length sweep.levels.items
-  pub class : IsClass first second third all sweep.class i
-
--- where the last entry is of no level that is known, its level is begun, without an entry so far
-pub record HasBegun (old new : Sweep) : Type 0 where
-  pub class : new.class ≡ old.class
-  pub above : new.above ≡ old.above
-  pub known : (old.above ≡ length old.levels.items → ⊥) → new.levels.items ≡ old.levels.items
-  pub begun : old.above ≡ length old.levels.items → (empty : Level) × (new.levels.items ≡ old.levels.items ++ empty ∷ [])
-      × ((over second third : Entry → Entry → Bool) (rule : Entry → ℕ) (mark : ℕ → ℕ) (all : List Entry) (class i n : ℕ) → ((j : ℕ) → IsMember over all i n j → ⊥) → StandsFor over second third rule mark all class i n empty)
+-- what is known before the i-th entry, of this class, in a sweep that goes up to a cut: what is kept stands for each level so far, and none is left out
+pub record HasSwept (over second third : Entry → Entry → Bool) (rule : Entry → ℕ) (mark : ℕ → ℕ) (cut : ℕ) (all : List Entry) (i class : ℕ) (levels : List Level) : Type 0 where
+  pub within : length levels ≤ cut
+  pub stand : (n : ℕ) (d : Level) → n < length levels → StandsFor over second third rule mark all class i n (get_or levels n d)
+  pub known : (j n : ℕ) → n < cut → IsMember over all i n j → n < length levels

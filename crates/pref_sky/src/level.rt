@@ -17,7 +17,7 @@ ghost use Rattle.pref_sky.specs.Items.{entry_at};
 ghost use Rattle.pref_sky.specs.Leads.{LeadsSweep, first_of, mark_of, rule_of, second_of, third_of};
 ghost use Rattle.pref_sky.specs.Members.{Among, SameMembers};
 ghost use Rattle.pref_sky.specs.Steps.{AreBetter, AreNoBetter, AreNoWorse, IsAsked, IsStepPut};
-ghost use Rattle.pref_sky.specs.Sweep.{IsAskedOf, IsClass, IsKept, IsMember, IsOneMore, IsSameLevel, StandsFor, is_at};
+ghost use Rattle.pref_sky.specs.Sweep.{ArePlaces, IsAskedOf, IsClass, IsKept, IsMember, IsOneMore, IsSameLevel, StandsFor, is_at};
 ghost use Rattle.pref_sky.specs.declared.entry.Entry.{Entry};
 ghost use Rattle.pref_sky.specs.declared.item.Item.{Item};
 
@@ -194,8 +194,7 @@ impl Level {
         signature: u64,
     ) -> bool
         requires inside { place < length entries.now }
-        requires run { All (λ (x : Item). x.place < length entries.now) self.old.run.items }
-        requires fresh { All (λ (x : Item). x.place < length entries.now) self.old.fresh.items }
+        requires places { ArePlaces entries.now self.old }
         ensures same { IsSameLevel self.old self.new }
         ensures found { result ≡ true → (x : Item) × IsKept x self.old × (own_order order.now (entry_at entries.now x.place) (entry_at entries.now place) ≡ true) }
         ensures none { result ≡ false → (x : Item) → IsAskedOf (mark_of lead.now place) x self.old
@@ -222,9 +221,7 @@ impl Level {
         signature: u64,
     ) -> bool
         requires inside { place < length entries.now }
-        requires steps { All (λ p. p < length entries.now) self.old.steps.items }
-        requires run { All (λ (x : Item). x.place < length entries.now) self.old.run.items }
-        requires fresh { All (λ (x : Item). x.place < length entries.now) self.old.fresh.items }
+        requires places { ArePlaces entries.now self.old }
         requires signature { signature ≡ rule_of lead.now (entry_at entries.now place) }
         ensures same { IsSameLevel self.old self.new }
         ensures dominated { let over = own_order order.now in
@@ -301,7 +298,7 @@ impl Level {
         signature: u64,
     ) -> Result<(), AllocError>
         requires inside { place < length entries.now }
-        requires steps { All (λ p. p < length entries.now) self.old.steps.items }
+        requires places { ArePlaces entries.now self.old }
         requires signature { signature ≡ rule_of lead.now (entry_at entries.now place) }
         ensures { let over = own_order order.now in
             LeadsSweep order.now lead.now entries.now → IsClass (first_of order.now lead.now) (second_of order.now lead.now) (third_of order.now lead.now) entries.now class place

@@ -1,75 +1,40 @@
-//! Entries in the order of a question's keys: new ones are merged into those that are in order.
+//! Entries in the order of a question's keys: new ones come to those that are in order.
 
-ghost use Rattle.std.specs.Prelude.{◌≡◌, ◌<◌, ◌≤◌, ◌+◌, ◌++◌, ◌^◌, true, false, length, map, take, drop, List, IfOk, OnOk};
-ghost use Rattle.pref_sky.specs.Held.{AreLevelsBehind, AreTakenOver};
-ghost use Rattle.pref_sky.specs.OwnOrders.{AreInOrder, AreSorted, comes_before};
-ghost use Rattle.pref_sky.specs.Members.{Among};
+ghost use Rattle.std.specs.Prelude.{◌≡◌, ◌<◌, ◌++◌, length, ℕ, List, All, IfOk, OnOk, get_or};
+ghost use Rattle.pref_sky.specs.Held.{AreMarked, AreTakenOver, IsTakenOver, marked_entries, marked_levels};
+ghost use Rattle.pref_sky.specs.Items.{entry_at};
+ghost use Rattle.pref_sky.specs.OwnOrders.{AreSorted};
 ghost use Rattle.pref_sky.specs.declared.entry.Entry.{Entry};
 
 use crate::entry::{Entry, copy_of};
 use crate::own_order::OwnOrder;
 use std::alloc::{AllocError, Global};
 
-/// How many entries of a list in order come before this one.
-///
-/// Cost: one comparison where all do, as where entries come in order, or are the same in all keys and their ids rise. Else the search
-/// gallops from the front, by steps that double, and then goes by halves: some two comparisons for each bit of the count, and two.
-fn count_before(order: &OwnOrder, entries: &[Entry], entry: &Entry) -> usize
-    requires { AreInOrder order.now entries.now }
-    ensures within { result ≤ length entries.now }
-    ensures front { (e : Entry) → Among e (take result entries.now) → comes_before order.now e entry.now ≡ true }
-    ensures back { (e : Entry) → Among e (drop result entries.now) → comes_before order.now e entry.now ≡ false }
-{
-    let Some(last) = entries.len().checked_sub(1) else {
-        return 0;
-    };
-    if order.compare(&entries[last], entry).is_lt() {
-        return entries.len();
-    }
-    let mut low = 0;
-    let mut high = last;
-    let mut step: usize = 0;
-    'between: while low < high {
-        // A step that goes too far leaves no more entries than it passed over: from there on the halves are smaller.
-        let middle = low + step.min((high - low) / 2);
-        if order.compare(&entries[middle], entry).is_lt() {
-            low = middle + 1;
-            step = step.saturating_mul(2).saturating_add(1);
-        } else {
-            high = middle;
-        }
-    }
-    low
+/// An entry, and a level of it, or 0. It is sorted in place of the entry, which is long.
+#[derive(Clone, Copy)]
+pub(crate) struct Marked<'a> {
+    pub(crate) entry: &'a Entry,
+    pub(crate) level: u32,
 }
 
-/// Puts entries behind others, each by itself: for so long an element that is faster than `extend_from_slice`.
-/// Where it is out of memory, some of them.
-pub(crate) fn push_all(all: &mut Vec<Entry>, entries: &[Entry]) -> Result<(), AllocError>
-    ensures all { OnOk result (all.new.items ≡ all.old.items ++ entries.now) }
-    ensures some { (pushed : List Entry) × (all.new.items ≡ all.old.items ++ pushed) }
-{
-    for entry in entries {
-        all.push(copy_of(entry))?;
-    }
-    Ok(())
-}
-
-/// Puts so many levels behind others, from a place on; 0 where a list has none there.
-fn push_levels(
-    found: &mut Vec<u32>,
+/// Puts entries behind others, each with the level at its place; 0 where a list has none there.
+pub(crate) fn mark<'a>(
+    marked: &mut Vec<Marked<'a>>,
+    entries: &'a [Entry],
     levels: &[u32],
-    begin: usize,
-    count: usize,
 ) -> Result<(), AllocError>
-    requires { begin + count < 2 ^ 64 }
-    ensures { OnOk result (AreLevelsBehind levels.now begin count found.old.items found.new.items) }
+    ensures entries { OnOk result (marked_entries marked.new.items ≡ marked_entries marked.old.items ++ entries.now) }
+    ensures levels { length levels.now ≡ length entries.now → OnOk result (marked_levels marked.new.items ≡ marked_levels marked.old.items ++ levels.now) }
+    ensures held { (held : List Entry) (of : List ℕ) → AreMarked held of marked.old.items
+        → ((k : ℕ) → k < length entries.now → IsTakenOver held of (entry_at entries.now k) (get_or levels.now k 0)) → OnOk result (AreMarked held of marked.new.items) }
 {
-    for place in begin..begin + count {
-        found.push(if place < levels.len() {
+    for (place, entry) in entries.iter().enumerate() {
+        let level = if place < levels.len() {
             levels[place]
         } else {
             0
-        })?;
+        };
+        marked.push(Marked { entry, level })?;
     }
     Ok(())
 }
@@ -81,59 +46,23 @@ pub(crate) struct Merged {
     pub(crate) held: Vec<u32>,
 }
 
-/// Two lists that are in order as one. Stretches of the first one, which was held, are copied as they are with their levels, so that few
-/// entries go in among many fast.
-fn merge(
-    alloc: Global,
-    order: &OwnOrder,
-    sorted: &[Entry],
-    levels: &[u32],
-    coming: &[&Entry],
-) -> Result<Merged, AllocError>
-    requires sorted { AreInOrder order.now sorted.now }
-    requires coming { AreInOrder order.now (map (λ e. e.now) coming.now) }
-    ensures sorted { IfOk result (λ merged. AreSorted order.now (sorted.now ++ map (λ e. e.now) coming.now) merged.entries.items) }
-    ensures held { IfOk result (λ merged. AreTakenOver sorted.now levels.now merged.entries.items merged.held.items) }
+/// Copies of these entries, and their levels.
+fn copied(alloc: Global, marked: &[Marked]) -> Result<Merged, AllocError>
+    ensures { IfOk result (λ merged. (merged.entries.items ≡ marked_entries marked.now) × (merged.held.items ≡ marked_levels marked.now)) }
 {
-    let size = sorted.len().saturating_add(coming.len());
-    let mut all = Vec::with_capacity(alloc, size)?;
-    let mut held = Vec::with_capacity(alloc, size)?;
-    let mut rest = sorted;
-    let mut next = 0;
-    for entry in coming {
-        let (front, back) = rest.split_at(count_before(order, rest, entry));
-        push_all(&mut all, front)?;
-        push_levels(&mut held, levels, next, front.len())?;
-        all.push(copy_of(entry))?;
-        held.push(0)?;
-        next += front.len();
-        rest = back;
+    let mut entries = Vec::with_capacity(alloc, marked.len())?;
+    let mut held = Vec::with_capacity(alloc, marked.len())?;
+    for one in marked {
+        entries.push(copy_of(one.entry))?;
+        held.push(one.level)?;
     }
-    push_all(&mut all, rest)?;
-    push_levels(&mut held, levels, next, rest.len())?;
-    Ok(Merged { entries: all, held })
+    Ok(Merged { entries, held })
 }
 
-/// These entries in order. They are sorted where they are, since they are long.
-fn in_order<'a>(
-    alloc: Global,
-    order: &OwnOrder,
-    entries: &'a [Entry],
-) -> Result<Vec<&'a Entry>, AllocError>
-    ensures { IfOk result (λ sorted. AreSorted order.now entries.now (map (λ e. e.now) sorted.items)) }
-{
-    let mut sorted = Vec::with_capacity(alloc, entries.len())?;
-    for entry in entries {
-        sorted.push(entry)?;
-    }
-    sorted.sort_unstable_by(|a, b| order.compare(*a, *b));
-    Ok(sorted)
-}
-
-/// The entries of a list in order, which were held and have these levels, and those of one in any order, in order.
+/// The entries of a list, which were held and have these levels, and those of another, in order.
 ///
-/// Cost: a copy of all, and for each of the others what a sort of them takes and a search among the first list. Memory: the copy, four
-/// bytes for each, and eight for each of the others.
+/// Cost: a copy of all, and a sort of references to them, which sees that the first ones are in order. Memory: the copy, four bytes for
+/// each, and while they are sorted 32.
 pub(crate) fn merge_all(
     alloc: Global,
     order: &OwnOrder,
@@ -141,10 +70,12 @@ pub(crate) fn merge_all(
     levels: &[u32],
     recent: &[Entry],
 ) -> Result<Merged, AllocError>
-    requires { AreInOrder order.now sorted.now }
     ensures sorted { IfOk result (λ merged. AreSorted order.now (sorted.now ++ recent.now) merged.entries.items) }
     ensures held { IfOk result (λ merged. AreTakenOver sorted.now levels.now merged.entries.items merged.held.items) }
 {
-    let coming = in_order(alloc, order, recent)?;
-    merge(alloc, order, sorted, levels, &coming)
+    let mut marked = Vec::with_capacity(alloc, sorted.len().saturating_add(recent.len()))?;
+    mark(&mut marked, sorted, levels)?;
+    mark(&mut marked, recent, &[])?;
+    marked.sort_by(|a, b| order.compare(a.entry, b.entry))?;
+    copied(alloc, &marked)
 }

@@ -133,7 +133,7 @@ impl Partial {
     /// The entries that are held, with their levels, in order of level, then id.
     ///
     /// Cost: where the order is a question's, a sort of the entries that came since the last look by its keys, a copy of all, one sweep over
-    /// them, and a sort of what it finds by level and id; else a copy. Memory: the list, the copies, 32 bytes for each entry, and what a
+    /// them, and a sort of what it finds by level and id; else a copy. Memory: the list, the copies, 40 bytes for each entry, and what a
     /// sweep keeps of each level: a few places where one or two chains lead, else up to 32 bytes for each of its entries. `Err` is out of memory.
     pub fn ranked(&self, alloc: Global) -> Result<Vec<Ranked>, AllocError>
         ensures { IfOk result (λ ranked. ranked.items ≡ self.now) }
@@ -148,8 +148,8 @@ impl Partial {
     /// one of the last level is seen to dominate. Once they are as many as were held at the last look, and 64, all are put in order of the
     /// question's keys, their levels are found by one sweep, and those below the cut are dropped. Cost of a sweep: for each entry a search by
     /// halves among the levels so far; a level is asked by one comparison where up to three chains lead the question, and else by a look at
-    /// the signatures of its entries. Memory: a copy of all entries, eight bytes for each, eight for each of those that came, and what the
-    /// sweep keeps. Those below the cut are dropped in place: their room is given back at the next sweep.
+    /// the signatures of its entries. Memory: a copy of all entries, 40 bytes for each, and what the sweep keeps. Those below the cut are
+    /// dropped in place: their room is given back at the next sweep.
     ///
     /// Where it is no question's, the levels are found anew by the passes of [`best_rows`](crate::best_rows), level by level.
     ///

@@ -3,7 +3,7 @@
 
 ghost use Rattle.std.specs.Prelude.{◌≡◌, ◌<◌, ◌++◌, true, List, All, get_or, length, map, vec_len, IfOk, IfSome, OnErr, OnOk};
 ghost use Rattle.pref_sky.specs.Held.{AreHeld};
-ghost use Rattle.pref_sky.specs.OwnOrders.{AreInOrder, AreInOrder-prop, AreLeveled, AreLowest, HoldsUpper, is_below, own_levels, own_order};
+ghost use Rattle.pref_sky.specs.OwnOrders.{AreLeveled, AreLowest, HoldsUpper, is_below, own_levels, own_order};
 ghost use Rattle.pref_sky.specs.Levels.{HaveDifferentIds, entry_of};
 ghost use Rattle.pref_sky.specs.declared.entry.Entry.{Entry};
 ghost use Rattle.pref_sky.specs.declared.item.Item.{Item};
@@ -13,7 +13,7 @@ use crate::grouped::compare_groups;
 use crate::item::Item;
 use crate::lately::Lately;
 use crate::lead::Lead;
-use crate::merging::{Merged, merge_all, push_all};
+use crate::merging::{Merged, merge_all};
 use crate::own_order::OwnOrder;
 use crate::ranking::{drop_below, in_order_of_level};
 use crate::sweep::find_levels;
@@ -64,7 +64,7 @@ struct Leveled {
     scales: Scales,
 }
 
-/// Entries in the order of the keys, as they were left when the last ones that are below the cut were dropped.
+/// Entries, mostly in the order of the keys, as they were left when the last ones that are below the cut were dropped.
 #[derive(Drop)]
 pub(crate) struct Pruned {
     pub(crate) order: OwnOrder,
@@ -79,7 +79,6 @@ pub(crate) struct Pruned {
     wait: usize,
     /// How new entries were compared with them.
     lately: Lately,
-    ghost in_order: { AreInOrder order entries.items } by { AreInOrder-prop order entries.items },
     ghost low: { AreLowest order entries.items lowest.items },
     ghost held: { AreHeld (own_order order) order.cut (λ place. get_or levels.items place 0) entries.items },
 }
@@ -165,11 +164,14 @@ impl Pruned {
         self.first_over(self.group_begin(entry), entry)
     }
 
-    /// Whether one of the last level is seen to dominate an entry. The one that dominated another last is asked first.
-    fn is_seen_below(&mut self, entry: &Entry) -> bool
+    /// Whether one of the last level is seen to dominate an entry, where looks are made. The one that dominated another last is asked first.
+    fn is_seen_below(&mut self, looks: bool, entry: &Entry) -> bool
         ensures below { result ≡ true → is_below self.old.order self.old.entries.items entry.now ≡ true }
         ensures same { (self.new.order ≡ self.old.order) × (self.new.entries ≡ self.old.entries) }
     {
+        if !looks {
+            return false;
+        }
         let slot = self.lately.slot(self.order.ask.group(), &entry.row);
         if self.dominates(self.lately.at(slot), entry) {
             return true;
@@ -189,12 +191,10 @@ impl Pruned {
         ensures kept { (kept : List Entry) × (recent.new.items ≡ recent.old.items ++ kept)
             × OnOk result (HoldsUpper self.old.order self.old.entries.items entries.now kept) }
     {
-        if !self.lately.looks.are_worthwhile() {
-            return push_all(recent, entries);
-        }
+        let looks = self.lately.looks.are_worthwhile();
         let held = recent.len();
         for entry in entries {
-            if !self.is_seen_below(entry) {
+            if !self.is_seen_below(looks, entry) {
                 recent.push(copy_of(entry))?;
             }
         }
@@ -256,7 +256,8 @@ impl Pruned {
             scales,
         } = self.with_levels(alloc, recent)?;
         let merged = entries.len();
-        drop_below(&mut entries, &mut levels);
+        drop_below(&mut entries, &levels);
+        levels.retain(|level| *level > 0);
         let wait = wait_for(merged, entries.len());
         let lowest = items_of_level(alloc, &scales, &entries, &levels, self.order.cut)?;
         self.lowest = lowest;

@@ -1,4 +1,4 @@
-use Rattle.pref_sky.proofs.Common.{◌≡◌, ◌<◌, ◌≤◌, ◌-◌, All, count_before, false, get_or, in_same_group, length, nat_lt, take}
+use Rattle.pref_sky.proofs.Common.{◌≡◌, ◌<◌, ◌≤◌, ◌-◌, All, cond, count_before, get_or, in_same_group, length, nat_lt, take}
 use Rattle.pref_sky.specs.Grouped.{IsCounted, entries, entry_at}
 use Rattle.pref_sky.proofs.answers.choose.Given as goal
 
@@ -8,4 +8,4 @@ invariant-loop-at l =
     (length l.chosen.items ≡ length l.ranked)
     × ((l.front.group ≤ l.front.level) × (l.front.level ≤ l.at))
     × (0 < l.at → IsCounted l.columns (entries l.entry-items) (entry_at l.entry-items (l.at - 1)) l.front)
-    × All (λ p. get_or l.chosen.items p.place false ≡ nat_lt (count_before (in_same_group l.columns) l.ranked p.entry.now) l.k) (take l.at l.entry-items)
+    × All (λ p. get_or l.chosen.items p.place 0 ≡ cond (nat_lt (count_before (in_same_group l.columns) l.ranked p.entry.now) l.k) 1 0) (take l.at l.entry-items)

@@ -1,13 +1,11 @@
-use Rattle.pref_sky.proofs.Common.{◌≡◌, ◌≤◌, ℕ, nat_lt, map, length, Entry, FiltersInPlace}
+use Rattle.pref_sky.proofs.Common.{◌≡◌, ◌≤◌, ℕ, nat_lt, map, length, FiltersInPlace}
 use Rattle.pref_sky.proofs.ranking.drop_below.Given as goal
 
--- what has a level of those so far is in front, in both lists, and those to come are where they were
+-- what has a level of those so far is in front, and those to come are where they were
 abbrev pub invariant-loop-place : goal.invariant-loop-place
-invariant-loop-place l =
+invariant-loop-place g l =
     record {
       behind : l.count ≤ l.place;
-      long : length l.entries.items ≡ length l.fn.entries.items;
-      as_long : length l.levels.items ≡ length l.fn.levels.items;
-      moved : (level : Entry → ℕ) → l.fn.levels.items ≡ map level l.fn.entries.items
-          → FiltersInPlace (λ e. nat_lt 0 (level e)) l.fn.entries.items l.entries.items l.count l.place × FiltersInPlace (nat_lt 0) l.fn.levels.items l.levels.items l.count l.place;
+      long : length l.elements.items ≡ length l.fn.elements.items;
+      moved : (level : g.row.T.Denot → ℕ) → l.levels ≡ map level l.fn.elements.items → FiltersInPlace (λ x. nat_lt 0 (level x)) l.fn.elements.items l.elements.items l.count l.place;
     }

@@ -1,27 +1,29 @@
-use Rattle.pref_sky.proofs.Common.{rules, ◌∙◌, ap, subst, sym, map, IfOk-weaker, IsPermutation, IsSortedBy}
-use Rattle.std.proofs.lemmas.List.Sorted.{All-permutation, IsPermutation-map}
+use Rattle.pref_sky.proofs.Common.{◌≡◌, ◌++◌, ◌∙◌, IfOk-weaker, IsPermutation, IsPermutation-map, IsSortedBy, ap, filter, length, length-map, map, nat_lt, rules, subst, sym}
+use Rattle.std.proofs.lemmas.Fn.{filter_same}
 use Rattle.pref_sky.proofs.ListLaws.{sorted_by_both}
-use Rattle.pref_sky.proofs.RankingLaws.{sorted_at_ranks}
-use Rattle.pref_sky.specs.Ranking.{AreRanks, IsRankOf, leveled, ranked_at, ranks_before}
-use Rattle.pref_sky.specs.declared.ranking.Rank.{Rank}
-use Rattle.pref_sky.proofs.ranking.in_order_of_level.Goals.{After-sort_unstable_by_key}
+use Rattle.pref_sky.proofs.RankingLaws.{ranked_marked, sorted_map}
+use Rattle.pref_sky.specs.Held.{marked_entries, marked_levels}
+use Rattle.pref_sky.specs.Ranking.{leveled, ranked_as, ranks_before}
+use Rattle.pref_sky.specs.declared.merging.Marked.{Marked}
 use Rattle.pref_sky.proofs.ranking.in_order_of_level.Goals as goal
-
-still_ranks : (c : After-sort_unstable_by_key) → AreRanks c.args.entries.now c.sort_unstable_by_key.new.self.items
-still_ranks c = All-permutation (IsRankOf c.args.entries.now) c.in_ok-ranks.ranks.items c.sort_unstable_by_key.new.self.items c.sort_unstable_by_key.ensures.permutation ((c.in_ok-ranks.ensures {u = tt}).within)
-
-pub entries_at_ranks-requires : goal.entries_at_ranks-requires
-entries_at_ranks-requires c = subst (AreRanks c.args.entries.now) (sym c.deref.ensures.value) (still_ranks ((goal.at.entries_at_ranks-requires c).After-sort_unstable_by_key))
 
 pub returns : goal.returns
 returns c level by =
-    let all = c.args.entries.now in
-    let ranks = c.sort_unstable_by_key.new.self.items in
-    let listed = map (ranked_at all) ranks in
-    let moved : IsPermutation (leveled level all) listed =
-    subst (λ l. IsPermutation l listed) ((c.in_ok-ranks.ensures {u = tt}).all level by) (IsPermutation-map (ranked_at all) c.in_ok-ranks.ranks.items ranks c.sort_unstable_by_key.ensures.permutation) in
-    let in_order : IsSortedBy ranks_before listed =
-    sorted_at_ranks all ranks (still_ranks ((goal.at.returns c).After-sort_unstable_by_key)) (sorted_by_both (λ (r : Rank). (r.level, r.id)) ranks c.sort_unstable_by_key.ensures.sorted (λ a r f k. search rules)) in
-    IfOk-weaker c.entries_at_ranks.result _ _ (λ ranked is.
-    let same = is ∙ ap (map (ranked_at all)) c.deref.ensures.value in
-    record { moved = subst (IsPermutation (leveled level all)) (sym same) moved; in_order = subst (IsSortedBy ranks_before) (sym same) in_order }) c.entries_at_ranks.ensures
+    let entries = c.args.entries.now in
+    let levels = c.args.levels.now in
+    let all = c.mark.new.marked.items in
+    let some = c.retain.new.self.items in
+    let marked = c.sort_unstable_by_key.new.self.items in
+    let none = (c.in_ok-marked.ensures {u = tt}).items in
+    let entries_are : marked_entries all ≡ entries = c.in_ok-mark.ensures.entries ∙ ap (λ l. marked_entries l ++ entries) none in
+    let levels_are : marked_levels all ≡ levels = c.in_ok-mark.ensures.levels (ap length by ∙ length-map entries level) ∙ ap (λ l. marked_levels l ++ levels) none in
+    let kept : some ≡ filter (λ (m : Marked). nat_lt 0 m.level) all = filter_same _ (λ (m : Marked). nat_lt 0 m.level) _ (λ x b q r. (search rules, search rules)) all _ c.retain.ensures.filtered in
+    let listed : map ranked_as some ≡ leveled level entries =
+    ap (map ranked_as) kept ∙ (ranked_marked level all (levels_are ∙ (by ∙ ap (map level) (sym entries_are))) ∙ ap (leveled level) entries_are) in
+    let moved : IsPermutation (leveled level entries) (map ranked_as marked) =
+    subst (λ l. IsPermutation l (map ranked_as marked)) listed (IsPermutation-map ranked_as some marked c.sort_unstable_by_key.ensures.permutation) in
+    let in_order : IsSortedBy ranks_before (map ranked_as marked) =
+    sorted_map ranked_as ranks_before marked (sorted_by_both (λ (m : Marked). (m.level, m.entry.now.id)) marked c.sort_unstable_by_key.ensures.sorted (λ a r f k. search rules)) in
+    IfOk-weaker c.ranked_of.result _ _ (λ ranked is.
+    let same = is ∙ ap (map ranked_as) c.deref.ensures.value in
+    record { moved = subst (IsPermutation (leveled level entries)) (sym same) moved; in_order = subst (IsSortedBy ranks_before) (sym same) in_order }) c.ranked_of.ensures

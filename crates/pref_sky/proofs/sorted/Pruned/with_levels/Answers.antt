@@ -1,4 +1,4 @@
-use Rattle.pref_sky.proofs.Common.{◌∙◌, ◌++◌, ap, get_or, map, subst, sym, AreSorted, level_of, own_order}
+use Rattle.pref_sky.proofs.Common.{◌∙◌, ◌++◌, ap, get_or, map, subst, sym, AreSorted, IsPermutation, level_of, own_order}
 use Rattle.pref_sky.proofs.HeldLaws.{held_among}
 use Rattle.pref_sky.proofs.ListLaws.{in_left, same_if_permuted}
 use Rattle.pref_sky.specs.Held.{AreHeld, AreTakenOver}
@@ -22,6 +22,6 @@ returns c =
     let fn = c.args.self.now in
     let all = c.in_ok-entries.field-0.entries.items in
     record {
-      sorted = subst (λ l. AreSorted fn.order (l ++ c.args.recent.now) all) c.deref.ensures.value (c.in_ok-entries.ensures.sorted);
+      moved = subst (λ l. IsPermutation (l ++ c.args.recent.now) all) c.deref.ensures.value (c.in_ok-entries.ensures.sorted).moved;
       level = c.in_ok-levels.ensures {u = tt} ∙ ap (λ l. map (level_of (own_order fn.order) l fn.order.cut) l) c.deref-4.ensures.value;
     }

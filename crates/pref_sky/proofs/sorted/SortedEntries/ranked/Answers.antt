@@ -12,5 +12,5 @@ returns c =
     let are : AreLeveled fn.order held all levels = subst (λ l. AreLeveled fn.order (fn.entries.items ++ l) all levels) c.deref.ensures.value (c.in_ok-entries.ensures {u = tt}) in
     let level = level_of (own_order fn.order) all fn.order.cut in
     IfOk-weaker c.in_order_of_level.result _ _ (λ ranked listed.
-    ranked_levels fn.order held all c.args.self.now.ids are.sorted ranked.items (subst (λ l. AreInRanks (leveled level l) ranked.items) c.deref-2.ensures.value listed))
+    ranked_levels fn.order held all c.args.self.now.ids are.moved ranked.items (subst (λ l. AreInRanks (leveled level l) ranked.items) c.deref-2.ensures.value listed))
     (c.in_order_of_level.ensures level (c.deref-3.ensures.value ∙ (are.level ∙ ap (map level) (sym c.deref-2.ensures.value))))

@@ -1,35 +1,42 @@
-use Rattle.pref_sky.proofs.Common.{refl, ◌∙◌, arith}
-use Rattle.pref_sky.proofs.SweepLaws.{at_level_of, found_begun, stands_there, steps_inside, swept_below, swept_put}
+use Rattle.pref_sky.proofs.Common.{◌∙◌, arith, subst, sym}
+use Rattle.pref_sky.proofs.SweepLaws.{above_within, are_places, at_level_of, stands_there, swept_below, swept_put}
+use Rattle.pref_sky.specs.Leads.{first_of, second_of, third_of}
+use Rattle.pref_sky.specs.Sweep.{IsClass}
 use Rattle.std.proofs.lemmas.Result.{on_ok_weaker}
 use Rattle.pref_sky.proofs.sweep.Sweep.put.Goals as goal
 
-pub returns-then-self-order : goal.returns-then-self-order
-returns-then-self-order c = swept_below _ _ _ c.requires.swept.swept c.args.place c.requires.inside c.args.self.now c.requires.so_far c.requires.above c.if-self-order.true
+pub returns-then-self-order-clause-so_far : goal.returns-then-self-order-clause-so_far
+returns-then-self-order-clause-so_far c =
+    let old = c.args.self.now in
+    swept_below _ _ _ c.requires.swept.swept c.args.place c.requires.inside old.class old.levels.items old.above c.requires.so_far c.requires.above c.if-self-order.true
 
 pub index_mut-requires : goal.index_mut-requires
 index_mut-requires c =
-    let begun = c.in_ok-begin_level.ensures {u = tt} in
-    let has = found_begun _ _ _ c.requires.swept.swept c.args.place c.requires.inside c.args.self.now c.begin_level.new.self c.requires.so_far c.requires.above c.if-self-order.false begun in
-    omega (arith, has.there)
+    let old = c.args.self.now in
+    let within = above_within _ _ _ c.requires.swept.swept c.args.place c.requires.inside old.class old.levels.items old.above c.requires.so_far c.requires.above c.if-self-order.false in
+    let begun = c.in_ok-begin_level.ensures.so_far _ _ _ _ _ _ _ _ c.requires.so_far c.if-self-order.false within in
+    omega (arith, begun.1)
 
-pub put-requires-clause-steps : goal.put-requires-clause-steps
-put-requires-clause-steps c =
+pub put-requires-clause-places : goal.put-requires-clause-places
+put-requires-clause-places c =
     let swept = c.requires.swept.swept in
     let inside = c.requires.inside in
+    let old = c.args.self.now in
     let next = c.begin_level.new.self in
-    let begun = c.in_ok-begin_level.ensures {u = tt} in
-    let has = found_begun _ _ _ swept c.args.place inside c.args.self.now next c.requires.so_far c.requires.above c.if-self-order.false begun in
-    steps_inside inside (stands_there _ _ _ swept c.args.place inside next next.above c.index_mut.result.now has.found has.there c.index_mut.ensures.value)
+    let within = above_within _ _ _ swept c.args.place inside old.class old.levels.items old.above c.requires.so_far c.requires.above c.if-self-order.false in
+    let begun = c.in_ok-begin_level.ensures.so_far _ _ _ _ _ _ _ _ c.requires.so_far c.if-self-order.false within in
+    are_places inside (stands_there _ _ _ swept c.args.place inside next.class next.levels.items next.above c.index_mut.result.now begun.0 begun.1 c.index_mut.ensures.value)
 
-pub returns : goal.returns
-returns c =
+pub returns-clause-so_far : goal.returns-clause-so_far
+returns-clause-so_far c =
     let swept = c.requires.swept.swept in
     let inside = c.requires.inside in
+    let old = c.args.self.now in
     let next = c.begin_level.new.self in
-    let begun = c.in_ok-begin_level.ensures {u = tt} in
-    let has = found_begun _ _ _ swept c.args.place inside c.args.self.now next c.requires.so_far c.requires.above c.if-self-order.false begun in
-    let above = has.above ∙ c.requires.above in
-    let stands = stands_there _ _ _ swept c.args.place inside next next.above c.index_mut.result.now has.found has.there c.index_mut.ensures.value in
-    let at = at_level_of _ c.args.order.now.cut _ _ next.above (omega (arith, has.there, has.found.within)) above in
-    on_ok_weaker c.put.result (λ put. swept_put _ _ _ swept c.args.place inside next _ c.put.new.self has.found above has.there put refl refl refl)
-    (c.put.ensures c.requires.swept has.found.class stands at)
+    let within = above_within _ _ _ swept c.args.place inside old.class old.levels.items old.above c.requires.so_far c.requires.above c.if-self-order.false in
+    let begun = c.in_ok-begin_level.ensures.so_far _ _ _ _ _ _ _ _ c.requires.so_far c.if-self-order.false within in
+    let above = c.begin_level.ensures.same.1 ∙ c.requires.above in
+    let stands = stands_there _ _ _ swept c.args.place inside next.class next.levels.items next.above c.index_mut.result.now begun.0 begun.1 c.index_mut.ensures.value in
+    let at = at_level_of _ c.args.order.now.cut _ _ next.above (omega (arith, begun.1, begun.0.within)) above in
+    on_ok_weaker c.put.result (λ put. swept_put _ _ _ swept c.args.place inside next.class next.levels.items next.above _ begun.0 above begun.1 put)
+    (c.put.ensures c.requires.swept (subst (λ class. IsClass (first_of c.args.order.now c.args.lead.now) (second_of c.args.order.now c.args.lead.now) (third_of c.args.order.now c.args.lead.now) c.args.entries.now class c.args.place) (sym c.begin_level.ensures.same.0) c.requires.class) stands at)
