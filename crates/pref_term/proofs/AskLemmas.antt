@@ -1,15 +1,14 @@
 -- What the parts of the reader promise that read what stands around a term, and skyline clauses.
-use Rattle.pref_term.proofs.Common.{◌≡◌, arith, ℕ, List, [], ◌∷◌, ◌++◌, length, map, Bool, true, false, Option, Some, None, Ok, refl, sym, ap, subst, ◌∙◌, append-nil, ◌≢◌, All, IfSome, cond}
-use Rattle.pref_term.proofs.Common.{All-append, comma, Token, word, digits, sign, finish, Placed, best_word, by_word, keyword_of, skyline_word, of_word}
+use Rattle.pref_term.proofs.Common.{◌≡◌, arith, ℕ, List, [], ◌∷◌, ◌++◌, length, map, Bool, true, false, Option, Some, None, Ok, refl, sym, ap, subst, ◌∙◌, append-nil, All, IfSome, cond}
+use Rattle.pref_term.proofs.Common.{All-append, comma, word, digits, sign, finish, Placed, best_word, by_word, keyword_of, skyline_word, of_word}
 use Rattle.pref_term.proofs.Common.{cased_of, Direction, minimal, maximal, different, direction_word, DimText, HeadText, best_head, PriorText}
-use Rattle.pref_term.proofs.Common.{AskText, rated, name, mark, column_name, count_digits, cased, last, Names, column_at, mode_of, order_by, group_by, orders_of, groups_of, product_of, bad_count}
+use Rattle.pref_term.proofs.Common.{AskText, name, column_name, count_digits, cased, last, Names, column_at, mode_of, order_by, group_by, orders_of, groups_of, product_of, bad_count}
 use Rattle.pref_term.proofs.Common.{State, start, operand, whole, in_whole, ranked, group_due, skyline_named, dim_due, dim_named, run, done}
 use Rattle.pref_term.proofs.Common.{directed, begun, of_named, next, meant, Goes, Fails, Passes, IsKnown, IsTermOf, NotNext, IsOther}
 use Rattle.pref_term.proofs.Common.{WantsColumn, TakesColumn, ReadsPrior, Asks, TakesCount, FailsCount, ReadsSomeColumns, ReadsColumns, FailsColumns}
 use Rattle.pref_term.proofs.Common.{ReadsGrouping, FailsGrouping, TakesDirection, FailsDirection, ReadsDim, FailsDim, with_order, ReadsDims, ReadsClause, FailsClause, PassesOf}
 use Rattle.pref_term.proofs.Common.{Preference, scored, pareto, prior, reverse, ReadsBelow, IsWritable, Question, FitsWidth, IsAsk, IsSkyline, IsCount, cut_of, Mode, Best, TopLevel}
 use Rattle.pref_term.proofs.Common.{AtLeast, TermFault, with_next, dims_listed, group_listed, Result, Err, IsErrAnd, UnlessMemory, Gives, AsksClause, CountKind, levels, rows, count_word, count_head, count_due}
-use Rattle.std.specs.Str.Parse.{digits_value}
 use Rattle.std.proofs.lemmas.List.Sums.{fold-append}
 use Rattle.std.proofs.lemmas.Grind.{flat_map-append}
 use Rattle.pref_term.proofs.GrammarComplete.{dim_of, direction_next}
@@ -26,15 +25,6 @@ wants_group head r some = record { takes = λ letters. refl; only = λ t n. grin
 
 column_goes : (names : Names) (ts us : List Placed) (col : ℕ) (s : State) (behind : List ℕ → State) → WantsColumn s behind → (t : TakesColumn names ts col us) → Goes names s ts (behind t.letters) us
 column_goes names ts us col s behind w t = passes_goes names (word t.letters) ts us s (behind t.letters) (column_name t.letters) t.passes (w.takes t.letters) (column_good names t.letters col t.found.place)
-
-group_comma : (head : HeadText) (r : PriorText) (some : List (List ℕ)) (letters : List ℕ) → next (with_next (group_listed head r) some letters) (sign comma) ≡ Some (mark comma, group_due head r (some ++ letters ∷ []))
-group_comma head r some letters = grind arith
-
-group_finish : (head : HeadText) (r : PriorText) (some : List (List ℕ)) (letters : List ℕ) → next (with_next (group_listed head r) some letters) finish ≡ Some (last, done (rated head r (some ++ letters ∷ [])))
-group_finish head r some letters = grind arith
-
-group_stuck : (head : HeadText) (r : PriorText) (some : List (List ℕ)) (letters : List ℕ) (u : Token) → u ≢ sign comma → u ≢ finish → next (with_next (group_listed head r) some letters) u ≡ None
-group_stuck head r some letters = grind (arith)
 
 -- ---- the columns of a group
 
@@ -55,7 +45,7 @@ module _ (names : Names) (ts us vs : List Placed) (columns : List ℕ) (col : �
         some = r.some ++ t.letters ∷ [];
         meaning = columns_are;
         known = columns_known;
-        goes = λ head p. sign_behind names ts vs ws _ _ _ comma (columns_go head p) c (group_comma head p r.some t.letters);
+        goes = λ head p. sign_behind names ts vs ws _ _ _ comma (columns_go head p) c (grind arith);
       }
 
   pub columns_all : Passes finish vs [] → ReadsColumns names ts (columns ++ col ∷ [])
@@ -64,11 +54,11 @@ module _ (names : Names) (ts us vs : List Placed) (columns : List ℕ) (col : �
         some = r.some ++ t.letters ∷ [];
         meaning = columns_are;
         known = columns_known;
-        goes = λ head p. ended names ts vs _ _ _ (columns_go head p) c (group_finish head p r.some t.letters);
+        goes = λ head p. ended names ts vs _ _ _ (columns_go head p) c (grind arith);
       }
 
   pub columns_stuck : (f : TermFault) → NotNext finish vs → IsOther (sign comma) vs f → FailsColumns names ts f
-  columns_stuck f nf nc head p = goes_fails names _ _ ts vs f (columns_go head p) (neither_fails names (sign comma) finish vs f _ nc nf (group_stuck head p r.some t.letters))
+  columns_stuck f nf nc head p = goes_fails names _ _ ts vs f (columns_go head p) (neither_fails names (sign comma) finish vs f _ nc nf (λ u nc nf. grind (arith)))
 
 -- ---- the group
 
@@ -103,12 +93,6 @@ rated_group_fails names ts us p f r g head = goes_fails names _ _ ts us f (r.pro
 
 pub wants_dim : (s o : List ℕ) (some : List DimText) → WantsColumn (dim_due s o some) (λ letters. dim_named s o some letters)
 wants_dim s o some = record { takes = λ letters. refl; only = λ t n. grind arith }
-
-dim_comma : (s o : List ℕ) (some : List DimText) (d : DimText) → next (with_next (dims_listed s o) some d) (sign comma) ≡ Some (mark comma, dim_due s o (some ++ d ∷ []))
-dim_comma s o some d = grind arith
-
-dim_stuck : (s o : List ℕ) (some : List DimText) (d : DimText) (u : Token) → u ≢ sign comma → u ≢ finish → next (with_next (dims_listed s o) some d) u ≡ None
-dim_stuck s o some d = grind (arith)
 
 pub dim_read : (names : Names) (ts us vs : List Placed) (col : ℕ) (d : Direction) → TakesColumn names ts col us → TakesDirection us d vs → ReadsDim names ts col d vs
 dim_read names ts us vs col d t g =
@@ -162,7 +146,7 @@ module _ (names : Names) (ts us vs : List Placed) (product : Option Preference) 
         group_is = groups_are;
         product_known = product_known_more names product d col l.found.known r.product_known;
         group_known = group_known_more names group d col l.found.known r.group_known;
-        goes = λ s o. sign_behind names ts vs ws _ _ _ comma (dims_go s o) c (dim_comma s o r.dims l.dim);
+        goes = λ s o. sign_behind names ts vs ws _ _ _ comma (dims_go s o) c (grind arith);
       }
 
   pub dims_all : Passes finish vs [] → ReadsClause names ts (with_order product d col) (group ++ group_by d col)
@@ -173,7 +157,7 @@ module _ (names : Names) (ts us vs : List Placed) (product : Option Preference) 
       go k m (x ∷ xs) e f g = record { first = x; others = xs ++ l.dim ∷ []; product_is = e; group_is = f; product_known = k; group_known = m; goes = λ s o. ended names ts vs _ _ _ (g s o) c refl }
 
   pub dims_stuck : (f : TermFault) → NotNext finish vs → IsOther (sign comma) vs f → FailsClause names ts f
-  dims_stuck f nf nc s o = goes_fails names _ _ ts vs f (dims_go s o) (neither_fails names (sign comma) finish vs f _ nc nf (dim_stuck s o r.dims l.dim))
+  dims_stuck f nf nc s o = goes_fails names _ _ ts vs f (dims_go s o) (neither_fails names (sign comma) finish vs f _ nc nf (λ u nc nf. grind (arith)))
 
 -- ---- a skyline clause
 
@@ -208,11 +192,8 @@ count_goes names k letters ts us vs n c e t =
     goes_then names start (count_due k) _ ts us vs (count_word_goes names k letters ts us c e)
     (passes_goes names (digits t.digits_are) us vs (count_due k) _ (count_digits t.digits_are) t.passes refl (ap (λ b. cond b None (Some bad_count)) t.good))
 
-mode_said : (k : CountKind) (ds : List ℕ) (n : ℕ) → digits_value 10 ds ≡ n → mode_of (count_head k ds) ≡ count_mode k n
-mode_said k ds n e = grind (arith)
-
 pub count_asks : (names : Names) (k : CountKind) (letters : List ℕ) (ts us vs : List Placed) (n : ℕ) (r : Result Question TermFault) → Passes (word letters) ts us → keyword_of letters ≡ Some (count_word k) → TakesCount us n vs → ((head : HeadText) → mode_of head ≡ count_mode k n → Asks names false (operand (in_whole head)) vs r) → Asks names false start ts r
-count_asks names k letters ts us vs n r c e t h = goes_asks names false start _ ts vs r (count_goes names k letters ts us vs n c e t) (h (count_head k t.digits_are) (mode_said k t.digits_are n t.value))
+count_asks names k letters ts us vs n r c e t h = goes_asks names false start _ ts vs r (count_goes names k letters ts us vs n c e t) (h (count_head k t.digits_are) (grind (arith, t.value)))
 
 pub count_fails : (names : Names) (k : CountKind) (letters : List ℕ) (ts us : List Placed) (f : TermFault) → Passes (word letters) ts us → keyword_of letters ≡ Some (count_word k) → FailsCount us f → Fails names start ts f
 count_fails names k letters ts us f c e h = goes_fails names start (count_due k) ts us f (count_word_goes names k letters ts us c e) (h names k)
@@ -231,10 +212,3 @@ is_ask names p group mode h g k distinct clause = grind (arith, term_is)
 
 pub fits_width : (names : Names) (p : Preference) (group : List ℕ) (mode : Mode) → IsTermOf names p → All (IsKnown names) group → (distinct : Bool) → FitsWidth (length names) (record { preference = p; group = group; mode = mode; distinct = distinct })
 fits_width names p group mode h g distinct = let term = term_is names p h in record { preference = term.1; group = λ i d b. let a = g i d b in a.1 }
-
--- the same product and group, in other words
-pub reads_dims : (names : Names) (ts us : List Placed) (p q : Option Preference) (g h : List ℕ) → p ≡ q → g ≡ h → ReadsDims names ts q h us → ReadsDims names ts p g us
-reads_dims names ts us p q g h e f r = subst (λ (x : Option Preference). ReadsDims names ts x g us) (sym e) (subst (λ (x : List ℕ). ReadsDims names ts q x us) (sym f) r)
-
-pub reads_clause : (names : Names) (ts : List Placed) (p q : Option Preference) (g h : List ℕ) → p ≡ q → g ≡ h → ReadsClause names ts q h → ReadsClause names ts p g
-reads_clause names ts p q g h e f r = subst (λ (x : Option Preference). ReadsClause names ts x g) (sym e) (subst (λ (x : List ℕ). ReadsClause names ts q x) (sym f) r)

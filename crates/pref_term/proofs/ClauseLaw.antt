@@ -1,5 +1,5 @@
 -- What is shown of a clause that keeps one of equal rows spells it; and so does what is shown of any ask.
-use Rattle.pref_term.proofs.Common.{[], arith, ◌≡◌, ◌<◌, ◌≤◌, ℕ, List, ◌∷◌, ◌++◌, map, Bool, true, false, cond, Some, Ok, length, refl, sym, ap, ◌∙◌, append_assoc, codes, fold, AllByRecursion}
+use Rattle.pref_term.proofs.Common.{[], arith, ◌≡◌, ◌<◌, ◌≤◌, ℕ, List, ◌∷◌, ◌++◌, map, Bool, true, false, cond, Some, Ok, length, refl, sym, ap, ◌∙◌, append_assoc, codes, fold, AllByRecursion, option_map}
 use Rattle.pref_term.proofs.Common.{recursion_from_All, is_name_byte, schema_of, comma, Token, word, sign, Placed, tokens_of, minimal, maximal, different, direction_word, DimText, AskText, skyline}
 use Rattle.pref_term.proofs.Common.{Leaf, mark, column_name, cased, last, IsWritten, dim_leaves, ask_leaves, says_distinct, plain, column, high, Preference, scored, pareto, Question}
 use Rattle.pref_term.proofs.Common.{FitsWidth, IsAsk, IsClause, IsDimension, IsSkyline, Names, Spells, IsGood, tokens_in, tokens_on, orders_of, groups_of, product_of, question, name_at, nests}

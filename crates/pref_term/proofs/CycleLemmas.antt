@@ -1,6 +1,6 @@
 -- What the parts of the reader that call each other promise.
 use Rattle.pref_term.proofs.Common.{◌≡◌, ◌<◌, ◌+◌, ℕ, List, ◌∷◌, Bor, Result, true, cond, Some, None, nat_lt, refl, sym, ap, subst, ◌∙◌, arith, ◌≢◌, nat_tests, Sign}
-use Rattle.pref_term.proofs.Common.{left, right, star, ampersand, minus, Token, word, sign, Placed, reverse_word, keyword_of, based, reversed, negated, then_factor, PriorText}
+use Rattle.pref_term.proofs.Common.{left, right, star, ampersand, minus, Token, word, sign, Placed, reverse_word, keyword_of, based, reversed, negated, then_factor}
 use Rattle.pref_term.proofs.Common.{then_product, name, mark, opens, Names, own_fault, too_deep, unary_meaning, product_meaning, BaseKind, kind_word, named, UnaryHole, in_minus}
 use Rattle.pref_term.proofs.Common.{first_factor, next_factor, next_product, in_group, in_reverse, unary_depth, State, operand, reverse_named, reading, after, completed, ranked, next}
 use Rattle.pref_term.proofs.Common.{operand_word, Goes, Fails, IsOther, Passes, ReadsBase, ReadsUnary, ReadsFactors, ReadsProducts, ReadsProduct, ReadsPrior, ReadsGroup, FailsBase, NotNext, ahead, taken, seen, Unexpected, TooDeep, ◌≤◌}
@@ -36,9 +36,6 @@ group_not_opened names depth ts t e n = grind arith
 -- a nesting that opens where there is no room
 pub group_too_deep : (names : Names) (depth : ℕ) (ts us : List Placed) (at : ℕ) (f : TermFault) → (64 ≤ depth) × (f ≡ TooDeep at) → ts ≡ at_place (sign left) at ∷ us → FailsGroup names depth ts f
 group_too_deep names depth ts us at f full c = grind (arith)
-
-stuck_within : (h : UnaryHole) (r : PriorText) (u : Token) → u ≢ sign right → u ≢ sign star → u ≢ sign ampersand → (next (ranked (in_group h) r) u ≡ None) × (next (ranked (in_reverse h) r) u ≡ None)
-stuck_within h r u a b c = (grind arith, grind arith)
 
 -- a token that is none of three
 end_fails : (names : Names) (vs : List Placed) (f : TermFault) (s : State) → IsOther (sign right) vs f → NotNext (sign star) vs → NotNext (sign ampersand) vs → ((u : Token) → u ≢ sign right → u ≢ sign star → u ≢ sign ampersand → next s u ≡ None) → Fails names s vs f
@@ -79,8 +76,8 @@ module _ (names : Names) (depth inside : ℕ) (ts us : List Placed) (room : (dep
     pub group_end_fails : (f : TermFault) → IsOther (sign right) vs f → FailsGroup names depth ts f
     group_end_fails f o =
         record {
-          alone = λ _ _ h e. goes_fails names _ _ ts vs f (group_goes h e) (end_fails names vs f (ranked (in_group h) r.products.tree) o r.stops r.stops_too (λ u a b c. (stuck_within h r.products.tree u a b c).0));
-          reversed = λ h e. goes_fails names _ _ ts vs f (reverse_goes h e) (end_fails names vs f (ranked (in_reverse h) r.products.tree) o r.stops r.stops_too (λ u a b c. (stuck_within h r.products.tree u a b c).1));
+          alone = λ _ _ h e. goes_fails names _ _ ts vs f (group_goes h e) (end_fails names vs f (ranked (in_group h) r.products.tree) o r.stops r.stops_too (λ u a b c. grind arith));
+          reversed = λ h e. goes_fails names _ _ ts vs f (reverse_goes h e) (end_fails names vs f (ranked (in_reverse h) r.products.tree) o r.stops r.stops_too (λ u a b c. grind arith));
         }
 
 -- a group that is a factor
@@ -90,14 +87,11 @@ group_alone names depth ts us c (Err f) g = g.alone us c
 
 -- ---- words
 
-by_kind : (h : UnaryHole) (k : BaseKind) → operand_word h (Some (kind_word k)) ≡ Some (name (kind_word k), reading h (named k))
-by_kind h k = grind arith
-
 -- a base term behind the word that was taken
 module _ (names : Names) (k : BaseKind) (t : Lexeme) (letters : Bor (List ℕ)) (f : t.token ≡ Word letters) (word_is : keyword_of letters.now ≡ Some (kind_word k)) where
   word_goes : (h : UnaryHole) → Goes names (operand h) (taken t) (reading h (named k)) (ahead t.next)
   word_goes h =
-      passes_goes names (word letters.now) (taken t) (ahead t.next) (operand h) (reading h (named k)) (name (kind_word k)) (t.at, taken_is (taken t) t _ refl f) (ap (operand_word h) word_is ∙ by_kind h k) refl
+      passes_goes names (word letters.now) (taken t) (ahead t.next) (operand h) (reading h (named k)) (name (kind_word k)) (t.at, taken_is (taken t) t _ refl f) (ap (operand_word h) word_is ∙ grind arith) refl
 
   pub taken_read : (p : Preference) (us : List Placed) → ReadsBase names k (ahead t.next) p us → (depth : ℕ) → ReadsUnary names depth (taken t) p us
   taken_read p us b depth = record { tree = based b.tree; meaning = b.meaning; known = b.known; goes = λ h _. goes_then names (operand h) (reading h (named k)) (completed h (based b.tree)) (taken t) (ahead t.next) us (word_goes h) (b.goes h) }

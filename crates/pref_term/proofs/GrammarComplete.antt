@@ -29,12 +29,15 @@ reads_number h hole n = go n.negative n.digits
     go true ds = (_, refl, (_, refl, refl))
     go false ds = (_, refl, refl)
 
+-- items behind commas, where each leads from some of them to one more
+reads_commas : {X : Type 0} (leaves : X → List Leaf) (behind : List X → State) → ((front : List X) (x : X) → Reads (behind front) (mark comma ∷ leaves x) (behind (front ++ x ∷ []))) → (front xs : List X) → Reads (behind front) (after_commas leaves xs) (behind (front ++ xs))
+reads_commas leaves behind each front [] = ap behind (sym (append-nil front))
+reads_commas {X} leaves behind each front (x ∷ xs) =
+    subst (λ (ys : List X). Reads (behind front) (after_commas leaves (x ∷ xs)) (behind ys)) (append_assoc front (x ∷ []) xs)
+    (reads_on (behind front) (mark comma ∷ leaves x) (after_commas leaves xs) (behind (front ++ x ∷ [])) _ (each front x) (reads_commas leaves behind each (front ++ x ∷ []) xs))
+
 reads_others : (h : UnaryHole) (l : NumberList) (first : NumberText) (front ns : List NumberText) → Reads (reading h (listed l first front)) (after_commas number_leaves ns) (reading h (listed l first (front ++ ns)))
-reads_others h l first front [] = ap (λ ns. reading h (listed l first ns)) (sym (append-nil front))
-reads_others h l first front (n ∷ ns) =
-    let here = reading h (listed l first (front ++ n ∷ [])) in
-    let more = subst (λ (ms : List NumberText). Reads here (after_commas number_leaves ns) (reading h (listed l first ms))) (append_assoc front (n ∷ []) ns) (reads_others h l first (front ++ n ∷ []) ns) in
-    (_, refl, reads_on (reading h (number_due (next_of l (first ∷ front)))) (number_leaves n) (after_commas number_leaves ns) here _ (reads_number h (next_of l (first ∷ front)) n) more)
+reads_others h l first = reads_commas number_leaves (λ ns. reading h (listed l first ns)) (λ front n. (_, refl, reads_number h (next_of l (first ∷ front)) n))
 
 -- the sign that closes a list of numbers ends it
 pub list_ends : (h : UnaryHole) (l : NumberList) (first : NumberText) (others : List NumberText) → next (reading h (listed l first others)) (sign (closing l)) ≡ Some (mark (closing l), stepped h (list_closed l first others))
@@ -51,11 +54,7 @@ reads_set : (h : UnaryHole) (column : List ℕ) (sets : List SetText) (s : SetTe
 reads_set h column sets s = (_, refl, reads_list h (in_set column sets) s.first s.others)
 
 reads_sets : (h : UnaryHole) (column : List ℕ) (first : SetText) (front ss : List SetText) → Reads (reading h (sets_listed column first front)) (after_commas set_leaves ss) (reading h (sets_listed column first (front ++ ss)))
-reads_sets h column first front [] = ap (λ ss. reading h (sets_listed column first ss)) (sym (append-nil front))
-reads_sets h column first front (s ∷ ss) =
-    let here = reading h (sets_listed column first (front ++ s ∷ [])) in
-    let more = subst (λ (ts : List SetText). Reads here (after_commas set_leaves ss) (reading h (sets_listed column first ts))) (append_assoc front (s ∷ []) ss) (reads_sets h column first (front ++ s ∷ []) ss) in
-    (_, refl, reads_on (reading h (set_due column (first ∷ front))) (set_leaves s) (after_commas set_leaves ss) here _ (reads_set h column (first ∷ front) s) more)
+reads_sets h column first = reads_commas set_leaves (λ ss. reading h (sets_listed column first ss)) (λ front s. (_, refl, reads_set h column (first ∷ front) s))
 
 reads_base : (b : BaseText) (h : UnaryHole) → Reads (operand h) (base_leaves b) (completed h (based b))
 reads_base (low_text column) h = (_, refl, (_, refl, (_, refl, (_, refl, refl))))
@@ -120,15 +119,11 @@ reads_head best_head = (_, refl, refl)
 reads_head (top_level_head count) = (_, refl, (_, refl, refl))
 reads_head (at_least_head count) = (_, refl, (_, refl, refl))
 
-reads_columns : (head : HeadText) (r : PriorText) (first : List ℕ) (front columns : List (List ℕ)) → Reads (group_listed head r first front) (after_commas column_leaves columns ++ last ∷ []) (done (rated head r (first ∷ (front ++ columns))))
-reads_columns head r first front [] = (_, refl, ap (λ cs. done (rated head r (first ∷ cs))) (sym (append-nil front)))
-reads_columns head r first front (c ∷ cs) =
-    let more = reads_columns head r first (front ++ c ∷ []) cs in
-    (_, refl, (_, refl, subst (λ (xs : List (List ℕ)). Reads (group_listed head r first (front ++ c ∷ [])) (after_commas column_leaves cs ++ last ∷ []) (done (rated head r (first ∷ xs)))) (append_assoc front (c ∷ []) cs) more))
-
 reads_group : (head : HeadText) (r : PriorText) (group : List (List ℕ)) → Reads (ranked (whole head) r) (group_leaves group ++ last ∷ []) (done (rated head r group))
 reads_group head r [] = (_, ranked_whole head r, refl)
-reads_group head r (c ∷ cs) = (_, ranked_by head r, (_, refl, reads_columns head r c [] cs))
+reads_group head r (c ∷ cs) =
+    let more = reads_commas column_leaves (λ ds. group_listed head r c ds) (λ front d. (_, refl, (_, refl, refl))) [] cs in
+    (_, ranked_by head r, (_, refl, reads_on (group_listed head r c []) (after_commas column_leaves cs) (last ∷ []) (group_listed head r c cs) _ more (_, refl, refl)))
 
 -- ---- words in any case
 
@@ -300,8 +295,7 @@ ends_dim s o dims = first_reads _ (column_name x_name) (dim_named s o dims x_nam
 
 -- each state but the end can be completed
 pub can_end : (s : State) → CanEnd s
-can_end start =
-    first_reads start (name best_word) (operand (in_whole best_head)) refl (ends_operand (in_whole best_head))
+can_end start = first_reads start (name best_word) (operand (in_whole best_head)) refl (ends_operand (in_whole best_head))
 can_end (operand h) = ends_operand h
 can_end (reverse_named h) = first_reads (reverse_named h) (opens (unary_depth h) left) (operand (first_factor (first_product (in_reverse h)))) refl (ends_operand (first_factor (first_product (in_reverse h))))
 can_end (reading h b) = ends_part h b

@@ -1,16 +1,16 @@
 -- What was read up to a state grows by the leaf of each token.
-use Rattle.pref_term.proofs.Common.{◌≡◌, ℕ, List, [], ◌∷◌, ◌++◌, Bool, true, false, Option, Some, None, cond, refl, sym, ap, subst, ◌∙◌, append_assoc, append-nil, IfSome, find, bytes_eq}
-use Rattle.pref_term.proofs.Common.{str_to_ascii_lowercase, bytes_eq-Decides, left, right, comma, star, ampersand, minus, left_brace, right_brace, Token, word, digits, sign, finish, Keyword}
-use Rattle.pref_term.proofs.Common.{best_word, top_level_word, at_least_word, by_word, CasedWord, skyline_word, of_word, min_word, max_word, diff_word, letters_of, outer_words, base_words, keyword_of}
-use Rattle.pref_term.proofs.Common.{cased_letters, cased_of, HeadText, minimal, maximal, different, DimText, dim_leaves, IsWritten, NumberText, PriorText, ProductText}
-use Rattle.pref_term.proofs.Common.{UnaryText, negated, grouped, reversed, based, Leaf, name, mark, column_name, cased, number_leaves, base_leaves, prior_leaves, product_leaves}
-use Rattle.pref_term.proofs.Common.{unary_leaves, token_of, signed_leaves, layered_word, SetText, set_leaves, low_kind, high_kind, around_kind, pos_kind, NumberHole, centre_of}
-use Rattle.pref_term.proofs.Common.{next_of, BasePart, named, opened, columned, number_due, number_signed, centred, listed, hole_leaves, part_leaves, BaseStep, part, whole_base, filled, base_next}
-use Rattle.pref_term.proofs.Common.{PriorHole, whole, in_group, in_reverse, ProductHole, first_product, next_product, UnaryHole, first_factor, next_factor, in_minus, prior_depth, product_depth}
+use Rattle.pref_term.proofs.Common.{arith, ◌≡◌, ℕ, List, [], ◌∷◌, ◌++◌, Bool, true, false, Option, Some, None, refl, sym, ap, subst, ◌∙◌, append_assoc, append-nil, IfSome, find, bytes_eq}
+use Rattle.pref_term.proofs.Common.{str_to_ascii_lowercase, bytes_eq-Decides, left, right, comma, star, ampersand, left_brace, right_brace, Token, word, digits, sign, finish, Keyword}
+use Rattle.pref_term.proofs.Common.{CasedWord, skyline_word, of_word, min_word, max_word, diff_word, letters_of, outer_words, base_words, keyword_of}
+use Rattle.pref_term.proofs.Common.{cased_letters, cased_of, HeadText, DimText, dim_leaves, IsWritten, NumberText, PriorText, ProductText}
+use Rattle.pref_term.proofs.Common.{UnaryText, negated, based, Leaf, name, mark, column_name, cased, number_leaves, base_leaves, prior_leaves, product_leaves}
+use Rattle.pref_term.proofs.Common.{unary_leaves, token_of, signed_leaves, layered_word, SetText, set_leaves, NumberHole}
+use Rattle.pref_term.proofs.Common.{next_of, BasePart, columned, number_due, number_signed, listed, hole_leaves, part_leaves, BaseStep, part, whole_base, filled, base_next}
+use Rattle.pref_term.proofs.Common.{PriorHole, ProductHole, first_product, next_product, UnaryHole, first_factor, next_factor, in_minus, prior_depth, product_depth}
 use Rattle.pref_term.proofs.Common.{unary_depth, before_prior, before_product, before_unary, State, start, operand, reverse_named, reading, after, group_due}
-use Rattle.pref_term.proofs.Common.{group_listed, skyline_named, dim_due, dim_named, dims_listed, read_of, completed, outer, closed, begun, of_named, directed}
-use Rattle.pref_term.proofs.Common.{grouped_by, operand_word, carried, parted, finished, next, between_kind, start_of, end_of, least_of, ranged, range_ended, layered_kind, in_pos, in_set, set_due}
-use Rattle.pref_term.proofs.Common.{sets_listed, after_commas, column_leaves, before_next, with_next, count_due, levels, rows}
+use Rattle.pref_term.proofs.Common.{group_listed, skyline_named, dim_named, dims_listed, read_of, completed, outer, closed, begun, of_named, directed}
+use Rattle.pref_term.proofs.Common.{grouped_by, operand_word, carried, parted, finished, next, end_of, least_of, range_ended, in_pos, in_set, set_due}
+use Rattle.pref_term.proofs.Common.{sets_listed, after_commas, column_leaves, before_next, with_next, count_due}
 
 -- one more at the end of some
 after_last : {X : Type 0} (leaves : X → List Leaf) (xs : List X) (x : X) → after_commas leaves (xs ++ x ∷ []) ≡ after_commas leaves xs ++ mark comma ∷ leaves x
@@ -18,11 +18,10 @@ after_last leaves [] x = simp append-nil
 after_last leaves (y ∷ ys) x = rw (after_last leaves ys x) (simp append_assoc)
 
 pub hole_filled : (h : NumberHole) (n : NumberText) → part_leaves (filled h n) ≡ hole_leaves h ++ signed_leaves (least_of h) n.negative n.digits
-hole_filled (centre_of column) n = refl
-hole_filled (start_of column) n = refl
 hole_filled (end_of column l) n = simp append_assoc
 hole_filled (next_of l []) n = simp append-nil
 hole_filled (next_of l (first ∷ others)) n = rw (after_last number_leaves others n) (simp append_assoc)
+hole_filled h n = refl
 
 -- a set behind others
 set_regrouped : (a b n o : List Leaf) (c l r : Leaf) → a ++ (b ++ c ∷ l ∷ (n ++ (o ++ r ∷ []))) ≡ (((a ++ (b ++ c ∷ [])) ++ l ∷ []) ++ (n ++ o)) ++ r ∷ []
@@ -43,19 +42,9 @@ abbrev pub Grows : List Leaf → Token → Leaf → List Leaf → Type 0
 Grows before t leaf now = (token_of leaf ≡ t) × (now ≡ before ++ leaf ∷ []) × IsWritten leaf
 
 pub base_grows : (b : BasePart) (t : Token) → IfSome (base_next b t) (λ r. Grows (part_leaves b) t r.0 (step_leaves r.1))
-base_grows (named k) (sign left) = (refl, refl, tt)
-base_grows (opened k) (word letters) = (refl, refl, tt)
-base_grows (columned low_kind column) (sign right) = (refl, refl, tt)
-base_grows (columned high_kind column) (sign right) = (refl, refl, tt)
-base_grows (columned around_kind column) (sign comma) = (refl, refl, tt)
-base_grows (columned between_kind column) (sign comma) = (refl, refl, tt)
-base_grows (columned pos_kind column) (sign comma) = (refl, refl, tt)
-base_grows (columned layered_kind column) (sign comma) = (refl, refl, tt)
-base_grows (number_due n) (sign minus) = (refl, refl, tt)
 base_grows (number_due n) (digits ds) = (refl, hole_filled n (record { negative = false; digits = ds }), tt)
 base_grows (number_signed n) (digits ds) = (refl, hole_filled n (record { negative = true; digits = ds }) ∙ simp append_assoc, tt)
-base_grows (centred column centre) (sign right) = (refl, refl, tt)
-base_grows (ranged column l) (sign comma) = (refl, refl, tt)
+base_grows (columned k column) t = grind arith
 base_grows (range_ended column l r) (sign right) = (refl, simp append_assoc, tt)
 base_grows (listed l first others) (sign comma) = (refl, simp append_assoc, tt)
 base_grows (listed (in_pos column) first others) (sign right) = (refl, simp append_assoc, tt)
@@ -65,7 +54,7 @@ base_grows (listed (in_set column sets) first others) _ = tt
 base_grows (set_due column sets) (sign left_brace) = (refl, simp append-nil, tt)
 base_grows (sets_listed column first others) (sign comma) = (refl, simp append_assoc, tt)
 base_grows (sets_listed column first others) (sign right) = (refl, simp append_assoc, tt)
-base_grows _ _ = tt
+base_grows b t = grind arith
 
 -- a whole factor stands behind what was read before it
 pub completed_read : (h : UnaryHole) (u : UnaryText) → read_of (completed h u) ≡ before_unary h ++ unary_leaves u (unary_depth h)
@@ -81,11 +70,7 @@ closed_read (next_product h r) p = simp append_assoc
 -- what a search finds passes the test
 pub find_passes : {A : Type 0} (test : A → Bool) (xs : List A) → IfSome (find test xs) (λ x. test x ≡ true)
 find_passes test [] = tt
-find_passes {A} test (x ∷ xs) = go (test x) refl (find_passes test xs)
-  where
-    go : (b : Bool) → test x ≡ b → IfSome (find test xs) (λ y. test y ≡ true) → IfSome (cond b (Some x) (find test xs)) (λ y. test y ≡ true)
-    go true e h = e
-    go false e h = h
+find_passes test (x ∷ xs) = grind (arith, find_passes test xs)
 
 pub keyword_letters : (letters : List ℕ) → IfSome (keyword_of letters) (λ k. letters_of k ≡ letters)
 keyword_letters letters = go (keyword_of letters) (find_passes (λ k. bytes_eq (letters_of k) letters) (outer_words ++ base_words))
@@ -103,15 +88,10 @@ cased_written letters = go (cased_of letters) (find_passes (λ k. bytes_eq (case
     go (Some k) h = (bytes_eq-Decides (cased_letters k) (str_to_ascii_lowercase letters)).0 h
 
 begun_grows : (letters : List ℕ) (o : Option Keyword) (c : Option CasedWord) → IfSome o (λ k. letters_of k ≡ letters) → IfSome c (λ k. IsWritten (cased k letters)) → IfSome (begun letters o c) (λ r. Grows (read_of start) (word letters) r.0 (read_of r.1))
-begun_grows letters (Some best_word) c h w = (ap word h, refl, tt)
-begun_grows letters (Some top_level_word) c h w = (ap word h, refl, tt)
-begun_grows letters (Some at_least_word) c h w = (ap word h, refl, tt)
-begun_grows letters None (Some skyline_word) h w = (refl, refl, w)
-begun_grows letters _ _ h w = tt
+begun_grows letters o c h w = grind (arith)
 
 of_grows : (s letters : List ℕ) (c : Option CasedWord) → IfSome c (λ k. IsWritten (cased k letters)) → IfSome (of_named s letters c) (λ r. Grows (read_of (skyline_named s)) (word letters) r.0 (read_of r.1))
-of_grows s letters (Some of_word) w = (refl, refl, w)
-of_grows s letters _ w = tt
+of_grows s letters c w = grind (arith)
 
 column_listed : (head : HeadText) (r : PriorText) (columns : List (List ℕ)) (column : List ℕ) → read_of (with_next (group_listed head r) columns column) ≡ read_of (group_due head r columns) ++ column_name column ∷ []
 column_listed head r [] column = simp append_assoc
@@ -122,22 +102,13 @@ dim_listed s o [] d = simp append-nil
 dim_listed s o (e ∷ es) d = rw (after_last dim_leaves es d) (simp append_assoc)
 
 directed_grows : (s o : List ℕ) (dims : List DimText) (column letters : List ℕ) (c : Option CasedWord) → IfSome c (λ k. IsWritten (cased k letters)) → IfSome (directed s o dims column letters c) (λ r. Grows (read_of (dim_named s o dims column)) (word letters) r.0 (read_of r.1))
-directed_grows s o dims column letters (Some min_word) w = (refl, dim_listed s o dims (record { column = column; direction = minimal; written = letters }) ∙ simp append_assoc, w)
-directed_grows s o dims column letters (Some max_word) w = (refl, dim_listed s o dims (record { column = column; direction = maximal; written = letters }) ∙ simp append_assoc, w)
-directed_grows s o dims column letters (Some diff_word) w = (refl, dim_listed s o dims (record { column = column; direction = different; written = letters }) ∙ simp append_assoc, w)
-directed_grows s o dims column letters _ w = tt
+directed_grows s o dims column letters c w = grind (arith, append_assoc, dim_listed)
 
 grouped_by_grows : (h : PriorHole) (r : PriorText) (o : Option Keyword) (letters : List ℕ) → IfSome o (λ k. letters_of k ≡ letters) → IfSome (grouped_by h r o) (λ x. Grows (before_prior h ++ prior_leaves r (prior_depth h)) (word letters) x.0 (read_of x.1))
-grouped_by_grows (whole head) r (Some by_word) letters e = (ap word e, simp append_assoc, tt)
-grouped_by_grows _ r _ letters e = tt
+grouped_by_grows h r o letters e = grind (arith, append_assoc)
 
 operand_word_grows : (h : UnaryHole) (o : Option Keyword) (letters : List ℕ) → IfSome o (λ k. letters_of k ≡ letters) → IfSome (operand_word h o) (λ r. Grows (before_unary h) (word letters) r.0 (read_of r.1))
-operand_word_grows h None letters e = tt
-operand_word_grows h (Some best_word) letters e = tt
-operand_word_grows h (Some top_level_word) letters e = tt
-operand_word_grows h (Some at_least_word) letters e = tt
-operand_word_grows h (Some by_word) letters e = tt
-operand_word_grows h (Some _) letters e = (ap word e, refl, tt)
+operand_word_grows h o letters e = grind (arith)
 
 carried_grows : (h : UnaryHole) (b : BasePart) (t : Token) (o : Option (Leaf × BaseStep)) → IfSome o (λ r. Grows (part_leaves b) t r.0 (step_leaves r.1)) → IfSome (carried h o) (λ r. Grows (before_unary h ++ part_leaves b) t r.0 (read_of r.1))
 carried_grows h b t None e = tt
@@ -145,22 +116,15 @@ carried_grows h b t (Some (leaf, part c)) e = (e.0, ap (λ ls. before_unary h ++
 carried_grows h b t (Some (leaf, whole_base c)) e = (e.0, completed_read h (based c) ∙ (ap (λ ls. before_unary h ++ ls) e.1 ∙ simp append_assoc), e.2)
 
 parted_grows : (h : PriorHole) (r : PriorText) → IfSome (parted h r) (λ x. Grows (before_prior h ++ prior_leaves r (prior_depth h)) (sign right) x.0 (read_of x.1))
-parted_grows (whole head) r = tt
-parted_grows (in_group h) r = (refl, completed_read h (grouped r) ∙ simp append_assoc, tt)
-parted_grows (in_reverse h) r = (refl, completed_read h (reversed r) ∙ simp append_assoc, tt)
+parted_grows h r = grind (arith, append_assoc, completed_read)
 
 finished_grows : (h : PriorHole) (r : PriorText) → IfSome (finished h r) (λ x. Grows (before_prior h ++ prior_leaves r (prior_depth h)) finish x.0 (read_of x.1))
-finished_grows (whole head) r = (refl, simp append_assoc, tt)
-finished_grows _ r = tt
+finished_grows h r = grind (arith, append_assoc)
 
 pub next_grows : (s : State) (t : Token) → IfSome (next s t) (λ r. Grows (read_of s) t r.0 (read_of r.1))
 next_grows start (word letters) = begun_grows letters (keyword_of letters) (cased_of letters) (keyword_letters letters) (cased_written letters)
-next_grows (operand h) (sign minus) = (refl, refl, tt)
-next_grows (operand h) (sign left) = (refl, refl, tt)
 next_grows (operand h) (word letters) = operand_word_grows h (keyword_of letters) letters (keyword_letters letters)
-next_grows (reverse_named h) (sign left) = (refl, simp append_assoc, tt)
 next_grows (reading h b) t = carried_grows h b t (base_next b t) (base_grows b t)
-next_grows (after h p) (sign star) = (refl, simp append_assoc, tt)
 next_grows (after h p) (sign ampersand) = (refl, sym (ap (λ ls. ls ++ mark ampersand ∷ []) (closed_read h p) ∙ append_assoc (before_prior (outer h)) (prior_leaves (closed h p) (prior_depth (outer h))) (mark ampersand ∷ [])), tt)
 next_grows (after h p) (sign right) =
     subst (λ (ls : List Leaf). IfSome (parted (outer h) (closed h p)) (λ r. Grows ls (sign right) r.0 (read_of r.1))) (sym (closed_read h p)) (parted_grows (outer h) (closed h p))
@@ -168,14 +132,14 @@ next_grows (after h p) finish =
     subst (λ (ls : List Leaf). IfSome (finished (outer h) (closed h p)) (λ r. Grows ls finish r.0 (read_of r.1))) (sym (closed_read h p)) (finished_grows (outer h) (closed h p))
 next_grows (after h p) (word letters) =
     subst (λ (ls : List Leaf). IfSome (grouped_by (outer h) (closed h p) (keyword_of letters)) (λ r. Grows ls (word letters) r.0 (read_of r.1))) (sym (closed_read h p)) (grouped_by_grows (outer h) (closed h p) (keyword_of letters) letters (keyword_letters letters))
-next_grows (count_due levels) (digits ds) = (refl, refl, tt)
-next_grows (count_due rows) (digits ds) = (refl, refl, tt)
+next_grows (count_due k) t = grind arith
 next_grows (group_due head r columns) (word letters) = (refl, column_listed head r columns letters, tt)
+next_grows (skyline_named s) (word letters) = of_grows s letters (cased_of letters) (cased_written letters)
+next_grows (dim_named s o dims column) (word letters) = directed_grows s o dims column letters (cased_of letters) (cased_written letters)
+next_grows (reverse_named h) (sign left) = (refl, simp append_assoc, tt)
+next_grows (after h p) (sign star) = (refl, simp append_assoc, tt)
 next_grows (group_listed head r first others) (sign comma) = (refl, simp append_assoc, tt)
 next_grows (group_listed head r first others) finish = (refl, simp append_assoc, tt)
-next_grows (skyline_named s) (word letters) = of_grows s letters (cased_of letters) (cased_written letters)
-next_grows (dim_due s o dims) (word letters) = (refl, refl, tt)
-next_grows (dim_named s o dims column) (word letters) = directed_grows s o dims column letters (cased_of letters) (cased_written letters)
 next_grows (dims_listed s o first others) (sign comma) = (refl, simp append_assoc, tt)
 next_grows (dims_listed s o first others) finish = (refl, simp append_assoc, tt)
-next_grows _ _ = tt
+next_grows s t = grind arith

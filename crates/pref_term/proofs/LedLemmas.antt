@@ -126,11 +126,6 @@ err_exit r P h k = grind (arith)
 pub fault_exit : {T : Type 0} {f : TermFault} (r : Result T TermFault) (Q : T → Type 0) (P : TermFault → Type 0) → IsErrAnd r (λ g. g ≡ f) → P f → MatchResult r Q P
 fault_exit r Q P h k = grind (arith)
 
--- ---- the last sign of a base term
-
-pub around_closes : (h : UnaryHole) (column : List ℕ) (centre : NumberText) (u : Token) → u ≢ sign right → next (reading h (centred column centre)) u ≡ None
-around_closes h column centre u ne = grind arith
-
 -- ---- the numbers of a list
 
 pub all_one : {X : Type 0} (P : X → Type 0) (x : X) → P x → All P (x ∷ [])
@@ -139,15 +134,8 @@ all_one P x h = All-cons P x [] h (All-nil P)
 pub cons_not_none : {A : Type 0} {x : A} {xs : List A} → (x ∷ xs) ≢ []
 cons_not_none h = cc
 
--- behind a number of a list
-list_goes_on : (h : UnaryHole) (l : NumberList) (some : List NumberText) (n : NumberText) → next (reading h (filled (next_of l some) n)) (sign comma) ≡ Some (mark comma, reading h (number_due (next_of l (some ++ n ∷ []))))
-list_goes_on h l some n = grind arith
-
 list_closes : (h : UnaryHole) (l : NumberList) (first : NumberText) (others : List NumberText) (close : Sign) → closing l ≡ close → next (reading h (listed l first others)) (sign close) ≡ Some (mark close, stepped h (list_closed l first others))
 list_closes h l first others close e = subst (λ (s : Sign). next (reading h (listed l first others)) (sign s) ≡ Some (mark s, stepped h (list_closed l first others))) e (list_ends h l first others)
-
-list_stuck : (h : UnaryHole) (l : NumberList) (some : List NumberText) (n : NumberText) (close : Sign) → closing l ≡ close → (u : Token) → u ≢ sign comma → u ≢ sign close → next (reading h (filled (next_of l some) n)) u ≡ None
-list_stuck h l some n close e u nc nr = grind (arith)
 
 -- the first number is due
 pub some_none : (close : Sign) (ts : List Placed) → ReadsSome close ts [] ts
@@ -170,7 +158,7 @@ module _ (close : Sign) (ts us vs : List Placed) (values : List ℤ) (v : ℤ) (
         some = r.some ++ n.number ∷ [];
         fits = all_fit;
         values_are = mapped_more number_value r.some n.number values v r.values_are n.value_is;
-        goes = λ names h l e. sign_behind names ts vs ws _ _ _ comma (all_goes names h l e) c (list_goes_on h l r.some n.number);
+        goes = λ names h l e. sign_behind names ts vs ws _ _ _ comma (all_goes names h l e) c (grind arith);
       }
 
   pub some_all : (ws : List Placed) → Passes (sign close) vs ws → ReadsNumbers close ts (values ++ v ∷ []) ws
@@ -183,7 +171,7 @@ module _ (close : Sign) (ts us vs : List Placed) (values : List ℤ) (v : ℤ) (
       go (f ∷ os) e goes = record { first = f; others = os ++ n.number ∷ []; fits = all_fit; values_are = e; goes = λ names h l k. sign_behind names ts vs ws _ _ _ close (goes names h l k) c (list_closes h l f (os ++ n.number ∷ []) close k) }
 
   pub some_stuck : (f : TermFault) → NotNext (sign close) vs → IsOther (sign comma) vs f → FailsNumbers close ts f
-  some_stuck f nr nc names h l e = goes_fails names _ _ ts vs f (all_goes names h l e) (neither_fails names (sign comma) (sign close) vs f _ nc nr (list_stuck h l r.some n.number close e))
+  some_stuck f nr nc names h l e = goes_fails names _ _ ts vs f (all_goes names h l e) (neither_fails names (sign comma) (sign close) vs f _ nc nr (λ u nc nr. grind (arith)))
 
 -- ---- base terms
 
@@ -250,16 +238,10 @@ pos_read names ts us vs col set r n =
 
 -- and their faults
 pub around_end_fails : (names : Names) (ts us vs : List Placed) (col : ℕ) (centre : ℤ) (f : TermFault) → ReadsOpened names comma ts col us → ReadsNumber us centre vs → IsOther (sign right) vs f → FailsBase names around_kind ts f
-around_end_fails names ts us vs col centre f r n o h = goes_fails names _ _ ts vs f (centre_goes names ts us vs col centre r n h) (other_fails names (sign right) vs f _ o (around_closes h r.letters n.number))
-
-pub ranged_goes_on : (h : UnaryHole) (column : List ℕ) (l : NumberText) (u : Token) → u ≢ sign comma → next (reading h (ranged column l)) u ≡ None
-ranged_goes_on h column l u ne = grind arith
-
-pub range_closes : (h : UnaryHole) (column : List ℕ) (l r : NumberText) (u : Token) → u ≢ sign right → next (reading h (range_ended column l r)) u ≡ None
-range_closes h column l r u ne = grind arith
+around_end_fails names ts us vs col centre f r n o h = goes_fails names _ _ ts vs f (centre_goes names ts us vs col centre r n h) (other_fails names (sign right) vs f _ o (λ u ne. grind arith))
 
 pub between_comma_fails : (names : Names) (ts us vs : List Placed) (col : ℕ) (l : ℤ) (f : TermFault) → ReadsOpened names comma ts col us → ReadsNumber us l vs → IsOther (sign comma) vs f → FailsBase names between_kind ts f
-between_comma_fails names ts us vs col l f r n o h = goes_fails names _ _ ts vs f (start_goes names ts us vs col l r n h) (other_fails names (sign comma) vs f _ o (ranged_goes_on h r.letters n.number))
+between_comma_fails names ts us vs col l f r n o h = goes_fails names _ _ ts vs f (start_goes names ts us vs col l r n h) (other_fails names (sign comma) vs f _ o (λ u ne. grind arith))
 
 pub between_right_fails : (names : Names) (ts us vs ws : List Placed) (col : ℕ) (l : ℤ) (f : TermFault) → ReadsOpened names comma ts col us → ReadsNumber us l vs → Passes (sign comma) vs ws → FailsEnd l ws f → FailsBase names between_kind ts f
 between_right_fails names ts us vs ws col l f r n d m h =
@@ -268,4 +250,4 @@ between_right_fails names ts us vs ws col l f r n d m h =
 pub between_end_fails : (names : Names) (ts us vs ws xs : List Placed) (col : ℕ) (l r : ℤ) (f : TermFault) → ReadsOpened names comma ts col us → ReadsNumber us l vs → Passes (sign comma) vs ws → ReadsNumber ws r xs → int_lt r l ≡ false → IsOther (sign right) xs f → FailsBase names between_kind ts f
 between_end_fails names ts us vs ws xs col l r f o n d m above e h =
     goes_fails names _ _ ts xs f (goes_then names _ _ _ ts ws xs (range_goes names ts us vs ws col l o n d h) (end_goes names ws xs l r m above h o.letters n.number n.value_is))
-    (other_fails names (sign right) xs f _ e (range_closes h o.letters n.number m.number))
+    (other_fails names (sign right) xs f _ e (λ u ne. grind arith))

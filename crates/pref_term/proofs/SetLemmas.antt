@@ -1,19 +1,8 @@
 -- What the parts of the reader of `layered` promise, from the tokens that they take.
-use Rattle.pref_term.proofs.Common.{◌≡◌, arith, ℕ, ℤ, List, [], ◌∷◌, ◌++◌, map, Some, None, refl, ap, subst, ◌∙◌, All, ◌≢◌, All-append, All-nil, left_brace, right, right_brace, comma, Token, sign, Placed}
-use Rattle.pref_term.proofs.Common.{layered_text, SetText, mark, Names, set_value, layered_kind, in_set, number_due, set_due, UnaryHole, reading, next, Goes, IsOther}
+use Rattle.pref_term.proofs.Common.{◌≡◌, arith, ℕ, ℤ, List, [], ◌∷◌, ◌++◌, map, refl, ap, subst, ◌∙◌, All, ◌≢◌, All-append, All-nil, left_brace, right, right_brace, comma, sign, Placed}
+use Rattle.pref_term.proofs.Common.{layered_text, SetText, Names, set_value, layered_kind, in_set, number_due, set_due, UnaryHole, reading, Goes, IsOther}
 use Rattle.pref_term.proofs.Common.{NotNext, Passes, ReadsOpened, ReadsNumbers, FailsNumbers, ReadsSomeSets, ReadsSets, FailsSets, ReadsBase, scored, layered, IsWritableSet, TermFault, with_next, sets_listed, next_of}
 use Rattle.pref_term.proofs.LedLemmas.{all_one, column_is, cons_not_none, goes_then, goes_fails, mapped_more, neither_fails, other_fails, sign_behind}
-
--- ---- a set and the sign behind it
-
-set_opens : (h : UnaryHole) (column : List ℕ) (sets : List SetText) (u : Token) → u ≢ sign left_brace → next (reading h (set_due column sets)) u ≡ None
-set_opens h column sets u ne = grind arith
-
-set_goes_on : (h : UnaryHole) (column : List ℕ) (some : List SetText) (s : SetText) → next (reading h (with_next (sets_listed column) some s)) (sign comma) ≡ Some (mark comma, reading h (set_due column (some ++ s ∷ [])))
-set_goes_on h column some s = grind arith
-
-set_stuck : (h : UnaryHole) (column : List ℕ) (some : List SetText) (s : SetText) (u : Token) → u ≢ sign comma → u ≢ sign right → next (reading h (with_next (sets_listed column) some s)) u ≡ None
-set_stuck h column some s u nc nr = grind (arith)
 
 -- ---- one set behind another
 
@@ -22,7 +11,7 @@ pub some_sets_none : (ts : List Placed) → ReadsSomeSets ts [] ts
 some_sets_none ts = record { some = []; fits = All-nil IsWritableSet; values_are = refl; goes = λ names h column p. (p, refl) }
 
 pub some_sets_fails : (ts us : List Placed) (sets : List (List ℤ)) (f : TermFault) → ReadsSomeSets ts sets us → IsOther (sign left_brace) us f → FailsSets ts f
-some_sets_fails ts us sets f r o names h column = goes_fails names _ _ ts us f (r.goes names h column) (other_fails names (sign left_brace) us f _ o (set_opens h column r.some))
+some_sets_fails ts us sets f r o names h column = goes_fails names _ _ ts us f (r.goes names h column) (other_fails names (sign left_brace) us f _ o (λ u ne. grind arith))
 
 -- one set more
 module _ (ts us vs : List Placed) (sets : List (List ℤ)) (r : ReadsSomeSets ts sets us) (c : Passes (sign left_brace) us vs) where
@@ -54,7 +43,7 @@ module _ (ts us vs : List Placed) (sets : List (List ℤ)) (r : ReadsSomeSets ts
           some = r.some ++ text ∷ [];
           fits = all_fit;
           values_are = all_are;
-          goes = λ names h column. sign_behind names ts ws xs _ _ _ comma (all_goes names h column) d (set_goes_on h column r.some text);
+          goes = λ names h column. sign_behind names ts ws xs _ _ _ comma (all_goes names h column) d (grind arith);
         }
 
     pub some_sets_all : (xs : List Placed) → Passes (sign right) ws xs → ReadsSets ts (sets ++ set ∷ []) xs
@@ -66,7 +55,7 @@ module _ (ts us vs : List Placed) (sets : List (List ℤ)) (r : ReadsSomeSets ts
         go (f ∷ os) e goes = record { first = f; others = os ++ text ∷ []; fits = all_fit; values_are = e; goes = λ names h column. sign_behind names ts ws xs _ _ _ right (goes names h column) d refl }
 
     pub some_sets_stuck : (f : TermFault) → NotNext (sign right) ws → IsOther (sign comma) ws f → FailsSets ts f
-    some_sets_stuck f nr nc names h column = goes_fails names _ _ ts ws f (all_goes names h column) (neither_fails names (sign comma) (sign right) ws f _ nc nr (set_stuck h column r.some text))
+    some_sets_stuck f nr nc names h column = goes_fails names _ _ ts ws f (all_goes names h column) (neither_fails names (sign comma) (sign right) ws f _ nc nr (λ u nc nr. grind (arith)))
 
 -- ---- the base term
 

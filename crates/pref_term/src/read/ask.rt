@@ -23,6 +23,7 @@ use pref_table::Schema;
 use std::alloc::{AllocError, Global};
 
 /// Takes a count.
+#[tactic(auto, using(crate::proofs::TokenLemmas::digits_taken))]
 fn count<'a>(cursor: Cursor<'a>) -> Parsed<'a, u32>
     ensures ok { IfOk result (λ x. led.TakesCount (ahead cursor.entry) x.0 (ahead x.1)) }
     ensures err { IfErr result (λ f. led.FailsCount (ahead cursor.entry) f) }
@@ -123,6 +124,7 @@ struct Dimension {
 }
 
 /// Takes a dimension.
+#[tactic(auto, using(crate::proofs::AskLemmas::dim_read))]
 fn take_dimension<'a>(schema: &Schema, cursor: Cursor<'a>) -> Parsed<'a, Dimension>
     ensures ok { IfOk result (λ x. led.ReadsDim schema.now (ahead cursor.entry) x.0.col x.0.direction (ahead x.1)) }
     ensures shorter { IfOk result (λ x. length (ahead x.1) < length (ahead cursor.entry)) }

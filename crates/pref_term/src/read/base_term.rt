@@ -60,6 +60,7 @@ pub(super) fn column<'a>(schema: &Schema, cursor: Cursor<'a>) -> Parsed<'a, usiz
 }
 
 /// Takes a parenthesis, a column and the sign behind it.
+#[tactic(auto, using(crate::proofs::LedLemmas::opened_read, crate::proofs::LedLemmas::column_end_fails))]
 fn opened_column<'a>(schema: &Schema, cursor: Cursor<'a>, behind: Sign) -> Parsed<'a, usize>
     ensures ok { IfOk result (λ x. led.ReadsOpened schema.now behind (ahead cursor.entry) x.0 (ahead x.1)) }
     ensures shorter { IfOk result (λ x. length (ahead x.1) < length (ahead cursor.entry)) }
@@ -179,6 +180,7 @@ fn layered<'a>(alloc: Global, schema: &Schema, cursor: Cursor<'a>) -> Parsed<'a,
 }
 
 /// Takes a base term, whose word was taken. It is not `reverse`.
+#[tactic(auto, using(crate::proofs::CycleLemmas::taken_base))]
 pub(super) fn base_term<'a>(
     alloc: Global,
     schema: &Schema,

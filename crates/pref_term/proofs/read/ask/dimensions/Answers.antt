@@ -1,6 +1,6 @@
 use Rattle.pref_term.proofs.Common.{List, ℕ, None, sym, subst, ◌∙◌, option_map, finish, ahead, preference_of, NotNext, ReadsDims, All-nil, IsKnown, [], refl}
 use Rattle.pref_term.proofs.LedLemmas.{err_exit, goes_fails}
-use Rattle.pref_term.proofs.AskLemmas.{dims_more, dims_all, dims_stuck, reads_dims, reads_clause}
+use Rattle.pref_term.proofs.AskLemmas.{dims_more, dims_all, dims_stuck}
 use Rattle.pref_term.proofs.read.ask.dimensions.Goals as goal
 
 pub loop-clause-init : goal.loop-clause-init
@@ -15,7 +15,7 @@ returns-in_err-dimension-clause-err c =
 pub returns-then-ends-clause-ok : goal.returns-then-ends-clause-ok
 returns-then-ends-clause-ok c =
     let v = c.in_ok-dimension in
-    reads_clause c.args.schema.now (ahead c.args.cursor) _ _ _ _ c.in_ok-clause.ensures.product c.in_ok-clause.ensures.group
+    rw (c.in_ok-clause.ensures.product, c.in_ok-clause.ensures.group)
     (dims_all c.args.schema.now _ (ahead c.loop-clause.place) (ahead v.next) (option_map preference_of c.loop-clause.clause.product) c.loop-clause.clause.group.items v.dimension.col v.dimension.direction c.loop-clause.invariant v.ensures.ok
     (c.take.result.at, c.take.ensures ∙ c.if-ends.ensures.yes))
 
@@ -29,5 +29,5 @@ pub loop-clause-preserved : goal.loop-clause-preserved
 loop-clause-preserved c =
     let v = c.in_ok-dimension in
     let p = c.in_ok-place in
-    reads_dims c.args.schema.now (ahead c.args.cursor) (ahead p.place) _ _ _ _ c.in_ok-clause.ensures.product c.in_ok-clause.ensures.group
+    rw (c.in_ok-clause.ensures.product, c.in_ok-clause.ensures.group)
     (dims_more c.args.schema.now _ (ahead c.loop-clause.place) (ahead v.next) (option_map preference_of c.loop-clause.clause.product) c.loop-clause.clause.group.items v.dimension.col v.dimension.direction c.loop-clause.invariant v.ensures.ok (ahead p.place) p.ensures.ok)

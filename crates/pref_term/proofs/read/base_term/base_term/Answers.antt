@@ -1,5 +1,5 @@
-use Rattle.pref_term.proofs.Common.{Some, sym, ap, ◌∙◌, low_kind, high_kind, around_kind, between_kind, pos_kind, layered_kind, ahead, refl}
-use Rattle.pref_term.proofs.CycleLemmas.{taken_read, taken_fails, taken_base}
+use Rattle.pref_term.proofs.Common.{Some, sym, ap, ◌∙◌, low_kind, high_kind, ahead, refl}
+use Rattle.pref_term.proofs.CycleLemmas.{taken_read, taken_fails}
 use Rattle.pref_term.proofs.LedLemmas.{fault_exit, low_read, high_read}
 use Rattle.pref_term.proofs.read.base_term.base_term.Goals as goal
 
@@ -18,15 +18,3 @@ pub returns-in_ok-col-in-Some-High-clause-parsed : goal.returns-in_ok-col-in-Som
 returns-in_ok-col-in-Some-High-clause-parsed c depth =
     let v = c.in_ok-col-in-Some-High in
     taken_read c.args.schema.now high_kind c.args.taken c.args.letters c.requires.word (sym c.in-Some-High.ensures ∙ ap Some c.in-Some-High.field-0-is) _ _ (high_read c.args.schema.now _ (ahead v.rest) v.col v.ensures.ok) depth
-
-pub returns-in-Some-Around-clause-parsed : goal.returns-in-Some-Around-clause-parsed
-returns-in-Some-Around-clause-parsed c = taken_base c.args.schema.now around_kind c.args.taken c.args.letters c.requires.word (sym c.in-Some-Around.ensures ∙ ap Some c.in-Some-Around.field-0-is) c.around.result c.around.ensures.parsed
-
-pub returns-in-Some-Between-clause-parsed : goal.returns-in-Some-Between-clause-parsed
-returns-in-Some-Between-clause-parsed c = taken_base c.args.schema.now between_kind c.args.taken c.args.letters c.requires.word (sym c.in-Some-Between.ensures ∙ ap Some c.in-Some-Between.field-0-is) c.between.result c.between.ensures.parsed
-
-pub returns-in-Some-Pos-clause-parsed : goal.returns-in-Some-Pos-clause-parsed
-returns-in-Some-Pos-clause-parsed c = taken_base c.args.schema.now pos_kind c.args.taken c.args.letters c.requires.word (sym c.in-Some-Pos.ensures ∙ ap Some c.in-Some-Pos.field-0-is) c.pos.result c.pos.ensures.parsed
-
-pub returns-in-Some-Layered-clause-parsed : goal.returns-in-Some-Layered-clause-parsed
-returns-in-Some-Layered-clause-parsed c = taken_base c.args.schema.now layered_kind c.args.taken c.args.letters c.requires.word (sym c.in-Some-Layered.ensures ∙ ap Some c.in-Some-Layered.field-0-is) c.layered.result c.layered.ensures.parsed
