@@ -56,3 +56,6 @@ added-small call f = grind (arith, added_by-length)
 
 pub IsBounded-stepped : (contents : Contents) (op : Op) (slots : List (Option Version)) → IsBounded contents → is_next contents op ≡ true → slots_after contents op ≡ Some slots → IsBounded (stepped contents op slots)
 IsBounded-stepped contents op slots h next fits = grind (arith, callers_after-counts contents op (IsAllowed-from contents op next), length-slots_after contents op slots fits, added-small)
+
+-- Numbers of a store that are far from their type's end.
+pub ruleset bounds = (stamp-small, next_id-small, added-small)

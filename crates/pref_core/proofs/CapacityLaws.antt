@@ -2,7 +2,7 @@
 use Rattle.pref_core.proofs.Common.{◌≡◌, ℕ, suc, ◌≤◌, Bool, true, false, ◌||◌, cond, List, [], ◌∷◌, ◌++◌, length, Option, Some, None, slice_get, slice_set, ⊎_elim, refl, sym, ◌∙◌, arith, or_cases}
 use Rattle.pref_core.proofs.Common.{or_left, or_right, count_by-le-length, Call, Line, Key, holds_key, keys, State, Client, Snapshot, found_tables, needed, is_change, outcome, succeeds, committed}
 use Rattle.pref_core.proofs.Common.{counted, after, is_needed, stamps, NeededFits, NeededFitsSlots}
-use Rattle.pref_core.proofs.NeededCounts.{fewer, length-needed, holds_key-different, AreDifferent-different, holds_key-keys-append}
+use Rattle.pref_core.proofs.NeededCounts.{fewer, length-needed, holds_key-keys-append}
 use Rattle.pref_core.proofs.NeededKeys.{ends_need_no_more}
 
 holds : Key → List Line → Bool
@@ -42,10 +42,9 @@ needed_counted : (table : List Line) (state : State) (client : ℕ) (call : Call
     → length (needed (record { table = table; next_id = next_id; commits = commits; clients = counted state client call })) ≤ length (needed (record { table = table; next_id = next_id; commits = commits; clients = state.clients }))
 unfolding holds
 needed_counted table state client call next_id commits quiet =
-    fewer _ _ (AreDifferent-different (keys (table ++ found_tables (counted state client call)))) (AreDifferent-different (keys (table ++ found_tables state.clients))) (λ key h.
-    let held = sym (holds_key-different (keys (table ++ found_tables (counted state client call))) key ∙ holds_key-keys-append key table (found_tables (counted state client call))) ∙ h in
-    holds_key-different (keys (table ++ found_tables state.clients)) key ∙ holds_key-keys-append key table (found_tables state.clients)
-    ∙ ⊎_elim (or_left _ (holds key (found_tables state.clients))) (found_counted key table state client call quiet) (or_cases (holds key table) (holds key (found_tables (counted state client call))) held))
+    fewer (keys (table ++ found_tables (counted state client call))) (keys (table ++ found_tables state.clients)) (λ key h.
+    holds_key-keys-append key table (found_tables state.clients)
+    ∙ ⊎_elim (or_left _ (holds key (found_tables state.clients))) (found_counted key table state client call quiet) (or_cases (holds key table) (holds key (found_tables (counted state client call))) (sym (holds_key-keys-append key table (found_tables (counted state client call))) ∙ h)))
 
 abbrev noted : State → ℕ → Call → State
 noted state client call = record { table = state.table; next_id = state.next_id; commits = state.commits; clients = counted state client call }

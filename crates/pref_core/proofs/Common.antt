@@ -22,7 +22,7 @@ pub use Rattle.std.specs.Option.{option_map, option_to_list}
 pub use Rattle.std.specs.Vec.{vec_capacity, vec_len, with_items}
 pub use Rattle.pref_core.specs.Bounds.{IsBounded}
 pub use Rattle.pref_core.specs.Changes.{added_by, begins_any, begun_by, commit_of, ended_by, is_change_count, is_commit, names_again, twice, twice_from}
-pub use Rattle.pref_core.specs.ContentsInvariant.{AreFresh, AreOldPlaces, FindsFreed, FitAtOnce, FitsNext, IsFreed, IsKept, IsTracked, KeepSlots, are_free, frees_at, is_open, replaced, row_in, uses_of}
+pub use Rattle.pref_core.specs.ContentsInvariant.{AreFresh, FindsFreed, FitAtOnce, FitsNext, IsFreed, IsKept, IsTracked, KeepSlots, are_free, frees_at, is_open, replaced, row_in, uses_of}
 pub use Rattle.pref_core.specs.ContentsInvariant.{with_slots}
 pub use Rattle.pref_core.specs.IdChains.{AreIds, AreLinked, AreLinks, IsBefore, IsNode, IsOnWay, LeadsTo, home_of, id_at, ids_of, is_above, opening_ids, opening_link, rank, shown}
 pub use Rattle.pref_core.specs.Indexes.{IsIndexOf, IsPlaceOf, Points, PointsAll, adds, given, is_row, placed_rows, row_at, slot_of}

@@ -1,15 +1,15 @@
 -- The rows that a call begins, in their slots, one after the other.
-use Rattle.pref_core.proofs.Common.{◌≡◌, ℕ, suc, ◌+◌, ◌^◌, ◌<◌, Bool, true, false, not, ◌&&◌, cond, eqb, nat_eq, List, [], ◌∷◌, ◌++◌, map, length, drop, set, Option, Some, None, is_some}
-use Rattle.pref_core.proofs.Common.{slice_get, get_or, unwrap_or, refl, sym, ap, ◌∙◌, subst, arith, ⊎_elim, AllByRecursion, length-map, map-set, map-set_same, option_map}
-use Rattle.pref_core.proofs.Common.{slice_get_within, slice_get-get_or, slice_get-map, le-leb, eqb-true, ne_eqb, cases_eq, or_parts, and_parts, true≢false, Version, SlotUse, Free, Live, Entry}
+use Rattle.pref_core.proofs.Common.{◌≡◌, ℕ, suc, ◌+◌, ◌^◌, ◌<◌, ◌≤◌, Bool, true, false, not, ◌&&◌, cond, eqb, nat_eq, List, [], ◌∷◌, ◌++◌, map, length, drop, set, Option, Some, None, is_some}
+use Rattle.pref_core.proofs.Common.{slice_get, get_or, unwrap_or, drop_all, refl, sym, ap, ◌∙◌, subst, arith, ⊎_elim, AllByRecursion, length-map, map-set, map-set_same}
+use Rattle.pref_core.proofs.Common.{slice_get_within, slice_get-get_or, le-leb, eqb-true, ne_eqb, cases_eq, cases_lt, or_parts, and_parts, true≢false, Version, SlotUse, Free, Live, Entry}
 use Rattle.pref_core.proofs.Common.{among, has, Op, Call, Outcome, State, ended, begun, begins_row, added, missing, success_outcome, is_change, succeeds, Contents, StandsFor, IsWithin}
 use Rattle.pref_core.proofs.Common.{is_visible, begins, stamps, new_version, visible, close, close_at, grown, is_free, filled, outcome_at, is_next, slots_after, used, is_free_use, free_at, use_of}
 use Rattle.pref_core.proofs.Common.{is_row, row_at, IsPlaceOf, shown, ids_of, id_at, AreIds, AreLinks, IsTracked, AreFresh, with_slots, are_free, same_Some}
 use Rattle.pref_core.proofs.AppliedLaws.{IsAllowed-from, succeeds-missing}
 use Rattle.pref_core.proofs.LinksOfSlots.{id_at-here, id_at-there}
 use Rattle.pref_core.proofs.ChangesLaws.{among_append}
-use Rattle.pref_core.proofs.ChangeCounts.{drop_item, drop_inside}
-use Rattle.pref_core.proofs.RowEndLaws.{none_closed, one_closed, row_alive, within_closed, ids_closed, links_ended, closed_uses, filled_uses}
+use Rattle.pref_core.proofs.ChangeCounts.{drop_item}
+use Rattle.pref_core.proofs.RowEndLaws.{none_closed, one_closed, row_alive, row_live, within_closed, ids_closed, links_ended, closed_uses}
 use Rattle.pref_core.proofs.IndexedRows.{other_place}
 use Rattle.pref_core.proofs.SlotKeys.{eqb_comm, AllByRecursion-set}
 use Rattle.pref_core.proofs.IdsAfterCommit.{links_born, fresh_begun}
@@ -80,38 +80,6 @@ fresh_left limit made place ns first slots (fresh ∷ rest) free apart h =
     let parts = or_parts (eqb fresh.id first.id) (among (map (λ (e : Entry). e.id) rest) first.id) apart in
     (h.0, other_place made fresh.id first ns slots place None free (eqb_comm first.id fresh.id ∙ parts.0) h.1, h.2, fresh_left limit made place ns first slots rest free parts.1 h.3)
 
--- What is left of the places and of the rows, when some have begun.
-pub record FillsRest (limit stamp : ℕ) (ns places : List ℕ) (rest : List Entry) (slots : List (Option Version)) (all : Option (List (Option Version))) : Type 0 where
-  pub fills : filled (stamp ∷ ns) stamp places rest slots ≡ all
-  pub some : is_some all ≡ true
-  pub fresh : AreFresh limit (visible stamp slots) rest
-
--- the place of the next row
-pub record FillsNext (limit stamp : ℕ) (ns places : List ℕ) (first : Entry) (rest : List Entry) (slots : List (Option Version)) (all : Option (List (Option Version))) : Type 0 where
-  pub place : ℕ
-  pub later : List ℕ
-  pub is : places ≡ place ∷ later
-  pub free : is_free (stamp ∷ ns) slots place ≡ true
-  pub next : FillsRest limit stamp ns later rest (set slots place (new_version stamp first)) all
-
-pub fills_next : (limit stamp : ℕ) (ns places : List ℕ) (first : Entry) (rest : List Entry) (slots : List (Option Version)) (all : Option (List (Option Version))) → FillsRest limit stamp ns places (first ∷ rest) slots all → FillsNext limit stamp ns places first rest slots all
-fills_next limit stamp ns [] first rest slots all h = absurd (true≢false (sym h.some ∙ ap is_some (sym h.fills)))
-fills_next limit stamp ns (place ∷ later) first rest slots all h = go (is_free (stamp ∷ ns) slots place) refl h.fills
-  where
-    go : (b : Bool) → is_free (stamp ∷ ns) slots place ≡ b → cond b (filled (stamp ∷ ns) stamp later rest (set slots place (new_version stamp first))) None ≡ all → FillsNext limit stamp ns (place ∷ later) first rest slots all
-    go false f e = absurd (true≢false (sym h.some ∙ ap is_some (sym e)))
-    go true f e = record {
-      place = place;
-      later = later;
-      is = refl;
-      free = f;
-      next = record { fills = e; some = h.some; fresh = fresh_left limit stamp place ns first slots rest f h.fresh.2 h.fresh.3 };
-    }
-
-pub fills_end : (limit stamp : ℕ) (ns places : List ℕ) (slots : List (Option Version)) (all : Option (List (Option Version))) → FillsRest limit stamp ns places [] slots all → all ≡ Some slots
-fills_end limit stamp ns [] slots all h = sym h.fills
-fills_end limit stamp ns (place ∷ places) slots all h = absurd (true≢false (sym h.some ∙ ap is_some (sym h.fills)))
-
 -- The rows that ended so far, ..
 abbrev pub EndedUpTo : Contents → Contents → List ℕ → Type 0
 EndedUpTo start now ids = now ≡ with_slots (map (close ids start.stamp) start.slots) start
@@ -127,10 +95,12 @@ ended_none start = ap (λ l. with_slots l start) (sym (close_none start.stamp st
 pub ended_more : (start now new : Contents) (done ids : List ℕ) → EndedUpTo start now done → new ≡ with_slots (map (close ids now.stamp) now.slots) now → EndedUpTo start new (done ++ ids)
 ended_more start now new done ids h is = is ∙ ap (λ (s : Contents). with_slots (map (close ids s.stamp) s.slots) s) h ∙ ap (λ l. with_slots l start) (close_more done ids start.stamp start.slots)
 
--- .. and those that began.
+-- .. and those that began: what is left of the places and of the rows.
 pub record BegunUpTo (start now : Contents) (places : List ℕ) (rest : List Entry) (all : Option (List (Option Version))) : Type 0 where
   pub contents : now ≡ with_slots now.slots start
-  pub fills : FillsRest start.next_id start.stamp (begins start.callers) places rest now.slots all
+  pub fills : filled (stamps start) start.stamp places rest now.slots ≡ all
+  pub some : is_some all ≡ true
+  pub fresh : AreFresh start.next_id (visible start.stamp now.slots) rest
 
 -- What is known as the next row begins, ..
 pub record BeginsNext (start now : Contents) (places : List ℕ) (used : ℕ) (first : Entry) (rest : List Entry) (all : Option (List (Option Version))) : Type 0 where
@@ -138,38 +108,41 @@ pub record BeginsNext (start now : Contents) (places : List ℕ) (used : ℕ) (f
   pub free : is_free (stamps now) now.slots (get_or places used 0) ≡ true
   pub absent : has (visible now.stamp now.slots) first.id ≡ false
   pub low : first.id < now.next_id
-  pub next : FillsRest start.next_id start.stamp (begins start.callers) (drop (used + 1) places) rest (set now.slots (get_or places used 0) (new_version start.stamp first)) all
+  pub next : BegunUpTo start (with_slots (set now.slots (get_or places used 0) (new_version start.stamp first)) start) (drop (used + 1) places) rest all
 
 pub begins_next : (start now : Contents) (places : List ℕ) (used : ℕ) (first : Entry) (rest : List Entry) (all : Option (List (Option Version))) → BegunUpTo start now (drop used places) (first ∷ rest) all
     → BeginsNext start now places used first rest all
 begins_next start now places used first rest all h = record {
   inside = inside;
-  free = ap (λ (s : Contents). is_free (stamps s) now.slots (get_or places used 0)) h.contents ∙ subst (λ place. is_free (start.stamp ∷ begins start.callers) now.slots place ≡ true) here filled_next.free;
-  absent = ap (λ (s : Contents). has (visible s.stamp now.slots) first.id) h.contents ∙ h.fills.fresh.1;
-  low = subst (λ (s : Contents). first.id < s.next_id) (sym h.contents) h.fills.fresh.0;
-  next = subst (λ place. FillsRest start.next_id start.stamp (begins start.callers) (drop (used + 1) places) rest (set now.slots place (new_version start.stamp first)) all) here
-      (subst (λ l. FillsRest start.next_id start.stamp (begins start.callers) l rest (set now.slots filled_next.place (new_version start.stamp first)) all) later filled_next.next);
+  free = ap (λ (s : Contents). is_free (stamps s) now.slots (get_or places used 0)) h.contents ∙ parts.0;
+  absent = ap (λ (s : Contents). has (visible s.stamp now.slots) first.id) h.contents ∙ h.fresh.1;
+  low = subst (λ (s : Contents). first.id < s.next_id) (sym h.contents) h.fresh.0;
+  next = record { contents = refl; fills = parts.1; some = h.some; fresh = fresh_left start.next_id start.stamp (get_or places used 0) (begins start.callers) first now.slots rest parts.0 h.fresh.2 h.fresh.3 };
 }
   where
-    filled_next : FillsNext start.next_id start.stamp (begins start.callers) (drop used places) first rest now.slots all
-    filled_next = fills_next start.next_id start.stamp (begins start.callers) (drop used places) first rest now.slots all h.fills
-
     inside : used < length places
-    inside = drop_inside places used filled_next.place filled_next.later filled_next.is
+    inside = ⊎_elim (λ (l : used < length places). l)
+        (λ (l : length places ≤ used). absurd (true≢false (sym h.some ∙ ap is_some (sym h.fills ∙ ap (λ (q : List ℕ). filled (stamps start) start.stamp q (first ∷ rest) now.slots) (drop_all used places l)))))
+        (cases_lt used (length places))
 
-    same : filled_next.place ∷ filled_next.later ≡ get_or places used 0 ∷ drop (used + 1) places
-    same = sym filled_next.is ∙ drop_item places used (get_or places used 0) 0 refl inside
+    go : (b : Bool) (o : Option (List (Option Version))) → cond b o None ≡ all → (b ≡ true) × (o ≡ all)
+    go b o e = grind (arith, h.some)
 
-    here : filled_next.place ≡ get_or places used 0
-    here = cc same
+    parts : (is_free (stamps start) now.slots (get_or places used 0) ≡ true) × (filled (stamps start) start.stamp (drop (used + 1) places) rest (set now.slots (get_or places used 0) (new_version start.stamp first)) ≡ all)
+    parts = go (is_free (stamps start) now.slots (get_or places used 0)) (filled (stamps start) start.stamp (drop (used + 1) places) rest (set now.slots (get_or places used 0) (new_version start.stamp first)))
+        (subst (λ l. filled (stamps start) start.stamp l (first ∷ rest) now.slots ≡ all) (drop_item places used (get_or places used 0) 0 refl inside) h.fills)
 
-    later : filled_next.later ≡ drop (used + 1) places
-    later = cc same
-
--- .. and once it has begun.
+-- .. and once it has begun, ..
 pub begun_one : (start now new : Contents) (places : List ℕ) (used : ℕ) (first : Entry) (rest : List Entry) (all : Option (List (Option Version))) → BegunUpTo start now (drop used places) (first ∷ rest) all
     → new ≡ with_slots (set now.slots (get_or places used 0) (new_version now.stamp first)) now → BegunUpTo start new (drop (used + 1) places) rest all
-begun_one start now new places used first rest all h is = grind (arith, begins_next start now places used first rest all h)
+begun_one start now new places used first rest all h is =
+    let same = ap (λ (s : Contents). with_slots (set now.slots (get_or places used 0) (new_version s.stamp first)) s) h.contents in
+    subst (λ s. BegunUpTo start s (drop (used + 1) places) rest all) (sym (is ∙ same)) (begins_next start now places used first rest all h).next
+
+-- .. and all have.
+pub begun_all : (start now : Contents) (places : List ℕ) (all : Option (List (Option Version))) → BegunUpTo start now places [] all → all ≡ Some now.slots
+begun_all start now [] all h = sym h.fills
+begun_all start now (place ∷ places) all h = absurd (true≢false (sym h.some ∙ ap is_some (sym h.fills)))
 
 -- One row ends, ..
 pub end_none : (contents : Contents) (uses : List SlotUse) (links : List ℕ) (id : ℕ) → IsTracked contents uses links → IsPlaceOf contents.stamp id contents.slots None → contents ≡ with_slots (map (close (id ∷ []) contents.stamp) contents.slots) contents
@@ -196,7 +169,7 @@ module _ (contents : Contents) (uses : List SlotUse) (links : List ℕ) (id plac
   end_inside = slice_get_within contents.slots place (Some version) at
 
   pub end_alive : slice_get uses place ≡ Some Live
-  end_alive = ap (λ z. slice_get z place) h.listed ∙ slice_get-map (use_of contents.callers) contents.slots place ∙ ap (option_map (use_of contents.callers)) at ∙ ap Some (row_alive contents.next_id contents.stamp id contents.callers version within_here row_here)
+  end_alive = ap (λ z. slice_get z place) h.listed ∙ row_live contents.next_id contents.stamp id contents.slots h.within contents.callers place row
 
   pub end_slots : set contents.slots place last ≡ map (close (id ∷ []) contents.stamp) contents.slots
   end_slots = ap (set contents.slots place) (sym closes) ∙ sym (one_closed contents.next_id contents.stamp id contents.slots h.within place version h.ids row at)
@@ -244,7 +217,7 @@ pub begin_tracked : (contents : Contents) (uses : List SlotUse) (links : List �
 begin_tracked contents uses links entry place row uses_new links_new h free absent low small is returned linked = record {
   seats = h.seats;
   within = subst (λ r. AllByRecursion (IsWithin contents.next_id contents.stamp) (set contents.slots place r)) (sym is) (AllByRecursion-set (IsWithin contents.next_id contents.stamp) contents.slots place (new_version contents.stamp entry) (low, omega arith, tt) h.within);
-  listed = filled_uses contents.callers contents.slots uses uses_new place row entry contents.stamp h.listed is returned;
+  listed = closed_uses contents.callers contents.slots uses uses_new place row Live h.listed (sym (ap (use_of contents.callers) is)) returned;
   linked = links_born contents.stamp place entry row contents.slots links_new is linked;
   ids = subst (λ r. AreIds (2 ^ 64) (id_at (ids_of contents.stamp (set contents.slots place r)))) (sym is) (ids_born contents.stamp place entry contents.slots small (free_inside contents uses links place h free) absent h.ids);
 }

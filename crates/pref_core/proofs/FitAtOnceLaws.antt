@@ -1,14 +1,14 @@
 -- The slots of a change that are known by a look at them alone.
 use Rattle.pref_core.proofs.Common.{◌≡◌, ℕ, suc, ◌+◌, ◌≤◌, Bool, true, false, not, ◌&&◌, cond, eqb, List, [], ◌∷◌, ◌++◌, length, take, drop, Option, Some, None, is_some, IfSome, slice_get, ◌⊎◌, inl}
-use Rattle.pref_core.proofs.Common.{inr, ⊎_elim, refl, sym, ap, ap₂, ◌∙◌, subst, arith, eqb-true, or_from, or_left, true≢false, append-nil, Call, Op, Change, Add, Set, Remove, Version, Row, ended_by}
+use Rattle.pref_core.proofs.Common.{inr, ⊎_elim, refl, sym, ap, ap₂, ◌∙◌, subst, arith, eqb-true, or_left, true≢false, append-nil, Call, Op, Change, Add, Set, Remove, Version, Row, ended_by}
 use Rattle.pref_core.proofs.Common.{begun_by, begins_any, row_at, IsKept, FitAtOnce, FitsNext, are_free, frees_at, uses_of, filled, is_free, is_next, slots_after, used, free_at, Contents, begins}
 use Rattle.pref_core.proofs.Common.{visible, begun, changes_of, ended, is_change, is_formed, missing, Line, among, false_from_ne_true, drop_all}
 use Rattle.std.specs.Option.{option_eq}
-use Rattle.pref_core.proofs.ChangesLaws.{AreApart, among_append, among_inside, drop_at, ended_so_far, formed_apart, take_at}
+use Rattle.pref_core.proofs.ChangesLaws.{among_append, among_inside, drop_at, ended_so_far, formed_apart, take_at}
 use Rattle.pref_core.proofs.ChosenSlots.{ChosenUpTo, all_chosen, closed_slots, outcome_fits, stamps_next}
-use Rattle.pref_core.proofs.ChangeCounts.{ended_next, named_at, one_begins}
+use Rattle.pref_core.proofs.ChangeCounts.{named_at, one_begins}
 use Rattle.pref_core.proofs.FilledLaws.{fills_free}
-use Rattle.pref_core.proofs.FreedLaws.{free_closed, frees_closed, row_taken}
+use Rattle.pref_core.proofs.FreedLaws.{free_closed, frees_closed, named_once, row_taken}
 use Rattle.pref_core.proofs.PlanLaws.{plan_is_not_full}
 use Rattle.pref_core.proofs.SlotUseLaws.{has_row_at}
 
@@ -34,11 +34,6 @@ pub record FitsUpTo (contents : Contents) (call : Call) (slots : List ℕ) (at u
 
 among_last : (xs : List ℕ) (last id : ℕ) → among (xs ++ last ∷ []) id ≡ true → (among xs id ≡ true) ⊎ (last ≡ id)
 among_last xs last id a = grind (arith, among_append)
-
--- an id comes before no other place of ids that differ
-apart_before : (xs ys : List ℕ) (id : ℕ) → AreApart (xs ++ id ∷ ys) → among xs id ≡ false
-apart_before [] ys id h = refl
-apart_before (x ∷ xs) ys id h = or_from (eqb x id) (among xs id) (false_from_ne_true (eqb x id) (λ e. true≢false (sym (ap (among (xs ++ id ∷ ys)) (eqb-true x id e) ∙ among_inside xs ys id) ∙ h.0))) (apart_before xs ys id h.1)
 
 module _ (contents : Contents) (call : Call) (slots : List ℕ) (kept : IsKept contents) (at used : ℕ) (change : Change) (here : slice_get (changes_of call) at ≡ Some change) (h : FitsUpTo contents call slots at used) where
   abbrev table : List Line
@@ -110,7 +105,7 @@ fits_set contents call slots at used id row place kept formed here is stands fre
     next = omega arith
 
     before : among (ended_by (take at (changes_of call))) id ≡ false
-    before = apart_before (ended_by (take at (changes_of call))) (ended_by (drop (at + 1) (changes_of call))) id (subst AreApart (ended_next (changes_of call) at (Set id row) id here refl) (formed_apart call formed))
+    before = named_once (changes_of call) at (Set id row) id here refl (formed_apart call formed)
 
     not_taken : among (take used slots) place ≡ true → ⊥
     not_taken e = grind (arith, row_taken, before)

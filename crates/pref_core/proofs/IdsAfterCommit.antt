@@ -31,7 +31,7 @@ place_known stamp id place slots found known at is = grind (arith, has_row_at, r
 shown_next : (next now : ℕ) (slot : Option Version) → IsWithin next now slot → shown (suc now) slot ≡ shown now slot
 shown_next next now slot h = grind (arith)
 
-ids_next : (next now : ℕ) (slots : List (Option Version)) → AllByRecursion (IsWithin next now) slots → ids_of (suc now) slots ≡ ids_of now slots
+pub ids_next : (next now : ℕ) (slots : List (Option Version)) → AllByRecursion (IsWithin next now) slots → ids_of (suc now) slots ≡ ids_of now slots
 ids_next next now [] h = refl
 ids_next next now (slot ∷ slots) h = ap₂ ◌∷◌ (shown_next next now slot h.0) (ids_next next now slots h.1)
 

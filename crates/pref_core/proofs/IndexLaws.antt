@@ -1,12 +1,13 @@
 -- An index follows the store through each op that is done.
 use Rattle.pref_core.proofs.Common.{drop, slice_get, ◌≡◌, ℕ, suc, ◌+◌, ◌<◌, Bool, true, false, ◌&&◌, ◌||◌, cond, eqb, nat_lt, List, [], ◌∷◌, map, set, Option, Some, None, is_some, refl, sym, ap, ◌∙◌}
-use Rattle.pref_core.proofs.Common.{subst, arith, AllByRecursion, eqb-true, ne_eqb, Version, Change, Add, Set, Remove, Call, Op, Entry, Row, ended_by, begun_by, among, has}
+use Rattle.pref_core.proofs.Common.{subst, arith, AllByRecursion, eqb-true, false_from_ne_true, or_right, Version, row_at, Change, Add, Set, Remove, Call, Op, Entry, Row, ended_by, begun_by, among, has}
 use Rattle.pref_core.proofs.Common.{is_change, succeeds, added, changes_of, ended, begun, Contents, IsWithin, visible, begins, new_version, close, is_free, filled, slots_after, is_next, applied}
 use Rattle.pref_core.proofs.Common.{slot_of, Points, PointsAll, given, placed_rows, adds, IsPlaceOf, IsIndexOf}
 use Rattle.pref_core.proofs.AppliedLaws.{IsAllowed-from}
 use Rattle.pref_core.proofs.ChangesLaws.{AreApart, drop_at, formed_apart, found_all}
 use Rattle.pref_core.proofs.FilledLaws.{none_missing, slots_still}
 use Rattle.pref_core.proofs.IndexedRows.{closed_place, ended_place, other_place, row_at-new_version}
+use Rattle.pref_core.proofs.SlotReuse.{some_then}
 use Rattle.pref_core.proofs.TableLaws.{has_below}
 
 abbrev pub Pairs : Type 0
@@ -15,64 +16,33 @@ Pairs = List (ℕ × ℕ)
 -- The place of an id once rows began, each in its slot: ..
 module _ (ns : List ℕ) (made id : ℕ) where
   -- .. one row, ..
-  begun_place : (place : ℕ) (fresh : Entry) (slots : List (Option Version)) (found : Option ℕ) → is_free (made ∷ ns) slots place ≡ true → IsPlaceOf made id slots found
-      → IsPlaceOf made id (set slots place (new_version made fresh)) (cond (eqb fresh.id id) (Some place) found)
-  begun_place place fresh slots found free is = grind (arith, row_at-new_version, other_place)
+  one_placed : (place : ℕ) (fresh : Entry) (slots : List (Option Version)) (before found : Option ℕ) (named : Bool) → is_free (made ∷ ns) slots place ≡ true → IsPlaceOf made id slots before
+      → (eqb fresh.id id ≡ true → named ≡ false) → (eqb fresh.id id ≡ false → before ≡ cond named None found) → IsPlaceOf made id (set slots place (new_version made fresh)) (cond named None (cond (eqb fresh.id id) (Some place) found))
+  one_placed place fresh slots before found named free is new old = go (eqb fresh.id id) refl
+    where
+      go : (b : Bool) → eqb fresh.id id ≡ b → IsPlaceOf made id (set slots place (new_version made fresh)) (cond named None (cond b (Some place) found))
+      go true e = subst (λ n. IsPlaceOf made id (set slots place (new_version made fresh)) (cond n None (Some place))) (sym (new e))
+          (subst (λ i. row_at made i (set slots place (new_version made fresh)) place ≡ true) (eqb-true fresh.id id e) (row_at-new_version made fresh ns slots place free))
+      go false e = other_place made id fresh ns slots place (cond named None found) free e (subst (IsPlaceOf made id slots) (old e) is)
 
   -- .. and all rows of a commit, where the ids that it names are gone before.
-  abbrev ArePlaced : List Change → ℕ → List ℕ → List (Option Version) → List (Option Version) → Option ℕ → Type 0
-  ArePlaced changes next places slots after found = filled (made ∷ ns) made places (begun_by next changes) slots ≡ Some after → AreApart (ended_by changes) → (among (ended_by changes) id ≡ true → id < next)
-      → IsPlaceOf made id slots (cond (among (ended_by changes) id) None found) → IsPlaceOf made id after (given (placed_rows next changes places) id found)
-
-  filled_place : (changes : List Change) (next : ℕ) (places : List ℕ) (slots after : List (Option Version)) (found : Option ℕ) → ArePlaced changes next places slots after found
+  filled_place : (changes : List Change) (next : ℕ) (places : List ℕ) (slots after : List (Option Version)) (found : Option ℕ) → filled (made ∷ ns) made places (begun_by next changes) slots ≡ Some after → AreApart (ended_by changes)
+      → (among (ended_by changes) id ≡ true → id < next) → IsPlaceOf made id slots (cond (among (ended_by changes) id) None found) → IsPlaceOf made id after (given (placed_rows next changes places) id found)
   filled_place [] next [] slots after found e apart low is = subst (λ l. IsPlaceOf made id l found) (let same : slots ≡ after = cc in same) is
   filled_place [] next (place ∷ places) slots after found e apart low is = absurd (cc)
   filled_place (Add row ∷ rest) next [] slots after found e apart low is = absurd (cc)
   filled_place (Set other row ∷ rest) next [] slots after found e apart low is = absurd (cc)
   filled_place (Add row ∷ rest) next (place ∷ places) slots after found e apart low is =
-      go (is_free (made ∷ ns) slots place) refl e (filled_place rest (suc next) places (set slots place (new_version made (record { id = next; row = row }))) after (cond (eqb next id) (Some place) found))
-    where
-      fresh : Entry
-      fresh = record { id = next; row = row }
-
-      later : List (Option Version)
-      later = set slots place (new_version made fresh)
-
-      shown : is_free (made ∷ ns) slots place ≡ true → (b : Bool) → among (ended_by rest) id ≡ b → IsPlaceOf made id slots (cond b None found) → IsPlaceOf made id later (cond b None (cond (eqb next id) (Some place) found))
-      shown free false out h = begun_place place fresh slots found free h
-      shown free true there h =
-          let below : id < next = low there in
-          other_place made id fresh ns slots place None free (ne_eqb next id (λ (same : next ≡ id). omega arith)) h
-
-      go : (b : Bool) → is_free (made ∷ ns) slots place ≡ b → ◌≡◌ {A = Option (List (Option Version))} (cond b (filled (made ∷ ns) made places (begun_by (suc next) rest) later) None) (Some after)
-          → ArePlaced rest (suc next) places later after (cond (eqb next id) (Some place) found)
-          → IsPlaceOf made id after (given (placed_rows (suc next) rest places) id (cond (eqb next id) (Some place) found))
-      go b free h more = grind (arith, shown)
+      let later = set slots place (new_version made (record { id = next; row = row })) in
+      let begun = some_then (is_free (made ∷ ns) slots place) (filled (made ∷ ns) made places (begun_by (suc next) rest) later) after e in
+      filled_place rest (suc next) places later after (cond (eqb next id) (Some place) found) begun.1 apart (λ there. let below = low there in omega arith)
+      (one_placed place (record { id = next; row = row }) slots (cond (among (ended_by rest) id) None found) found (among (ended_by rest) id) begun.0 is (λ same. false_from_ne_true (among (ended_by rest) id) (λ there. let below = low there in let one = eqb-true next id same in omega arith)) (λ other. refl))
   filled_place (Set other row ∷ rest) next (place ∷ places) slots after found e apart low is =
-      go (is_free (made ∷ ns) slots place) refl e (filled_place rest next places (set slots place (new_version made (record { id = other; row = row }))) after)
-    where
-      fresh : Entry
-      fresh = record { id = other; row = row }
-
-      later : List (Option Version)
-      later = set slots place (new_version made fresh)
-
-      by : (b : Bool) → eqb other id ≡ b → is_free (made ∷ ns) slots place ≡ true → filled (made ∷ ns) made places (begun_by next rest) later ≡ Some after → ((o : Option ℕ) → ArePlaced rest next places later after o)
-          → IsPlaceOf made id after (given (placed_rows next rest places) id (cond b (Some place) found))
-      by true same free h more =
-          let is_id : other ≡ id = eqb-true other id same in
-          let gone : among (ended_by rest) id ≡ false = subst (λ n. among (ended_by rest) n ≡ false) is_id apart.0 in
-          let below : id < next = low (ap (λ b. b || among (ended_by rest) id) same) in
-          more (Some place) h apart.1 (λ there. below)
-          (subst (λ b. IsPlaceOf made id later (cond b None (Some place))) (sym gone)
-          (subst (λ b. IsPlaceOf made id later (cond b (Some place) None)) same (begun_place place fresh slots None free (subst (λ b. IsPlaceOf made id slots (cond (b || among (ended_by rest) id) None found)) same is))))
-      by false differ free h more =
-          more found h apart.1 (λ there. low (ap (λ b. b || among (ended_by rest) id) differ ∙ there))
-          (other_place made id fresh ns slots place (cond (among (ended_by rest) id) None found) free differ (subst (λ b. IsPlaceOf made id slots (cond (b || among (ended_by rest) id) None found)) differ is))
-
-      go : (b : Bool) → is_free (made ∷ ns) slots place ≡ b → ◌≡◌ {A = Option (List (Option Version))} (cond b (filled (made ∷ ns) made places (begun_by next rest) later) None) (Some after)
-          → ((o : Option ℕ) → ArePlaced rest next places later after o) → IsPlaceOf made id after (given (placed_rows next rest places) id (cond (eqb other id) (Some place) found))
-      go b free h more = grind (arith, by)
+      let later = set slots place (new_version made (record { id = other; row = row })) in
+      let begun = some_then (is_free (made ∷ ns) slots place) (filled (made ∷ ns) made places (begun_by next rest) later) after e in
+      filled_place rest next places later after (cond (eqb other id) (Some place) found) begun.1 apart.1 (λ there. low (or_right (eqb other id) (among (ended_by rest) id) there))
+      (one_placed place (record { id = other; row = row }) slots (cond (among (ended_by (Set other row ∷ rest)) id) None found) found (among (ended_by rest) id) begun.0 is
+      (λ same. subst (λ n. among (ended_by rest) n ≡ false) (eqb-true other id same) apart.0) (λ differ. ap (λ (b : Bool). cond (b || among (ended_by rest) id) None found) differ))
   filled_place (Remove other ∷ rest) next places slots after found e apart low is = grind (arith, filled_place rest next places slots after)
 
 -- a call that is no commit changes nothing

@@ -1,61 +1,40 @@
 -- As many slots are in use as there are versions that are needed.
-use Rattle.pref_core.proofs.Common.{map-append, ◌≡◌, ◌≤◌, ℕ, suc, Bool, true, false, ◌&&◌, ◌||◌, cond, List, [], ◌∷◌, ◌++◌, filter, length, Option, Some, None, is_some, refl, sym, ap, ap₂, ◌∙◌}
+use Rattle.pref_core.proofs.Common.{map-append, ◌≡◌, ◌≤◌, ℕ, Bool, true, false, ◌&&◌, ◌||◌, List, [], ◌∷◌, ◌++◌, filter, length, Option, Some, None, is_some, refl, sym, ap, ap₂, ◌∙◌}
 use Rattle.pref_core.proofs.Common.{cons_option, list_any, AllZip, list_any-IsPermutation, IsPermutation-map, length-filter, eq-eqb, Version, Caller, Line, Key, same_key, holds_key, keys, different}
 use Rattle.pref_core.proofs.Common.{State, Client, Snapshot, found_tables, needed, Contents, StandsFor, StandsForClient, Shows, ShowsBegin, seen, visible, is_needed, begins, stamps, AreDifferent}
 use Rattle.pref_core.proofs.Common.{used, list_any-append, arith}
-use Rattle.pref_core.proofs.SlotKeys.{slot_keys, holds_key-parts}
+use Rattle.pref_core.proofs.Common.{AllByRecursion, and_parts, eqb, eqb-true, or_parts}
+use Rattle.std.proofs.lemmas.Map.Made.{length-from_same_keys, length-le_from_is_member}
+use Rattle.std.specs.Cmp.{IsEquivalence}
+use Rattle.std.specs.List.{IsDistinct}
+use Rattle.pref_core.proofs.SlotKeys.{slot_keys, same_key_comm}
 
-pub same_key_refl : (a : Key) → same_key a a ≡ true
-same_key_refl a = rw (eq-eqb a.id a.id refl, eq-eqb a.made a.made refl) refl
+same_key_congr : (a b c : Key) → same_key a b ≡ true → same_key a c ≡ same_key b c
+same_key_congr a b c h = let p = and_parts (eqb a.id b.id) (eqb a.made b.made) h in ap₂ (λ id made. eqb id c.id && eqb made c.made) (eqb-true a.id b.id p.0) (eqb-true a.made b.made p.1)
 
--- the keys other than this one
-pub others : Key → List Key → List Key
-others x [] = []
-others x (k ∷ ks) = cond (same_key x k) (others x ks) (k ∷ others x ks)
+key_laws : IsEquivalence same_key
+key_laws = record { refl = λ a. rw (eq-eqb a.id a.id refl, eq-eqb a.made a.made refl) refl; symm = same_key_comm; congr = same_key_congr }
 
-others_none : (x : Key) (ks : List Key) → holds_key ks x ≡ false → others x ks ≡ ks
-unfolding others
-others_none x [] h = refl
-others_none x (k ∷ ks) h = let p = holds_key-parts k ks x h in rw (p.0, others_none x ks p.1) refl
+apart_from : (x : Key) (ks : List Key) → holds_key ks x ≡ false → AllByRecursion (λ k. same_key x k ≡ false) ks
+apart_from x [] h = tt
+apart_from x (k ∷ ks) h = let p = or_parts (same_key x k) (holds_key ks x) h in (p.0, apart_from x ks p.1)
 
-pub holds_key-others-at : (x key : Key) (ks : List Key) → same_key key x ≡ false → holds_key (others x ks) key ≡ holds_key ks key
-unfolding others
-holds_key-others-at x key [] h = refl
-holds_key-others-at x key (k ∷ ks) h = grind (arith, holds_key-others-at x key ks h)
+distinct : (ks : List Key) → AreDifferent ks → IsDistinct same_key ks
+unfolding IsDistinct
+distinct [] h = tt
+distinct (k ∷ ks) h = (apart_from k ks h.0, distinct ks h.1)
 
-pub AreDifferent-others : (x : Key) (ks : List Key) → AreDifferent ks → AreDifferent (others x ks)
-unfolding others
-AreDifferent-others x [] h = tt
-AreDifferent-others x (k ∷ ks) h = grind (arith, AreDifferent-others x ks h.1, others, holds_key-others-at)
-
-pub length-others : (x : Key) (ks : List Key) → AreDifferent ks → holds_key ks x ≡ true → length ks ≡ suc (length (others x ks))
-unfolding others
-length-others x [] h is = absurd (cc)
-length-others x (k ∷ ks) h is = grind (arith, length-others x ks h.1, others, others_none)
-
--- a list without doubles is no longer than one that holds its keys, ..
-pub fewer : (xs ys : List Key) → AreDifferent xs → AreDifferent ys → ((key : Key) → holds_key xs key ≡ true → holds_key ys key ≡ true) → length xs ≤ length ys
-fewer [] ys p q in_ = omega arith
-fewer (x ∷ xs) ys p q in_ =
-    let there : holds_key ys x ≡ true = in_ x (ap (λ b. b || holds_key xs x) (same_key_refl x)) in
-    let size = length-others x ys q there in
-    let rest = fewer xs (others x ys) p.1 (AreDifferent-others x ys q) (λ key h. at key (same_key key x) refl h) in
-    omega arith
-  where
-    at : (key : Key) (b : Bool) → same_key key x ≡ b → holds_key xs key ≡ true → holds_key (others x ys) key ≡ true
-    at key b e h = grind (arith, holds_key-others-at)
-
--- .. and as long where it holds those keys alone
-same_length : (xs ys : List Key) → AreDifferent xs → AreDifferent ys → ((key : Key) → holds_key xs key ≡ holds_key ys key) → length xs ≡ length ys
-same_length xs ys p q same = let up = fewer xs ys p q (λ key h. sym (same key) ∙ h) in let down = fewer ys xs q p (λ key h. same key ∙ h) in omega arith
-
-pub holds_key-different : (ks : List Key) (key : Key) → holds_key (different ks) key ≡ holds_key ks key
+holds_key-different : (ks : List Key) (key : Key) → holds_key (different ks) key ≡ holds_key ks key
 holds_key-different [] key = refl
 holds_key-different (k ∷ ks) key = grind (arith, holds_key-different ks key)
 
-pub AreDifferent-different : (ks : List Key) → AreDifferent (different ks)
+AreDifferent-different : (ks : List Key) → AreDifferent (different ks)
 AreDifferent-different [] = tt
 AreDifferent-different (k ∷ ks) = grind (arith, AreDifferent-different ks, holds_key-different)
+
+-- no more keys are different where each is held by the others
+pub fewer : (xs ys : List Key) → ((key : Key) → holds_key xs key ≡ true → holds_key ys key ≡ true) → length (different xs) ≤ length (different ys)
+fewer xs ys in_ = length-le_from_is_member key_laws (different xs) (different ys) (distinct (different xs) (AreDifferent-different xs)) (λ key h. holds_key-different ys key ∙ in_ key (sym (holds_key-different xs key) ∙ h))
 
 -- whether the slot holds the version of this key
 has_key : Key → Option Version → Bool
@@ -131,7 +110,7 @@ length_needed ns (Some version ∷ slots) = grind (arith, length_needed ns slots
 -- the size of `needed` is the number of slots in use
 pub length-needed : (contents : Contents) (state : State) → StandsFor contents state → length (needed state) ≡ used contents
 length-needed contents state h =
-    same_length _ _ (AreDifferent-different (keys (state.table ++ found_tables state.clients))) (AreDifferent-filter (is_needed (stamps contents)) contents.slots h.separate) same
+    length-from_same_keys key_laws _ _ (distinct _ (AreDifferent-different (keys (state.table ++ found_tables state.clients)))) (distinct _ (AreDifferent-filter (is_needed (stamps contents)) contents.slots h.separate)) same
     ∙ length_needed (stamps contents) contents.slots
     ∙ length-filter (is_needed (stamps contents)) contents.slots
   where

@@ -1,7 +1,7 @@
 -- Fewer keys are needed where each is needed before.
 use Rattle.pref_core.proofs.Common.{◌≡◌, ℕ, ◌≤◌, Bool, true, false, ◌||◌, List, [], ◌∷◌, ◌++◌, length, sym, ◌∙◌, arith, Line, Key, holds_key, keys, different, without}
 use Rattle.pref_core.proofs.Common.{Change, Remove, begun_by, begins_any, EndsNeedNoMore}
-use Rattle.pref_core.proofs.NeededCounts.{fewer, holds_key-different, AreDifferent-different, holds_key-keys-append}
+use Rattle.pref_core.proofs.NeededCounts.{fewer, holds_key-keys-append}
 
 held_without : (ids : List ℕ) (table : List Line) (key : Key) → holds_key (keys (without ids table)) key ≡ true → holds_key (keys table) key ≡ true
 held_without ids [] key h = h
@@ -10,10 +10,9 @@ held_without ids (line ∷ rest) key h = grind (arith, held_without ids rest key
 -- where rows end and none begins
 without_needs_no_more : (ids : List ℕ) (table found : List Line) → length (different (keys (without ids table ++ found))) ≤ length (different (keys (table ++ found)))
 without_needs_no_more ids table found =
-    fewer _ _ (AreDifferent-different (keys (without ids table ++ found))) (AreDifferent-different (keys (table ++ found))) (λ key h.
-    let held = sym (holds_key-different (keys (without ids table ++ found)) key ∙ holds_key-keys-append key (without ids table) found) ∙ h in
-    holds_key-different (keys (table ++ found)) key ∙ holds_key-keys-append key table found
-    ∙ both (holds_key (keys (without ids table)) key) (holds_key (keys table) key) (holds_key (keys found) key) (held_without ids table key) held)
+    fewer (keys (without ids table ++ found)) (keys (table ++ found)) (λ key h.
+    holds_key-keys-append key table found
+    ∙ both (holds_key (keys (without ids table)) key) (holds_key (keys table) key) (holds_key (keys found) key) (held_without ids table key) (sym (holds_key-keys-append key (without ids table) found) ∙ h))
   where
     both : (a b f : Bool) → (a ≡ true → b ≡ true) → (a || f) ≡ true → (b || f) ≡ true
     both a b f i h = grind (arith)

@@ -1,9 +1,9 @@
 -- The row of an id ends: one slot is written, and what is kept beside the slots goes along.
 use Rattle.pref_core.proofs.Common.{◌≡◌, ℕ, zero, suc, ◌^◌, Bool, true, false, ◌||◌, eqb, List, [], ◌∷◌, map, set, Option, Some, None, slice_get, refl, sym, ap, ap₂, ◌∙◌, arith, ⊎_elim}
-use Rattle.pref_core.proofs.Common.{AllByRecursion, option_map, map-set, slice_get-map, and_parts, eqb-true, eq-eqb, cases_eq, true≢false, Version, Caller, SlotUse, Live, Entry}
-use Rattle.pref_core.proofs.Common.{is_visible, new_version, IsWithin, EndsBy, close, close_at, use_of, is_row, row_at, IsPlaceOf, ids_of, id_at, AreIds, AreLinks}
+use Rattle.pref_core.proofs.Common.{AllByRecursion, option_map, map-set, slice_get-map, and_parts, eqb-true, eq-eqb, cases_eq, true≢false, Version, Caller, SlotUse, Live}
+use Rattle.pref_core.proofs.Common.{is_visible, IsWithin, EndsBy, close, close_at, use_of, is_row, row_at, IsPlaceOf, ids_of, id_at, AreIds, AreLinks}
 use Rattle.pref_core.proofs.StabilityLaws.{slice_get-set_same, slice_get-set_other}
-use Rattle.pref_core.proofs.SlotUseLaws.{holds_there, has_row_at}
+use Rattle.pref_core.proofs.SlotUseLaws.{holds_there, has_row_at, row_version}
 use Rattle.pref_core.proofs.IdChainsLaws.{shows_row, row_shown}
 
 -- lists are equal where they are at each place
@@ -47,6 +47,12 @@ module _ (next made id : ℕ) (slots : List (Option Version)) (within : AllByRec
 pub row_alive : (next made id : ℕ) (callers : List Caller) (version : Version) → IsWithin next made (Some version) → is_row made id (Some version) ≡ true → use_of callers (Some version) ≡ Live
 row_alive next made id callers version w r = grind (arith)
 
+pub row_live : (next made id : ℕ) (slots : List (Option Version)) → AllByRecursion (IsWithin next made) slots → (callers : List Caller) (place : ℕ) → row_at made id slots place ≡ true → slice_get (map (use_of callers) slots) place ≡ Some Live
+row_live next made id slots within callers place row =
+    let found = row_version made id slots place row in
+    slice_get-map (use_of callers) slots place ∙ ap (option_map (use_of callers)) found.1
+    ∙ ap Some (row_alive next made id callers found.0 (holds_there (IsWithin next made) slots place (Some found.0) found.1 within) (ap (λ o. elim o as (λ x. Bool) [ None ↦ false | Some s ↦ is_row made id s ]) (sym found.1) ∙ row))
+
 -- Nothing is ahead of the commit that ends rows.
 pub within_closed : (ids : List ℕ) (next made : ℕ) (slots : List (Option Version)) → AllByRecursion (IsWithin next made) slots → AllByRecursion (IsWithin next made) (map (close ids made) slots)
 within_closed ids next made [] h = tt
@@ -75,6 +81,3 @@ links_ended made place slots version links ends h = grind (arith, map-set)
 -- One slot_use is written.
 pub closed_uses : (callers : List Caller) (slots : List (Option Version)) (uses new : List SlotUse) (place : ℕ) (slot : Option Version) (slot_use : SlotUse) → uses ≡ map (use_of callers) slots → slot_use ≡ use_of callers slot → new ≡ set uses place slot_use → new ≡ map (use_of callers) (set slots place slot)
 closed_uses callers slots uses new place slot slot_use listed is returned = grind (arith, map-set)
-
-pub filled_uses : (callers : List Caller) (closed : List (Option Version)) (uses new : List SlotUse) (place : ℕ) (row : Option Version) (fresh : Entry) (made : ℕ) → uses ≡ map (use_of callers) closed → row ≡ new_version made fresh → new ≡ set uses place Live → new ≡ map (use_of callers) (set closed place row)
-filled_uses callers closed uses new place row fresh made listed is returned = closed_uses callers closed uses new place row Live listed (sym (ap (use_of callers) is)) returned

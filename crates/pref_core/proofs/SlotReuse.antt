@@ -38,24 +38,19 @@ slice_set_behind {X} front xs i n y e = grind (arith)
 IsFree-behind : (ns : List ℕ) (front slots : List (Option Version)) (place : ℕ) → IsFree ns slots place → IsFree ns (front ++ slots) (length front + place)
 IsFree-behind ns front slots place h = record { old = h.old; at = slice_get_behind front slots place _ refl ∙ h.at; unneeded = h.unneeded }
 
-abbrev Stands : Contents → State → List (Option Version) → Type 0
-Stands contents state slots = StandsFor (record { slots = slots; stamp = contents.stamp; next_id = contents.next_id; callers = contents.callers }) state
+-- a test that gives something, where its other branch has none
+pub some_then : {X : Type 0} (b : Bool) (o : Option X) (x : X) → cond b o None ≡ Some x → (b ≡ true) × (o ≡ Some x)
+some_then b o x e = grind (arith)
 
 -- each in its turn
 pub filled_stands : (contents : Contents) (state : State) (made : ℕ) (places : List ℕ) (begun : List Entry) (slots after : List (Option Version)) → filled (stamps contents) made places begun slots ≡ Some after
     → StandsFor (record { slots = map (new_version made) begun ++ slots; stamp = contents.stamp; next_id = contents.next_id; callers = contents.callers }) state
     → StandsFor (record { slots = after; stamp = contents.stamp; next_id = contents.next_id; callers = contents.callers }) state
 filled_stands contents state made (place ∷ places) (fresh ∷ rest) slots after e h =
-    go (is_free (stamps contents) slots place) refl e (λ f. filled_stands contents state made places rest (slice_set slots place (new_version made fresh)) after f)
-  where
-    go : (b : Bool) → is_free (stamps contents) slots place ≡ b
-        → cond b (filled (stamps contents) made places rest (slice_set slots place (new_version made fresh))) None ≡ Some after
-        → (filled (stamps contents) made places rest (slice_set slots place (new_version made fresh)) ≡ Some after → Stands contents state (map (new_version made) rest ++ slice_set slots place (new_version made fresh)) → Stands contents state after)
-        → Stands contents state after
-    go false f e more = absurd (cc)
-    go true f e more =
-        let front = map (new_version made) rest in
-        let free = IsFree-behind (stamps contents) front slots place (IsFree-from (stamps contents) slots place f) in
-        let set = set_stands (record { slots = front ++ slots; stamp = contents.stamp; next_id = contents.next_id; callers = contents.callers }) state (length front + place) (new_version made fresh) free h in
-        more e (subst (λ l. StandsFor (record { slots = l; stamp = contents.stamp; next_id = contents.next_id; callers = contents.callers }) state) (slice_set_behind front slots place _ (new_version made fresh) refl) set)
+    let parts = some_then (is_free (stamps contents) slots place) (filled (stamps contents) made places rest (slice_set slots place (new_version made fresh))) after e in
+    let front = map (new_version made) rest in
+    let free = IsFree-behind (stamps contents) front slots place (IsFree-from (stamps contents) slots place parts.0) in
+    let set = set_stands (record { slots = front ++ slots; stamp = contents.stamp; next_id = contents.next_id; callers = contents.callers }) state (length front + place) (new_version made fresh) free h in
+    filled_stands contents state made places rest (slice_set slots place (new_version made fresh)) after parts.1
+    (subst (λ l. StandsFor (record { slots = l; stamp = contents.stamp; next_id = contents.next_id; callers = contents.callers }) state) (slice_set_behind front slots place _ (new_version made fresh) refl) set)
 filled_stands contents state made places begun slots after e h = grind (arith)

@@ -1,8 +1,9 @@
 -- Slots for all rows that a commit begins: there are some exactly where the needed versions fit, and they can be chosen one after the other, in any way.
 use Rattle.pref_core.proofs.Common.{◌≡◌, ℕ, zero, suc, ◌+◌, ◌<◌, ◌≤◌, Bool, true, false, not, cond, eqb, List, [], ◌∷◌, ◌++◌, map, length, Option, Some, None, slice_get, slice_set, refl, sym, ap}
-use Rattle.pref_core.proofs.Common.{arith, count_by, count_by-le-length, or_parts, eqb-false, Version, Entry, among, is_needed, new_version, is_free, filled, not-false}
+use Rattle.pref_core.proofs.Common.{◌∙◌, arith, count_by, count_by-le-length, or_parts, eqb-false, Version, Entry, among, is_needed, new_version, is_free, filled, not-false}
 use Rattle.pref_core.proofs.SlotSetsLaws.{count_set}
 use Rattle.pref_sky.proofs.ListLaws.{count_cons}
+use Rattle.pref_core.proofs.SlotReuse.{some_then}
 use Rattle.pref_core.proofs.SlotUseLaws.{one_no}
 use Rattle.pref_core.proofs.StabilityLaws.{slice_get-set_same, slice_get-set_other}
 use Rattle.pref_core.proofs.BoundsLaws.{length-filled}
@@ -37,12 +38,8 @@ free_other ns slots place other new n = ap (λ (o : Option (Option Version)). el
 pub free_still : (ns : List ℕ) (made : ℕ) (places : List ℕ) (begun : List Entry) (slots now : List (Option Version)) (place : ℕ) → filled ns made places begun slots ≡ Some now → among places place ≡ false → is_free ns now place ≡ is_free ns slots place
 free_still ns made (first ∷ places) (entry ∷ rest) slots now place e a =
     let parts = or_parts (eqb first place) (among places place) a in
-    go (is_free ns slots first) e (λ h. free_still ns made places rest (slice_set slots first (new_version made entry)) now place h parts.1) (λ same. eqb-false first place parts.0 (sym same))
-  where
-    go : (b : Bool) → cond b (filled ns made places rest (slice_set slots first (new_version made entry))) None ≡ Some now
-        → (filled ns made places rest (slice_set slots first (new_version made entry)) ≡ Some now → is_free ns now place ≡ is_free ns (slice_set slots first (new_version made entry)) place)
-        → (place ≡ first → ⊥) → is_free ns now place ≡ is_free ns slots place
-    go b e more apart = grind (arith, free_other)
+    let begun = some_then (is_free ns slots first) (filled ns made places rest (slice_set slots first (new_version made entry))) now e in
+    free_still ns made places rest (slice_set slots first (new_version made entry)) now place begun.1 parts.1 ∙ free_other ns slots place first (new_version made entry) (λ same. eqb-false first place parts.0 (sym same))
 free_still ns made places begun slots now place e a = grind (arith)
 
 -- one that wasn't free isn't

@@ -5,7 +5,7 @@ use Rattle.pref_core.proofs.Common.{is_change, ended, begun, succeeds, Contents,
 use Rattle.pref_core.proofs.Common.{callers_after, is_next, slots_after, stepped, applied, ran, ends_query, IsStable}
 use Rattle.pref_core.proofs.VisibleLaws.{seen_close-before, seen_born-before}
 use Rattle.pref_core.proofs.StandsForLaws.{hidden_unneeded}
-use Rattle.pref_core.proofs.SlotReuse.{IsFree-from}
+use Rattle.pref_core.proofs.SlotReuse.{IsFree-from, some_then}
 use Rattle.pref_core.proofs.AppliedLaws.{IsAllowed-from}
 
 -- what each slot shows at a stamp
@@ -49,18 +49,12 @@ begin_hidden contents (suc k) stamp P e h = go (slice_get contents.callers k) re
 shown_filled : (contents : Contents) (client stamp made : ℕ) → caller_begun contents client ≡ Some stamp → stamp < made → (now : ℕ) (places : List ℕ) (begun : List Entry) (slots after : List (Option Version))
     → filled (now ∷ begins contents.callers) made places begun slots ≡ Some after → shown stamp after ≡ shown stamp slots
 shown_filled contents client stamp made is later now (place ∷ places) (fresh ∷ rest) slots after e =
-    go (is_free (now ∷ begins contents.callers) slots place) refl e (shown_filled contents client stamp made is later now places rest (slice_set slots place (new_version made fresh)) after)
-  where
-    go : (b : Bool) → is_free (now ∷ begins contents.callers) slots place ≡ b
-        → cond b (filled (now ∷ begins contents.callers) made places rest (slice_set slots place (new_version made fresh))) None ≡ Some after
-        → (filled (now ∷ begins contents.callers) made places rest (slice_set slots place (new_version made fresh)) ≡ Some after → shown stamp after ≡ shown stamp (slice_set slots place (new_version made fresh)))
-        → shown stamp after ≡ shown stamp slots
-    go false f e more = absurd (cc)
-    go true f e more =
-        let free = IsFree-from (now ∷ begins contents.callers) slots place f in
-        let hidden = hidden_unneeded (now ∷ begins contents.callers) free.old free.unneeded in
-        let none : seen stamp free.old ≡ None = begin_hidden contents client stamp (λ n. seen n free.old ≡ None) is hidden.1 in
-        more e ∙ shown_set stamp slots place free.old (new_version made fresh) free.at (none ∙ sym (seen_born-before stamp made fresh later))
+    let parts = some_then (is_free (now ∷ begins contents.callers) slots place) (filled (now ∷ begins contents.callers) made places rest (slice_set slots place (new_version made fresh))) after e in
+    let free = IsFree-from (now ∷ begins contents.callers) slots place parts.0 in
+    let hidden = hidden_unneeded (now ∷ begins contents.callers) free.old free.unneeded in
+    let none : seen stamp free.old ≡ None = begin_hidden contents client stamp (λ n. seen n free.old ≡ None) is hidden.1 in
+    shown_filled contents client stamp made is later now places rest (slice_set slots place (new_version made fresh)) after parts.1
+    ∙ shown_set stamp slots place free.old (new_version made fresh) free.at (none ∙ sym (seen_born-before stamp made fresh later))
 shown_filled contents client stamp made is later now places begun slots after e = grind (arith)
 
 -- the slots after an op show the same at the begin

@@ -45,13 +45,6 @@ abbrev pub row_in : List (Option Version) → Option ℕ → Option Row
 row_in slots None = None
 row_in slots (Some place) = elim (slice_get slots place) [ None ↦ None | Some slot ↦ option_map (λ (version : Version). version.row) slot ]
 
--- the places of the rows of these ids, one for each
-abbrev pub AreOldPlaces : ℕ → List ℕ → List (Option Version) → List ℕ → Type 0
-AreOldPlaces stamp [] slots [] = Unit {0}
-AreOldPlaces stamp (id ∷ ids) slots (place ∷ places) = (row_at stamp id slots place ≡ true) × AreOldPlaces stamp ids slots places
-AreOldPlaces stamp [] slots (place ∷ places) = ⊥
-AreOldPlaces stamp (id ∷ ids) slots [] = ⊥
-
 -- the slot of this place, as it is after a commit that ends these ids, is free
 abbrev pub frees_at : List ℕ → List ℕ → ℕ → List (Option Version) → ℕ → Bool
 frees_at begins ids stamp slots place = elim (slice_get slots place) [ None ↦ false | Some slot ↦ is_spare begins (close ids stamp slot) ]

@@ -196,6 +196,7 @@ impl Store {
 
     /// Plans a lent call by an index of this store, as [`Store::plan`] does without one. The plan borrows the call: it
     /// is for [`Store::reindex`] and [`Store::perform`].
+    #[tactic(auto, using(crate::proofs::LegalLaws::plans_in))]
     pub fn look_up<'a>(
         &self,
         index: &Index,

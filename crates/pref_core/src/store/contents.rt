@@ -117,6 +117,7 @@ impl Contents {
     }
 
     /// The row of this id in the table, found as its place is.
+    #[tactic(auto, using(std::proofs::lemmas::Grind::common_steps, crate::proofs::LineOfLaws::row_of_place))]
     pub(crate) fn row(&self, index: Option<&Index>, id: u64) -> Option<Row>
         requires { IfSome index (λ index. IsIndexOf self.now index.now) }
         ensures { (state : State) → StandsFor self.now state → result ≡ option_map (λ line. line.row) (line_of state.table id) }

@@ -85,6 +85,7 @@ impl Store {
     }
 
     /// The slots that the rows which a call ends leave free, or the first id that it ends and the table lacks.
+    #[tactic(auto, using(crate::proofs::BoundsLaws::bounds))]
     pub(crate) fn freed_places(
         &self,
         index: Option<&Index>,
@@ -126,6 +127,7 @@ impl Store {
     }
 
     /// Slots for the rows that a call begins.
+    #[tactic(auto, using(std::proofs::lemmas::Grind::common_steps, crate::proofs::BoundsLaws::bounds, crate::proofs::ChangesLaws::added_one, crate::proofs::ChosenSlots::none_chosen))]
     fn places_for(&self, freed: &SlotList, call: &LentCall<'_>) -> SlotList
         requires freed { IsFreed self.now (ended call.now) freed.now }
         requires change { is_change call.now ≡ true }
@@ -151,6 +153,7 @@ impl Store {
 impl Contents {
     /// The slots of a call whose rows can all have their homes at once, or which begins no row. A row that is added alone
     /// may have any free slot.
+    #[tactic(auto, using(std::proofs::lemmas::Grind::common_steps, crate::proofs::BoundsLaws::bounds, crate::proofs::ChangesLaws::added_one))]
     fn slots_at_once(&self, index: Option<&Index>, call: &LentCall<'_>) -> Option<SlotList>
         requires kept { IsKept self.now }
         requires index { IfSome index (λ index. IsIndexOf self.now index.now) }
@@ -226,6 +229,7 @@ impl Contents {
     /// How many slots are used after a change, by how many are before it, where it fits at once. An added row may have the
     /// next slot if that is free; a row that is set, the one where it stands if no open query needs what is there.
     #[inline(always)]
+    #[tactic(auto, using(crate::proofs::BoundsLaws::bounds))]
     fn used_after(
         &self,
         index: Option<&Index>,

@@ -1,7 +1,6 @@
 use Rattle.pref_core.proofs.Common.{◌≡◌, ◌+◌, ◌≤◌, ◌∷◌, ℕ, suc, List, Option, Some, None, drop, sym, ap, ap₂, ◌∙◌, subst, arith, ltb-true, Change, added_by, ended, slot_of, given, placed_rows}
-use Rattle.pref_core.proofs.Common.{change_of, changes_of, op_of, drop_all, common_steps}
+use Rattle.pref_core.proofs.Common.{change_of, changes_of, op_of}
 use Rattle.indexmap.specs.IndexMap.{spare}
-use Rattle.pref_core.proofs.BoundsLaws.{next_id-small}
 use Rattle.pref_core.proofs.ChangesLaws.{among_first, drop_at}
 use Rattle.pref_core.proofs.ChangeCounts.{drop_item}
 use Rattle.pref_core.proofs.IndexLaws.{AreThere, PlacesRest, adds_one, moves_one, ended_there, rest_there}
@@ -24,12 +23,6 @@ loop-at-init c =
       few = omega arith;
     }
 
-pub put_slot-requires : goal.put_slot-requires
-put_slot-requires c = grind (arith, common_steps, drop_at, in-Add-Some)
-
-pub overflow_add-next_id : goal.overflow_add-next_id
-overflow_add-next_id c = grind (arith, common_steps, next_id-small)
-
 pub move_slot-requires-clause-there : goal.move_slot-requires-clause-there
 move_slot-requires-clause-there c =
     (rest_there c.args.contents.now c.loop-at.next_id c.loop-at.map.entries (changes_of c.args.op.now.call.now) c.loop-at.at c.in-Set-Some.id c.in-Set-Some.field-1-0.now c.in-Set-Some.ensures c.loop-at.invariant.rest.olds).there
@@ -39,12 +32,6 @@ pub move_slot-requires-clause-index : goal.move_slot-requires-clause-index
 move_slot-requires-clause-index c =
     (rest_there c.args.contents.now c.loop-at.next_id c.loop-at.map.entries (changes_of c.args.op.now.call.now) c.loop-at.at c.in-Set-Some.id c.in-Set-Some.field-1-0.now c.in-Set-Some.ensures c.loop-at.invariant.rest.olds).placed
     c.in-Set-Some.id (among_first c.in-Set-Some.id _)
-
-pub returns-in_default : goal.returns-in_default
-returns-in_default c id = grind (arith, common_steps, drop_at, drop_all)
-
-pub returns-in_default-2 : goal.returns-in_default-2
-returns-in_default-2 c id = grind (arith, common_steps, drop_at, drop_all)
 
 pub loop-at-preserved : goal.loop-at-preserved
 loop-at-preserved c =

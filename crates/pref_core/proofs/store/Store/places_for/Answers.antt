@@ -1,12 +1,8 @@
-use Rattle.pref_core.proofs.Common.{◌+◌, ◌++◌, [], ◌∷◌, drop, sym, ap, ◌∙◌, subst, arith, begun_by, added_by, is_open, uses_of, changes_of, change_of, common_steps}
-use Rattle.pref_core.proofs.BoundsLaws.{next_id-small}
+use Rattle.pref_core.proofs.Common.{[], ◌+◌, ◌++◌, ◌∷◌, drop, sym, ap, ◌∙◌, subst, arith, begun_by, added_by, is_open, uses_of, changes_of, change_of}
 use Rattle.pref_core.proofs.ChangesLaws.{begun_at, added_one}
-use Rattle.pref_core.proofs.ChosenSlots.{ChosenUpTo, none_chosen, chosen_few, choose_one, one_left}
+use Rattle.pref_core.proofs.ChosenSlots.{ChosenUpTo, chosen_few, choose_one, one_left}
 use Rattle.pref_core.proofs.store.Store.places_for.Goals.{in-Some+in-Some-choose, in_default}
 use Rattle.pref_core.proofs.store.Store.places_for.Goals as goal
-
-pub loop-at-init : goal.loop-at-init
-loop-at-init c = grind (arith, common_steps, none_chosen)
 
 pub push-requires : goal.push-requires
 push-requires c =
@@ -20,9 +16,6 @@ unreachable-requires c =
     let is = begun_at c.loop-at.next_id (changes_of c.args.call.now) c.loop-at.at (change_of c.change-change.result) c.change-change.ensures ∙ ap (λ l. l ++ rest) c.in-Some.ensures.some in
     one_left c.args.self.now c.args.call.now (record { id = c.in-Some.id; row = c.in-Some.field-0-1.now }) rest c.loop-at.chosen c.args.freed.now c.requires.freed c.requires.change c.requires.succeeds
     (λ place opens. c.in-None.ensures.none place (ap (λ s. is_open (uses_of s) c.args.freed.now place) c.self.view_is ∙ opens)) (subst (λ l. ChosenUpTo c.args.self.now c.args.call.now l c.loop-at.chosen) is c.loop-at.invariant.chosen)
-
-pub overflow_add-next_id : goal.overflow_add-next_id
-overflow_add-next_id c = grind (arith, common_steps, next_id-small, added_one)
 
 pub loop-at-preserved : goal.loop-at-preserved
 loop-at-preserved c =

@@ -1,7 +1,7 @@
-use Rattle.pref_core.proofs.Common.{◌+◌, ◌++◌, [], ◌∷◌, List, Option, drop, sym, ap, ◌∙◌, subst, arith, Version, Entry, begun_by, added_by, filled, begins, stamps, changes_of, begun, change_of}
+use Rattle.pref_core.proofs.Common.{◌+◌, ◌++◌, ◌∷◌, List, [], Option, drop, sym, ap, ◌∙◌, subst, arith, Version, Entry, begun_by, added_by, filled, stamps, changes_of, begun, change_of}
 use Rattle.pref_core.proofs.Common.{drop_all}
 use Rattle.pref_core.proofs.ChangesLaws.{added_one, begun_at}
-use Rattle.pref_core.proofs.FilledLaws.{BegunUpTo, FillsRest, BeginsNext, begins_next, begun_one, fills_end}
+use Rattle.pref_core.proofs.FilledLaws.{BegunUpTo, BeginsNext, begins_next, begun_all, begun_one}
 use Rattle.pref_core.proofs.store.contents.Contents.begin_rows.Goals.{In-Some, in-Some, in_default}
 use Rattle.pref_core.proofs.store.contents.Contents.begin_rows.Goals as goal
 
@@ -68,5 +68,5 @@ returns-clause-slots c =
     let now = c.args.self.now in
     let left = drop c.loop-at.used c.args.slots.now in
     let all = filled (stamps now) now.stamp c.args.slots.now (begun c.args.first c.args.call.now) now.slots in
-    fills_end now.next_id now.stamp (begins now.callers) left c.loop-at.self.slots all
-    (subst (λ l. FillsRest now.next_id now.stamp (begins now.callers) left (begun_by c.loop-at.next_id l) c.loop-at.self.slots all) (drop_all c.loop-at.at (changes_of c.args.call.now) (omega arith)) c.loop-at.invariant.begun.fills)
+    begun_all now c.loop-at.self left all
+    (subst (λ l. BegunUpTo now c.loop-at.self left (begun_by c.loop-at.next_id l) all) (drop_all c.loop-at.at (changes_of c.args.call.now) (omega arith)) c.loop-at.invariant.begun)

@@ -1,9 +1,5 @@
-use Rattle.pref_core.proofs.Common.{◌+◌, Some, refl, sym, ap, ◌∙◌, subst, arith, ltb-true, slice_get-get_or, Contents, FitsNext, free_at, row_at, uses_of, change_of, Add, Set}
-use Rattle.pref_core.proofs.BoundsLaws.{stamp-small}
+use Rattle.pref_core.proofs.Common.{◌+◌, Some, refl, sym, ap, ◌∙◌, subst, ltb-true, slice_get-get_or, Contents, FitsNext, free_at, row_at, uses_of, change_of, Add, Set}
 use Rattle.pref_core.proofs.store.contents.Contents.used_after.Goals as goal
-
-pub frees-requires : goal.frees-requires
-frees-requires c = let small = stamp-small c.args.self.now c.requires.kept.bounded in omega arith
 
 pub returns-in-Add-Some : goal.returns-in-Add-Some
 returns-in-Add-Some c =

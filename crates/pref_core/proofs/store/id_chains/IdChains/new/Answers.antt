@@ -1,4 +1,4 @@
-use Rattle.pref_core.proofs.Common.{◌≡◌, ◌++◌, [], ◌∷◌, map, replicate, ap, ap₂, cond, ◌∙◌, subst, sym, arith, common_steps, rules, append_assoc, range_with_len, lt-ltb, le-ltb, map-range_with_len_more, AreLinks}
+use Rattle.pref_core.proofs.Common.{[], ◌≡◌, ◌++◌, ◌∷◌, map, replicate, ap, ap₂, cond, ◌∙◌, subst, sym, arith, rules, append_assoc, range_with_len, lt-ltb, le-ltb, map-range_with_len_more, AreLinks}
 use Rattle.pref_core.proofs.Common.{opening_ids, opening_link}
 use Rattle.pref_core.proofs.OpeningChains.{opening_links}
 use Rattle.pref_core.proofs.store.id_chains.IdChains.new.Goals.{then-home-rows, else-home-rows}
@@ -21,6 +21,3 @@ returns c =
     let all : c.loop-home.home ≡ c.args.capacity = omega arith in
     subst (AreLinks (opening_ids c.args.capacity c.args.rows)) (sym (c.loop-home.invariant ∙ ap (λ n. replicate c.args.capacity c.args.capacity ++ map (opening_link c.args.capacity c.args.rows) (range_with_len 0 n)) all))
     (opening_links c.args.capacity c.args.rows c.requires.few c.requires.rows)
-
-pub loop-home-init : goal.loop-home-init
-loop-home-init c = grind (arith, common_steps)

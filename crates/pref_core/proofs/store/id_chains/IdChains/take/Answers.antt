@@ -1,10 +1,7 @@
 use Rattle.pref_core.proofs.Common.{length, sym, ap, subst, ◌∙◌, arith, get_or_default_zero, common_steps, ids_of, AreLinks}
 use Rattle.pref_core.proofs.IdChainsLaws.{row_shown}
-use Rattle.pref_core.proofs.LinksOfSlots.{nowhere, links_removed, long_at, within_at}
+use Rattle.pref_core.proofs.LinksOfSlots.{links_removed, long_at, within_at}
 use Rattle.pref_core.proofs.store.id_chains.IdChains.take.Goals as goal
-
-pub returns-then-not-stands_at-clause-place : goal.returns-then-not-stands_at-clause-place
-returns-then-not-stands_at-clause-place c = grind (arith, common_steps, long_at, get_or_default_zero, nowhere)
 
 pub index-requires : goal.index-requires
 index-requires c =

@@ -1,14 +1,7 @@
-use Rattle.pref_core.proofs.Common.{◌≡◌, ◌+◌, ◌<◌, map, get_or, length, set, ap, sym, ◌∙◌, subst, arith, length-map, get_or-map, slice_get_within, Live, Ended, MayBecome, use_of, common_steps}
-use Rattle.pref_core.proofs.UsesAfterQuery.{use_few}
+use Rattle.pref_core.proofs.Common.{◌≡◌, ◌+◌, ◌<◌, map, get_or, length, set, ap, sym, ◌∙◌, subst, arith, length-map, get_or-map, slice_get_within, Live, Ended, MayBecome, use_of}
 use Rattle.std.proofs.lemmas.List.Elements.{length_all_zip}
-use Rattle.pref_core.proofs.SweepLaws.{IsSweeping, sweep_begins, sweep_goes, swept, swept_all}
+use Rattle.pref_core.proofs.SweepLaws.{IsSweeping, sweep_goes, swept_all}
 use Rattle.pref_core.proofs.store.slot_sets.SlotSets.sweep.Goals as goal
-
-pub loop-turn-init : goal.loop-turn-init
-loop-turn-init c = sweep_begins c.args.keeper c.args.self.now _ c.requires.uses
-
-pub returns-in_default : goal.returns-in_default
-returns-in_default c = grind (arith, common_steps, swept)
 
 pub bounds-slots-place : goal.bounds-slots-place
 bounds-slots-place c =
@@ -16,9 +9,6 @@ bounds-slots-place c =
     let long = length_all_zip (MayBecome c.args.keeper) _ _ c.loop-turn.invariant.may in
     let same = length-map c.args.slots.now (use_of c.args.callers.now) in
     omega arith
-
-pub put-requires-clause-few : goal.put-requires-clause-few
-put-requires-clause-few c = grind (arith, common_steps, use_few)
 
 pub loop-turn-preserved : goal.loop-turn-preserved
 loop-turn-preserved c =

@@ -5,11 +5,5 @@ use Rattle.pref_core.proofs.store.stamped_slots.StampedSlots.new.Goals as goal
 pub invariant_of-result : goal.invariant_of-result
 invariant_of-result c = grind (arith, common_steps, length-append, length-opening_slots, length-replicate)
 
-pub loop-row-preserved : goal.loop-row-preserved
-loop-row-preserved c = grind (arith, common_steps)
-
-pub loop-row-init : goal.loop-row-init
-loop-row-init c = grind (arith, common_steps)
-
 pub returns : goal.returns
 returns c = grind (arith, common_steps, take_all, length-opening_slots, c.loop-row.invariant.rest)
