@@ -1,22 +1,148 @@
--- The rows that a call begins, in their slots, one after the other.
-use Rattle.pref_core.proofs.Common.{◌≡◌, ℕ, suc, ◌+◌, ◌^◌, ◌<◌, ◌≤◌, Bool, true, false, not, ◌&&◌, cond, eqb, nat_eq, List, [], ◌∷◌, ◌++◌, map, length, drop, set, Option, Some, None, is_some}
-use Rattle.pref_core.proofs.Common.{slice_get, get_or, unwrap_or, drop_all, refl, sym, ap, ◌∙◌, subst, arith, ⊎_elim, AllByRecursion, length-map, map-set, map-set_same}
-use Rattle.pref_core.proofs.Common.{slice_get_within, slice_get-get_or, le-leb, eqb-true, ne_eqb, cases_eq, cases_lt, or_parts, and_parts, true≢false, Version, SlotUse, Free, Live, Entry}
-use Rattle.pref_core.proofs.Common.{among, has, Op, Call, Outcome, State, ended, begun, begins_row, added, missing, success_outcome, is_change, succeeds, Contents, StandsFor, IsWithin}
-use Rattle.pref_core.proofs.Common.{is_visible, begins, stamps, new_version, visible, close, close_at, grown, is_free, filled, outcome_at, is_next, slots_after, used, is_free_use, free_at, use_of}
-use Rattle.pref_core.proofs.Common.{is_row, row_at, IsPlaceOf, shown, ids_of, id_at, AreIds, AreLinks, IsTracked, AreFresh, with_slots, are_free, same_Some}
+-- The rows that a call ends and begins, in their slots, one after the other, and what is kept beside the slots.
+use Rattle.pref_core.proofs.Common.{◌≡◌, ℕ, zero, suc, ◌^◌, Bool, true, false, ◌||◌, eqb, List, [], ◌∷◌, map, set, Option, Some, None, slice_get, refl, sym, ap, ap₂, ◌∙◌, arith, ⊎_elim}
+use Rattle.pref_core.proofs.Common.{AllByRecursion, option_map, map-set, slice_get-map, and_parts, eqb-true, eq-eqb, cases_eq, true≢false, Version, Caller, SlotUse, Live, is_visible, IsWithin, EndsBy}
+use Rattle.pref_core.proofs.Common.{close, close_at, use_of, is_row, row_at, IsPlaceOf, ids_of, id_at, AreIds, AreLinks, ◌+◌, subst, length_permutation, Call, Entry, State, changes_of, ended, begun}
+use Rattle.pref_core.proofs.Common.{added, missing, is_formed, Contents, StandsFor, visible, new_version, IsBounded, shown, IsTracked, AreFresh, ◌<◌, ◌≤◌, not, ◌&&◌, cond, nat_eq, ◌++◌, length, drop}
+use Rattle.pref_core.proofs.Common.{is_some, get_or, unwrap_or, drop_all, length-map, map-set_same, slice_get_within, slice_get-get_or, le-leb, ne_eqb, cases_lt, or_parts, Free, among, has, Op}
+use Rattle.pref_core.proofs.Common.{Outcome, begins_row, success_outcome, is_change, succeeds, begins, stamps, grown, is_free, filled, outcome_at, is_next, slots_after, used, is_free_use, free_at}
+use Rattle.pref_core.proofs.Common.{with_slots, are_free, same_Some}
+use Rattle.pref_core.proofs.StabilityLaws.{slice_get-set_same, slice_get-set_other}
+use Rattle.pref_core.proofs.SlotUseLaws.{holds_there, has_row_at, row_version, free_use}
+use Rattle.pref_core.proofs.IdChainsLaws.{shows_row, row_shown}
+use Rattle.pref_core.proofs.BoundsLaws.{next_id-small}
+use Rattle.pref_core.proofs.ChangesLaws.{begun_fresh, found_all, formed_apart, among_append}
+use Rattle.pref_core.proofs.IndexedRows.{ended_place, other_place}
+use Rattle.pref_core.proofs.SlotKeys.{within-close, within-more, eqb_comm, AllByRecursion-set}
+use Rattle.pref_core.proofs.LineOfLaws.{one_place, one_line}
+use Rattle.pref_core.proofs.Permutations.{IsPermutation-filter}
+use Rattle.pref_core.proofs.ChosenSlots.{close_none, filled_snoc, free_still, taken}
+use Rattle.pref_core.proofs.TableLaws.{has_below, has_visible-new}
 use Rattle.pref_core.proofs.AppliedLaws.{IsAllowed-from, succeeds-missing}
 use Rattle.pref_core.proofs.LinksOfSlots.{id_at-here, id_at-there}
-use Rattle.pref_core.proofs.ChangesLaws.{among_append}
 use Rattle.pref_core.proofs.ChangeCounts.{drop_item}
-use Rattle.pref_core.proofs.RowEndLaws.{none_closed, one_closed, row_alive, row_live, within_closed, ids_closed, links_ended, closed_uses}
-use Rattle.pref_core.proofs.IndexedRows.{other_place}
-use Rattle.pref_core.proofs.SlotKeys.{eqb_comm, AllByRecursion-set}
-use Rattle.pref_core.proofs.IdsAfterCommit.{links_born, fresh_begun}
-use Rattle.pref_core.proofs.IdChainsLaws.{shows_row}
-use Rattle.pref_core.proofs.PlanLaws.{close_none}
-use Rattle.pref_core.proofs.SlotsForAll.{filled_snoc, free_still, taken}
-use Rattle.pref_core.proofs.SlotUseLaws.{holds_there, free_use, has_row_at}
+
+-- lists are equal where they are at each place
+pub same_at_each : {X : Type 0} (xs ys : List X) → ((k : ℕ) → slice_get xs k ≡ slice_get ys k) → xs ≡ ys
+same_at_each [] [] h = refl
+same_at_each [] (y ∷ ys) h = absurd (let bad = h zero in cc)
+same_at_each (x ∷ xs) [] h = absurd (let bad = h zero in cc)
+same_at_each (x ∷ xs) (y ∷ ys) h = let first : x ≡ y = let e = h zero in cc in ap₂ ◌∷◌ first (same_at_each xs ys (λ k. h (suc k)))
+
+-- a slot that doesn't show the id's row stays
+idle : (next made id : ℕ) (slot : Option Version) → IsWithin next made slot → is_row made id slot ≡ false → close (id ∷ []) made slot ≡ slot
+idle next made id slot w r = grind (arith)
+
+module _ (next made id : ℕ) (slots : List (Option Version)) (within : AllByRecursion (IsWithin next made) slots) where
+  stays : (k : ℕ) → (row_at made id slots k ≡ true → ⊥) → slice_get (map (close (id ∷ []) made) slots) k ≡ slice_get slots k
+  stays k n = grind (arith, slice_get-map, holds_there)
+
+  -- Where the table has no row of the id no slot is written.
+  pub none_closed : IsPlaceOf made id slots None → map (close (id ∷ []) made) slots ≡ slots
+  none_closed absent = same_at_each _ _ (λ k. stays k (λ r. true≢false (sym (has_row_at made id slots k r) ∙ absent)))
+
+  -- Else the one where it stands is.
+  pub one_closed : (place : ℕ) (version : Version) → AreIds (2 ^ 64) (id_at (ids_of made slots)) → row_at made id slots place ≡ true → slice_get slots place ≡ Some (Some version)
+      → map (close (id ∷ []) made) slots ≡ set slots place (Some (record version { death = close_at made true version.death }))
+  one_closed place version known row at = same_at_each _ _ (λ k. ⊎_elim
+      (λ (e : k ≡ place).
+      ap (slice_get (map (close (id ∷ []) made) slots)) e ∙ slice_get-map (close (id ∷ []) made) slots place ∙ ap (option_map (close (id ∷ []) made)) at ∙ ap Some here
+      ∙ sym (slice_get-set_same slots place (Some version) (Some (record version { death = close_at made true version.death })) at) ∙ ap (slice_get (set slots place (Some (record version { death = close_at made true version.death })))) (sym e))
+      (λ (n : k ≡ place → ⊥).
+      stays k (λ r. n (known.once k place id (row_shown made id slots k r) (row_shown made id slots place row)))
+      ∙ sym (slice_get-set_other slots k place (Some (record version { death = close_at made true version.death })) n))
+      (cases_eq k place))
+    where
+      its : version.id ≡ id
+      its = eqb-true version.id id (and_parts (eqb version.id id) (is_visible made version) (ap (λ o. elim o as (λ x. Bool) [ None ↦ false | Some s ↦ is_row made id s ]) (sym at) ∙ row)).0
+
+      here : close (id ∷ []) made (Some version) ≡ Some (record version { death = close_at made true version.death })
+      here = ap (λ b. Some (record version { death = close_at made (b || false) version.death })) (eq-eqb id version.id (sym its))
+
+-- A version of a row is in no query's way: it has not ended.
+pub row_alive : (next made id : ℕ) (callers : List Caller) (version : Version) → IsWithin next made (Some version) → is_row made id (Some version) ≡ true → use_of callers (Some version) ≡ Live
+row_alive next made id callers version w r = grind (arith)
+
+pub row_live : (next made id : ℕ) (slots : List (Option Version)) → AllByRecursion (IsWithin next made) slots → (callers : List Caller) (place : ℕ) → row_at made id slots place ≡ true → slice_get (map (use_of callers) slots) place ≡ Some Live
+row_live next made id slots within callers place row =
+    let found = row_version made id slots place row in
+    slice_get-map (use_of callers) slots place ∙ ap (option_map (use_of callers)) found.1
+    ∙ ap Some (row_alive next made id callers found.0 (holds_there (IsWithin next made) slots place (Some found.0) found.1 within) (ap (λ o. elim o as (λ x. Bool) [ None ↦ false | Some s ↦ is_row made id s ]) (sym found.1) ∙ row))
+
+-- Nothing is ahead of the commit that ends rows.
+pub within_closed : (ids : List ℕ) (next made : ℕ) (slots : List (Option Version)) → AllByRecursion (IsWithin next made) slots → AllByRecursion (IsWithin next made) (map (close ids made) slots)
+within_closed ids next made [] h = tt
+within_closed ids next made (None ∷ slots) h = (tt, within_closed ids next made slots h.1)
+within_closed ids next made (Some version ∷ slots) h = grind (arith, within_closed ids next made slots h.1)
+
+-- what the slots show once rows ended they showed before
+row_back : (ids : List ℕ) (made x : ℕ) (slots : List (Option Version)) (p : ℕ) → row_at made x (map (close ids made) slots) p ≡ true → row_at made x slots p ≡ true
+row_back ids made x (slot ∷ slots) (suc p) r = row_back ids made x slots p r
+row_back ids made x slots p r = grind (arith)
+
+pub ids_closed : (ids : List ℕ) (made : ℕ) (slots : List (Option Version)) → AreIds (2 ^ 64) (id_at (ids_of made slots)) → AreIds (2 ^ 64) (id_at (ids_of made (map (close ids made) slots)))
+ids_closed ids made slots known = record {
+  once = λ p q x at also. known.once p q x (was p x at) (was q x also);
+  small = λ p x at. known.small p x (was p x at);
+}
+  where
+    was : (p x : ℕ) → id_at (ids_of made (map (close ids made) slots)) p ≡ Some x → id_at (ids_of made slots) p ≡ Some x
+    was p x at = row_shown made x slots p (row_back ids made x slots p (shows_row made x (map (close ids made) slots) p at))
+
+-- An ended version shows no id.
+pub links_ended : (made place : ℕ) (slots : List (Option Version)) (version : Version) (links : List ℕ) → EndsBy made version.death → AreLinks (set (ids_of made slots) place None) links
+    → AreLinks (ids_of made (set slots place (Some (record version { death = close_at made true version.death })))) links
+links_ended made place slots version links ends h = grind (arith, map-set)
+
+-- One slot_use is written.
+pub closed_uses : (callers : List Caller) (slots : List (Option Version)) (uses new : List SlotUse) (place : ℕ) (slot : Option Version) (slot_use : SlotUse) → uses ≡ map (use_of callers) slots → slot_use ≡ use_of callers slot → new ≡ set uses place slot_use → new ≡ map (use_of callers) (set slots place slot)
+closed_uses callers slots uses new place slot slot_use listed is returned = grind (arith, map-set)
+
+-- The ids that a store's slots show are ids, ..
+pub known_ids : (contents : Contents) (state : State) → IsBounded contents → StandsFor contents state → AreIds (2 ^ 64) (id_at (ids_of contents.stamp contents.slots))
+known_ids contents state bounded stands = record {
+  once = λ p q id at also.
+      let same = length_permutation _ _ (IsPermutation-filter (λ line. eqb line.id id) _ _ stands.table.lines) in
+      let few = one_line id state.table stands.table.ordered in
+      one_place contents.stamp id p q contents.slots (omega arith) (shows_row contents.stamp id contents.slots p at) (shows_row contents.stamp id contents.slots q also);
+  small = λ place id at. let below = has_below contents.next_id contents.stamp contents.stamp contents.slots id stands.within (has_row_at contents.stamp id contents.slots place (shows_row contents.stamp id contents.slots place at)) in let less = next_id-small contents bounded in omega arith;
+}
+
+-- Where an id's row stands at a place, that is what an index of the slots has for it.
+pub place_known : (stamp id place : ℕ) (slots : List (Option Version)) (found : Option ℕ) → AreIds (2 ^ 64) (id_at (ids_of stamp slots)) → row_at stamp id slots place ≡ true → IsPlaceOf stamp id slots found → found ≡ Some place
+place_known stamp id place slots found known at is = grind (arith, has_row_at, row_shown)
+
+-- At the next stamp the slots show the same, before a slot is written.
+shown_next : (next now : ℕ) (slot : Option Version) → IsWithin next now slot → shown (suc now) slot ≡ shown now slot
+shown_next next now slot h = grind (arith)
+
+pub ids_next : (next now : ℕ) (slots : List (Option Version)) → AllByRecursion (IsWithin next now) slots → ids_of (suc now) slots ≡ ids_of now slots
+ids_next next now [] h = refl
+ids_next next now (slot ∷ slots) h = ap₂ ◌∷◌ (shown_next next now slot h.0) (ids_next next now slots h.1)
+
+-- .. and they are known as a commit begins: nothing is ahead of it, and the lists beside the slots are as before.
+pub tracked_next : (contents : Contents) (uses : List SlotUse) (links : List ℕ) (more : ℕ) → IsTracked contents uses links
+    → IsTracked (record { slots = contents.slots; stamp = suc contents.stamp; next_id = contents.next_id + more; callers = contents.callers }) uses links
+tracked_next contents uses links more h = record {
+  seats = h.seats;
+  within = within-more contents.next_id (contents.next_id + more) (suc contents.stamp) contents.slots (omega arith)
+      (subst (AllByRecursion (IsWithin contents.next_id (suc contents.stamp))) (close_none (suc contents.stamp) contents.slots) (within-close [] contents.next_id contents.stamp contents.slots h.within));
+  listed = h.listed;
+  linked = subst (λ ids. AreLinks ids links) (sym (ids_next contents.next_id contents.stamp contents.slots h.within)) h.linked;
+  ids = subst (λ ids. AreIds (2 ^ 64) (id_at ids)) (sym (ids_next contents.next_id contents.stamp contents.slots h.within)) h.ids;
+}
+
+-- The rows that it begins are new, once it has ended what it ends.
+pub fresh_begun : (contents : Contents) (state : State) (call : Call) → is_formed call ≡ true → StandsFor contents state → missing (ended call) (visible contents.stamp contents.slots) ≡ None
+    → AreFresh (contents.next_id + added call) (visible (suc contents.stamp) (map (close (ended call) (suc contents.stamp)) contents.slots)) (begun contents.next_id call)
+fresh_begun contents state call formed stands none =
+    begun_fresh contents.next_id contents.next_id (contents.next_id + added call) (visible (suc contents.stamp) (map (close (ended call) (suc contents.stamp)) contents.slots)) (changes_of call) (omega arith) (omega arith)
+    (λ id there. (has_below contents.next_id contents.stamp contents.stamp contents.slots id stands.within (found_all (ended call) (visible contents.stamp contents.slots) none id there), ended_place contents.next_id contents.stamp id (ended call) contents.slots stands.within there))
+    (λ id l. has_visible-new contents.next_id (suc contents.stamp) (suc contents.stamp) (map (close (ended call) (suc contents.stamp)) contents.slots) id (within-close (ended call) contents.next_id contents.stamp contents.slots stands.within) l)
+    (formed_apart call formed)
+
+-- A row that begins adds its id.
+pub links_born : (made place : ℕ) (fresh : Entry) (new : Option Version) (slots : List (Option Version)) (links : List ℕ) → new ≡ new_version made fresh → AreLinks (set (ids_of made slots) place (Some fresh.id)) links → AreLinks (ids_of made (set slots place new)) links
+links_born made place fresh new slots links is h = grind (arith, map-set)
 
 -- Slots fit rows where there are as many, each is free, and none comes twice.
 fills_where : (made : ℕ) (ns earlier : List ℕ) (before : List Entry) (slots now : List (Option Version)) (places : List ℕ) (begun : List Entry) → filled (made ∷ ns) made earlier before slots ≡ Some now → length places ≡ length begun

@@ -1,15 +1,14 @@
 -- The slots of a change that are known by a look at them alone.
 use Rattle.pref_core.proofs.Common.{◌≡◌, ℕ, suc, ◌+◌, ◌≤◌, Bool, true, false, not, ◌&&◌, cond, eqb, List, [], ◌∷◌, ◌++◌, length, take, drop, Option, Some, None, is_some, IfSome, slice_get, ◌⊎◌, inl}
-use Rattle.pref_core.proofs.Common.{inr, ⊎_elim, refl, sym, ap, ap₂, ◌∙◌, subst, arith, eqb-true, or_left, true≢false, append-nil, Call, Op, Change, Add, Set, Remove, Version, Row, ended_by}
+use Rattle.pref_core.proofs.Common.{inr, ⊎_elim, refl, sym, ap, ap₂, ◌∙◌, subst, arith, eqb-true, or_left, true≢false, append-nil, Call, Op, Change, Add, Set, Remove, Version, ended_by}
 use Rattle.pref_core.proofs.Common.{begun_by, begins_any, row_at, IsKept, FitAtOnce, FitsNext, are_free, frees_at, uses_of, filled, is_free, is_next, slots_after, used, free_at, Contents, begins}
 use Rattle.pref_core.proofs.Common.{visible, begun, changes_of, ended, is_change, is_formed, missing, Line, among, false_from_ne_true, drop_all}
 use Rattle.std.specs.Option.{option_eq}
 use Rattle.pref_core.proofs.ChangesLaws.{among_append, among_inside, drop_at, ended_so_far, formed_apart, take_at}
-use Rattle.pref_core.proofs.ChosenSlots.{ChosenUpTo, all_chosen, closed_slots, outcome_fits, stamps_next}
+use Rattle.pref_core.proofs.ChosenSlots.{ChosenUpTo, all_chosen, closed_slots, outcome_fits, stamps_next, plan_is_not_full}
 use Rattle.pref_core.proofs.ChangeCounts.{named_at, one_begins}
 use Rattle.pref_core.proofs.FilledLaws.{fills_free}
 use Rattle.pref_core.proofs.FreedLaws.{free_closed, frees_closed, named_once, row_taken}
-use Rattle.pref_core.proofs.PlanLaws.{plan_is_not_full}
 use Rattle.pref_core.proofs.SlotUseLaws.{has_row_at}
 
 -- Slots for all rows that a change begins, which misses none: it succeeds.
@@ -77,29 +76,27 @@ module _ (contents : Contents) (call : Call) (slots : List ℕ) (kept : IsKept c
   length_one : (begins : Bool) → begins_any (change ∷ []) ≡ begins → (next_id : ℕ) → used + cond begins (suc (length (begun_by next_id (drop (at + 1) changes)))) (length (begun_by next_id (drop (at + 1) changes))) ≡ length (begun next_id call)
   length_one begins e next_id = ap (λ n. used + n) (sym (one_begins next_id change (drop (at + 1) changes) begins e)) ∙ ap (λ l. used + length (begun_by next_id l)) (sym (drop_at changes at change here)) ∙ h.long next_id
 
--- An added row may have a free slot, ..
-pub fits_added : (contents : Contents) (call : Call) (slots : List ℕ) (at used : ℕ) (row : Row) (place : ℕ) → IsKept contents → slice_get (changes_of call) at ≡ Some (Add row) → slice_get slots used ≡ Some place → free_at (uses_of contents) place ≡ true
-    → among (take used slots) place ≡ false → FitsUpTo contents call slots at used → FitsUpTo contents call slots (at + 1) (used + 1)
-fits_added contents call slots at used row place kept here is free new h = record {
+-- A change that fits in the next slot: an added row may have a free one, a row that is set the one where it stands, and one that is removed needs none.
+pub fits_change : (contents : Contents) (call : Call) (slots : List ℕ) (at used after : ℕ) (change : Change) → IsKept contents → is_formed call ≡ true → slice_get (changes_of call) at ≡ Some change → FitsNext contents slots used change after
+    → FitsUpTo contents call slots at used → FitsUpTo contents call slots (at + 1) after
+fits_change contents call slots at used after (Add row) kept formed here n h = subst (FitsUpTo contents call slots (at + 1)) (sym n.4) (record {
   there = sym (ap (λ l. missing (ended_by l) (visible contents.stamp contents.slots)) (drop_at (changes_of call) at (Add row) here)) ∙ h.there;
-  free = slot_taken contents call slots kept at used (Add row) here h place is (free_closed contents kept.state kept.bounded kept.stands (ended call) place free) new;
-  taken = all_taken contents call slots kept at used (Add row) here h place is (inl free);
+  free = slot_taken contents call slots kept at used (Add row) here h n.0 n.1 (free_closed contents kept.state kept.bounded kept.stands (ended call) n.0 n.2) n.3;
+  taken = all_taken contents call slots kept at used (Add row) here h n.0 n.1 (inl n.2);
   long = λ next_id. let one = length_one contents call slots kept at used (Add row) here h true refl next_id in omega arith;
-}
-
--- .. a row that is set the one where it stands, ..
-pub fits_set : (contents : Contents) (call : Call) (slots : List ℕ) (at used id : ℕ) (row : Row) (place : ℕ) → IsKept contents → is_formed call ≡ true → slice_get (changes_of call) at ≡ Some (Set id row) → slice_get slots used ≡ Some place
-    → row_at contents.stamp id contents.slots place ≡ true → frees_at (begins contents.callers) (ended call) (contents.stamp + 1) contents.slots place ≡ true → FitsUpTo contents call slots at used → FitsUpTo contents call slots (at + 1) (used + 1)
-fits_set contents call slots at used id row place kept formed here is stands frees h = record {
-  there = there_one contents call slots kept at used (Set id row) here h id place refl stands;
-  free = slot_taken contents call slots kept at used (Set id row) here h place is (frees_closed contents kept.state kept.bounded kept.stands (ended call) place (ap (λ m. frees_at (begins contents.callers) (ended call) m contents.slots place) next ∙ frees)) (false_from_ne_true (among (take used slots) place) not_taken);
-  taken = all_taken contents call slots kept at used (Set id row) here h place is (inr (record {
+})
+fits_change contents call slots at used after (Set id row) kept formed here n h = subst (FitsUpTo contents call slots (at + 1)) (sym n.4) (record {
+  there = there_one contents call slots kept at used (Set id row) here h id n.0 refl n.2;
+  free = slot_taken contents call slots kept at used (Set id row) here h n.0 n.1
+      (frees_closed contents kept.state kept.bounded kept.stands (ended call) n.0 (ap (λ m. frees_at (begins contents.callers) (ended call) m contents.slots n.0) next ∙ n.3 (ended call) (named_at (changes_of call) at (Set id row) id here refl)))
+      (false_from_ne_true (among (take used slots) n.0) not_taken);
+  taken = all_taken contents call slots kept at used (Set id row) here h n.0 n.1 (inr (record {
     id = id;
     named = ap (λ l. among l id) (ended_so_far (changes_of call) at (Set id row) here) ∙ among_inside (ended_by (take at (changes_of call))) [] id;
-    row = stands;
+    row = n.2;
   }));
   long = λ next_id. let one = length_one contents call slots kept at used (Set id row) here h true refl next_id in omega arith;
-}
+})
   where
     next : suc contents.stamp ≡ contents.stamp + 1
     next = omega arith
@@ -107,25 +104,14 @@ fits_set contents call slots at used id row place kept formed here is stands fre
     before : among (ended_by (take at (changes_of call))) id ≡ false
     before = named_once (changes_of call) at (Set id row) id here refl (formed_apart call formed)
 
-    not_taken : among (take used slots) place ≡ true → ⊥
+    not_taken : among (take used slots) n.0 ≡ true → ⊥
     not_taken e = grind (arith, row_taken, before)
-
--- .. and one that is removed needs none.
-pub fits_removed : (contents : Contents) (call : Call) (slots : List ℕ) (at used id place : ℕ) → IsKept contents → slice_get (changes_of call) at ≡ Some (Remove id) → row_at contents.stamp id contents.slots place ≡ true
-    → FitsUpTo contents call slots at used → FitsUpTo contents call slots (at + 1) used
-fits_removed contents call slots at used id place kept here stands h = record {
-  there = there_one contents call slots kept at used (Remove id) here h id place refl stands;
+fits_change contents call slots at used after (Remove id) kept formed here n h = subst (FitsUpTo contents call slots (at + 1)) (sym n.2) (record {
+  there = there_one contents call slots kept at used (Remove id) here h id n.0 refl n.1;
   free = h.free;
   taken = λ other a. weaker contents call slots kept at used (Remove id) here h other (h.taken other a);
   long = λ next_id. length_one contents call slots kept at used (Remove id) here h false refl next_id;
-}
-
--- Each of them is a change that fits in the next slot.
-pub fits_change : (contents : Contents) (call : Call) (slots : List ℕ) (at used after : ℕ) (change : Change) → IsKept contents → is_formed call ≡ true → slice_get (changes_of call) at ≡ Some change → FitsNext contents slots used change after
-    → FitsUpTo contents call slots at used → FitsUpTo contents call slots (at + 1) after
-fits_change contents call slots at used after (Add row) kept formed here n h = subst (FitsUpTo contents call slots (at + 1)) (sym n.4) (fits_added contents call slots at used row n.0 kept here n.1 n.2 n.3 h)
-fits_change contents call slots at used after (Set id row) kept formed here n h = subst (FitsUpTo contents call slots (at + 1)) (sym n.4) (fits_set contents call slots at used id row n.0 kept formed here n.1 n.2 (n.3 (ended call) (named_at (changes_of call) at (Set id row) id here refl)) h)
-fits_change contents call slots at used after (Remove id) kept formed here n h = subst (FitsUpTo contents call slots (at + 1)) (sym n.2) (fits_removed contents call slots at used id n.0 kept here n.1 h)
+})
 
 pub fits_all : (contents : Contents) (call : Call) (slots : List ℕ) (at used : ℕ) → is_change call ≡ true → is_formed call ≡ true → length (changes_of call) ≤ at → length slots ≡ used → FitsUpTo contents call slots at used → FitAtOnce contents call slots
 fits_all contents call slots at used c formed done long h = chosen_at_once contents call slots c formed there (go (filled (stamps_next contents) (suc contents.stamp) slots (begun contents.next_id call) closed) refl fits)

@@ -7,11 +7,9 @@ use Rattle.std.proofs.lemmas.List.Folds.{find-append}
 use Rattle.std.specs.Option.{option_or}
 use Rattle.pref_core.proofs.ChangeCounts.{ended_next}
 use Rattle.pref_core.proofs.ChangesLaws.{AreApart, among_append, among_inside}
-use Rattle.pref_core.proofs.FilledLaws.{close_more}
-use Rattle.pref_core.proofs.IdsAfterCommit.{ids_next, known_ids}
+use Rattle.pref_core.proofs.FilledLaws.{close_more, ids_next, known_ids, ids_closed, one_closed, row_live}
 use Rattle.pref_core.proofs.IndexedRows.{row_at-close}
-use Rattle.pref_core.proofs.PlanLaws.{close_none}
-use Rattle.pref_core.proofs.RowEndLaws.{ids_closed, one_closed, row_live}
+use Rattle.pref_core.proofs.ChosenSlots.{close_none}
 use Rattle.pref_core.proofs.SlotKeys.{within-close}
 use Rattle.pref_core.proofs.SlotSetsLaws.{count_set}
 use Rattle.pref_core.proofs.SlotUseLaws.{holds_there, has_row_at, row_version, free_use, needed_uses, spare_use}
@@ -88,14 +86,12 @@ module _ (contents : Contents) (state : State) (bounded : IsBounded contents) (s
   slot_freed : (ids : List ℕ) (slot : Option Version) → is_free_use (use_of contents.callers slot) ≡ true → is_free_use (use_of contents.callers (close ids made slot)) ≡ true
   slot_freed ids slot f = grind (arith)
 
+  still_free : (ids : List ℕ) (slots : List (Option Version)) (place : ℕ) → free_at (map (use_of contents.callers) slots) place ≡ true → free_at (map (use_of contents.callers) (map (close ids made) slots)) place ≡ true
+  still_free ids (slot ∷ slots) (suc place) f = still_free ids slots place f
+  still_free ids slots place f = grind (arith, slot_freed)
+
   frees_use : (ids : List ℕ) (place : ℕ) → free_at (map (use_of contents.callers) (map (close ids made) contents.slots)) place ≡ frees_at ns ids made contents.slots place
   frees_use ids place = grind (arith, slice_get-map, spare_use)
-
-  use_there : (place : ℕ) (o : Option (Option Version)) → slice_get contents.slots place ≡ o → free_at uses place ≡ elim o as (λ x. Bool) [ None ↦ false | Some slot ↦ is_free_use (use_of contents.callers slot) ]
-  use_there place o e = grind (arith, slice_get-map)
-
-  frees_there : (ids : List ℕ) (place : ℕ) (o : Option (Option Version)) → slice_get contents.slots place ≡ o → frees_at ns ids made contents.slots place ≡ elim o as (λ x. Bool) [ None ↦ false | Some slot ↦ is_free_use (use_of contents.callers (close ids made slot)) ]
-  frees_there ids place o e = grind (arith, spare_use)
 
   -- a place is free once rows ended where they leave it free, ..
   pub frees_closed : (ids : List ℕ) (place : ℕ) → frees_at ns ids made contents.slots place ≡ true → is_free (made ∷ ns) (map (close ids made) contents.slots) place ≡ true
@@ -103,14 +99,11 @@ module _ (contents : Contents) (state : State) (bounded : IsBounded contents) (s
 
   -- .. or where it was free
   pub free_closed : (ids : List ℕ) (place : ℕ) → free_at uses place ≡ true → is_free (made ∷ ns) (map (close ids made) contents.slots) place ≡ true
-  free_closed ids place f = frees_closed ids place (go (slice_get contents.slots place) refl)
-    where
-      go : (o : Option (Option Version)) → slice_get contents.slots place ≡ o → frees_at ns ids made contents.slots place ≡ true
-      go o e = grind (arith, use_there, frees_there)
+  free_closed ids place free = free_use contents.next_id made contents.callers (map (close ids made) contents.slots) place (within ids) ∙ still_free ids contents.slots place free
 
   -- where a row stands it isn't
   pub row_taken : (id place : ℕ) → row_at contents.stamp id contents.slots place ≡ true → free_at uses place ≡ false
-  row_taken id place row = grind (arith, use_there, holds_there)
+  row_taken id place row = ap (λ (o : Option SlotUse). elim o as (λ x. Bool) [ None ↦ false | Some slot_use ↦ is_free_use slot_use ]) (row_live contents.next_id contents.stamp id contents.slots stands.within contents.callers place row)
 
   -- .. and of one more, ..
   module _ (done freed : List ℕ) (id place : ℕ) (b : Bool) (new : among done id ≡ false) (row : row_at contents.stamp id contents.slots place ≡ true) (h : FreesUpTo contents done freed) where

@@ -20,15 +20,12 @@ pub mod OutcomeLaws
 pub mod AppliedLaws
 pub mod StabilityLaws
 pub mod BoundsLaws
-pub mod PlanLaws
 pub mod LegalLaws
-pub mod SlotsForAll
 pub mod FreedLaws
 pub mod ChosenSlots
 pub mod FilledLaws
 pub mod ReplacedLaws
 pub mod UsesAfterQuery
-pub mod RowEndLaws
 pub mod OpeningLaws
 pub mod LineOfLaws
 pub mod VisibleAfterOp
@@ -50,5 +47,4 @@ pub mod IndexLaws
 pub mod IdChainsLaws
 pub mod LinksOfSlots
 pub mod OpeningChains
-pub mod IdsAfterCommit
 pub mod NamedTwice

@@ -6,10 +6,9 @@ use Rattle.pref_core.specs.declared.changes.LentChange.{LentChange}
 use Rattle.pref_core.specs.declared.changes.LentChange.TheVariants.{Set as LentSet}
 use Rattle.pref_core.proofs.ChangesLaws.{AreApart, drop_at}
 use Rattle.pref_core.proofs.ChangeCounts.{drop_inside, drop_item}
-use Rattle.pref_core.proofs.FilledLaws.{begun_commit, close_more, commit_filled, end_slots, replace_tracked}
+use Rattle.pref_core.proofs.FilledLaws.{begun_commit, close_more, commit_filled, end_slots, replace_tracked, tracked_next}
 use Rattle.pref_core.proofs.Common.{Entry, Update}
-use Rattle.pref_core.proofs.IdsAfterCommit.{tracked_next}
-use Rattle.pref_core.proofs.PlanLaws.{close_none}
+use Rattle.pref_core.proofs.ChosenSlots.{close_none}
 use Rattle.pref_core.proofs.StabilityLaws.{slice_get-set_same, slice_get-set_other}
 use Rattle.pref_core.proofs.SlotUseLaws.{row_version}
 

@@ -1,5 +1,5 @@
 -- What an open query was shown at its begin stays, though slots are used again.
-use Rattle.pref_core.proofs.Common.{map-set_same, get_or_from_slice_get, ◌≡◌, ℕ, zero, suc, ◌*◌, ◌<◌, ◌≤◌, Bool, true, false, ◌&&◌, cond, List, [], ◌∷◌, map, take, drop, Option, Some, None, slice_get}
+use Rattle.pref_core.proofs.Common.{map-set_same, set-set, get_or_from_slice_get, ◌≡◌, ℕ, zero, suc, ◌*◌, ◌<◌, ◌≤◌, Bool, true, false, ◌&&◌, cond, List, [], ◌∷◌, map, take, drop, Option, Some, None, slice_get}
 use Rattle.pref_core.proofs.Common.{slice_set, refl, sym, ap, ap₂, ◌∙◌, arith, AllByRecursion, filter_map, cons_option, take-map, drop-map, Version, Caller, Call, Op, Line, Entry, seat, with_seat}
 use Rattle.pref_core.proofs.Common.{is_change, ended, begun, succeeds, Contents, seen, visible, begins, stamps, caller_begun, block_of, new_version, close, is_free, filled, refusal_at, begin_after}
 use Rattle.pref_core.proofs.Common.{callers_after, is_next, slots_after, stepped, applied, ran, ends_query, IsStable}
@@ -78,6 +78,9 @@ slice_get-set_same xs k x y h = grind (arith)
 pub slice_get-set_other : {X : Type 0} (xs : List X) (k j : ℕ) (y : X) → (k ≡ j → ⊥) → slice_get (slice_set xs j y) k ≡ slice_get xs k
 slice_get-set_other (z ∷ xs) (suc k) (suc j) y n = slice_get-set_other xs k j y (λ e. n (ap suc e))
 slice_get-set_other xs k j y n = grind (arith)
+
+-- Reads of a list after a write, and a second write.
+pub ruleset writes = (slice_get-set_same, slice_get-set_other, set-set)
 
 pub seat-with_seat_same : {X : Type 0} (xs : List X) (client : ℕ) (x y : X) → seat client xs ≡ Some x → seat client (with_seat client y xs) ≡ Some y
 seat-with_seat_same xs client x y h = grind (arith, slice_get-set_same)

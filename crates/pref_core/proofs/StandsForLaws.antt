@@ -27,10 +27,8 @@ hidden_unneeded (stamp ∷ stamps) slot h = grind (arith, hidden_unneeded stamps
 
 -- what open queries were shown stays, where the slots show the same at their begins
 ShowsBegin-moved : (slots moved : List (Option Version)) (now later : ℕ) → now ≤ later → (begun : Option ℕ) (found : Option Snapshot) → ((stamp : ℕ) (table : List Line) → begun ≡ Some stamp → stamp ≤ now → Shows slots stamp table → Shows moved stamp table) → ShowsBegin slots now begun found → ShowsBegin moved later begun found
-ShowsBegin-moved slots moved now later l None None f h = tt
 ShowsBegin-moved slots moved now later l (Some stamp) (Some found) f h = (h.0, omega arith, f stamp found.table refl h.1 h.2)
-ShowsBegin-moved slots moved now later l None (Some found) f h = h
-ShowsBegin-moved slots moved now later l (Some stamp) None f h = h
+ShowsBegin-moved slots moved now later l begun found f h = grind (arith)
 
 AllZip-weaker : {A B : Type 0} (R Q : A → B → Type 0) → ((a : A) (b : B) → R a b → Q a b) → (xs : List A) (ys : List B) → AllZip R xs ys → AllZip Q xs ys
 AllZip-weaker R Q f (x ∷ xs) (y ∷ ys) h = (f x y h.0, AllZip-weaker R Q f xs ys h.1)

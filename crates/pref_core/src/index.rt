@@ -145,7 +145,7 @@ fn place_rows(map: &mut IndexMap<u64, usize>, contents: &Contents, op: &Planned<
 }
 
 /// A row of the table gets this slot in a map. Where it is there already the map is left alone.
-#[tactic(auto, using(std::proofs::lemmas::Grind::common_steps, crate::proofs::IndexLaws::points_still, crate::proofs::IdsAfterCommit::place_known))]
+#[tactic(auto, using(std::proofs::lemmas::Grind::common_steps, crate::proofs::IndexLaws::points_still, crate::proofs::FilledLaws::place_known))]
 fn move_slot(map: &mut IndexMap<u64, usize>, contents: &Contents, id: u64, slot: u32)
     requires there { has (visible contents.now.stamp contents.now.slots) id ≡ true }
     requires index { IsPlaceOf contents.now.stamp id contents.now.slots (slot_of map.old.entries id) }

@@ -229,7 +229,7 @@ impl Store {
         ensures state { (state : State) → StandsFor self.old state → AppliesIn state self.old (op_of op.now) self.new }
     {
         if self.is_legal(op) {
-            self.contents.step(op);
+            self.perform(op);
         }
     }
 
@@ -258,6 +258,7 @@ impl Store {
 
     /// Does an op that was planned here. Takes no memory. Constant in the slots, but that a finish or an abandon goes
     /// over the ended versions that are kept for its query.
+    #[inline(always)]
     pub fn perform(&mut self, op: &Planned<'_>)
         requires { IsPlan self.old op.now.client op.now.call.now (op_of op.now) }
         ensures exact { self.new ≡ applied self.old (op_of op.now) }

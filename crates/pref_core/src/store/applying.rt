@@ -196,6 +196,7 @@ impl Contents {
     }
 
     /// Begins a row at a free place.
+    #[tactic(auto, using(std::proofs::lemmas::Grind::common_steps, crate::proofs::FilledLaws::free_there))]
     fn begin_row(&mut self, id: u64, row: &Row, place: u32)
         requires free { is_free (stamps self.old) self.old.slots place ≡ true }
         requires absent { has (visible self.old.stamp self.old.slots) id ≡ false }

@@ -174,6 +174,7 @@ impl SlotSets {
 
     /// A place of one use gets another.
     #[inline(always)]
+    #[tactic(auto, using(std::proofs::lemmas::Grind::common_steps, crate::proofs::StabilityLaws::writes))]
     pub(crate) fn put(&mut self, place: u32, from: SlotUse, to: SlotUse)
         requires there { slice_get self.old place ≡ Some from }
         requires few { (number_of from < 10) × (number_of to < 10) }

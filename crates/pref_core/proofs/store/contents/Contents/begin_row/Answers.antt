@@ -1,9 +1,6 @@
-use Rattle.pref_core.proofs.Common.{◌<◌, refl, sym, ap, ◌∙◌, subst, arith, is_free, Contents, IsTracked, StampedSlots, stamps, visible, has, common_steps}
-use Rattle.pref_core.proofs.FilledLaws.{free_there, begin_tracked}
+use Rattle.pref_core.proofs.Common.{◌<◌, refl, sym, ap, ◌∙◌, subst, arith, is_free, Contents, IsTracked, StampedSlots, stamps, visible, has}
+use Rattle.pref_core.proofs.FilledLaws.{begin_tracked}
 use Rattle.pref_core.proofs.store.contents.Contents.begin_row.Goals as goal
-
-pub put-requires-clause-there : goal.put-requires-clause-there
-put-requires-clause-there c = grind (arith, common_steps, free_there)
 
 pub invariant_of-self : goal.invariant_of-self
 invariant_of-self c =

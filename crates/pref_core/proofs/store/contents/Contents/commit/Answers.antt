@@ -2,8 +2,7 @@ use Rattle.pref_core.proofs.Common.{◌≡◌, ◌+◌, [], ◌∷◌, refl, map
 use Rattle.pref_core.proofs.BoundsLaws.{stamp-small, next_id-small, added-small}
 use Rattle.pref_core.proofs.AppliedLaws.{IsAllowed-from}
 use Rattle.pref_core.proofs.ChangesLaws.{formed_apart}
-use Rattle.pref_core.proofs.FilledLaws.{begun_commit, commit_fresh}
-use Rattle.pref_core.proofs.IdsAfterCommit.{tracked_next}
+use Rattle.pref_core.proofs.FilledLaws.{begun_commit, commit_fresh, tracked_next}
 use Rattle.pref_core.proofs.ReplacedLaws.{commit_kept, commit_replaced}
 use Rattle.pref_core.proofs.store.contents.Contents.commit.Goals.{After-added}
 use Rattle.pref_core.proofs.store.contents.Contents.commit.Goals as goal

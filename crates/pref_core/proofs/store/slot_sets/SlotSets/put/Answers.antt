@@ -1,6 +1,5 @@
-use Rattle.pref_core.proofs.Common.{◌≡◌, ◌-◌, set, sym, ap, ◌∙◌, arith, set-set, common_steps, SlotUse, number_of, numbered}
+use Rattle.pref_core.proofs.Common.{◌≡◌, ◌-◌, set, sym, ap, ◌∙◌, arith, SlotUse, number_of, numbered}
 use Rattle.pref_core.proofs.SeatLaws.{set_same}
-use Rattle.pref_core.proofs.StabilityLaws.{slice_get-set_same}
 use Rattle.pref_core.proofs.store.slot_sets.SlotSets.put.Goals as goal
 
 numbered_back : (slot_use : SlotUse) → numbered (number_of slot_use) ≡ slot_use
@@ -11,17 +10,5 @@ loop-step-init c =
     let first : c.number-first.result - 0 ≡ number_of c.args.from = let same = c.number-first.ensures in omega arith in
     sym (ap (λ n. set c.args.self.now c.args.place (numbered n)) first ∙ ap (set c.args.self.now c.args.place) (numbered_back c.args.from) ∙ set_same c.args.self.now c.args.place c.args.from c.requires.there)
 
-pub lower-requires-clause-there : goal.lower-requires-clause-there
-lower-requires-clause-there c = grind (arith, common_steps, slice_get-set_same)
-
-pub loop-step-preserved : goal.loop-step-preserved
-loop-step-preserved c = grind (arith, common_steps, set-set)
-
 pub loop-number-init : goal.loop-number-init
 loop-number-init c = sym (ap (λ n. set c.args.self.now c.args.place (numbered n)) c.number-first.ensures ∙ ap (set c.args.self.now c.args.place) (numbered_back c.args.from) ∙ set_same c.args.self.now c.args.place c.args.from c.requires.there)
-
-pub raise-requires-clause-there : goal.raise-requires-clause-there
-raise-requires-clause-there c = grind (arith, common_steps, slice_get-set_same)
-
-pub loop-number-preserved : goal.loop-number-preserved
-loop-number-preserved c = grind (arith, common_steps, set-set)
