@@ -1,15 +1,13 @@
--- What a machine returns at each act is the system's reply: changes and begins.
-use Rattle.pref_core.proofs.Common.{◌≡◌, ℕ, ◌^◌, Bool, true, false, cond, nat_lt, List, Option, Some, None, is_some, Ok, Err, Result, inl, refl, sym, ap, ◌∙◌, subst, option_map, Question, Call, Begin}
-use Rattle.pref_core.proofs.Common.{Outcome, Op, CoreFault, NoSuchClient, Spent, Act, ActBegin, Reply, Begun, Limits, AreAllowed, blocks, State, is_change, seat, with_seat, refusal, refusal_of}
-use Rattle.pref_core.proofs.Common.{refusal_by_query, begun_after, outcome, Open, Member, System, Step, snapshot, state_of, refused, counted_with, changed, change, step, Contents, StandsFor, adds}
-use Rattle.pref_core.proofs.Common.{PlansIn, applied, Scan, begin, Running, StandsForSystem, Changes, Does, is_refusal, Returns, reply_for, step_of, same_Some, arith}
-use Rattle.pref_core.specs.MachineParts.{change_of, numbered}
-use Rattle.pref_core.proofs.VisibleAfterOp.{length-applied}
-use Rattle.pref_core.proofs.SystemsLaws.{refusal_there, refusal_nobody, IsThere, IsThere-from, IsLetIn, IsLetIn-from, changed_stands, queried_stands, follows_begun}
-
--- what `plan` says of a store, in every state that it stands for
-abbrev pub PlansAlways : Contents → ℕ → Call → Result Op CoreFault → Type 0
-PlansAlways contents client call result = (state : State) → StandsFor contents state → PlansIn state contents client call result
+-- What a machine returns at each act is the system's reply: refusals of calls, and changes.
+use Rattle.pref_core.proofs.Common.{◌≡◌, ℕ, ◌^◌, true, false, cond, nat_lt, List, Option, Some, None, is_some, Ok, Err, Result, inl, inr, refl, sym, ap, ◌∙◌, subst, option_map, Call}
+use Rattle.pref_core.proofs.Common.{Outcome, Op, CoreFault, NoSuchClient, OutOfMemory, Spent, Act, Reply, Limits, added, is_change, seat, refusal, refusal_of}
+use Rattle.pref_core.proofs.Common.{Open, Member, System, Step, snapshot, state_of, refused, counted_with, changed, change, step, Contents, adds, may_want_memory}
+use Rattle.pref_core.proofs.Common.{IsPlan, Plans, applied, Scan, Running, StandsForSystem, Does, is_refusal, Returns, reply_for, step_of, call_of_act, change_of_act, IfErr, op_or_fault, same_Some, arith}
+use Rattle.pref_core.specs.declared.call.planned.Planned.{Planned}
+use Rattle.pref_core.specs.MachineParts.{numbered}
+use Rattle.pref_core.proofs.LegalLaws.{plans_in}
+use Rattle.pref_core.proofs.IndexLaws.{adds_planned}
+use Rattle.pref_core.proofs.SystemsLaws.{refusal_there, refusal_nobody, IsPlanned, IsPlanned-from, changed_stands}
 
 abbrev pub running_of : Contents → Limits → List (Option Scan) → Running
 running_of contents limits scans = record { contents = contents; limits = limits; scans = scans }
@@ -28,132 +26,77 @@ somebody_steps limits system client act member at = ap (λ (o : Option Member). 
 pub let_in_steps : (member : Member) (system : System) (right : Step) → nat_lt member.calls (2 ^ 56) ≡ true → numbered member system right ≡ right
 let_in_steps member system right h = ap (λ b. cond b right (refused Spent system)) h
 
--- an act is refused as its call is planned, where its step is
-pub refused_does : (old : Running) (client : ℕ) (act : Act) (call : Call) (fault : CoreFault)
-    → ((system : System) (member : Member) (q : Option Open) → refusal_of (Some member.calls) (is_some (option_map snapshot q)) call ≡ Some fault → step_of old.limits system client member act q ≡ refused fault system)
-    → PlansAlways old.contents client call (Err fault) → Does old client act (Err fault) old
-refused_does old client act call fault refuses plans = record { limits = refl; returns = λ system h. refused_returns old system _ act fault h (go system (plans (state_of system) h.store) (seat client system.members) refl) }
+-- An act is refused as its call is planned.
+own_refused : (limits : Limits) (system : System) (client : ℕ) (member : Member) (act : Act) (call : Call) (fault : CoreFault) (q : Option Open) → call_of_act act ≡ Some call
+    → refusal_of (Some member.calls) (is_some (option_map snapshot q)) call ≡ Some fault → step_of limits system client member act q ≡ refused fault system
+own_refused limits system client member act call fault q is e = grind (arith)
+
+pub refused_does : (old : Running) (client : ℕ) (act : Act) (call : Call) (fault : CoreFault) → call_of_act act ≡ Some call → Plans old.contents client call (Err fault) → Does old client act (Err fault) old
+refused_does old client act call fault is plan = record {
+  limits = refl;
+  returns = λ system h. refused_returns old system _ act fault h (go system (plans_in old.contents (state_of system) client call (Err fault) h.store plan) (seat client system.members) refl);
+}
   where
     go : (system : System) → refusal (state_of system) client call ≡ Some fault → (o : Option Member) → seat client system.members ≡ o
         → elim o as (λ x. Step) [ None ↦ refused NoSuchClient system | Some member ↦ step_of old.limits system client member act member.query ] ≡ refused fault system
-    go system returned o at = grind (arith, refusal_nobody, refusal_there)
+    go system returned None at = ap (λ f. refused f system) (same_Some NoSuchClient fault (sym (refusal_nobody system client call at) ∙ returned))
+    go system returned (Some member) at = own_refused old.limits system client member act call fault member.query is (sym (refusal_there system client member call at) ∙ returned)
 
--- a numbered call that is refused: what the step is where the query lets it in or not
-numbered_refused : (system : System) (member : Member) (call : Call) (right : Step) (fault : CoreFault)
-    → ((early : CoreFault) → refusal_by_query (is_some (option_map snapshot member.query)) call ≡ Some early → right ≡ refused early system)
-    → refusal_of (Some member.calls) (is_some (option_map snapshot member.query)) call ≡ Some fault → numbered member system right ≡ refused fault system
-numbered_refused system member call right fault open_ e = grind (arith)
+-- .. and so are all acts that its plan refuses
+pub plan_refuses : (inside old : Running) (client : ℕ) (call : Call) (result : Result Planned CoreFault) → inside ≡ old → Plans inside.contents client call (op_or_fault result)
+    → IfErr result (λ (fault : CoreFault). (act : Act) → call_of_act act ≡ Some call → Does old client act (Err fault) old)
+plan_refuses inside old client call (Ok op) same plans = tt
+plan_refuses inside old client call (Err fault) same plans = λ act is. subst (λ r. Does r client act (Err fault) r) same (refused_does inside client act call fault is plans)
 
--- A call that is planned is not refused.
-pub plan_accepts : (system : System) (contents : Contents) (client : ℕ) (call : Call) (op : Op) → PlansIn (state_of system) contents client call (Ok op) → refusal (state_of system) client call ≡ None
-plan_accepts system contents client call op plan = (λ i. refusal (state_of system) (sym plan.0 i) (sym plan.1 i)) ∙ plan.2.next.accepted
+-- an op's plan, by its own client and call
+pub own_plan : (inside old : Running) (client : ℕ) (call : Call) (op : Op) → inside ≡ old → IsPlan old.contents client call op → IsPlan inside.contents op.client op.call op
+own_plan inside old client call op same plan = subst (λ (r : Running). IsPlan r.contents op.client op.call op) (sym same) (record { by = refl; what = refl; next = plan.next; fits = plan.fits })
 
 -- What comes of a planned change.
-record Comes (running : Running) (system : System) (client : ℕ) (call : Call) (done : Reply) (op : Op) : Type 0 where
-  who : Member
-  at : seat client system.members ≡ Some who
-  is : change_of running.limits system client call done ≡ changed op.outcome done call (counted_with who.query client who system)
+change_steps : (limits : Limits) (system : System) (client : ℕ) (member : Member) (act : Act) (call : Call) (done : Reply) (q : Option Open) → change_of_act system.next_id act ≡ Some (call, done)
+    → step_of limits system client member act q ≡ numbered member system (change limits system client member call done)
+change_steps limits system client member act call done q is = grind (arith)
 
-comes : (running : Running) (system : System) (client : ℕ) (call : Call) (done : Reply) (op : Op) → StandsForSystem running system → PlansAlways running.contents client call (Ok op) → Comes running system client call done op
-comes running system client call done op h plans = record {
-  who = there.who;
-  at = there.at;
-  is = ap (λ (o : Option Member). elim o as (λ x. Step) [ None ↦ refused NoSuchClient system | Some member ↦ numbered member system (change running.limits system client member call done) ]) there.at
-      ∙ let_in_steps there.who system _ (IsLetIn-from system client there.who call there.at accepted).unspent
-      ∙ ap (λ o. changed o done call (counted_with there.who.query client there.who system)) (sym outcome_is);
+change_is : (old : Running) (system : System) (client : ℕ) (act : Act) (call : Call) (op : Op) (done : Reply) → change_of_act old.contents.next_id act ≡ Some (call, done) → StandsForSystem old system → (planned : IsPlanned old system client call op)
+    → step old.limits system (record { client = client; act = act }) ≡ changed op.outcome done call (counted_with planned.let_in.who.query client planned.let_in.who system)
+change_is old system client act call op done is h planned =
+    let who = planned.let_in.who in
+    somebody_steps old.limits system client act who planned.let_in.at
+    ∙ change_steps old.limits system client who act call done who.query (subst (λ n. change_of_act n act ≡ Some (call, done)) h.store.next_id is)
+    ∙ let_in_steps who system _ planned.let_in.unspent
+    ∙ ap (λ o. changed o done call (counted_with who.query client who system)) (sym planned.outcome)
+
+pub is_its_call : (next_id : ℕ) (act : Act) (call : Call) (done : Reply) → change_of_act next_id act ≡ Some (call, done) → call_of_act act ≡ Some call
+is_its_call next_id act call done is = grind (arith)
+
+no_refusal : (next_id : ℕ) (act : Act) (call : Call) (done : Reply) → change_of_act next_id act ≡ Some (call, done) → is_refusal done ≡ false
+no_refusal next_id act call done is = grind (arith)
+
+pub change_does : (old : Running) (client : ℕ) (act : Act) (call : Call) (op : Op) (done : Reply) → is_change call ≡ true → change_of_act old.contents.next_id act ≡ Some (call, done) → IsPlan old.contents client call op
+    → Does old client act (reply_for op.outcome done) (running_of (applied old.contents op) old.limits old.scans)
+change_does old client act call op done c is plan = record {
+  limits = refl;
+  returns = λ system h.
+      let planned = IsPlanned-from old system client call op h plan in
+      subst (λ r. Returns old r act (reply_for op.outcome done) (running_of (applied old.contents op) old.limits old.scans)) (sym (change_is old system client act call op done is h planned))
+      (by_outcome _ op.outcome (no_refusal old.contents.next_id act call done is) (changed_stands old system client call op done c planned));
 }
   where
-    plan : PlansIn (state_of system) running.contents client call (Ok op)
-    plan = plans (state_of system) h.store
+    by_outcome : (counted : System) (o : Outcome) → is_refusal done ≡ false → StandsForSystem (running_of (applied old.contents op) old.limits old.scans) (changed o done call counted).next
+        → Returns old (changed o done call counted) act (reply_for o done) (running_of (applied old.contents op) old.limits old.scans)
+    by_outcome counted o quiet s = grind (arith)
 
-    accepted : refusal (state_of system) client call ≡ None
-    accepted = plan_accepts system running.contents client call op plan
-
-    there : IsThere system client
-    there = IsThere-from system client call accepted
-
-    outcome_is : op.outcome ≡ outcome running.limits.capacity (state_of system) call
-    outcome_is = plan.2.next.outcome ∙ (λ i. outcome (h.capacity i) (state_of system) (plan.1 i))
-
--- A planned change that adds a row is not refused.
-pub adding_not_refused : (running : Running) (system : System) (client : ℕ) (call : Call) (done : Reply) (op : Op) → is_refusal done ≡ false → adds op.outcome ≡ true → StandsForSystem running system → PlansAlways running.contents client call (Ok op)
-    → is_refusal (change_of running.limits system client call done).reply ≡ false
-adding_not_refused running system client call done op quiet adding h plans = ap (λ (right : Step). is_refusal right.reply) change_comes.is ∙ go op.outcome adding
+-- .. or for which there is no memory
+pub change_unmade : (old : Running) (client : ℕ) (act : Act) (call : Call) (op : Op) (done : Reply) → change_of_act old.contents.next_id act ≡ Some (call, done) → IsPlan old.contents client call op → adds op.outcome ≡ true → Does old client act (Err OutOfMemory) old
+change_unmade old client act call op done is plan adding = record {
+  limits = refl;
+  returns = λ system h.
+      let reply_is = ap (λ (right : Step). is_refusal right.reply) (change_is old system client act call op done is h (IsPlanned-from old system client call op h plan)) in
+      inr (refl, wants (subst (λ k. nat_lt 0 (added k) ≡ true) plan.what (adds_planned old.contents op plan.next adding)), reply_is ∙ not_refused _ op.outcome (no_refusal old.contents.next_id act call done is) adding, refl);
+}
   where
-    change_comes : Comes running system client call done op
-    change_comes = comes running system client call done op h plans
+    wants : nat_lt 0 (added call) ≡ true → may_want_memory act ≡ true
+    wants some = grind (arith)
 
-    go : (o : Outcome) → adds o ≡ true → is_refusal (changed o done call (counted_with change_comes.who.query client change_comes.who system)).reply ≡ false
-    go o adding = grind (arith)
-
--- Changes.
-pub change_returns : (running : Running) (system : System) (client : ℕ) (call : Call) (done : Reply) (op : Op) (new : Contents) (act : Act) → is_change call ≡ true → is_refusal done ≡ false → StandsForSystem running system → PlansAlways running.contents client call (Ok op) → new ≡ applied running.contents op
-    → Returns running (change_of running.limits system client call done) act (reply_for op.outcome done) (running_of new running.limits running.scans)
-change_returns running system client call done op new act c quiet h plans is = subst (λ r. Returns running r act (reply_for op.outcome done) after) (sym change_comes.is) (by_outcome op.outcome stands)
-  where
-    after : Running
-    after = running_of new running.limits running.scans
-
-    change_comes : Comes running system client call done op
-    change_comes = comes running system client call done op h plans
-
-    plan : PlansIn (state_of system) running.contents client call (Ok op)
-    plan = plans (state_of system) h.store
-
-    outcome_is : op.outcome ≡ outcome running.limits.capacity (state_of system) op.call
-    outcome_is = plan.2.next.outcome ∙ ap (λ n. outcome n (state_of system) op.call) h.capacity
-
-    stands : StandsForSystem after (changed op.outcome done call (counted_with change_comes.who.query client change_comes.who system)).next
-    stands = grind (arith, change_comes, plan, changed_stands)
-
-    by_outcome : (o : Outcome) → StandsForSystem after (changed o done call (counted_with change_comes.who.query client change_comes.who system)).next
-        → Returns running (changed o done call (counted_with change_comes.who.query client change_comes.who system)) act (reply_for o done) after
-    by_outcome o s = grind (arith)
-
-pub change_not : (old : Running) (client : ℕ) (call : Call) (done : Reply) (fault : CoreFault) → is_change call ≡ true → PlansAlways old.contents client call (Err fault) → Changes old client call done (Err fault) old
-change_not old client call done fault c plans = record { limits = refl; returns = λ system h act wants. refused_returns old system _ act fault h (go system (plans (state_of system) h.store) (seat client system.members) refl) }
-  where
-    no_early : (call : Call) (b : Bool) (early : CoreFault) → is_change call ≡ true → refusal_by_query b call ≡ Some early → ⊥
-    no_early call b early c e = grind (arith)
-
-    go : (system : System) → refusal (state_of system) client call ≡ Some fault → (o : Option Member) → seat client system.members ≡ o
-        → elim o as (λ x. Step) [ None ↦ refused NoSuchClient system | Some member ↦ numbered member system (change old.limits system client member call done) ] ≡ refused fault system
-    go system returned None at = ap (λ f. refused f system) (same_Some NoSuchClient fault (sym (refusal_nobody system client call at) ∙ returned))
-    go system returned (Some member) at = numbered_refused system member call (change old.limits system client member call done) fault
-        (λ early e. absurd (no_early call (is_some (option_map snapshot member.query)) early c e)) (sym (refusal_there system client member call at) ∙ returned)
-
--- A query begins.
-pub begin_returns : (running : Running) (system : System) (client : ℕ) (ask : Question) (op : Op) (new : Contents) (stamp : ℕ) → AreAllowed running.limits → stamp ≡ running.contents.stamp → StandsForSystem running system → PlansAlways running.contents client Begin (Ok op) → new ≡ applied running.contents op
-    → Returns running (step running.limits system (record { client = client; act = ActBegin ask })) (ActBegin ask) (Ok (Begun (blocks running.limits))) (running_of new running.limits (with_seat client (Some (begin ask stamp running.limits)) running.scans))
-begin_returns running system client ask op new stamp allowed now h plans is =
-    subst (λ r. Returns running r (ActBegin ask) (Ok (Begun (blocks running.limits))) (running_of new running.limits (with_seat client (Some (begin ask stamp running.limits)) running.scans))) (sym right) (refl, refl, stands)
-  where
-    plan : PlansIn (state_of system) running.contents client Begin (Ok op)
-    plan = plans (state_of system) h.store
-
-    accepted : refusal (state_of system) client Begin ≡ None
-    accepted = plan_accepts system running.contents client Begin op plan
-
-    there : IsThere system client
-    there = IsThere-from system client Begin accepted
-
-    let_in : IsLetIn there.who Begin
-    let_in = IsLetIn-from system client there.who Begin there.at accepted
-
-    right : step running.limits system (record { client = client; act = ActBegin ask })
-        ≡ record { reply = Begun (blocks running.limits); next = counted_with (Some (record { ask = ask; table = system.table; commits = system.commits; left = blocks running.limits })) client there.who system }
-    right = grind (arith, there, let_in, let_in_steps)
-
-    stands : StandsForSystem (running_of new running.limits (with_seat client (Some (begin ask stamp running.limits)) running.scans)) (counted_with (Some (record { ask = ask; table = system.table; commits = system.commits; left = blocks running.limits })) client there.who system)
-    stands =
-        subst (λ s. StandsForSystem (running_of s running.limits (with_seat client (Some (begin ask stamp running.limits)) running.scans)) (counted_with (Some (record { ask = ask; table = system.table; commits = system.commits; left = blocks running.limits })) client there.who system)) (sym is)
-        (subst (λ n. StandsForSystem (running_of (applied running.contents op) running.limits (with_seat n (Some (begin ask stamp running.limits)) running.scans)) (counted_with (Some (record { ask = ask; table = system.table; commits = system.commits; left = blocks running.limits })) n there.who system)) plan.0
-        (queried_stands running system op there.who (Some (begin ask stamp running.limits)) (Some (record { ask = ask; table = system.table; commits = system.commits; left = blocks running.limits })) (ap (λ n. seat n system.members) plan.0 ∙ there.at) h plan.2 (ap is_change plan.1)
-        (ap (λ call. begun_after (state_of system) call (option_map snapshot there.who.query)) (sym plan.1))
-        (follows_begun running.limits (applied running.contents op).slots ask system stamp allowed (length-applied running.contents (state_of system) op h.store plan.2 ∙ h.capacity) (now ∙ h.store.stamp))))
-
-pub begin_not : (old : Running) (client : ℕ) (ask : Question) (fault : CoreFault) → PlansAlways old.contents client Begin (Err fault) → Does old client (ActBegin ask) (Err fault) old
-begin_not old client ask fault plans = refused_does old client (ActBegin ask) Begin fault refuses plans
-  where
-    refuses : (system : System) (member : Member) (q : Option Open) → refusal_of (Some member.calls) (is_some (option_map snapshot q)) Begin ≡ Some fault → step_of old.limits system client member (ActBegin ask) q ≡ refused fault system
-    refuses system member q e = grind (arith)
+    not_refused : (counted : System) (o : Outcome) → is_refusal done ≡ false → adds o ≡ true → is_refusal (changed o done call counted).reply ≡ false
+    not_refused counted o quiet adding = grind (arith)

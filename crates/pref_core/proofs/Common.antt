@@ -29,7 +29,8 @@ pub use Rattle.pref_core.specs.Indexes.{IsIndexOf, IsPlaceOf, Points, PointsAll,
 pub use Rattle.pref_core.specs.Laws.{BlocksAreTheSlots, EndsNeedNoMore, NeededFits, NeededFitsSlots, first_blocks}
 pub use Rattle.pref_core.specs.LentCalls.{change_of}
 pub use Rattle.pref_core.specs.Limits.{AreAllowed, Limits, blocks}
-pub use Rattle.pref_core.specs.MachineParts.{AddedReply, AddsReply, AnswersAt, Changes, IsInOrder, NextIsNewAt, ScansAt, ScansOne, is_begin, outcome_of, reply_for, reply_of, step_of}
+pub use Rattle.pref_core.specs.MachineParts.{AddedReply, AddsReply, AnswersAt, IsInOrder, NextIsNewAt, ScansAt, ScansOne, Queries, abandons, begins as begins_query, call_of_act, called, change_of_act, finishes, is_begin, outcome_of, reply_for}
+pub use Rattle.pref_core.specs.MachineParts.{reply_of, step_of}
 pub use Rattle.pref_core.specs.Operations.{AppliesIn, IsLegal, IsNext, IsPlan, Plans, PlansIn, applied, begin_after, callers_after, close, close_at, filled, grown, is_free, is_next, outcome_at}
 pub use Rattle.pref_core.specs.Operations.{placed, ran, refusal_at, same_number, same_outcome, slots_after, stepped, used}
 pub use Rattle.pref_core.specs.Planned.{op_of, op_or_fault}

@@ -1,147 +1,125 @@
--- What a machine returns at each act is the system's reply: ends of queries, and reads.
-use Rattle.pref_core.proofs.Common.{◌≡◌, ℕ, ◌-◌, ◌<◌, ◌^◌, Bool, true, false, cond, nat_lt, length, Option, Some, None, is_some, Ok, Err, Result, ⊎_elim, inr, refl, sym, ap, ◌∙◌, subst, arith}
-use Rattle.pref_core.proofs.Common.{List, Does, option_map, Ranked, answer_of, Call, Finish, Abandon, Op, CoreFault, NoSuchClient, NoQuery, NotDone, MissingRow, OutOfMemory, ActFinish}
-use Rattle.pref_core.proofs.Common.{ActAbandon, ActGet, ActRoom, Reply, Answer, Abandoned, Found, Room, Refused, Row, Line, line_of, entries, State, Snapshot, is_change, seat, with_seat, refusal}
-use Rattle.pref_core.proofs.Common.{refusal_of, refusal_by_query, begun_after, needed, Open, Member, System, Step, snapshot, state_of, refused, counted_with, finish, step, Contents, StandsFor}
-use Rattle.pref_core.proofs.Common.{applied, Scan, Running, StandsForSystem, Returns, is_refusal, AnswersAt, step_of}
+-- What a machine returns at each act is the system's reply: calls on queries, and gets and rooms.
+use Rattle.pref_core.proofs.Common.{◌≡◌, ◌⊎◌, ℕ, List, ◌-◌, ◌<◌, true, false, cond, length, Option, Some, None, is_some, Ok, Err, Result, refl, sym, ap, ◌∙◌, subst, arith}
+use Rattle.pref_core.proofs.Common.{Does, option_map, Question, Ranked, answer_of, Begin, Finish, Abandon, Call, Op, CoreFault, NotDone, MissingRow, OutOfMemory, Act, ActBegin, ActFinish}
+use Rattle.pref_core.proofs.Common.{ActAbandon, ActGet, ActRoom, Reply, Answer, Abandoned, Begun, Found, Room, Refused, Row, Line, line_of, entries, State, is_change, seat, begin, blocks, AreAllowed}
+use Rattle.pref_core.proofs.Common.{refusal_by_query, begun_after, needed, Open, Member, System, Step, snapshot, state_of, refused, counted_with, finish, step, StandsFor}
+use Rattle.pref_core.proofs.Common.{applied, called, Scan, Running, Follows, StandsForQuery, StandsForSystem, Returns, is_refusal, AnswersAt, IsPlan, Version, step_of}
 use Rattle.std.specs.Global.{Vec}
+use Rattle.pref_core.specs.MachineParts.{numbered}
+use Rattle.pref_core.specs.Step.{query_of}
 use Rattle.pref_core.proofs.QueryLaws.{follows_answered}
-use Rattle.pref_core.proofs.SystemsLaws.{refusal_nobody, IsThere, IsThere-from, IsLetIn, IsLetIn-from, queried_stands, query_shows}
-use Rattle.pref_core.proofs.ChangeReplies.{PlansAlways, plan_accepts, running_of, refused_does, refused_returns, somebody_steps, let_in_steps}
-use Rattle.pref_core.proofs.ScanReplies.{IsAsking-from, IsIdle-from, nobody_there, some_left, no_left}
+use Rattle.pref_core.proofs.SystemsLaws.{IsPlanned, IsPlanned-from, follows_begun, queried_stands, query_shows}
+use Rattle.pref_core.proofs.ChangeReplies.{somebody_steps, let_in_steps}
+use Rattle.pref_core.proofs.ScanReplies.{some_left, no_left}
 
-pub abandon_not : (old : Running) (client : ℕ) (fault : CoreFault) → PlansAlways old.contents client Abandon (Err fault) → Does old client ActAbandon (Err fault) old
-abandon_not old client fault plans = refused_does old client ActAbandon Abandon fault refuses plans
-  where
-    refuses : (system : System) (member : Member) (q : Option Open) → refusal_of (Some member.calls) (is_some (option_map snapshot q)) Abandon ≡ Some fault → step_of old.limits system client member ActAbandon q ≡ refused fault system
-    refuses system member q e = grind (arith)
+-- What a call on a query returns, where this is its step.
+called_returns : (old : Running) (system : System) (client : ℕ) (act : Act) (call : Call) (op : Op) (planned : IsPlanned old system client call op) (scan : Option Scan) (query : Option Open) (reply : Reply) → is_change call ≡ false → is_refusal reply ≡ false
+    → step_of old.limits system client planned.let_in.who act planned.let_in.who.query ≡ numbered planned.let_in.who system (record { reply = reply; next = counted_with query client planned.let_in.who system })
+    → option_map snapshot query ≡ begun_after (state_of system) call (option_map snapshot planned.let_in.who.query) → StandsForQuery (applied old.contents op).slots scan query
+    → Returns old (step old.limits system (record { client = client; act = act })) act (Ok reply) (called old client op scan)
+called_returns old system client act call op planned scan query reply still quiet is kept mine =
+    subst (λ r. Returns old r act (Ok reply) (called old client op scan)) (sym (somebody_steps old.limits system client act planned.let_in.who planned.let_in.at ∙ is ∙ let_in_steps planned.let_in.who system _ planned.let_in.unspent))
+    (refl, quiet, queried_stands old system client call op scan query still planned kept mine)
 
-pub finish_not : (old : Running) (client : ℕ) (fault : CoreFault) → PlansAlways old.contents client Finish (Err fault) → Does old client ActFinish (Err fault) old
-finish_not old client fault plans = refused_does old client ActFinish Finish fault refuses plans
-  where
-    refuses : (system : System) (member : Member) (q : Option Open) → refusal_of (Some member.calls) (is_some (option_map snapshot q)) Finish ≡ Some fault → step_of old.limits system client member ActFinish q ≡ refused fault system
-    refuses system member q e = grind (arith)
-
--- What a call that ends a query leaves.
-record Ends (running : Running) (system : System) (client : ℕ) (call : Call) (new : Contents) : Type 0 where
-  who : Member
-  at : seat client system.members ≡ Some who
-  let_in : IsLetIn who call
-  stands : StandsForSystem (running_of new running.limits (with_seat client None running.scans)) (counted_with None client who system)
-
-ends : (running : Running) (system : System) (client : ℕ) (call : Call) (op : Op) (new : Contents) → is_change call ≡ false → ((found : Option Snapshot) → None ≡ begun_after (state_of system) call found) → StandsForSystem running system → PlansAlways running.contents client call (Ok op) → new ≡ applied running.contents op → Ends running system client call new
-ends running system client call op new c gone h plans is =
-    let plan = plans (state_of system) h.store in
-    let accepted = plan_accepts system running.contents client call op plan in
-    let there = IsThere-from system client call accepted in
-    record {
-      who = there.who;
-      at = there.at;
-      let_in = IsLetIn-from system client there.who call there.at accepted;
-      stands = subst (λ s. StandsForSystem (running_of s running.limits (with_seat client None running.scans)) (counted_with None client there.who system)) (sym is)
-          (subst (λ n. StandsForSystem (running_of (applied running.contents op) running.limits (with_seat n None running.scans)) (counted_with None n there.who system)) plan.0
-          (queried_stands running system op there.who None None (ap (λ n. seat n system.members) plan.0 ∙ there.at) h plan.2 (ap is_change plan.1 ∙ c)
-          (gone (option_map snapshot there.who.query) ∙ ap (λ k. begun_after (state_of system) k (option_map snapshot there.who.query)) (sym plan.1)) tt));
-    }
-
--- A query is abandoned.
-pub abandon_does : (old : Running) (client : ℕ) (op : Op) (new : Contents) (scans : List (Option Scan)) → PlansAlways old.contents client Abandon (Ok op) → new ≡ applied old.contents op → scans ≡ with_seat client None old.scans
-    → Does old client ActAbandon (Ok Abandoned) (running_of new old.limits scans)
-abandon_does old client op new scans plans is placed = record {
+-- A query begins.
+pub begin_does : (old : Running) (client : ℕ) (ask : Question) (op : Op) → AreAllowed old.limits → IsPlan old.contents client Begin op
+    → Does old client (ActBegin ask) (Ok (Begun (blocks old.limits))) (called old client op (Some (begin ask old.contents.stamp old.limits)))
+begin_does old client ask op allowed plan = record {
   limits = refl;
   returns = λ system h.
-      let end = ends old system client Abandon op new refl (λ f. refl) h plans is in
-      subst (λ r. Returns old r ActAbandon (Ok Abandoned) (running_of new old.limits scans))
-      (sym (somebody_steps old.limits system client ActAbandon end.who end.at ∙ go system end.who end.who.query end.let_in.unspent end.let_in.allowed))
-      (refl, refl, subst (λ l. StandsForSystem (running_of new old.limits l) (counted_with None client end.who system)) (sym placed) end.stands);
+      let planned = IsPlanned-from old system client Begin op h plan in
+      called_returns old system client (ActBegin ask) Begin op planned _ (Some (query_of ask old.limits system)) (Begun (blocks old.limits)) refl refl (steps system planned.let_in.who planned.let_in.who.query planned.let_in.allowed) refl
+      (follows_begun old.limits (applied old.contents op).slots ask system old.contents.stamp allowed planned.long h.store.stamp);
 }
   where
-    go : (system : System) (member : Member) (q : Option Open) → nat_lt member.calls (2 ^ 56) ≡ true → refusal_by_query (is_some (option_map snapshot q)) Abandon ≡ None
-        → step_of old.limits system client member ActAbandon q ≡ record { reply = Abandoned; next = counted_with None client member system }
-    go system member q u a = grind (arith)
+    steps : (system : System) (who : Member) (q : Option Open) → refusal_by_query (is_some (option_map snapshot q)) Begin ≡ None
+        → step_of old.limits system client who (ActBegin ask) q ≡ numbered who system (record { reply = Begun (blocks old.limits); next = counted_with (Some (query_of ask old.limits system)) client who system })
+    steps system who q a = grind (arith)
+
+-- A query is abandoned.
+pub abandon_does : (old : Running) (client : ℕ) (op : Op) → IsPlan old.contents client Abandon op → Does old client ActAbandon (Ok Abandoned) (called old client op None)
+abandon_does old client op plan = record {
+  limits = refl;
+  returns = λ system h.
+      let planned = IsPlanned-from old system client Abandon op h plan in
+      called_returns old system client ActAbandon Abandon op planned None None Abandoned refl refl (steps system planned.let_in.who planned.let_in.who.query planned.let_in.allowed) refl tt;
+}
+  where
+    steps : (system : System) (who : Member) (q : Option Open) → refusal_by_query (is_some (option_map snapshot q)) Abandon ≡ None
+        → step_of old.limits system client who ActAbandon q ≡ numbered who system (record { reply = Abandoned; next = counted_with None client who system })
+    steps system who q a = grind (arith)
+
+-- who may finish has a query
+record IsAsking (slots : List (Option Version)) (scan : Option Scan) (query : Option Open) : Type 0 where
+  held : Scan
+  asked : Open
+  place : scan ≡ Some held
+  is : query ≡ Some asked
+  follows : Follows slots held asked
+
+IsAsking-from : (slots : List (Option Version)) (scan : Option Scan) (query : Option Open) → StandsForQuery slots scan query → refusal_by_query (is_some (option_map snapshot query)) Finish ≡ None → IsAsking slots scan query
+IsAsking-from slots scan query s a = grind (arith)
+
+-- the step of a finish that is let in
+finish_is : (old : Running) (system : System) (client : ℕ) (op : Op) (planned : IsPlanned old system client Finish op) (query : Open) → planned.let_in.who.query ≡ Some query
+    → step_of old.limits system client planned.let_in.who ActFinish planned.let_in.who.query ≡ numbered planned.let_in.who system (finish client planned.let_in.who system query)
+finish_is old system client op planned query is = ap (step_of old.limits system client planned.let_in.who ActFinish) is
 
 -- A query finishes.
-pub finish_does : (old : Running) (client : ℕ) (op : Op) (new : Contents) (scans : List (Option Scan)) (ranked : Vec Ranked) → PlansAlways old.contents client Finish (Ok op) → new ≡ applied old.contents op → scans ≡ with_seat client None old.scans
-    → AnswersAt (seat client old.scans) (Ok ranked) → Does old client ActFinish (Ok (Answer ranked.items)) (running_of new old.limits scans)
-finish_does old client op new scans ranked plans is placed says = record { limits = refl; returns = λ system h. go system h (seat client old.scans) refl says }
+pub finish_does : (old : Running) (client : ℕ) (op : Op) (ranked : Vec Ranked) → IsPlan old.contents client Finish op → AnswersAt (seat client old.scans) (Ok ranked) → Does old client ActFinish (Ok (Answer ranked.items)) (called old client op None)
+finish_does old client op ranked plan says = record {
+  limits = refl;
+  returns = λ system h.
+      let planned = IsPlanned-from old system client Finish op h plan in
+      let who = planned.let_in in
+      let asks = IsAsking-from old.contents.slots who.scan who.who.query who.stands who.allowed in
+      let answers = subst (λ o. AnswersAt o (Ok ranked)) (who.place ∙ ap Some asks.place) says in
+      let shows = query_shows old system client who.who asks.asked h who.at asks.is in
+      let answer = follows_answered old.contents.slots asks.held asks.asked ranked.items shows asks.follows answers.0 answers.1 in
+      called_returns old system client ActFinish Finish op planned None None (Answer ranked.items) refl refl
+      (
+      finish_is old system client op planned asks.asked asks.is
+      ∙ ap (λ b. numbered who.who system (cond b (refused (NotDone asks.asked.left) system) (record { reply = Answer (answer_of asks.asked.ask (entries asks.asked.table)); next = counted_with None client who.who system }))) (no_left asks.asked.left (sym asks.follows.left ∙ answers.0))
+      ∙ ap (λ l. numbered who.who system (record { reply = Answer l; next = counted_with None client who.who system })) (sym answer)
+      )
+      refl tt;
+}
+
+-- .. or is not done, or there is no memory for its answer.
+pub finish_not_done : (old : Running) (client : ℕ) (op : Op) (fault : CoreFault) → IsPlan old.contents client Finish op → AnswersAt (seat client old.scans) (Err fault) → Does old client ActFinish (Err fault) old
+finish_not_done old client op fault plan says = record {
+  limits = refl;
+  returns = λ system h.
+      let planned = IsPlanned-from old system client Finish op h plan in
+      let who = planned.let_in in
+      let asks = IsAsking-from old.contents.slots who.scan who.who.query who.stands who.allowed in
+      let answers = subst (λ o. AnswersAt o (Err fault)) (who.place ∙ ap Some asks.place) says in
+      let steps = somebody_steps old.limits system client ActFinish who.who who.at ∙ finish_is old system client op planned asks.asked asks.is ∙ let_in_steps who.who system _ who.unspent in
+      by_left system (step old.limits system (record { client = client; act = ActFinish })) who.who asks.asked asks.held.left asks.follows.left h answers steps;
+}
   where
-    go : (system : System) → StandsForSystem old system → (o : Option (Option Scan)) → seat client old.scans ≡ o → AnswersAt o (Ok ranked)
-        → Returns old (step old.limits system (record { client = client; act = ActFinish })) ActFinish (Ok (Answer ranked.items)) (running_of new old.limits scans)
-    go system h (Some (Some held)) at says =
-        let asks = IsAsking-from old system client held h at in
-        let end = ends old system client Finish op new refl (λ f. refl) h plans is in
-        let same : end.who ≡ asks.who = let both : Some end.who ≡ Some asks.who = sym end.at ∙ asks.at in cc in
-        let shows = query_shows old system client asks.who asks.query h asks.at asks.is in
-        let answer = follows_answered old.contents.slots held asks.query ranked.items shows asks.follows says.0 says.1 in
-        let none_left : asks.query.left ≡ 0 = sym asks.follows.left ∙ says.0 in
-        let right : step old.limits system (record { client = client; act = ActFinish }) ≡ record { reply = Answer (answer_of asks.query.ask (entries asks.query.table)); next = counted_with None client end.who system }
-        = somebody_steps old.limits system client ActFinish end.who end.at
-        ∙ ap (step_of old.limits system client end.who ActFinish) (ap (λ (m : Member). m.query) same ∙ asks.is)
-        ∙ let_in_steps end.who system _ end.let_in.unspent
-        ∙ ap (λ b. cond b (refused (NotDone asks.query.left) system) (record { reply = Answer (answer_of asks.query.ask (entries asks.query.table)); next = counted_with None client end.who system })) (no_left asks.query.left none_left) in
-        subst (λ r. Returns old r ActFinish (Ok (Answer ranked.items)) (running_of new old.limits scans)) (sym right)
-        (ap Answer answer, refl, subst (λ l. StandsForSystem (running_of new old.limits l) (counted_with None client end.who system)) (sym placed) end.stands)
-    go system h o at says = grind (arith)
+    by_left : (system : System) (right : Step) (who : Member) (query : Open) (left : ℕ) → left ≡ query.left → StandsForSystem old system → ((fault ≡ NotDone left) × (0 < left)) ⊎ ((fault ≡ OutOfMemory) × (left ≡ 0))
+        → right ≡ finish client who system query → Returns old right ActFinish (Err fault) old
+    by_left system right who query left same h says is = grind (arith, some_left, no_left)
 
-pub finish_not_done : (running : Running) (system : System) (client : ℕ) (op : Op) (fault : CoreFault) → StandsForSystem running system → PlansAlways running.contents client Finish (Ok op)
-    → AnswersAt (seat client running.scans) (Err fault)
-    → Returns running (step running.limits system (record { client = client; act = ActFinish })) ActFinish (Err fault) running
-finish_not_done running system client op fault h plans says = go (seat client running.scans) refl says
-  where
-    accepted : refusal (state_of system) client Finish ≡ None
-    accepted = plan_accepts system running.contents client Finish op (plans (state_of system) h.store)
-
-    nobody : seat client system.members ≡ None → ⊥
-    nobody at = let refused_here : Some NoSuchClient ≡ None = sym (refusal_nobody system client Finish at) ∙ accepted in cc
-
-    no_query : (who : Member) → who.query ≡ None → refusal_by_query (is_some (option_map snapshot who.query)) Finish ≡ None → ⊥
-    no_query who is a = let refused_here : Some NoQuery ≡ None = ap (λ (q : Option Open). refusal_by_query (is_some (option_map snapshot q)) Finish) (sym is) ∙ a in cc
-
-    go : (o : Option (Option Scan)) → seat client running.scans ≡ o → AnswersAt o (Err fault) → Returns running (step running.limits system (record { client = client; act = ActFinish })) ActFinish (Err fault) running
-    go None at says = absurd (nobody (nobody_there running system client h at))
-    go (Some None) at says =
-        let idle = IsIdle-from running system client h at in
-        absurd (no_query idle.who idle.is (IsLetIn-from system client idle.who Finish idle.at accepted).allowed)
-    go (Some (Some held)) at says =
-        let asks = IsAsking-from running system client held h at in
-        let same_left = asks.follows.left in
-        let steps : step running.limits system (record { client = client; act = ActFinish }) ≡ finish client asks.who system asks.query
-        = somebody_steps running.limits system client ActFinish asks.who asks.at
-        ∙ ap (step_of running.limits system client asks.who ActFinish) asks.is
-        ∙ let_in_steps asks.who system _ (IsLetIn-from system client asks.who Finish asks.at accepted).unspent in
-        let by_left = λ (b : Bool). cond b (refused (NotDone asks.query.left) system) (record { reply = Answer (answer_of asks.query.ask (entries asks.query.table)); next = counted_with None client asks.who system }) in
-        ⊎_elim
-        (λ (e : (fault ≡ NotDone held.left) × (0 < held.left)).
-        let some : 0 < asks.query.left = let s = e.1 in omega arith in
-        subst (λ f. Returns running (step running.limits system (record { client = client; act = ActFinish })) ActFinish (Err f) running) (sym (e.0 ∙ ap NotDone same_left))
-        (refused_returns running system _ ActFinish (NotDone asks.query.left) h (steps ∙ ap by_left (some_left asks.query.left some))))
-        (λ (e : (fault ≡ OutOfMemory) × (held.left ≡ 0)).
-        inr (e.0, refl, ap (λ (right : Step). is_refusal right.reply) (steps ∙ ap by_left (no_left asks.query.left (sym same_left ∙ e.1))), refl))
-        says
-
--- Reads.
-somebody_there : (running : Running) (system : System) (client : ℕ) → StandsForSystem running system → is_some (seat client running.scans) ≡ true → IsThere system client
-somebody_there running system client h t = grind (arith)
-
+-- Reads of a client that is there.
 abbrev pub found_or_missing : ℕ → Option Row → Result Reply CoreFault
 found_or_missing id None = Err (MissingRow id)
 found_or_missing id (Some row) = Ok (Found id row)
 
-pub get_returns : (running : Running) (system : System) (client id : ℕ) (row : Option Row) → StandsForSystem running system → is_some (seat client running.scans) ≡ true
-    → ((state : State) → StandsFor running.contents state → row ≡ option_map (λ (l : Line). l.row) (line_of state.table id))
-    → Returns running (step running.limits system (record { client = client; act = ActGet id })) (ActGet id) (found_or_missing id row) running
-get_returns running system client id row h some says =
-    let there = somebody_there running system client h some in
-    subst (λ r. Returns running r (ActGet id) (found_or_missing id row) running) (sym (somebody_steps running.limits system client (ActGet id) there.who there.at))
-    (subst (λ o. Returns running (record { reply = elim (line_of system.table id) as (λ x. Reply) [ None ↦ Refused (MissingRow id) | Some line ↦ Found id line.row ]; next = system }) (ActGet id) (found_or_missing id o) running) (sym (says (state_of system) h.store)) (go (line_of system.table id)))
-  where
-    go : (o : Option Line) → Returns running (record { reply = elim o as (λ x. Reply) [ None ↦ Refused (MissingRow id) | Some line ↦ Found id line.row ]; next = system }) (ActGet id) (found_or_missing id (option_map (λ (l : Line). l.row) o)) running
-    go o = grind (arith)
+-- a read of a client that is there
+read_does : (old : Running) (client : ℕ) (act : Act) (result : Result Reply CoreFault) → is_some (seat client old.scans) ≡ true
+    → ((system : System) (member : Member) → StandsForSystem old system → Returns old (step_of old.limits system client member act member.query) act result old) → Does old client act result old
+read_does old client act result here says = grind (arith, somebody_steps)
 
-pub room_returns : (running : Running) (system : System) (client room : ℕ) → StandsForSystem running system → is_some (seat client running.scans) ≡ true
-    → ((state : State) → StandsFor running.contents state → room ≡ length running.contents.slots - length (needed state))
-    → Returns running (step running.limits system (record { client = client; act = ActRoom })) ActRoom (Ok (Room room)) running
-room_returns running system client room h some says =
-    let there = somebody_there running system client h some in
-    subst (λ r. Returns running r ActRoom (Ok (Room room)) running) (sym (somebody_steps running.limits system client ActRoom there.who there.at))
-    (ap Room (says (state_of system) h.store ∙ ap (λ n. n - length (needed (state_of system))) h.capacity), refl, h)
+pub get_does : (old : Running) (client id : ℕ) (row : Option Row) → is_some (seat client old.scans) ≡ true
+    → ((state : State) → StandsFor old.contents state → row ≡ option_map (λ (l : Line). l.row) (line_of state.table id)) → Does old client (ActGet id) (found_or_missing id row) old
+get_does old client id row here says = read_does old client (ActGet id) (found_or_missing id row) here (λ system member h. go system h (line_of system.table id) (says (state_of system) h.store))
+  where
+    go : (system : System) → StandsForSystem old system → (o : Option Line) → row ≡ option_map (λ (l : Line). l.row) o
+        → Returns old (record { reply = elim o as (λ x. Reply) [ None ↦ Refused (MissingRow id) | Some line ↦ Found id line.row ]; next = system }) (ActGet id) (found_or_missing id row) old
+    go system h o is = grind (arith)
+
+pub room_does : (old : Running) (client room : ℕ) → is_some (seat client old.scans) ≡ true → ((state : State) → StandsFor old.contents state → room ≡ length old.contents.slots - length (needed state)) → Does old client ActRoom (Ok (Room room)) old
+room_does old client room here says = read_does old client ActRoom (Ok (Room room)) here
+    (λ system member h. (ap Room (says (state_of system) h.store ∙ ap (λ n. n - length (needed (state_of system))) h.capacity), refl, h))

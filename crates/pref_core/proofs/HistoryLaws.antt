@@ -2,12 +2,12 @@
 use Rattle.pref_core.proofs.Common.{[], ◌∷◌, map, length, refl, ◌∙◌, subst, after, StandsFor, applied, ran}
 use Rattle.pref_core.specs.History.{IsLegalHistory, state_after, numbered_of, OpsAreHistory}
 use Rattle.pref_core.proofs.LegalLaws.{applied_stands}
-use Rattle.pref_core.proofs.VisibleAfterOp.{length-applied}
+use Rattle.pref_core.proofs.VisibleAfterOp.{length-ran}
 
 pub ops_are_history : OpsAreHistory
 ops_are_history contents state [] h legal = (tt, h, refl)
 ops_are_history contents state (op ∷ ops) h legal =
-    let size = length-applied contents state op h legal.0 in
+    let size = length-ran (op ∷ []) contents in
     let next = after (length contents.slots) state op.client op.call in
     let rest = ops_are_history (applied contents op) next ops (applied_stands contents state op h legal.0) legal.1 in (
       (

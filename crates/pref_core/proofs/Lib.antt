@@ -36,7 +36,6 @@ pub mod SystemsLaws
 pub mod ChangeReplies
 pub mod ScanReplies
 pub mod EndReplies
-pub mod SeatScans
 pub mod MachineActs
 pub mod RepliesLaws
 pub mod HistoryLaws

@@ -4,7 +4,7 @@ use Rattle.pref_core.proofs.Common.{State, after, Contents, StandsFor, Shows, ca
 use Rattle.pref_core.specs.Queries.{IsOnItsWay, LivesTo, at_begin, after_op, after_scan, NextBlockIsNew, AnswersTheBegin}
 use Rattle.pref_core.proofs.LegalLaws.{is_next-from, applied_stands, plans_in}
 use Rattle.pref_core.proofs.StabilityLaws.{begun_at, begun_own, lasts_applied}
-use Rattle.pref_core.proofs.VisibleAfterOp.{length-applied, length-ran, shows_still}
+use Rattle.pref_core.proofs.VisibleAfterOp.{length-ran, shows_still}
 use Rattle.pref_core.proofs.QueryLaws.{begun_on_its_way, way_stays, next_is_new_on_its_way, scanned_on_its_way, answers_the_begin}
 
 -- what holds of a query as long as it lives
@@ -30,7 +30,7 @@ open_begun limits first state client ask op allowed long h plan =
       at_begin = subst (λ n. caller_begun (applied first op) n ≡ Some first.stamp) plan.by (begin_kept first state op h legal plan.what);
       within = omega arith;
       shows = subst (λ n. Shows (applied first op).slots n state.table) still stands.table;
-      way = begun_on_its_way limits (applied first op).slots ask first.stamp allowed (length-applied first state op h legal ∙ long);
+      way = begun_on_its_way limits (applied first op).slots ask first.stamp allowed (length-ran (op ∷ []) first ∙ long);
     }
 
 open_changed : (contents : Contents) (client : ℕ) (ask : Question) (table : List Line) (scan : Scan) (op : Op) → IsOpen contents client ask table scan → ends_query client op ≡ false → IsOpen (applied contents op) client ask table scan

@@ -1,8 +1,7 @@
 -- A legal op leaves what open queries see.
-use Rattle.pref_core.proofs.Common.{◌≡◌, ℕ, ◌≤◌, Bool, true, ◌&&◌, cond, List, [], ◌∷◌, length, take, Option, Some, None, is_some, refl, ap, ◌∙◌, arith}
-use Rattle.pref_core.proofs.Common.{take-map, Version, Caller, Op, State, Client, Snapshot, begun_of, is_change, succeeds, Line, Contents, StandsFor, Shows, ShowsBegin, seen}
-use Rattle.pref_core.proofs.Common.{visible, caller_begun, IsLegal, slots_after, callers_after, stepped, applied, ran, is_next}
-use Rattle.pref_core.proofs.LegalLaws.{is_next-from}
+use Rattle.pref_core.proofs.Common.{◌≡◌, ℕ, ◌≤◌, Bool, true, cond, List, [], ◌∷◌, length, take, Option, Some, None, refl, ◌∙◌, arith}
+use Rattle.pref_core.proofs.Common.{take-map, Version, Caller, Op, State, Client, Snapshot, begun_of, Line, Contents, StandsFor, Shows, ShowsBegin, seen}
+use Rattle.pref_core.proofs.Common.{visible, caller_begun, IsLegal, slots_after, stepped, applied, ran, is_next}
 use Rattle.pref_core.proofs.BoundsLaws.{length-slots_after}
 use Rattle.pref_core.proofs.OutcomeLaws.{SameSeat, nobody, somebody, same_seat}
 use Rattle.pref_core.proofs.StabilityLaws.{shown, visible_shown, shown_after}
@@ -11,58 +10,22 @@ use Rattle.pref_core.proofs.StabilityLaws.{shown, visible_shown, shown_after}
 pub visible_take : (stamp n : ℕ) (before after : List (Option Version)) → shown stamp after ≡ shown stamp before → visible stamp (take n after) ≡ visible stamp (take n before)
 visible_take stamp n before after same = grind (arith, visible_shown stamp (take n after), visible_shown stamp (take n before), take-map (seen stamp) n after, take-map (seen stamp) n before)
 
--- the stamp that the store keeps of an open query
-pub begun_kept : (contents : Contents) (state : State) (client : ℕ) (snapshot : Snapshot) → StandsFor contents state → begun_of state client ≡ Some snapshot → (caller_begun contents client ≡ Some snapshot.commits) × (snapshot.commits ≤ contents.stamp)
+-- the stamp that the store keeps of an open query, at which the slots show what it found
+pub begun_kept : (contents : Contents) (state : State) (client : ℕ) (snapshot : Snapshot) → StandsFor contents state → begun_of state client ≡ Some snapshot
+    → (caller_begun contents client ≡ Some snapshot.commits) × (snapshot.commits ≤ contents.stamp) × Shows contents.slots snapshot.commits snapshot.table
 begun_kept contents state client snapshot h is = go (same_seat contents.slots contents.stamp contents.callers state.clients client h.clients) is
   where
-    at : (b : Option ℕ) (f : Option Snapshot) → ShowsBegin contents.slots contents.stamp b f → f ≡ Some snapshot → (b ≡ Some snapshot.commits) × (snapshot.commits ≤ contents.stamp)
+    at : (b : Option ℕ) (f : Option Snapshot) → ShowsBegin contents.slots contents.stamp b f → f ≡ Some snapshot → (b ≡ Some snapshot.commits) × (snapshot.commits ≤ contents.stamp) × Shows contents.slots snapshot.commits snapshot.table
     at b f s e = grind (arith)
 
     go : {a : Option Caller} {b : Option Client} → SameSeat contents.slots contents.stamp a b → elim b as (λ x. Option Snapshot) [ None ↦ None | Some found ↦ found.at_begin ] ≡ Some snapshot
-        → (elim a as (λ x. Option ℕ) [ None ↦ None | Some caller ↦ caller.at_begin ] ≡ Some snapshot.commits) × (snapshot.commits ≤ contents.stamp)
+        → (elim a as (λ x. Option ℕ) [ None ↦ None | Some caller ↦ caller.at_begin ] ≡ Some snapshot.commits) × (snapshot.commits ≤ contents.stamp) × Shows contents.slots snapshot.commits snapshot.table
     go nobody e = absurd (cc)
     go (somebody caller found s) e = at caller.at_begin found.at_begin s.at_begin e
 
 -- what shows the same shows the same table
 pub shows_still : (before after : List (Option Version)) (stamp : ℕ) (table : List Line) → shown stamp after ≡ shown stamp before → Shows before stamp table → Shows after stamp table
 shows_still before after stamp table same shows = grind (arith, visible_shown stamp after, visible_shown stamp before)
-
--- the slots and the callers of a legal op, once it is applied
-pub record IsDone (contents : Contents) (op : Op) : Type 0 where
-  pub slots : List (Option Version)
-  pub fits : slots_after contents op ≡ Some slots
-  pub is : (applied contents op).slots ≡ slots
-  pub callers : (applied contents op).callers ≡ callers_after contents.stamp contents.callers op.client op.call
-
-pub legal_done : (contents : Contents) (state : State) (op : Op) → StandsFor contents state → IsLegal state contents op → IsDone contents op
-legal_done contents state op h legal = go (slots_after contents op) refl legal.fits
-  where
-    next : is_next contents op ≡ true
-    next = is_next-from contents state op h legal.next
-
-    either : {X : Type 0} (f : Contents → X) (x : X) (b : Bool) (y z : Contents) → f y ≡ x → f z ≡ x → f (cond b y z) ≡ x
-    either f x b y z p q = grind (arith)
-
-    stepped_as : {X : Type 0} (f : Contents → X) (x : X) (slots : List (Option Version)) → slots_after contents op ≡ Some slots → f (stepped contents op slots) ≡ x → f (applied contents op) ≡ x
-    stepped_as f x slots e same = rw (next, e) same
-
-    go : (o : Option (List (Option Version))) → slots_after contents op ≡ o → is_some o ≡ true → IsDone contents op
-    go None e s = absurd (cc)
-    go (Some slots) e s = record {
-      slots = slots;
-      fits = e;
-      is = stepped_as (λ c. c.slots) slots slots e (either (λ c. c.slots) slots (is_change op.call && succeeds op.outcome) _ _ refl refl);
-      callers = stepped_as (λ c. c.callers) _ slots e (either (λ c. c.callers) _ (is_change op.call && succeeds op.outcome) _ _ refl refl);
-    }
-
-pub shown_applied : (contents : Contents) (state : State) (op : Op) (client : ℕ) (snapshot : Snapshot) → StandsFor contents state → IsLegal state contents op → begun_of state client ≡ Some snapshot → shown snapshot.commits (applied contents op).slots ≡ shown snapshot.commits contents.slots
-shown_applied contents state op client snapshot h legal is =
-    let done = legal_done contents state op h legal in
-    let kept = begun_kept contents state client snapshot h is in
-    ap (shown snapshot.commits) done.is ∙ shown_after contents client snapshot.commits kept.0 kept.1 op done.slots done.fits
-
-pub length-applied : (contents : Contents) (state : State) (op : Op) → StandsFor contents state → IsLegal state contents op → length (applied contents op).slots ≡ length contents.slots
-length-applied contents state op h legal = let done = legal_done contents state op h legal in ap length done.is ∙ length-slots_after contents op done.slots done.fits
 
 -- the slots stay as many, whatever is applied
 length-applied_any : (contents : Contents) (op : Op) → length (applied contents op).slots ≡ length contents.slots
@@ -74,3 +37,18 @@ length-applied_any contents op = go (is_next contents op) (slots_after contents 
 pub length-ran : (ops : List Op) (contents : Contents) → length (ran contents ops).slots ≡ length contents.slots
 length-ran [] contents = refl
 length-ran (op ∷ ops) contents = length-ran ops (applied contents op) ∙ length-applied_any contents op
+
+pub length-applied : (contents : Contents) (state : State) (op : Op) → StandsFor contents state → IsLegal state contents op → length (applied contents op).slots ≡ length contents.slots
+length-applied contents state op h legal = length-applied_any contents op
+
+-- .. and show what an open query found
+pub shown_applied : (contents : Contents) (state : State) (op : Op) (client : ℕ) (snapshot : Snapshot) → StandsFor contents state → begun_of state client ≡ Some snapshot → shown snapshot.commits (applied contents op).slots ≡ shown snapshot.commits contents.slots
+shown_applied contents state op client snapshot h is = go (is_next contents op) (slots_after contents op) refl (begun_kept contents state client snapshot h is)
+  where
+    stepped_shows : (slots : List (Option Version)) → shown snapshot.commits slots ≡ shown snapshot.commits contents.slots → shown snapshot.commits (stepped contents op slots).slots ≡ shown snapshot.commits contents.slots
+    stepped_shows slots same = grind (arith)
+
+    go : (b : Bool) (o : Option (List (Option Version))) → slots_after contents op ≡ o → (caller_begun contents client ≡ Some snapshot.commits) × (snapshot.commits ≤ contents.stamp) × Shows contents.slots snapshot.commits snapshot.table
+        → shown snapshot.commits (cond {A = Contents} b (elim o as (λ x. Contents) [ None ↦ contents | Some slots ↦ stepped contents op slots ]) contents).slots ≡ shown snapshot.commits contents.slots
+    go true (Some slots) e kept = stepped_shows slots (shown_after contents client snapshot.commits kept.0 kept.1 op slots e)
+    go b o e kept = grind (arith)

@@ -9,17 +9,21 @@ use Rattle.pref_core.specs.declared.fault.CoreFault.{CoreFault}
 use Rattle.pref_core.specs.declared.fault.CoreFault.TheVariants.{NoSuchClient, Spent, NoQuery, OutOfMemory}
 use Rattle.pref_core.specs.declared.call.Outcome.{Outcome}
 use Rattle.pref_core.specs.declared.call.Outcome.TheVariants.{NoSuchRow, Full}
-use Rattle.pref_core.specs.declared.event.Act.TheVariants.{Begin}
+use Rattle.pref_core.specs.declared.event.Act.TheVariants.{Insert, Update, Delete, Commit, Begin, Finish, Abandon}
 use Rattle.pref_core.specs.declared.event.Act.{Act}
 use Rattle.pref_core.specs.declared.event.Reply.{Reply}
-use Rattle.pref_core.specs.declared.event.Reply.TheVariants.{Refused}
-use Rattle.pref_core.specs.State.{seat, with_seat, added, refusal_by_outcome}
-use Rattle.pref_core.specs.Limits.{Limits}
+use Rattle.pref_core.specs.declared.event.Reply.TheVariants.{Inserted, Updated, Deleted, Committed, Refused}
+use Rattle.pref_core.specs.State.{with_seat, refusal_by_outcome}
+use Rattle.pref_core.specs.Limits.{Limits, AreAllowed}
 use Rattle.pref_core.specs.declared.call.Call.{Call}
-use Rattle.pref_core.specs.Step.{Open, Member, System, Step, acted, change, is_read, refused}
-use Rattle.pref_core.specs.Scans.{Scan, NextIsNew, Scans, Answers}
+use Rattle.pref_core.specs.declared.call.Call.TheVariants.{Insert as CallInsert, Update as CallUpdate, Delete as CallDelete, Commit as CallCommit, Begin as CallBegin, Finish as CallFinish, Abandon as CallAbandon}
+use Rattle.pref_core.specs.declared.call.Op.{Op}
+use Rattle.pref_core.specs.Step.{Open, Member, System, Step, acted, committed_of, is_read, refused}
+use Rattle.pref_core.specs.Operations.{IsPlan, applied}
+use Rattle.pref_core.specs.Scans.{Scan, NextIsNew, Scans, Answers, begin}
 use Rattle.pref_core.specs.Indexes.{IsIndexOf}
-use Rattle.pref_core.specs.Systems.{Running, StandsForSystem, Returns, may_want_memory}
+use Rattle.pref_core.specs.Systems.{Running, StandsForSystem}
+use Rattle.pref_term.specs.Question.{Question}
 
 -- a machine represents a system, and its index is its store's
 pub record IsInOrder (running : Running) (index : List (ℕ × ℕ)) : Type 0 where
@@ -66,18 +70,34 @@ numbered member system right = if nat_lt member.calls (2 ^ 56) then right else r
 abbrev pub step_of : Limits → System → ℕ → Member → Act → Option Open → Step
 step_of limits system client member act query = if is_read act || nat_lt member.calls (2 ^ 56) then acted limits system client member act query else refused Spent system
 
--- a change, by who makes it
-abbrev pub change_of : Limits → System → ℕ → Call → Reply → Step
-change_of limits system client call done = elim (seat client system.members) [
-  | None ↦ refused NoSuchClient system
-  | Some member ↦ numbered member system (change limits system client member call done)
-]
+-- the numbered call that an act is, if it is one
+abbrev pub call_of_act : Act → Option Call
+call_of_act (Insert row) = Some (CallInsert row)
+call_of_act (Update id row) = Some (CallUpdate id row)
+call_of_act (Delete id) = Some (CallDelete id)
+call_of_act (Commit changes) = Some (CallCommit changes)
+call_of_act (Begin ask) = Some CallBegin
+call_of_act Finish = Some CallFinish
+call_of_act Abandon = Some CallAbandon
+call_of_act act = None
 
--- a change, done: what it returns, and what it leaves, where this is its reply if it succeeds
-pub record Changes (before : Running) (client : ℕ) (call : Call) (done : Reply) (result : Result Reply CoreFault) (after : Running) : Type 0 where
-  pub limits : after.limits ≡ before.limits
-  pub returns : (system : System) → StandsForSystem before system → (act : Act) → (nat_lt 0 (added call) ≡ true → may_want_memory act ≡ true)
-      → Returns before (change_of before.limits system client call done) act result after
+-- the call of an act that changes rows, and its reply where it is made, by the next id
+abbrev pub change_of_act : ℕ → Act → Option (Call × Reply)
+change_of_act next_id (Insert row) = Some (CallInsert row, Inserted next_id)
+change_of_act next_id (Update id row) = Some (CallUpdate id row, Updated id)
+change_of_act next_id (Delete id) = Some (CallDelete id, Deleted id)
+change_of_act next_id (Commit changes) = Some (CallCommit changes, Committed (committed_of next_id changes))
+change_of_act next_id act = None
+
+-- a call on a query, done, which leaves its client this one
+abbrev pub called : Running → ℕ → Op → Option Scan → Running
+called before client op scan = record { contents = applied before.contents op; limits = before.limits; scans = with_seat client scan before.scans }
+
+-- the op is planned of a call on a query, which leaves its client this one
+pub data Queries (before : Running) (client : ℕ) (op : Op) : Option Scan → Type 0 where
+  begins : (ask : Question) → AreAllowed before.limits → IsPlan before.contents client CallBegin op → Queries before client op (Some (begin ask before.contents.stamp before.limits))
+  finishes : IsPlan before.contents client CallFinish op → Queries before client op None
+  abandons : IsPlan before.contents client CallAbandon op → Queries before client op None
 
 -- what a change returns by its outcome, where this is its reply if it succeeds
 abbrev pub reply_for : Outcome → Reply → Result Reply CoreFault

@@ -153,6 +153,7 @@ impl Commit {
 }
 
 /// Whether one of the changes names the id.
+#[tactic(auto, using(std::proofs::lemmas::Grind::common_steps))]
 fn is_named(changes: &[Change], id: u64) -> bool
     ensures { result ≡ among (ended_by changes.now) id }
 {
@@ -202,6 +203,7 @@ pub(crate) fn begun_by(changes: &[Change]) -> usize
 }
 
 /// How many rows the changes add.
+#[tactic(auto, using(std::proofs::lemmas::Grind::common_steps))]
 pub(crate) fn added_by(changes: &[Change]) -> u64
     requires { length changes.now ≤ 8 }
     ensures { result ≡ added_by changes.now }

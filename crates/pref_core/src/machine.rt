@@ -3,13 +3,13 @@
 
 mod seats;
 
-ghost use Rattle.std.specs.Prelude.{true, false, ◌≡◌, ◌<◌, length, Ok, Err, IfOk, IfErr, MatchResult, ◌⊎◌, ◌↔◌};
-ghost use Rattle.pref_core.specs.State.{is_change};
+ghost use Rattle.std.specs.Prelude.{true, false, ◌≡◌, ◌<◌, length, Some, Ok, Err, IfOk, IfErr, MatchResult, ◌⊎◌, ◌↔◌};
+ghost use Rattle.pref_core.specs.State.{is_change, seat};
 ghost use Rattle.pref_core.specs.Step.{opened, committed_of};
 ghost use Rattle.pref_core.specs.Operations.{IsPlan};
 ghost use Rattle.pref_core.specs.Planned.{op_of};
-ghost use Rattle.pref_core.specs.Systems.{Does, Replies, Running, StandsForSystem, Steps, as_reply, is_refusal, without_event};
-ghost use Rattle.pref_core.specs.MachineParts.{Changes, is_begin, reply_of, reply_for};
+ghost use Rattle.pref_core.specs.Systems.{Does, Replies, Running, StandsForSystem, Steps, as_reply, without_event};
+ghost use Rattle.pref_core.specs.MachineParts.{AnswersAt, Queries, call_of_act, called, change_of_act, is_begin, reply_for, reply_of};
 ghost use Rattle.pref_core.specs.declared.call.Call.{Call};
 ghost use Rattle.pref_core.specs.declared.event.Reply.{Reply};
 
@@ -21,6 +21,7 @@ use crate::index::Index;
 use crate::query::Query;
 use crate::setup::Setup;
 use crate::store::Store;
+use pref_sky::Ranked;
 use pref_table::Row;
 use pref_term::Ask;
 use seats::{answer_at, is_client, no_queries, scan_at, set};
@@ -116,8 +117,8 @@ impl Machine {
         ensures { Does self.old client (Act.Insert row.now) (as_reply Reply.Inserted result) self.new }
     {
         let id = self.store.next_id();
-        self.change(alloc, client, &LentCall::insert(row))?;
-        Ok(id)
+        self.change(alloc, client, &LentCall::insert(row))
+            .and(Ok(id))
     }
 
     /// Puts another row in place of the one of this id, in one commit.
@@ -165,8 +166,8 @@ impl Machine {
         ensures { Does self.old client (Act.Commit commit.now) (as_reply Reply.Committed result) self.new }
     {
         let done = committed_of(self.store.next_id(), commit);
-        self.change(alloc, client, &LentCall::commit(commit))?;
-        Ok(done)
+        self.change(alloc, client, &LentCall::commit(commit))
+            .and(Ok(done))
     }
 
     /// Begins a query of the table as it is now, and returns how many blocks it has to scan. Takes no memory, and
@@ -182,11 +183,10 @@ impl Machine {
         ensures { Does self.old client (Act.Begin ask) (as_reply Reply.Begun result) self.new }
     {
         let call = LentCall::begin();
-        let op = match self.store.look_up(&self.index, client, &call) {
-            Ok(op) => op,
-            Err(fault) => return Err(fault),
-        };
-        Ok(self.begin_planned(client, &op, ask))
+        match self.plan(client, &call) {
+            Ok(op) => Ok(self.begin_planned(client, &op, ask)),
+            Err(fault) => Err(fault),
+        }
     }
 
     /// Scans the next block for the client's query, and returns how many are left.
@@ -228,13 +228,12 @@ impl Machine {
         ensures { Does self.old client Act.Finish (as_reply Reply.Answer result) self.new }
     {
         let call = LentCall::finish();
-        let op = match self.store.look_up(&self.index, client, &call) {
+        let op = match self.plan(client, &call) {
             Ok(op) => op,
             Err(fault) => return Err(fault),
         };
-        let ranked = answer_at(&self.queries, client, alloc)?;
-        self.store.perform(&op);
-        set(&mut self.queries, client, None);
+        let ranked = self.answer(alloc, client)?;
+        self.perform(client, &op, None);
         Ok(RankedList::of(ranked))
     }
 
@@ -250,13 +249,13 @@ impl Machine {
         ensures { Does self.old client Act.Abandon (as_reply (λ _. Reply.Abandoned) result) self.new }
     {
         let call = LentCall::abandon();
-        let op = match self.store.look_up(&self.index, client, &call) {
-            Ok(op) => op,
-            Err(fault) => return Err(fault),
-        };
-        self.store.perform(&op);
-        set(&mut self.queries, client, None);
-        Ok(())
+        match self.plan(client, &call) {
+            Ok(op) => {
+                self.perform(client, &op, None);
+                Ok(())
+            }
+            Err(fault) => Err(fault),
+        }
     }
 
     /// The row of an id.
@@ -362,12 +361,37 @@ impl Machine {
         }
     }
 
-    /// A change. Where it succeeds, any reply that is no refusal can be what its act returns.
+    /// The plan of a call, or its refusal.
+    #[inline(always)]
+    fn plan<'a>(&self, client: u8, call: &'a LentCall<'a>) -> Result<Planned<'a>, CoreFault>
+        ensures planned { IfOk result (λ op. IsPlan self.now.contents client call.now (op_of op)) }
+        ensures refused { IfErr result (λ fault. (act : Act) → call_of_act act ≡ Some call.now → Does self.now client act (Err fault) self.now) }
+    {
+        self.store.look_up(&self.index, client, call)
+    }
+
+    /// A call on a query is done by its plan, and leaves its client this query.
+    fn perform(&mut self, client: u8, op: &Planned<'_>, query: Option<Query>)
+        requires { Queries self.old client (op_of op.now) query }
+        ensures { self.new ≡ called self.old client (op_of op.now) query }
+    {
+        self.store.perform(op);
+        set(&mut self.queries, client, query);
+    }
+
+    /// The answer of the client's query.
+    fn answer(&self, alloc: Global, client: u8) -> Result<Vec<Ranked>, CoreFault>
+        ensures { AnswersAt (seat client self.now.scans) result }
+    {
+        answer_at(&self.queries, client, alloc)
+    }
+
+    /// A change, whose act returns what `change_of_act` says where it is made.
     fn change(&mut self, alloc: Global, client: u8, call: &LentCall<'_>) -> Result<(), CoreFault>
         requires { is_change call.now ≡ true }
-        ensures { (done : Reply) → is_refusal done ≡ false → Changes self.old client call.now done (as_reply (λ _. done) result) self.new }
+        ensures { (act : Act) (done : Reply) → change_of_act self.old.contents.next_id act ≡ Some (call.now, done) → Does self.old client act (as_reply (λ _. done) result) self.new }
     {
-        let op = match self.store.look_up(&self.index, client, call) {
+        let op = match self.plan(client, call) {
             Ok(op) => op,
             Err(fault) => return Err(fault),
         };
@@ -382,7 +406,7 @@ impl Machine {
         ensures { Steps self.old event result self.new }
     {
         let call = LentCall::begin();
-        let op = match self.store.look_up(&self.index, event.client, &call) {
+        let op = match self.plan(event.client, &call) {
             Ok(op) => op,
             Err(fault) => return Err(StepFault { fault, event }),
         };
@@ -396,10 +420,10 @@ impl Machine {
         requires { IsPlan self.old.contents client Call.Begin (op_of op.now) }
         ensures { Does self.old client (Act.Begin ask) (Ok (Reply.Begun result)) self.new }
     {
+        let count = self.setup.blocks();
         let query = Query::begin(ask, self.store.stamp(), &self.setup);
-        self.store.perform(op);
-        set(&mut self.queries, client, Some(query));
-        self.setup.blocks()
+        self.perform(client, op, Some(query));
+        count
     }
 }
 

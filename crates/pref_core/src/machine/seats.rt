@@ -11,6 +11,7 @@ use pref_sky::Ranked;
 use std::alloc::{AllocError, Global};
 
 /// Places without a query.
+#[tactic(auto, using(std::proofs::lemmas::Grind::common_steps))]
 pub(crate) fn no_queries(alloc: Global, clients: u8) -> Result<Vec<Option<Query>>, AllocError>
     ensures { IfOk result (λ v. v.items ≡ replicate clients None) }
 {

@@ -1,26 +1,22 @@
-use Rattle.pref_core.proofs.Common.{◌≡◌, Ok, Some, length, arith, refl, sym, subst, ◌∙◌, with_items, with_items_is, with_seat, Begin, ActBegin, Begun, blocks, IsPlan, Running, Does, op_of}
-use Rattle.pref_core.proofs.ChangeReplies.{running_of}
-use Rattle.pref_core.proofs.MachineActs.{begin_does, in_order_quiet}
-use Rattle.pref_core.proofs.machine.Machine.begin_planned.Goals.{After-blocks-2}
+use Rattle.pref_core.proofs.Common.{◌≡◌, ℕ, Ok, Some, sym, subst, ap, ◌∙◌, op_of, AreAllowed, Running, Scan, Queries, begins_query, called, begin, blocks, Begun, ActBegin, Does}
+use Rattle.pref_core.proofs.EndReplies.{begin_does}
+use Rattle.pref_core.proofs.machine.Machine.begin_planned.Goals.{After-begin-query}
 use Rattle.pref_core.proofs.machine.Machine.begin_planned.Goals as goal
 
-plan : (c : After-blocks-2) → IsPlan c.self.inside.store c.args.client Begin (op_of c.args.op.now)
-plan c = subst (λ (r : Running). IsPlan r.contents c.args.client Begin (op_of c.args.op.now)) (sym c.self.view_is) c.requires
+is : (c : After-begin-query) → begin c.args.ask c.args.self.now.contents.stamp c.args.self.now.limits ≡ c.begin-query.result
+is c = sym (c.begin-query.ensures ∙ ap (λ n. begin c.args.ask n c.self.inside.setup) c.stamp.ensures ∙ ap (λ (r : Running). begin c.args.ask r.contents.stamp r.limits) c.self.view_is)
 
-done : (c : After-blocks-2) → Does (running_of c.self.inside.store c.self.inside.setup c.self.inside.queries.items) c.args.client (ActBegin c.args.ask) (Ok (Begun (blocks c.self.inside.setup)))
-    (running_of c.perform.new.self c.self.inside.setup (with_items c.self.inside.queries c.set.new.queries).items)
-done c =
-    let long : length c.set.new.queries ≡ c.self.inside.queries.len = omega arith in
-    begin_does _ c.args.client c.args.ask (op_of c.args.op.now) c.perform.new.self c.stamp.result _ c.blocks-2.ensures.allowed c.stamp.ensures (plan c) c.perform.ensures.exact
-    (with_items_is c.self.inside.queries c.set.new.queries long ∙ c.set.ensures ∙ (λ i. with_seat c.args.client (Some (c.begin-query.ensures i)) (c.deref_mut.ensures.value i)))
+allowed : (c : After-begin-query) → AreAllowed c.args.self.now.limits
+allowed c = subst (λ (r : Running). AreAllowed r.limits) c.self.view_is c.blocks-count.ensures.allowed
 
-pub invariant_of-self : goal.invariant_of-self
-invariant_of-self c =
-    let at = (goal.at.invariant_of-self c).After-blocks-2 in
-    in_order_quiet _ c.perform.new.self _ c.self.inside.index c.args.client Begin (op_of c.args.op.now) (ActBegin c.args.ask) _ refl (plan at) c.perform.ensures.exact c.self.invariant (done at)
+pub perform-requires : goal.perform-requires
+perform-requires c =
+    let at = (goal.at.perform-requires c).After-begin-query in
+    subst (λ (q : Scan). Queries c.args.self.now c.args.client (op_of c.args.op.now) (Some q)) (is at) (begins_query c.args.ask (allowed at) c.requires)
 
 pub returns : goal.returns
 returns c =
-    let after = running_of c.perform.new.self c.self.inside.setup (with_items c.self.inside.queries c.set.new.queries).items in
-    subst (λ r. Does r c.args.client (ActBegin c.args.ask) (Ok (Begun c.blocks-2.result)) after) c.self.view_is
-    (subst (λ n. Does (running_of c.self.inside.store c.self.inside.setup c.self.inside.queries.items) c.args.client (ActBegin c.args.ask) (Ok (Begun n)) after) (sym c.blocks-2.ensures.value) (done (goal.at.returns c).After-blocks-2))
+    let at = (goal.at.returns c).After-begin-query in
+    subst (λ (n : ℕ). Does c.args.self.now c.args.client (ActBegin c.args.ask) (Ok (Begun n)) c.perform.new.self) (sym (c.blocks-count.ensures.value ∙ ap (λ (r : Running). blocks r.limits) c.self.view_is))
+    (subst (Does c.args.self.now c.args.client (ActBegin c.args.ask) (Ok (Begun (blocks c.args.self.now.limits)))) (sym (c.perform.ensures ∙ ap (λ (q : Scan). called c.args.self.now c.args.client (op_of c.args.op.now) (Some q)) (sym (is at))))
+    (begin_does c.args.self.now c.args.client c.args.ask (op_of c.args.op.now) (allowed at) c.requires))

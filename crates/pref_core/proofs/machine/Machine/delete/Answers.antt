@@ -1,9 +1,5 @@
-use Rattle.pref_core.proofs.Common.{refl, subst, Deleted, as_reply, Changes}
-use Rattle.pref_core.proofs.MachineActs.{delete_does}
+use Rattle.pref_core.proofs.Common.{Some, sym, Deleted, ActDelete}
 use Rattle.pref_core.proofs.machine.Machine.delete.Goals as goal
 
 pub returns : goal.returns
-returns c =
-    let returned = as_reply (λ _. Deleted c.args.id) c.change.result in
-    delete_does c.args.self.now c.args.client c.args.id returned c.change.new.self
-    (subst (λ call. Changes c.args.self.now c.args.client call (Deleted c.args.id) returned c.change.new.self) c.delete.ensures (c.change.ensures (Deleted c.args.id) refl))
+returns c = c.change.ensures (ActDelete c.args.id) (Deleted c.args.id) (λ i. Some (sym c.delete.ensures i, Deleted c.args.id))

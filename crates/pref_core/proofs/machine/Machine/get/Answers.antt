@@ -1,7 +1,6 @@
 use Rattle.pref_core.proofs.Common.{Some, None, is_some, sym, subst, ◌∙◌, ap, ActGet, seat, Does}
 use Rattle.pref_core.proofs.ChangeReplies.{running_of}
-use Rattle.pref_core.proofs.EndReplies.{found_or_missing}
-use Rattle.pref_core.proofs.MachineActs.{get_does}
+use Rattle.pref_core.proofs.EndReplies.{found_or_missing, get_does}
 use Rattle.pref_core.proofs.machine.Machine.get.Goals as goal
 
 pub returns-in-Some : goal.returns-in-Some

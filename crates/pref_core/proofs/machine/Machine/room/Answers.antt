@@ -1,6 +1,6 @@
 use Rattle.pref_core.proofs.Common.{Ok, is_some, sym, subst, ◌∙◌, ap, ActRoom, Room, seat, Does}
 use Rattle.pref_core.proofs.ChangeReplies.{running_of}
-use Rattle.pref_core.proofs.MachineActs.{room_does}
+use Rattle.pref_core.proofs.EndReplies.{room_does}
 use Rattle.pref_core.proofs.machine.Machine.room.Goals as goal
 
 pub returns : goal.returns
