@@ -41,6 +41,7 @@ pub(crate) fn set(queries: &mut [Option<Query>], client: u8, query: Option<Query
 }
 
 /// The client's query scans a block.
+#[tactic(auto, using(crate::proofs::SeatLaws::seat_read, crate::proofs::SeatLaws::written_same))]
 pub(crate) fn scan_at(
     queries: &mut [Option<Query>],
     client: u8,
@@ -61,6 +62,7 @@ pub(crate) fn scan_at(
 }
 
 /// The answer of the client's query.
+#[tactic(auto, using(crate::proofs::SeatLaws::seat_read))]
 pub(crate) fn answer_at(
     queries: &[Option<Query>],
     client: u8,
