@@ -223,6 +223,29 @@ class Tasks(TestCase):
                 return len(await table.best(QUESTION))
         self.assertEqual(self.run_async(main), 4)
 
+    def test_a_query_that_two_tasks_await_at_once_begins_once(self):
+        """The second one waited for ever for the client that the first one has; where there was another one, it was lost."""
+        async def main():
+            async with await self.open(clients=1) as table:
+                query = table.query(QUESTION)
+                for begun in await asyncio.wait_for(asyncio.gather(*(query.__aenter__() for _ in range(3))), 20):
+                    self.assertIs(begun, query)
+                self.assertEqual((await query.answer()).ids, SKYLINE)
+                return len(await table.best(QUESTION))
+        self.assertEqual(self.run_async(main), 4)
+
+    def test_a_query_whose_first_task_is_cancelled_is_begun_by_the_next(self):
+        async def main():
+            async with await self.open(clients=1) as table:
+                other, query = await table.query(QUESTION), table.query(QUESTION)
+                waiting = [asyncio.ensure_future(query.__aenter__()) for _ in range(2)]
+                await asyncio.sleep(0.05)
+                waiting[0].cancel()
+                await other.answer()
+                self.assertEqual((await (await asyncio.wait_for(waiting[1], 20)).answer()).ids, SKYLINE)
+                return len(await table.best(QUESTION))
+        self.assertEqual(self.run_async(main), 4)
+
     def test_a_fork_cannot_use_it(self):
         table = asyncio.run(self.open())
         for call in (lambda: table.get(1), lambda: table.best(QUESTION), lambda: table.query(QUESTION).__aenter__()):

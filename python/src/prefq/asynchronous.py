@@ -253,6 +253,7 @@ class AsyncQuery:
         self.question = question
         self._table = table
         self._query: Optional[Query] = None
+        self._turns = FreeClients(1)        # of the tasks that begin it: the first one does, and where it fails or is cancelled the next
 
     def __repr__(self) -> str:
         return f"<prefq.AsyncQuery {self.question!r}>"
@@ -307,8 +308,15 @@ class AsyncQuery:
         return self._query
 
     async def _begin(self) -> "AsyncQuery":
-        if self._query is not None:
-            return self
+        turn = await self._turns.get()
+        try:
+            if self._query is None:
+                await self._begin_first()
+        finally:
+            self._turns.put(turn)
+        return self
+
+    async def _begin_first(self) -> None:
         self._table._usable()
         free = self._table._free
         collections = Collections(self._table._table._free)
@@ -328,7 +336,6 @@ class AsyncQuery:
             raise
         self._query = query
         self._give_back = weakref.finalize(self, _give_up, free, client, job)
-        return self
 
 
 class Collections:
