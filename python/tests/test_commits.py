@@ -4,11 +4,13 @@ import os
 import random
 import unittest
 from decimal import Decimal
+from fractions import Fraction
 from functools import partial
 from unittest import mock
 
 import prefq
 from prefq.desk import Desk
+from prefq.kinds import NotRead
 from support import TestCase, raises
 
 COUNT = int(os.environ.get("PREFQ_TEST_COUNT", "40"))
@@ -53,6 +55,17 @@ class Commits(TestCase):
                     frame.commit(*changes)
                 self.assertEqual([(row.id, row.price) for row in frame.rows()], [(1, 60), (2, 50)])
                 self.assertEqual(str(frame.columns[0].kind), "whole")
+
+    def test_one_fault_is_one_exception(self):
+        """That of an insert is one that the kind does not take; of the same value among many, and in a commit, it was any ValueError."""
+        with prices(60, 50) as frame:
+            for value, kind in (("x", NotRead), (Fraction(1, 3), NotRead), (float("inf"), NotRead), (b"5", TypeError)):
+                calls = {"": frame.insert, "record 2, ": lambda record: frame.insert_many([{"price": 1}, record]), "change 2, ": lambda record: frame.commit(("delete", 1), ("insert", record))}
+                for where, call in calls.items():
+                    with self.assertRaises(kind) as caught:
+                        call({"price": value})
+                    self.assertEqual((type(caught.exception), str(caught.exception).partition("column")[0]), (kind, where))
+            self.assertEqual([(row.id, row.price) for row in frame.rows()], [(1, 60), (2, 50)])
 
     def test_random_commits(self):
         """As many changes of a dictionary. Queries that were begun before answer over the rows that there were."""

@@ -70,12 +70,16 @@ class Refused(Error):
         return message
 
 
+class NotRead(ValueError):
+    """A text or a value that a kind does not take."""
+
+
 def placed(where: str, why: Exception) -> Exception:
     """What is wrong, with its place in front."""
     message = f"{where}{why}"
     if isinstance(why, Refused):
         return Refused(message, why.kind, why.number, why.place)
-    return TypeError(message) if isinstance(why, TypeError) else ValueError(message)
+    return next((kind for kind in (NotRead, TypeError) if isinstance(why, kind)), ValueError)(message)
 
 
 def no_such_row(id: Any) -> Refused:

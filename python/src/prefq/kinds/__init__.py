@@ -5,8 +5,9 @@ these have a meaning (`measured`: for around and between). `LEAST` stands for a 
 
 Texts are read in one place, `Kind.read`, by the grammar that its class says; whatever is not of that grammar is refused, and nothing is made of nothing.
 """
+from ..errors import NotRead
 from .booleans import Booleans
-from .kind import Kind, NotRead
+from .kind import Kind
 from .moments import Clock, Dates, Times
 from .numbers import Decimals, Floats, Whole
 from .spelling import kind_named

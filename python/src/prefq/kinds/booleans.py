@@ -1,7 +1,8 @@
 """Columns of true and false."""
 from typing import Any, Optional, Sequence
 
-from .kind import Kind, NotRead, word
+from ..errors import NotRead
+from .kind import Kind, word
 
 WORDS = {"true": True, "false": False, "yes": True, "no": False}
 

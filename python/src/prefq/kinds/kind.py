@@ -3,10 +3,6 @@ from fractions import Fraction
 from typing import Any, List, Optional, Sequence
 
 
-class NotRead(ValueError):
-    """A text or a value that a kind does not take."""
-
-
 class Kind:
     """How the values of a column stand in a table. `name` is its word in `kinds=..`, and `example` is a value as a question has it."""
 

@@ -4,8 +4,9 @@ import re
 from fractions import Fraction
 from typing import Any, List, Optional, Sequence, Union
 
+from ..errors import NotRead
 from .at_once import are_days
-from .kind import Kind, NotRead, quoted
+from .kind import Kind, quoted
 
 DAY = re.compile(r"\d{4}-\d\d-\d\d", re.ASCII)
 HOURS = r"(\d\d:\d\d)(?:(:\d\d)(?:[.,](\d{1,9}))?)?"

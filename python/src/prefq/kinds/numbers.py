@@ -8,9 +8,10 @@ from fractions import Fraction
 from typing import Any, List, Optional, Sequence
 
 from ..checks import LEAST, MOST
+from ..errors import NotRead
 from .at_once import MOST_DECIMALS, PlainTexts
 from .forms import NUMBER, PLAIN, Form
-from .kind import Kind, NotRead
+from .kind import Kind
 
 # A program may have made the decimals of its own context fewer than a column's.
 WIDE = Context(prec=40)

@@ -5,7 +5,8 @@ from contextlib import suppress
 from itertools import filterfalse
 from typing import Any, Callable, Dict, List, Optional, Sequence
 
-from .kind import Kind, NotRead, word
+from ..errors import NotRead
+from .kind import Kind, word
 
 # Held while new texts get their codes, in any code book; a signal handler or a finalizer of the same thread may take it once more.
 ADDING = threading.RLock()
