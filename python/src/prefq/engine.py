@@ -71,6 +71,7 @@ class Engine:
         self._row = ctypes.c_int64 * self.width
         self.rows: Optional[int] = 0            # None where an interruption came between a change and its count
         self.changes = 0                        # how many calls were begun that may change rows
+        self.refused = 0                        # which of them was refused last, by this number
         self.lock = threading.RLock()
         self.queries: Dict[int, "ref[Asker]"] = {}     # by their clients
 
@@ -252,6 +253,7 @@ class Engine:
                     self.rows = None
                 raise
             if why is not None:
+                self.refused = self.changes
                 raise why
 
     # ---- queries; each is of a client ----

@@ -9,7 +9,7 @@ from typing import Any, Callable, Dict, Iterable, Iterator, List, Mapping, Optio
 from .checks import check_rows
 from .clients import hastily, locked
 from .columns import Column
-from .errors import Refused, no_such_row, placed
+from .errors import Error, Refused, no_such_row, placed
 from .kinds import Kind
 from .loading import CellRefused, records_of
 from .opened import Ids, Opened
@@ -267,9 +267,17 @@ class LiveRows:
         def made() -> Result:
             if self._is_changing:
                 raise Refused("a change is under way in this thread", "client")
+            engine, code_books = self.table._engine, self._opened.code_books()
+            begun = engine.changes
             try:
                 self._is_changing = True
                 return change()
+            except (Error, TypeError, ValueError):
+                # That of a handler may come behind the change. No row has the texts of one that was not begun, or was refused.
+                if engine.changes == begun or engine.changes == begun + 1 == engine.refused:
+                    for book, state in code_books:
+                        book.give_back(state)
+                raise
             finally:
                 self._is_changing = False
 

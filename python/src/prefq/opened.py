@@ -7,6 +7,7 @@ from .checks import LEAST, MOST_IDS, whole
 from .columns import Column
 from .kept import Answered, Kept
 from .kinds import Decimals, Kind, Texts, Whole
+from .kinds.texts import CodeBookState
 from .loading import CellRefused, check_width
 from .moment import Moment, moment_of_columnar
 from .reading import check_names
@@ -57,6 +58,10 @@ class Columns:
     def names(self) -> List[str]:
         """The names of the columns."""
         return list(self.by_name)
+
+    def code_books(self) -> List[Tuple[Texts, CodeBookState]]:
+        """The code books as they are now."""
+        return [(kind, kind.state()) for kind in (self.columns[place].kind for place in self.order[True]) if isinstance(kind, Texts)]
 
     def have_outgrown(self, rows: int) -> bool:
         """Whether their code books may be mostly texts that none of so many rows has any more."""

@@ -54,7 +54,7 @@ class Description(NamedTuple):
         of = repr(kind.of) if isinstance(kind, Choices) and not isinstance(kind.of, Texts) else ""
         exact_to = NANOSECONDS if isinstance(kind, Times) and kind.nanoseconds == 1 else MICROSECONDS
         found = Description(column.name, repr(kind), of, exact_to, column.grows, column.has_gaps, (form.decimal, form.thousands, form.unit, form.parentheses),
-                            tuple(kind.texts) if isinstance(kind, Texts) else ())
+                            tuple(kind.coded) if isinstance(kind, Texts) else ())
         try:
             found.kind_of_column()
         except Refused as why:

@@ -2,8 +2,8 @@
 import os
 import threading
 from contextlib import suppress
-from itertools import filterfalse
-from typing import Any, Callable, Dict, List, Optional, Sequence
+from itertools import filterfalse, islice
+from typing import Any, Callable, Dict, FrozenSet, List, Optional, Sequence, Tuple
 
 from ..errors import NotRead
 from .kind import Kind, word
@@ -12,6 +12,7 @@ from .kind import Kind, word
 ADDING = threading.RLock()
 # The memory of a text in a code book, beside its letters.
 BYTES_OF_A_TEXT = 150
+CodeBookState = Tuple[int, FrozenSet[str]]
 
 
 def _open_in_a_fork() -> None:
@@ -39,6 +40,8 @@ class Texts(Kind):
         # The codes are 1, 2, 3 and so on, in this order; and the texts in it, as far as these were looked up.
         self._codes: Dict[str, int] = {}
         self._texts: List[str] = []
+        # Those of them that no row has had, since the change that brought them was refused. They keep their codes, which a question may have been read with.
+        self._unused: FrozenSet[str] = frozenset()
         self._adding = object()         # another one for each call that adds texts
         # About how many bytes the code book takes.
         self.size = 0
@@ -59,12 +62,15 @@ class Texts(Kind):
         return self._texts[number - 1]
 
     def find(self, text: str) -> Optional[int]:
-        return self._codes.get(plain_text(text))
+        plain = plain_text(text)
+        return None if plain in self._unused else self._codes.get(plain)
 
     def read_all(self, texts: Sequence[str]) -> List[int]:
         codes, is_added = self._codes, False
         if not {str}.issuperset(map(type, texts)):
             texts = list(map(plain_text, texts))
+        if self._unused:
+            self._unused = self._unused.difference(texts)
         with ADDING:
             while not is_added:
                 self._adding = adding = object()
@@ -83,7 +89,21 @@ class Texts(Kind):
     @property
     def texts(self) -> List[str]:
         """The texts of the column, in the order in which they came."""
+        return [text for text in self._codes if text not in self._unused]
+
+    @property
+    def coded(self) -> List[str]:
+        """The texts that have the codes 1, 2, 3 and so on."""
         return list(self._codes)
+
+    def state(self) -> CodeBookState:
+        """What `give_back` takes."""
+        return len(self._codes), self._unused
+
+    def give_back(self, state: CodeBookState) -> None:
+        """No row has the texts that came since then."""
+        known, unused = state
+        self._unused = unused.union(islice(reversed(self._codes), len(self._codes) - known))
 
 
 class Choices(Kind):
