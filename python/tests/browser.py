@@ -18,45 +18,26 @@ def chromium():
     return next(filter(None, map(shutil.which, NAMES)), None)
 
 
-class Browser:
-    """A browser with one page."""
+class Page:
+    """A page of a browser."""
 
-    def __init__(self, width=1200, height=860, dark=False):
-        self._folder = tempfile.mkdtemp()
-        words = [chromium(), "--headless=new", "--no-sandbox", "--disable-gpu", "--disable-dev-shm-usage", "--no-first-run", "--remote-debugging-port=0",
-                 "--remote-allow-origins=*", "--hide-scrollbars", f"--user-data-dir={self._folder}", f"--window-size={width},{height}", "about:blank"]
-        environment = {**os.environ, "HOME": self._folder, "TMPDIR": self._folder}
-        self._process = subprocess.Popen(words, stdout=subprocess.DEVNULL, stderr=subprocess.DEVNULL, env=environment, start_new_session=True)
+    def __init__(self, port, path):
         self._count = 0
         self.faults = []        # exceptions in the page, and what its policy or the network refused
-        try:
-            self._connect(self._address())
-            for domain in ("Page", "Runtime", "Log"):
-                self.call(f"{domain}.enable")
-            self.size(width, height)
-            self.call("Emulation.setFocusEmulationEnabled", enabled=True)       # as a window that is in front
-            self.call("Emulation.setEmulatedMedia", features=[{"name": "prefers-color-scheme", "value": "dark" if dark else "light"}])
-        except BaseException:
-            self.close()
-            raise
-
-    def __enter__(self):
-        return self
-
-    def __exit__(self, *_):
-        self.close()
+        self._port = port
+        self._connect((port, path))
+        for domain in ("Page", "Runtime", "Log"):
+            self.call(f"{domain}.enable")
+        self.call("Emulation.setFocusEmulationEnabled", enabled=True)       # as a window that is in front
 
     def close(self):
-        if hasattr(self, "_socket"):
-            self._file.close()
-            self._socket.close()
-        self._process.terminate()
-        try:
-            self._process.wait(10)
-        except subprocess.TimeoutExpired:
-            self._process.kill()
-            self._process.wait()
-        shutil.rmtree(self._folder, ignore_errors=True)
+        self._file.close()
+        self._socket.close()
+
+    def window(self, url):
+        """The page of another window of this browser."""
+        target = self.call("Target.createTarget", url=url, newWindow=True)["targetId"]
+        return Page(self._port, f"/devtools/page/{target}")
 
     def size(self, width, height, scale=1):
         self.call("Emulation.setDeviceMetricsOverride", width=width, height=height, deviceScaleFactor=scale, mobile=width < 600)
@@ -110,20 +91,6 @@ class Browser:
                     raise AssertionError(f"{method}: {result['error']}")
                 return result["result"]
 
-    def _address(self):
-        """The port and the path of the page, which the browser writes into its folder as soon as it listens."""
-        end = time.monotonic() + 60
-        while time.monotonic() < end:
-            try:
-                with open(f"{self._folder}/DevToolsActivePort") as file:
-                    port = int(file.readline())
-                with urllib.request.urlopen(f"http://127.0.0.1:{port}/json", timeout=10) as reply:
-                    page = next(page for page in json.load(reply) if page["type"] == "page")
-                return port, page["webSocketDebuggerUrl"].split(str(port), 1)[1]
-            except (OSError, ValueError, StopIteration):
-                time.sleep(0.1)
-        raise AssertionError("the browser does not start")
-
     def _connect(self, address):
         port, path = address
         self._socket = socket.create_connection(("127.0.0.1", port), timeout=60)
@@ -153,3 +120,52 @@ class Browser:
             text += self._file.read(length)
             if first & 0x80:
                 return text
+
+
+class Browser(Page):
+    """A browser with one page."""
+
+    def __init__(self, width=1200, height=860, dark=False):
+        self._folder = tempfile.mkdtemp()
+        words = [chromium(), "--headless=new", "--no-sandbox", "--disable-gpu", "--disable-dev-shm-usage", "--no-first-run", "--remote-debugging-port=0",
+                 "--remote-allow-origins=*", "--hide-scrollbars", f"--user-data-dir={self._folder}", f"--window-size={width},{height}", "about:blank"]
+        environment = {**os.environ, "HOME": self._folder, "TMPDIR": self._folder}
+        self._process = subprocess.Popen(words, stdout=subprocess.DEVNULL, stderr=subprocess.DEVNULL, env=environment, start_new_session=True)
+        try:
+            super().__init__(*self._address())
+            self.size(width, height)
+            self.call("Emulation.setEmulatedMedia", features=[{"name": "prefers-color-scheme", "value": "dark" if dark else "light"}])
+        except BaseException:
+            self.close()
+            raise
+
+    def __enter__(self):
+        return self
+
+    def __exit__(self, *_):
+        self.close()
+
+    def close(self):
+        if hasattr(self, "_socket"):
+            super().close()
+        self._process.terminate()
+        try:
+            self._process.wait(10)
+        except subprocess.TimeoutExpired:
+            self._process.kill()
+            self._process.wait()
+        shutil.rmtree(self._folder, ignore_errors=True)
+
+    def _address(self):
+        """The port and the path of the page, which the browser writes into its folder as soon as it listens."""
+        end = time.monotonic() + 60
+        while time.monotonic() < end:
+            try:
+                with open(f"{self._folder}/DevToolsActivePort") as file:
+                    port = int(file.readline())
+                with urllib.request.urlopen(f"http://127.0.0.1:{port}/json", timeout=10) as reply:
+                    page = next(page for page in json.load(reply) if page["type"] == "page")
+                return port, page["webSocketDebuggerUrl"].split(str(port), 1)[1]
+            except (OSError, ValueError, StopIteration):
+                time.sleep(0.1)
+        raise AssertionError("the browser does not start")

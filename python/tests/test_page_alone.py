@@ -1,8 +1,9 @@
 """Pages whose server does not answer, answers late, has ended, or is asked by many windows, in a headless Chromium."""
+import time
 import unittest
 from unittest import mock
 
-from prefq import replies
+from prefq import pictures, replies
 from test_page import Paged
 
 SILENT = 3600
@@ -107,6 +108,50 @@ class Alone(Paged):
         self.browser.js(HIDDEN.format("false"))
         self.browser.until(f"{STATE} === 'Live, version 3'")
         self.assertTrue(self.browser.js("document.getElementById('refusal').hidden"))
+
+    def test_a_picture_that_takes_long_is_waited_for(self):
+        """A page said for each of more than 40 seconds that the server does not answer, and asked for it again."""
+        made, picture = [], pictures.picture
+
+        def slow(*words):
+            made.append(words)
+            time.sleep(5)
+            return picture(*words)
+
+        with mock.patch.object(replies, "SECONDS_QUIET", 0.3), mock.patch.object(pictures, "picture", slow):
+            self.server.desk.update(1, {"Distance": 1})
+            self.browser.until(f"{STATE} === 'Live, version 2'")
+        self.assertEqual((len(made), [text for text in self.browser.js("said") if "Live" not in text]), (1, []))
+
+    def test_seven_windows_of_one_browser(self):
+        """They took all six connections to the server, so that the seventh showed nothing, and none could save."""
+        windows = [self.browser]
+        for _ in range(6):
+            windows.append(self.browser.window(self.server.url))
+            self.addCleanup(windows[-1].close)
+            self.addCleanup(windows[-1].call, "Page.close")
+        for page in windows:
+            page.until("document.querySelectorAll('#rows tbody tr').length === 5")
+        self.assertEqual([page.js("document.hidden") for page in windows], [False] * 7)
+        for version, page in enumerate(windows, 2):
+            page.click("tr[data-id='1'] button")
+            page.fill("#fields [name='Distance']", str(1200 + version))
+            page.click("#save")
+            for other in windows:
+                other.until(f"{STATE} === 'Live, version {version}' && [...document.querySelectorAll('#rows td')].some(cell => cell.textContent === '{1200 + version}')", 20)
+        self.assertEqual(self.server.site.streams._value, replies.MOST_STREAMS - 1)
+        self.assertEqual([page.faults for page in windows], [[]] * 7)
+
+    def test_a_browser_without_shared_workers_has_a_stream_for_each_window(self):
+        script = self.browser.call("Page.addScriptToEvaluateOnNewDocument", source="delete window.SharedWorker")["identifier"]
+        self.addCleanup(self.browser.call, "Page.removeScriptToEvaluateOnNewDocument", identifier=script)
+        self.open()
+        self.server.desk.update(1, {"Distance": 1})
+        self.browser.until(f"{STATE} === 'Live, version 2'")
+        self.browser.js(HIDDEN.format("true"))
+        self.server.desk.update(1, {"Distance": 2})
+        self.browser.js(HIDDEN.format("false"))
+        self.browser.until(f"{STATE} === 'Live, version 3'")
 
     def test_a_page_says_that_the_desk_was_closed(self):
         self.server.desk.close()

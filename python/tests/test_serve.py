@@ -76,11 +76,11 @@ def picture(server, question=QUESTION, **axes):
 
 
 class Events:
-    """A stream of pictures."""
+    """A stream of pictures, or that of another path."""
 
-    def __init__(self, server, question=QUESTION):
+    def __init__(self, server, question=QUESTION, path="/events", **further):
         self._connection = http.client.HTTPConnection(*server.server_address[:2], timeout=30)
-        self._connection.request("GET", f"/events?{urlencode({'question': question})}")
+        self._connection.request("GET", f"{path}?{urlencode({'question': question, **further})}")
         self.reply = self._connection.getresponse()
 
     def __enter__(self):
@@ -311,6 +311,35 @@ class Streams(Served):
         with mock.patch.object(replies, "SECONDS_QUIET", 0.2), self.served() as server, Events(server) as events:
             events.next()
             self.assertEqual([events.reply.readline() for _ in range(3)], [b"event: alive\n", b"data:\n", b"\n"])
+
+    def test_versions_are_told_whatever_a_picture_takes(self):
+        """Two pictures are made at a time, and keep the stream of versions waiting for nothing."""
+        release = threading.Event()
+
+        def waits(*_):
+            release.wait(30)
+            raise prefq.Refused("late")
+
+        with self.served() as server, mock.patch.object(Desk, "picture", waits), contextlib.ExitStack() as stack:
+            for _ in range(2):
+                stack.enter_context(Events(server))
+            stack.callback(release.set)
+            with mock.patch.object(replies, "SECONDS_QUIET", 0.2), Events(server, path="/changes") as events:
+                for version in (1, 2):
+                    self.assertEqual(events.next(), ("message", {"version": version, "run": server.site.about["run"]}))
+                    server.desk.update(1, {"Distance": version})
+                self.assertEqual(events.next()[1]["version"], 3)
+                self.assertEqual([events.reply.readline() for _ in range(3)], [b"event: alive\n", b"data:\n", b"\n"])
+            server.desk.close()
+            with Events(server, path="/changes") as events:
+                self.assertEqual((events.next()[1]["error"], events.next()[0]), ("the desk was closed", "end"))
+
+    def test_a_stream_of_one_picture(self):
+        with self.served() as server:
+            with Events(server, once=1) as events:
+                self.assertEqual((events.next()[1]["version"], events.next()), (1, ("end", None)))
+            with Events(server, "best lo(x)", once=1) as events:
+                self.assertEqual((events.next()[0], events.next()), ("refused", ("end", None)))
 
     def test_too_many_browsers(self):
         with mock.patch.object(replies, "MOST_STREAMS", 1), mock.patch.object(replies, "SECONDS_QUIET", 0.1), self.served() as server:

@@ -82,7 +82,7 @@ class Application:
             while not (is_last or gone.done()):
                 woken.clear()
                 if desk.is_closed or desk.version != watch.seen:
-                    text, is_last = await loop.run_in_executor(self._drawing, watch.event)
+                    text, is_last = await loop.run_in_executor(self._drawing, watch.event) if watch.makes_picture else watch.event()
                 elif await is_set(woken, replies.SECONDS_QUIET):
                     continue
                 else:

@@ -6,7 +6,8 @@
     GET /answer.csv?question=..  the whole answer as comma-separated values
     GET /why?question=..&id=7    the rows that are better than one, each with its level
     GET /events?question=..      pictures as server-sent events, at once and after each change; the last one is `event: refused` where the question is, and
-                                 `event: failed` where the table has ended; `event: alive` where nothing has changed for a while
+                                 `event: failed` where the table has ended; `event: alive` where nothing has changed for a while. With &once=1 it is one picture
+    GET /changes                 the same with versions in place of pictures, and the `run` of `/about`: {"version": 12, "run": ".."}
     POST /rows                   {"Price": 59.9, ..}, a new row; replies its id
     PUT /rows/7                  {"Price": 64.9}, other values for a row
     DELETE /rows/7               replies the values that it had
@@ -37,7 +38,7 @@ from .kinds import Choices, Texts
 from .pictures import ID, NUMBER, Asked
 
 PAGE = Path(__file__).with_name("page")
-SCRIPTS = ("page.js", "edit.js", "plot.js", "parts.js", "speech.js", "table.js", "legend.js", "scales.js", "stairs.js", "why.js", "builder.js")
+SCRIPTS = ("page.js", "edit.js", "plot.js", "parts.js", "speech.js", "stream.js", "table.js", "legend.js", "scales.js", "stairs.js", "why.js", "builder.js")
 FILES = {"/": ("index.html", "text/html"), "/guide.html": ("guide.html", "text/html"), "/page.css": ("page.css", "text/css"), **{f"/{name}": (name, "text/javascript") for name in SCRIPTS}}
 POLICY = ("default-src 'none'; script-src 'self'; style-src 'self'; connect-src 'self'; img-src 'self' data:; base-uri 'none'; form-action 'none'; "
           "frame-ancestors 'none'")
@@ -99,10 +100,12 @@ class Route(NamedTuple):
 
 
 class Watch:
-    """A browser that watches: it is sent a picture, and another one after each change. In its `with` block it counts among those that watch."""
+    """A browser that watches: it is sent a picture, and another one after each change, or but one. Where it asks nothing, it is told the version. In its `with` block it
+    counts among those that watch."""
 
-    def __init__(self, site: "Site", asked: Asked, axes: Sequence[Optional[str]]) -> None:
-        self._site, self._asked, self._axes = site, asked, axes
+    def __init__(self, site: "Site", asked: Optional[Asked] = None, axes: Sequence[Optional[str]] = (), *, is_once: bool = False) -> None:
+        self._site, self._asked, self._axes, self._is_once = site, asked, axes, is_once
+        self.makes_picture = asked is not None
         self.seen: Optional[int] = None     # the version of the picture that was made last
 
     def __enter__(self) -> "Watch":
@@ -114,15 +117,15 @@ class Watch:
         self._site.streams.release()
 
     def event(self) -> Tuple[str, bool]:
-        """The event for the picture as it is now, and whether it is the last one, as where the question is refused."""
+        """The event for the rows as they are now, and whether it is the last one, as where the question is refused."""
         first = "" if self.seen else COME_AGAIN
         try:
-            self.seen, picture = self._site.shown.get(self._asked, self._axes)
+            self.seen, told = self._site.version() if self._asked is None else self._site.shown.get(self._asked, self._axes)
         except (Error, TypeError, ValueError) as why:
             # Browsers ask again where a stream ends. Those that hear that it was refused do not; but what a database has may be mended there.
             name = "failed" if isinstance(why, Error) and (not isinstance(why, Refused) or why.kind == "follow") else "refused"
             return f"{first}event: {name}\ndata: {json.dumps(reason(why))}\n\n", True
-        return f"{first}data: {picture}\n\n", False
+        return f"{first}data: {told}\n\n", self._is_once
 
 
 class Site:
@@ -134,6 +137,12 @@ class Site:
         self.about = {**pictures.about(desk, title, list(questions) or [first_question(desk)], editable), "run": secrets.token_hex(8)}
         self.shown = pictures.Shown(desk)
         self.streams = threading.BoundedSemaphore(MOST_STREAMS)
+
+    def version(self) -> Tuple[int, str]:
+        """The version of the rows, and as JSON which server has them."""
+        self.desk.check()
+        version = self.desk.version
+        return version, json.dumps({"version": version, "run": self.about["run"]})
 
     def route(self, request: Request) -> Union[Route, Watch]:
         """What replies to a request. What its head makes wrong is raised, one of `FAULTS`. It waits for nothing."""
@@ -151,6 +160,8 @@ class Site:
             return Route(lambda _: Reply(200, f"{kind}; charset=utf-8", (PAGE / name).read_bytes()))
         if request.path == "/about":
             return Route(lambda _: as_json(200, self.about))
+        if request.path == "/changes":
+            return Watch(self)
         question = request.given("question")
         asked = Asked(self.about["questions"][0] if question is None else question, request.given("where"), request.given("top"))
         axes = [request.given(axis) for axis in ("x", "y")]
@@ -164,7 +175,7 @@ class Site:
                 raise Wrong(400, "id is that of a row, a whole number")
             return Route(lambda _: as_json(200, self.shown.made(pictures.why, asked, int(id))), makes_picture=True)
         if request.path == "/events":
-            return Watch(self, asked, axes)
+            return Watch(self, asked, axes, is_once=request.given("once") is not None)
         raise Wrong(404, f"there is no {request.path}")
 
     def _post(self, request: Request) -> Route:

@@ -5,6 +5,7 @@ import {showLegend} from "./legend.js";
 import {$, counted, element, request} from "./parts.js";
 import {draw, rowAt, VIEWS} from "./plot.js";
 import {speak} from "./speech.js";
+import {streamOf} from "./stream.js";
 import {fillTable, namePlace} from "./table.js";
 import {showWhy} from "./why.js";
 
@@ -14,7 +15,9 @@ const LINES = /('[^']*'|"[^"]*")|\s*\n\s*/g;     // ends of lines in a question,
 const NAMED = 3;        // rows of the answer that are named in a message
 const AGAIN = 3000;     // milliseconds until a server that has refused is asked again
 const SILENCE = 40000;  // milliseconds without a sign of life of the server, which sends one every 15 seconds
-let about, query, picture, stream, silence;
+let about, picture;
+let stream, silence, failure = "", isLost = false;      // what the server tells, and whether it does
+let version, query, shown, refused, pending;            // what is to be shown, the questions of the picture and of a refusal, and the request that is under way
 
 // Until the server says what it has, it is asked again.
 function connect() {
@@ -37,7 +40,9 @@ function begin(received) {
   edits(about);
   showBuilder(about.columns);
   addEventListener("popstate", restore);
+  stream = streamOf(about.run, hear);
   document.addEventListener("visibilitychange", listen);
+  listen();
   restore();
 }
 
@@ -58,7 +63,9 @@ function ask() {
 
 function watch() {
   query = asked();
-  listen();
+  pending?.close();
+  pending = undefined;
+  refresh();
 }
 
 function asked() {
@@ -68,33 +75,34 @@ function asked() {
   return found;
 }
 
-// Has the server send pictures, but to a page that nobody sees: a browser has six connections to a server, for all of its windows.
+// Hears of changes, but for a page that nobody sees.
 function listen() {
-  stream?.close();
   clearTimeout(silence);
-  if (document.hidden) return;
-  stream = new EventSource(`events?${query}`);
+  if (document.hidden) return stream.leave();
+  stream.join();
   heard();
-  for (const name of ["open", "message", "alive"]) stream.addEventListener(name, heard);
-  stream.addEventListener("message", event => {
-    $("download").href = `answer.csv?${query}`;
-    show(JSON.parse(event.data));
-  });
-  stream.addEventListener("refused", event => {
-    event.target.close();
-    clearTimeout(silence);
-    refuse(JSON.parse(event.data));
-  });
-  let failure = "";
-  // Where the server was started anew, its columns and rows may be others. Where it does not reply, the stream breaks too, and is opened again.
-  stream.addEventListener("open", () => request("about").then(({run}) => { if (run !== about.run) location.reload(); }, () => {}));
-  stream.addEventListener("failed", event => { failure = JSON.parse(event.data).error; });
-  stream.addEventListener("error", event => {
+}
+
+function hear({name, data}) {
+  if (document.hidden) return;
+  if (name === "error") {
     lost(failure || undefined);
     failure = "";
-    // The browser tries again by itself, but not where it was replied that it may not watch.
-    if (event.target.readyState === EventSource.CLOSED) setTimeout(() => { if (stream === event.target) listen(); }, AGAIN);
-  });
+    return;
+  }
+  heard();
+  if (name === "failed") failure = JSON.parse(data).error;
+  if (name === "message") changed(JSON.parse(data));
+}
+
+// What the server says of its rows. Where it was started anew, its columns and rows may be others.
+function changed(told) {
+  if (told.run !== about.run) return location.reload();
+  version = told.version;
+  if (isLost) pending?.close();
+  if (isLost) pending = undefined;
+  isLost = false;
+  refresh();
 }
 
 // A connection may be broken without an end, as behind a sleep of the machine.
@@ -102,11 +110,46 @@ function heard() {
   clearTimeout(silence);
   silence = setTimeout(() => {
     lost();
-    listen();
+    stream.anew();
+    heard();
   }, SILENCE);
 }
 
+// Asks for the picture of the rows as they are: one at a time, and again where they have changed meanwhile. By a stream of one event, since what is refused is no fault.
+function refresh() {
+  if (pending || document.hidden) return;
+  if (query === refused || query === shown && !(picture.version < version)) return isLive();
+  const text = query, own = pending = new EventSource(`events?${text}&once=1`);
+  const ends = (name, then) => own.addEventListener(name, ({data}) => {
+    own.close();
+    if (pending !== own) return;
+    pending = undefined;
+    then(data);
+  });
+  const fails = why => {
+    lost(why);
+    setTimeout(refresh, AGAIN);
+  };
+  ends("message", data => {
+    [shown, refused] = [text, undefined];
+    $("download").href = `answer.csv?${text}`;
+    show(JSON.parse(data));
+    refresh();
+  });
+  ends("refused", data => {
+    refused = text;
+    refuse(JSON.parse(data));
+  });
+  ends("failed", data => fails(JSON.parse(data).error));
+  ends("error", () => fails());
+}
+
+function isLive() {
+  $("state").textContent = query !== refused ? `Live, version ${picture.version}` : picture ? "The question is refused; the picture is that of the question before." : "The question is refused.";
+}
+
 function lost(why = "The server does not answer") {
+  isLost = true;
   state(`${why}. Trying again …`);
 }
 
@@ -122,7 +165,7 @@ function refuse(reason) {
   $("refusal").replaceChildren(element("p", {textContent: reason.error}));
   if (Number.isInteger(reason.place)) $("refusal").append(pointed(query.get(field), reason.place));
   $("refusal").hidden = false;
-  $("state").textContent = picture ? "The question is refused; the picture is that of the question before." : "The question is refused.";
+  isLive();
 }
 
 // Marks the field that is refused, if one is.
@@ -147,7 +190,7 @@ function show(received) {
   picture = received;
   mark(null);
   $("refusal").hidden = true;
-  $("state").textContent = `Live, version ${received.version}`;
+  isLive();
   const news = before && ["question", ...BESIDE].every(part => before[part] === received[part]) ? changes(before.best, received.best) : [];
   if (text !== $("summary").textContent || notes !== $("notes").textContent || news.length) speak("answer", [text, notes, ...news].join(" "));
   $("summary").textContent = text;
