@@ -3,6 +3,7 @@ import contextlib
 import io
 import time
 import unittest
+import unittest.mock
 from decimal import Decimal
 
 import prefq
@@ -164,6 +165,16 @@ class Frames(TestCase):
                 self.assertEqual([row.x for row in opened.rows()], [Decimal("0.1"), None, Decimal("59.5")])
         with self.refuses(ValueError, "row 1, column 'x' (decimal(1)): 0.15 has more than 1 decimal"):
             prefq.Frame.from_dataframe(pandas.DataFrame({"x": pandas.Series([0.15], dtype="float32")}), kinds={"x": "decimal(1)"})
+
+    def test_narrow_floats_of_pandas_own_type_as_decimals(self):
+        """Later versions of pandas make Python's floats of them, of 64 bits, which have more digits."""
+        def tolist(series):
+            return [value if pandas.isna(value) else float(value) for value in series.array]
+
+        with unittest.mock.patch.object(pandas.Series, "tolist", tolist):
+            for dtype in ("Float32", "float32"):
+                frame = prefq.Frame.from_dataframe(pandas.DataFrame({"x": pandas.Series([0.1, None, 2.5, 16777216], dtype=dtype)}), kinds={"x": "decimal(1)"})
+                self.assertEqual([row.x for row in frame.rows()], [Decimal("0.1"), None, Decimal("2.5"), 16777216])
 
     def test_times_that_pandas_has_and_cannot_show_in_their_zone(self):
         """Taken, they kept each call from its rows."""

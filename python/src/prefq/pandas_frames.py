@@ -74,9 +74,10 @@ def encoded_series(series: Any, name: str, kinds: Optional[Mapping[str, str]] = 
 def _by_values(series: Any, column: Column, ids: Optional[Sequence[int]]) -> Tuple[Column, List[int]]:
     import numpy
     from .loading import encoded
-    # A narrow float shows fewer digits than the one of 64 bits that `tolist` makes of it.
-    is_narrow = isinstance(series.dtype, numpy.dtype) and series.dtype.kind == "f" and series.dtype.itemsize < 8
-    return column, encoded(column, list(series.to_numpy()) if is_narrow else series.tolist(), ids)
+    # A narrow float, also one of pandas' own types, shows fewer digits than the one of 64 bits that `tolist` makes of it.
+    dtype = getattr(series.dtype, "numpy_dtype", series.dtype)
+    is_narrow = isinstance(dtype, numpy.dtype) and dtype.kind == "f" and dtype.itemsize < 8
+    return column, encoded(column, list(series.to_numpy(dtype=dtype, na_value=numpy.nan)) if is_narrow else series.tolist(), ids)
 
 
 def _by_type(series: Any, name: str, ids: Optional[Sequence[int]]) -> Tuple[Kind, Optional[List[int]]]:
