@@ -358,6 +358,25 @@ class Files(TestCase):
         with self.refuses(ValueError, "line 4, column 'x' (bool): '5'"):
             self.reads(b"x\n \nyes\n5\n", kinds={"x": "bool"})
 
+    def test_blanks_in_quotes_are_a_row(self):
+        """It was left out, and with it all that is told of rows by their number, as that of a line."""
+        for text, values in [('x\n5\n" "\n7\n', [5, None, 7]), ('x\n5\n" "\n\t\n"\t"\n""\n \n7\n', [5, None, None, None, 7]), ('x\n"\n \n"\n \n7\n', [None, 7]),
+                             ('x\nLyon\n" "\n"\n"\n" \n"\n', ["Lyon", None, None, None]), ('x\r\n5\r\n"  "\r\n \r\n7', [5, None, 7]), ('" "\n5\n', None)]:
+            with self.subTest(text=text):
+                rows = self.reads(text.encode())
+                self.assertEqual([row.get("x") for row in rows] if values else rows, values or [{"column 1": 5}])
+        with self.refuses(ValueError, "line 6, column 'x' (bool): '5'"):
+            self.reads(b'x\n \n" "\nyes\n" "\n5\n', kinds={"x": "bool"})
+        with self.refuses(prefq.Refused, "line 3: it has 1 cells, and the first line has 2 names"):
+            self.reads(b'x,y\n1,2\n" "\n', kinds={"x": "whole"})
+        self.assertEqual(self.reads(b'x,y\n1,2\n" "\n', null_padding=True), [{"x": 1, "y": 2}, {"x": None, "y": None}])
+
+    def test_blanks_in_quotes_in_a_long_file(self):
+        """Also where a row goes on behind the letters that are read at a time."""
+        for text, values in [("x\n" + '7\n" "\n \n"\n"\n' * 20_000, [7, None, None] * 20_000), ("x\n" + "7\n" * 32_767 + '"' + "\n" * 5_000 + '"\n7\n', [7] * 32_767 + [None, 7])]:
+            with from_text(text) as frame:
+                self.assertEqual([row["x"] for row in frame.rows()], values)
+
     def test_long_cells(self):
         long = "a" * 200_000
         self.assertEqual(self.reads(f"{long},x\n{long},1\n".encode()), [{long: long, "x": 1}])

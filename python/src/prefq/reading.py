@@ -115,6 +115,32 @@ class Span(NamedTuple):
     lines: range
 
 
+class Rows:
+    """The rows of lines, by csv.reader. One that is a line of blanks has no cells, but in quotes these are a cell."""
+
+    def __init__(self, lines: Iterable[str], **dialect: Any) -> None:
+        self._reader = csv.reader(self._seen(lines), **dialect)
+        self._has_quotes = False
+
+    def _seen(self, lines: Iterable[str]) -> Iterator[str]:
+        for line in lines:
+            self._has_quotes = self._has_quotes or '"' in line
+            yield line
+
+    def __iter__(self) -> "Rows":
+        return self
+
+    def __next__(self) -> List[str]:
+        self._has_quotes = False
+        row = next(self._reader)
+        return [] if len(row) == 1 and row[0].isspace() and not self._has_quotes else row
+
+    @property
+    def line_num(self) -> int:
+        """How many lines were read."""
+        return self._reader.line_num
+
+
 class Cells:
     """The names and the rows of a file, which is read as often as its rows are asked for."""
 
@@ -171,10 +197,13 @@ class Cells:
         if plain is not None:
             return plain, plain.rows
         lines = list(io.StringIO(text, newline=""))
-        with self._reader(chain(lines, further), passed) as reader:
-            found = rows_of(reader, len(lines))
+        count = len(lines)
+        with self._reader(taken(lines, further), passed, csv.reader) as reader:
+            found = rows_of(reader, count)
         # In a file of one column a line of blanks has as many cells as names.
         if set(map(len, found)) != {width} or width == 1 and any(map(str.isspace, chain.from_iterable(found))):
+            if any(len(row) == 1 and row[0].isspace() for row in found):
+                found = list(Rows(lines, delimiter=self._delimiter))
             found = list(self._squared(found, first))
         return Chunk(first, len(found), width, list(chain.from_iterable(found))), reader.line_num
 
@@ -186,7 +215,7 @@ class Cells:
         """The line in which a row ends, for what is said of it."""
         with self._stream() as stream, self._reader(stream) as reader:
             self._names_in(reader)
-            places = (reader.line_num for cells in reader if not is_empty_line(cells))
+            places = (reader.line_num for cells in reader if cells)
             return self._before + next(islice(places, row, None), 0)
 
     def check_columns(self, names: Sequence[str]) -> None:
@@ -213,9 +242,9 @@ class Cells:
             self._content.check_unchanged(file)
 
     @contextmanager
-    def _reader(self, lines: Iterable[str], passed: int = 0) -> Iterator[Any]:
+    def _reader(self, lines: Iterable[str], passed: int = 0, rows: Optional[Callable[..., Any]] = None) -> Iterator[Any]:
         """Reads the cells of lines, before which others have `passed`. Where that fails, the file is refused."""
-        reader = csv.reader(lines, delimiter=self._delimiter, strict=True)
+        reader = (rows or Rows)(lines, delimiter=self._delimiter, strict=True)
         try:
             yield reader
         except csv.Error as why:
@@ -236,7 +265,7 @@ class Cells:
         width = len(self.names)
         taken = 0
         for row in rows:
-            if is_empty_line(row):
+            if not row:
                 continue
             if len(row) > width and all(map(is_blank, row[width:])):
                 row = row[:width]
@@ -269,7 +298,7 @@ class Cells:
 
     def _names_in(self, reader: Any) -> List[str]:
         """Reads as far as the line with the names, in front of which there may be empty ones; its cells."""
-        return next((cells for cells in reader if not is_empty_line(cells)), [])
+        return next(filter(None, reader), [])
 
     def _is_surplus(self, place: int) -> bool:
         """Whether the first rows have no text at this place either, as where each line ends in a delimiter."""
@@ -301,6 +330,14 @@ def plain_chunk(text: str, delimiter: str, first: int, width: int) -> Optional[C
     rows = len(cuts) // width
     is_plain = "\r" not in text and cuts == (delimiter * (width - 1) + "\n").encode() * rows
     return Chunk(first, rows, width, text=text, delimiter=delimiter) if is_plain else None
+
+
+def taken(lines: List[str], further: Iterable[str]) -> Iterator[str]:
+    """These lines, and further ones, which are added to them where they are taken."""
+    yield from lines
+    for line in further:
+        lines.append(line)
+        yield line
 
 
 def rows_of(reader: Any, most: int) -> List[List[str]]:
@@ -376,7 +413,7 @@ def delimiter_of(lines: Sequence[str], *, is_cut: bool = False) -> str:
     """The delimiter that cuts the first rows alike, into most cells; of several, the one behind which fewer cells begin with a blank."""
     def worth(sign: str) -> Tuple[bool, int, int]:
         rows = list(_sample(lines, sign))
-        rows = [row for row in (rows[:-1] if is_cut and len(rows) > 1 else rows) if not is_empty_line(row)]
+        rows = [row for row in (rows[:-1] if is_cut and len(rows) > 1 else rows) if row]
         widths = {len(row) for row in rows if any(row)}
         first = rows[0] if rows else []
         return len(widths) == 1 and widths != {1}, len(first), -sum(cell.startswith(" ") for cell in first)
@@ -386,16 +423,10 @@ def delimiter_of(lines: Sequence[str], *, is_cut: bool = False) -> str:
 
 def _sample(lines: Sequence[str], delimiter: str) -> Iterator[List[str]]:
     """The first rows, as far as they can be read."""
-    reader = csv.reader(lines, delimiter=delimiter, strict=True)
     try:
-        yield from islice(reader, SAMPLE_ROWS)
+        yield from islice(Rows(lines, delimiter=delimiter, strict=True), SAMPLE_ROWS)
     except csv.Error:
         return
-
-
-def is_empty_line(row: Sequence[str]) -> bool:
-    """Whether there is nothing, or nothing but blanks, in a line."""
-    return not row or len(row) == 1 and row[0].isspace()
 
 
 def is_blank(cell: str) -> bool:
