@@ -157,6 +157,19 @@ class Frames(TestCase):
         with self.refuses(prefq.Refused, "row 4, column 'x' has", "which is no 64-bit float"):
             prefq.psel(pandas.DataFrame({"x": wide / [1, 1, 1, 7]}), "low(x)")
 
+    def test_the_names_of_the_levels_of_an_index_stay_where_rows_come_later(self):
+        """They were lost, and the labels were tuples and ids."""
+        index = pandas.MultiIndex.from_tuples([("Lyon", 1), ("Bern", 2)], names=["city", "number"])
+        with prefq.Frame.from_dataframe(pandas.DataFrame({"x": [5, 6]}, index=index)) as frame:
+            frame.insert({"x": 4})
+            for question, labels in [("best low(x)", [(3, 3)]), ("top_level 3 low(x)", [(3, 3), ("Lyon", 1), ("Bern", 2)]), ("best high(x)", [("Bern", 2)])]:
+                found = frame.best(question).to_dataframe().index
+                self.assertEqual((list(found.names), list(found)), (["city", "number"], labels))
+        with prefq.Frame.from_dataframe(pandas.DataFrame({"x": [5]}, index=pandas.Index(["a"], name="key"))) as frame:
+            frame.insert({"x": 5})
+            found = frame.best("best low(x)").to_dataframe().index
+            self.assertEqual((list(found.names), list(found)), (["key"], ["a", 2]))
+
     def test_narrow_floats_as_decimals(self):
         """They are the numbers that they show, as they are in a record. That of 64 bits for 0.1 of 32 is shown as 0.10000000149011612."""
         for dtype in ("float16", "float32", "Float32", "float64"):

@@ -195,12 +195,14 @@ def ungrouped(groups: Any) -> Tuple[Any, List[str]]:
 
 
 def index_of(index: Any) -> Callable[[Sequence[Record]], Any]:
-    """What gives the index of some rows: its own label for each row of a DataFrame with this index, and the id for a row that came later."""
+    """What gives the index of some rows: its own label for each row of a DataFrame with this index, and the id for a row that came later, in each level."""
     def labelled(records: Sequence[Record]) -> Any:
         import pandas
         places = [(record.id or 0) - 1 for record in records]
         if all(place < len(index) for place in places):
             return index.take(places)
+        if isinstance(index, pandas.MultiIndex):
+            return pandas.MultiIndex.from_tuples([index[place] if place < len(index) else (place + 1,) * index.nlevels for place in places], names=index.names)
         return pandas.Index([index[place] if place < len(index) else place + 1 for place in places], name=index.name)
 
     return labelled
