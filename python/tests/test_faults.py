@@ -78,24 +78,19 @@ class Closed(TestCase):
             table.best("best low(x)")
 
     def test_a_table_that_is_dropped_gives_back_its_memory(self):
-        closed, calls = [], library.calls()
-
-        class Calls:
-            def __getattr__(self, name):
-                return closed.append if name == "prefq_close" else getattr(calls, name)
-
-        table = numbers(3)
-        query = table.query("best low(x)")
-        table._engine._calls = Calls()
-        del table
-        gc.collect()
-        self.assertEqual(closed, [])
-        self.assertEqual(len(query.answer()), 1)
-        pointer = query._engine._pointer
-        del query
-        gc.collect()
+        closed, close = [], library.calls().prefq_close
+        with mock.patch.object(library.calls(), "prefq_close", lambda pointer: closed.append(pointer.value)):
+            table = numbers(3)
+            query = table.query("best low(x)")
+            del table
+            gc.collect()
+            self.assertEqual(closed, [])
+            self.assertEqual(len(query.answer()), 1)
+            pointer = query._engine._pointer.value
+            del query
+            gc.collect()
         self.assertEqual(closed, [pointer])
-        calls.prefq_close(pointer)
+        close(pointer)
 
 
 class OutOfMemory(TestCase):

@@ -13,7 +13,8 @@ from itertools import count
 from unittest import mock
 
 import prefq
-from interrupting import NEVER, TIMES
+from interrupting import NEVER, TIMES, Interrupter
+from prefq.library import calls
 from support import QUESTION, TestCase, around, hotels, numbers
 
 
@@ -93,6 +94,20 @@ class Garbage(TestCase):
             del table, late, first
             gc.collect()
         self.assertLessEqual(set(said), {"closed", "client"})
+
+    def test_an_interruption_as_a_table_is_given_back(self):
+        """At the very begin it was lost, and the memory of the table was kept."""
+        closed, close = [], calls().prefq_close
+        with mock.patch.object(calls(), "prefq_close", lambda table: closed.append(close(table))):
+            for place in range(1, 5):
+                held = [numbers(9), numbers(5).query("best low(x)")]
+                interrupter = Interrupter(place)
+                interrupter.runs(held.clear)
+                self.assertEqual((len(closed), interrupter.where), (2 * place, None))
+            with self.refuses(prefq.Refused):
+                prefq.Table(["x"], [[1]] * 9, capacity=3)
+            gc.collect()
+            self.assertEqual(len(closed), 2 * place + 1)
 
     def test_a_finalizer_in_the_middle_of_a_call(self):
         """It abandons a query before the next call, and waits for nothing."""

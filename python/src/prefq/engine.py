@@ -6,9 +6,11 @@ client; both are right whatever comes between two steps.
 import ctypes
 import os
 import threading
+from collections import deque
 from ctypes import c_size_t, c_uint32, c_uint64, c_void_p
-from itertools import compress
-from operator import is_
+from functools import partial
+from itertools import chain, compress
+from operator import attrgetter, is_
 from typing import Any, Callable, Dict, List, Optional, Sequence, Set, Tuple, TypeVar
 from weakref import ref
 
@@ -58,14 +60,16 @@ class Engine:
     `lock` is held where what Python keeps changes with the table, and by queries; a signal handler or a finalizer of the same thread may take it once more.
     """
 
-    _pointer: Optional[c_void_p] = None
+    _close: Callable[[], Any] = int      # does nothing yet
 
     def __init__(self, columns: Sequence[str]) -> None:
         """Use `opened` or `opened_text`."""
         self._pointer = c_void_p()
         self._calls = calls()
         self._owner, self._forks = os.getpid(), _forks
-        self._ended: Optional[Tuple[str, str]] = None
+        self._ends: List[Tuple[str, str]] = []      # why it has ended, the first one
+        end, close, forget = map(self._ends.append, (CLOSED,)), map(self._calls.prefq_close, (self._pointer,)), map(setattr, (self._pointer,), ("value",), (None,))
+        self._close = partial(deque, chain(end, close, forget), 0)
         self.width = len(columns)
         self._width = c_size_t(self.width)
         self._row = ctypes.c_int64 * self.width
@@ -75,13 +79,9 @@ class Engine:
         self.lock = threading.RLock()
         self.queries: Dict[int, "ref[Asker]"] = {}     # by their clients
 
-    def __del__(self) -> None:
-        # Here alone its memory is given back: whoever is in the middle of a call still has the engine. Other finalizers of the same garbage may still use it.
-        pointer, self._pointer = self._pointer, c_void_p()
-        if not pointer or not self.is_ours():       # a fork may have copied it in the middle of a call
-            return
-        self._ended = self._ended or CLOSED
-        self._calls.prefq_close(pointer)
+    # Here alone its memory is given back: whoever is in the middle of a call still has the engine. Other finalizers of the same garbage may still use it. Nothing of it is
+    # written in Python, so that no interruption comes, which would be lost here and have the memory kept.
+    __del__ = property(attrgetter("_close"))
 
     @staticmethod
     def opened(columns: Sequence[str], values: bytes, rows: int, setup: Setup) -> "Engine":
@@ -103,6 +103,10 @@ class Engine:
 
     # ---- the end ----
 
+    @property
+    def _ended(self) -> Optional[Tuple[str, str]]:
+        return self._ends[0] if self._ends else None
+
     def is_ours(self) -> bool:
         """Whether this is the process that opened the table."""
         return self._forks == _forks
@@ -121,7 +125,7 @@ class Engine:
     def end(self) -> None:
         """Ends the table, and gives back its rows; the call that another thread makes is waited for, and its later ones raise `Ended`."""
         if self.is_ours():
-            self._ended = self._ended or CLOSED
+            self._ends.append(CLOSED)
             self._calls.prefq_end(self._pointer)
 
     def _call(self, call: Any, *words: Any) -> None:
@@ -152,7 +156,7 @@ class Engine:
                 return refused
         if result == OUT_OF_MEMORY:
             # What it has done is not known.
-            self._ended = self._ended or OUT_OF_MEMORY_SAID
+            self._ends.append(OUT_OF_MEMORY_SAID)
             self._calls.prefq_end(self._pointer)
         self.ours()
         return Ended(*self._ended) if self._ended is not None else Ended(self._refused(question).args[0], "closed")
