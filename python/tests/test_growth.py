@@ -1,5 +1,6 @@
 """Kinds grow: a column takes numbers with more decimals by opening its table anew under the same ids, or refuses them and stays as it was."""
 import io
+import pickle
 import tempfile
 import threading
 import time
@@ -327,6 +328,19 @@ class OfADesk(TestCase):
     def rows(self, desk):
         picture = desk.picture("best low(price)")
         return {row.id: tuple(column.decode(number) for column, number in zip(picture.columns, row.numbers)) for row in picture.rows}
+
+    def test_a_row_of_an_older_picture_has_the_values_that_it_had(self):
+        """Its numbers were read as those of the wider column, as 6 in place of 60."""
+        with Desk(prices(60, 50)) as desk:
+            seen = desk.picture("best high(price)")
+            desk.insert({"price": "59.9"})
+            desk.update(1, {"price": "0.25"})
+            for row in (*seen.rows, *seen.best):
+                self.assertEqual(desk.record(row.numbers), {"price": {1: 60, 2: 50}[row.id], "name": f"n{row.id}"})
+            again = desk.picture("best high(price)")
+            self.assertEqual([desk.record(row.numbers)["price"] for row in again.rows], [Decimal("0.25"), 50, Decimal("59.9")])
+            self.assertEqual([row.numbers for row in pickle.loads(pickle.dumps(again.rows))], [row.numbers for row in again.rows])
+            self.assertEqual(desk.delete(3), {"price": Decimal("59.9"), "name": None})
 
     def test_ids_and_values_stay(self):
         with Desk(prices(60, 50)) as desk:

@@ -142,8 +142,8 @@ class Desk:
         return len(self._rows)
 
     def record(self, numbers: Numbers) -> Dict[str, Any]:
-        """The values of a row as it stands in the table now, by the names of their columns. Those of a picture, which may be an older one, are its own `record`."""
-        return named_values(self.columns, numbers)
+        """The values of a row of this desk, by the names of their columns: as it stands in the table now, or stood there in a picture."""
+        return named_values(getattr(numbers, "columns", self.columns), numbers)
 
     def insert(self, values: Mapping[str, Any]) -> int:
         """Adds a row of these values, by the names of their columns, and returns its id. A value that is not given is missing. Kinds grow as by `Frame.insert`."""
@@ -228,8 +228,8 @@ class Desk:
     def _there(self) -> Dict[int, Held]:
         """The rows as they are in the frame, whose columns are taken."""
         self._show_opened()
-        outside = self._opened.ids.outside
-        return {id: Held(id, tuple(numbers)) for id, numbers in ((outside(inside), numbers) for inside, numbers in self.table.rows())}
+        outside, row = self._opened.ids.outside, self._row_type
+        return {id: Held(id, row(numbers)) for id, numbers in ((outside(inside), numbers) for inside, numbers in self.table.rows())}
 
     def _note(self, id: int, before: Optional[Mapping[str, Any]] = None) -> None:
         """Takes a row as it is in the frame, which had these values before; all of them where that has opened another table for it. The version is the next one before
@@ -242,7 +242,7 @@ class Desk:
             self._rows = {other: row for other, row in self._rows.items() if self._opened.ids.inside(other)}
             changed = [*self._rows, id]
         # One by one, which takes no client.
-        rows = {id: Held(id, tuple(self.table.get(self._opened.ids.inside(id)))) for id in changed}
+        rows = {id: Held(id, self._row_type(self.table.get(self._opened.ids.inside(id)))) for id in changed}
         if before is not None:
             after = self.record(rows[id].numbers)
             self._since[id] = tuple(version if is_same(after[name], before[name]) else self.version for name, version in zip(after, self._versions(id)))
@@ -255,6 +255,7 @@ class Desk:
 
     def _show_columns(self, columns: Iterable[Column]) -> None:
         self.columns = list(columns)
+        self._row_type = row_type(self.columns)
         self._named = {column.name: column for column in self.columns}
 
     def _row(self, id: int) -> Held:
@@ -332,6 +333,11 @@ class Desk:
 
     def _wake(self) -> None:
         call_all(list(self._subscribed))
+
+
+def row_type(columns: Sequence[Column]) -> Callable[[Iterable[int]], Numbers]:
+    """The type of rows whose numbers stand for values of these columns, also when the desk has wider ones."""
+    return type("Row", (tuple,), {"__slots__": (), "__reduce__": lambda row: (tuple, (tuple(row),)), "columns": columns})
 
 
 def named_values(columns: Iterable[Column], numbers: Numbers) -> Dict[str, Any]:

@@ -5,7 +5,7 @@ import weakref
 from typing import Any, Callable, Dict, List, Mapping, Optional, Sequence
 
 from .columns import Column
-from .desk import Desk, Found, Held, Picture
+from .desk import Desk, Found, Held, Picture, row_type
 from .errors import Ended, Refused
 from .follow import Followed
 from .selection import Selection
@@ -70,8 +70,9 @@ class FollowedDesk(Desk):
         if wrong is not None:
             raise Refused(f"there is a row with the key {wrong!r}: a page shows rows whose keys are whole numbers", "follow")
         self._see(found.version, found.columns)
-        rows = [Held(int(key), tuple(numbers)) for key, numbers in found.rows.items()]
-        best = [Found(row.level, int(row.key), tuple(row.numbers)) for row in found.best]
+        made = row_type(found.columns)
+        rows = [Held(int(key), made(numbers)) for key, numbers in found.rows.items()]
+        best = [Found(row.level, int(row.key), made(row.numbers)) for row in found.best]
         return Picture(found.version + turns, list(found.columns), rows, best, list(found.asked), tuple(found.unknown))
 
     def _look(self) -> None:
