@@ -143,6 +143,41 @@ class Garbage(TestCase):
                 other.join(NEVER)
             self.assertEqual(len([table.query("best low(x)") for _ in range(8)]), 8)
 
+    def test_finalizers_that_insert_crosswise(self):
+        """Those of two threads, each in the middle of an insert into the table that the other one's finalizer inserts into: they waited for each other for ever."""
+        def frame():
+            return prefq.Frame.from_records([{"x": 1, "name": "n"}])
+
+        for make, row in ((numbers, [7]), (frame, {"x": 7, "name": "new"})):
+            tables = [make(1) if make is numbers else make() for _ in range(2)]
+            both, own, said = threading.Barrier(2, timeout=NEVER), threading.local(), []
+
+            def finalizes():
+                if not getattr(own, "is_in", False):
+                    own.is_in = True
+                    both.wait()
+                    try:
+                        said.append(own.other.insert(row))
+                    except prefq.Refused as why:
+                        said.append(why.kind)
+
+            def inserts(number):
+                own.other = tables[1 - number]
+                said.append(tables[number].insert(row))
+
+            with around(getattr(tables[0], "table", tables[0]), "insert", before=finalizes), around(getattr(tables[1], "table", tables[1]), "insert", before=finalizes):
+                threads = [threading.Thread(target=inserts, args=[number], daemon=True) for number in range(2)]
+                for thread in threads:
+                    thread.start()
+                for thread in threads:
+                    thread.join(10)
+            self.assertEqual([thread.is_alive() for thread in threads], [False] * 2)
+            self.assertIn("client", said)
+            self.assertEqual(sum(map(len, tables)), 2 + len(said) - said.count("client"))
+            for table in tables:
+                table.insert(row)
+                table.close()
+
     def test_garbage_that_another_thread_is_collecting(self):
         """A collection does nothing then, and all clients are of this thread: they are waited for, a moment at most."""
         collect, calls = gc.collect, []

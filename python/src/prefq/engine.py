@@ -16,6 +16,7 @@ from weakref import ref
 
 from .errors import Ended, Error, Refused
 from .library import Change, Numbers, Refusal, Setup, calls
+from .locks import holding
 
 Result = TypeVar("Result")
 OK, REFUSED, OUT_OF_MEMORY = 0, -1, -2
@@ -243,33 +244,37 @@ class Engine:
         """A call with these words, behind which there are so many rows more."""
         if self._forks != _forks:
             self.ours()
-        with self.lock:
-            self.changes += 1
-            if self.queries:
-                self.settle()
-            try:
-                result = call(*words)
-                why = self._failure(result, call, words) if result else None
-                if why is None and more and self.rows is not None:
-                    self.rows += more
-            except BaseException:
-                if more:
-                    self.rows = None
-                raise
-            if why is not None:
-                self.refused = self.changes
-                raise why
+        holding(self.lock, self._changed, more, call, words)
+
+    def _changed(self, more: int, call: Any, words: Tuple[Any, ...]) -> None:
+        self.changes += 1
+        if self.queries:
+            self.settle()
+        try:
+            result = call(*words)
+            why = self._failure(result, call, words) if result else None
+            if why is None and more and self.rows is not None:
+                self.rows += more
+        except BaseException:
+            if more:
+                self.rows = None
+            raise
+        if why is not None:
+            self.refused = self.changes
+            raise why
 
     # ---- queries; each is of a client ----
 
     def settle(self) -> None:
         """Abandons the queries that nobody uses any more."""
         self.ours()
-        with self.lock:
-            for client, held in list(self.queries.items()):
-                asker = held()
-                if asker is None or not asker.is_wanted and not asker.is_used:
-                    self._abandon(client, held)
+        holding(self.lock, self._settle)
+
+    def _settle(self) -> None:
+        for client, held in list(self.queries.items()):
+            asker = held()
+            if asker is None or not asker.is_wanted and not asker.is_used:
+                self._abandon(client, held)
 
     def _abandon(self, client: int, held: "ref[Asker]") -> None:
         """Ends a query, and gives its client back. One that has ended before is refused, which does no harm.
@@ -307,17 +312,19 @@ class Engine:
         """A call of a query, which has its client as long as that takes."""
         if self._forks != _forks:
             self.ours()
-        with self.lock:
-            if not self.is_open(asker):
-                self.check()
-                raise Refused("this query has ended", "client", 4)
-            if asker.is_used:
-                raise Refused("a call of this query is under way in this thread", "client", 3)
-            try:
-                asker.is_used = True
-                return call(asker, *words)
-            finally:
-                asker.is_used = False
+        return holding(self.lock, self._called_as, asker, call, words)
+
+    def _called_as(self, asker: Asker, call: Callable[..., Result], words: Tuple[Any, ...]) -> Result:
+        if not self.is_open(asker):
+            self.check()
+            raise Refused("this query has ended", "client", 4)
+        if asker.is_used:
+            raise Refused("a call of this query is under way in this thread", "client", 3)
+        try:
+            asker.is_used = True
+            return call(asker, *words)
+        finally:
+            asker.is_used = False
 
     def _ask(self, asker: Asker, question: str) -> bytes:
         numbers, count = Numbers(), c_size_t()

@@ -4,6 +4,7 @@ import time
 from typing import Callable, Optional, TypeVar
 
 from .errors import Refused
+from .locks import holding
 
 Result = TypeVar("Result")
 LOOK = 0.002        # seconds between two looks whether another call has ended
@@ -23,14 +24,16 @@ class Turns:
             if time.monotonic() >= until:
                 raise Refused("another call, which reads the table, has not ended meanwhile", "follow")
             time.sleep(LOOK)
-        with self.lock:
-            if self._thread is not None:
-                raise Refused("a call is under way in this thread", "client")
-            try:
-                self._thread = threading.get_ident()
-                return call()
-            finally:
-                self._thread = None
+        return holding(self.lock, self._taken, call)
+
+    def _taken(self, call: Callable[[], Result]) -> Result:
+        if self._thread is not None:
+            raise Refused("a call is under way in this thread", "client")
+        try:
+            self._thread = threading.get_ident()
+            return call()
+        finally:
+            self._thread = None
 
     def is_of_another(self) -> bool:
         """Whether another thread has its turn."""

@@ -6,6 +6,7 @@ from itertools import filterfalse, islice
 from typing import Any, Callable, Dict, FrozenSet, List, Optional, Sequence, Tuple
 
 from ..errors import NotRead
+from ..locks import holding
 from .kind import Kind, word
 
 # Held while new texts get their codes, in any code book; a signal handler or a finalizer of the same thread may take it once more.
@@ -66,25 +67,28 @@ class Texts(Kind):
         return None if plain in self._unused else self._codes.get(plain)
 
     def read_all(self, texts: Sequence[str]) -> List[int]:
-        codes, is_added = self._codes, False
         if not {str}.issuperset(map(type, texts)):
             texts = list(map(plain_text, texts))
         if self._unused:
             self._unused = self._unused.difference(texts)
-        with ADDING:
-            while not is_added:
-                self._adding = adding = object()
-                known = len(codes)
-                new = list(filterfalse(codes.__contains__, dict.fromkeys(texts)))
-                numbered = dict(zip(new, range(known + 1, known + len(new) + 1)))
-                # Where a handler or a finalizer has added others meanwhile, these are counted anew.
-                if self._adding is adding:
-                    codes.update(numbered)
-                    is_added = True
-            if len(self._texts) == known:
-                self._texts[known:] = new
-            self.size += sum(map(len, new)) + BYTES_OF_A_TEXT * len(new)
-        return list(map(codes.__getitem__, texts))
+        holding(ADDING, self._add, texts)
+        return list(map(self._codes.__getitem__, texts))
+
+    def _add(self, texts: Sequence[str]) -> None:
+        """Gives the texts codes that have none."""
+        codes, is_added = self._codes, False
+        while not is_added:
+            self._adding = adding = object()
+            known = len(codes)
+            new = list(filterfalse(codes.__contains__, dict.fromkeys(texts)))
+            numbered = dict(zip(new, range(known + 1, known + len(new) + 1)))
+            # Where a handler or a finalizer has added others meanwhile, these are counted anew.
+            if self._adding is adding:
+                codes.update(numbered)
+                is_added = True
+        if len(self._texts) == known:
+            self._texts[known:] = new
+        self.size += sum(map(len, new)) + BYTES_OF_A_TEXT * len(new)
 
     @property
     def texts(self) -> List[str]:
