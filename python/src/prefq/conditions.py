@@ -1,6 +1,6 @@
 """Conditions and expressions over the rows of a part: which rows count, and over which columns that was computed."""
 from itertools import product
-from typing import Dict, Iterable, Iterator, List, Mapping, Sequence, Tuple
+from typing import Callable, Collection, Dict, Iterable, Iterator, List, Mapping, Sequence, Tuple, TypeVar
 
 from .columns import Column, listed
 from .errors import Refused
@@ -8,12 +8,16 @@ from .expressions import Comparison, Literal, Named, Node, Operation, columns_of
 from .kinds import Times
 from .kinds.moments import offset_of
 from .moment import Moment
-from .partial import Absent
-from .questions import Term
+from .partial import Absent, Partial
+from .questions import Question, Term
 from .selection import Selection, kept
 from .translate import bases_of, unknown_value
-from .undecided import not_refused
-from .widening import Segment
+from .widening import Segment, Undecided
+
+# With so many columns of either way there are 64 ways.
+MOST_OF_EITHER_WAY = 6
+View = TypeVar("View")
+Found = TypeVar("Found")
 
 
 def rows_that_meet(condition: str, node: Node, segments: Mapping[str, Segment], count: int) -> Tuple[Sequence[int], Absent]:
@@ -66,3 +70,41 @@ def moments_in(nodes: Iterable[Node], term: Term) -> Dict[str, Tuple[str, ...]]:
         if isinstance(column.kind, Times) and column.kind.zone is not None and offset_of(text) is None:
             found[column.name] = (*found.get(column.name, ()), text)
     return found
+
+
+def views_of(partial: Partial, ways: Sequence[Sequence[Segment]]) -> "Iterator[List[Segment]]":
+    """The columns that are asked, for each way in which all of them may turn out. More columns than can be tried are `Refused`."""
+    either = [segment.column.name for segment, some in zip(partial.asked, ways) if len(some) > 1]
+    if len(either) > MOST_OF_EITHER_WAY:
+        raise Refused(f"all cells of {listed(either)} are words such as n/a: say by missing=[..] whether these are missing, or give kinds by kinds={{..}}", "table")
+    return map(list, product(*ways))
+
+
+def not_refused(ask: Callable[[View], Found], views: Iterable[View]) -> List[Found]:
+    """What is found in each view that is not `Refused`, as one at least has to be."""
+    found, refused = [], None
+    for view in views:
+        try:
+            found.append(ask(view))
+        except Refused as why:
+            refused = why
+    if refused is not None and not found:
+        raise refused
+    return found
+
+
+def ways_of(segment: Segment, question: Question, computed: Collection[str]) -> List[Segment]:
+    """The ways in which a column may turn out that are tried, so that no row is left out that may be in the answer of another way.
+
+    By its order it is asked where it has no texts. Where it makes groups alone, groups of texts are the finer ones, in which fewer rows dominate others. What is
+    `computed` of it may be another number or truth either way.
+    """
+    if not isinstance(segment.column.kind, Undecided):
+        return [segment]
+    texts, missing = segment.views()
+    if segment.column.name in computed:
+        return [texts, missing]
+    words = {base.word for base in bases_of(question.term) if base.column.name == segment.column.name}
+    if words - {"pos", "layered", "true"}:
+        return [missing]
+    return [texts, missing] if words else [texts]

@@ -19,12 +19,12 @@ from .follow_source import Changes, Source
 from .kept import Answered, Kept
 from .keyed_values import column_at_keys, numbers_of_rows
 from .loading import check_kinds, records_of
+from .locks import Turns
 from .parts import RowsLeft
 from .preferences import Asked as AskedFor, Operand, text_asked
 from .records import Record
 from .rows import Zipped
 from .selection import Names, Selection
-from .turns import Turns
 from .warned import warn_of
 from .why import explained, number_of
 

@@ -1,7 +1,8 @@
-"""Locks that a signal handler or a finalizer may want in the middle of a call that has another one. Threads that would wait for each other for ever are told so."""
+"""Calls one after the other, and locks that a signal handler or a finalizer may want in the middle of a call that has another one. Threads that would wait for each other for ever are told so."""
 import os
 import threading
-from typing import Any, Callable, Dict, Tuple, TypeVar
+import time
+from typing import Any, Callable, Dict, Optional, Tuple, TypeVar
 
 from .errors import Refused
 
@@ -9,6 +10,7 @@ Result = TypeVar("Result")
 # The locks that each thread wants, in their order: it has all of them but the last one, for which it may wait.
 _wanted: Dict[int, Tuple[Any, ...]] = {}
 os.register_at_fork(after_in_child=_wanted.clear)
+LOOK = 0.002        # seconds between two looks whether another call has ended
 
 
 def holding(lock: Any, call: Callable[..., Result], *words: Any) -> Result:
@@ -35,3 +37,33 @@ def waits_for(lock: Any, thread: int, held: Tuple[Any, ...]) -> bool:
     for one in reached:
         reached += [wanted[-1] for wanted in others if one in wanted[:-1] and wanted[-1] not in reached]
     return any(one in held for one in reached)
+
+
+class Turns:
+    """Calls one after the other. A signal handler in the middle of one makes none."""
+
+    def __init__(self) -> None:
+        self.lock = threading.RLock()
+        self._thread: Optional[int] = None      # whose turn it is
+
+    def taken(self, call: Callable[[], Result], until: Optional[float] = None) -> Result:
+        """Makes a call in its turn, or refuses it where another one has not ended by then. The lock is taken by `with` itself: one that a context manager written in
+        Python takes stays locked where a signal handler raises at its begin or its end."""
+        while until is not None and self.is_of_another():
+            if time.monotonic() >= until:
+                raise Refused("another call, which reads the table, has not ended meanwhile", "follow")
+            time.sleep(LOOK)
+        return holding(self.lock, self._taken, call)
+
+    def _taken(self, call: Callable[[], Result]) -> Result:
+        if self._thread is not None:
+            raise Refused("a call is under way in this thread", "client")
+        try:
+            self._thread = threading.get_ident()
+            return call()
+        finally:
+            self._thread = None
+
+    def is_of_another(self) -> bool:
+        """Whether another thread has its turn."""
+        return self._thread not in (None, threading.get_ident())

@@ -34,7 +34,7 @@ from .answer import Answer
 from .carried import CellRows, column_of
 from .checks import MOST_IDS, MOST_ROWS, whole
 from .columns import Column
-from .conditions import absent_in, moments_in, names_in, rows_that_meet
+from .conditions import absent_in, moments_in, names_in, not_refused, rows_that_meet, views_of, ways_of
 from .errors import Refused, placed
 from .expressions import Node, read_condition, unmade
 from .loading import records_of
@@ -51,7 +51,6 @@ from .rows import Row, Zipped
 from .selection import Names, Selection, picked, plan_of_ties, without_twins
 from .selection import Reading as QuestionRead
 from .sources import Opened, opened
-from .undecided import not_refused, views_of, ways_of
 from .warned import warn_of
 from .widening import Nothing, Segment, Undecided, as_in_a_frame
 
