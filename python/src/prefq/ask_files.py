@@ -7,10 +7,9 @@ from typing import Iterable, List, Optional, Sequence
 
 from .answer import Answer
 from .carried import CellRows
-from .engines import watched
 from .errors import Ended, Refused
 from .partition import Reading
-from .parts import Found, Job, found_in, notes_of, records_left
+from .parts import Found, Job, found_in, notes_of, records_left, watched
 from .reading import Progress
 from .records import Record
 from .selection import Selection

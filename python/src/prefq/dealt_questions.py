@@ -11,11 +11,11 @@ from .columns import Column
 from .condition_terms import RangeCondition, ReadCondition, condition_of, planned
 from .dealt import Begun, Dealt, Found, ordered
 from .moment import Moment, moment_of, moment_of_columnar
-from .once import ask_once
 from .parts import fitting
 from .questions import Question
 from .rows import ColumnarRows, Row, Zipped
 from .selection import Selection, answered, first_of_each, picked, reading
+from .table import ask_once
 from .translate import Plan, bases_of, clause_of, plan
 
 

@@ -14,12 +14,12 @@ from .follow_source import source_of
 from .frame_query import FrameQuery, Over
 from .hasse import Hasse, ranked
 from .kinds.forms import Form
+from .hints import check_options
 from .kept import Answered
 from .live_rows import LiveRows, Path
 from .loading import Encoded, File, Found, check_kinds, chosen, column_of_values, encoded, records_of
 from .missing import Missing
 from .opened import Ids, Opened
-from .options import check_options
 from .preferences import Asked, Operand, text_asked, text_preferred
 from .questions import Question
 from .reading import Dialect, Progress, Source, check_names, read_csv

@@ -1,7 +1,7 @@
 """What a refusal says beside what is wrong: the nearest name, and how this language writes what another one does."""
 import re
 from difflib import SequenceMatcher
-from typing import Iterable, Mapping, Optional, Sequence
+from typing import Any, Iterable, List, Mapping, Optional, Sequence
 
 from .columns import listed, spelled
 
@@ -78,6 +78,12 @@ WORDS_OF_MISSING = ("missing", "null", "none")
 LONGEST_COMPARED = 100
 # To look at as many signs, or to compare as many pairs of them, takes some ten milliseconds at most.
 SIGNS_COMPARED = 40_000
+# What pandas, DuckDB and Python's csv call what is called otherwise here.
+OTHER_NAMES = {
+    "sep": "delimiter", "delim": "delimiter", "na_values": "missing", "nullstr": "missing", "keep_default_na": "missing", "usecols": "columns", "dtype": "kinds",
+    "dtypes": "kinds", "types": "kinds", "converters": "kinds", "parse_dates": "kinds", "dateformat": "kinds", "timestampformat": "kinds", "date_format": "kinds",
+    "skiprows": "skip", "header": "skip", "decimal_separator": "decimal", "thousand": "thousands", "on_bad_lines": "null_padding", "limit": "top", "head": "top", "nlargest": "top",
+    "filter": "where", "query": "where", "condition": "where", "groupby": "by", "group_by": "by", "levels": "top_level"}
 
 
 def nearest(name: str, names: Sequence[str]) -> Optional[str]:
@@ -170,3 +176,21 @@ def _in_place_of_a_term(text: str, names: Sequence[str]) -> str:
         return f"did you mean {near}(..)?"
     found = nearest(text, names)
     return f"write low({spelled(found)}) or high({spelled(found)})" if found is not None else ""
+
+
+def check_options(options: Mapping[str, Any], known: Iterable[str], what: str) -> None:
+    """Refuses a word that is no option."""
+    names = list(known)
+    for name in options:
+        if name not in names:
+            raise TypeError(f"{what} has no option {name!r}{meant(name, names)}")
+
+
+def meant(name: str, names: List[str]) -> str:
+    """What is said of a word that is none of these names."""
+    if OTHER_NAMES.get(name) in names:
+        return f": it is called {OTHER_NAMES[name]!r} here"
+    near = nearest(name, names)
+    if near is not None:
+        return f"; did you mean {near!r}?"
+    return f": there are {', '.join(names)}" if names else ""

@@ -5,9 +5,8 @@ from dataclasses import dataclass, field, replace
 from typing import Any, List, Optional
 
 from .columns import Column
-from .engines import watched
 from .partial import Partial
-from .parts import Job, found_in
+from .parts import Job, found_in, watched
 from .reading import Progress
 from .rows import Row
 from .selection import Reading

@@ -2,12 +2,12 @@
 import os
 import re
 from dataclasses import dataclass, field
-from typing import Any, Iterable, Iterator, List, Mapping, Optional, Sequence, Tuple, Union
+from typing import Any, Callable, Iterable, Iterator, List, Mapping, Optional, Sequence, Tuple, Union
 
 from .checks import NO_LISTS, check_rows
+from .hints import check_options
 from .kinds.forms import PLAIN, Form
 from .missing import words_given
-from .options import check_options
 from .reading import Dialect
 from .records import in_order
 from .rows import listed_array
@@ -130,3 +130,15 @@ def _readable_again(source: Source) -> Source:
 def _as_they_come(rows: Iterable[Any]) -> Iterable[Any]:
     """The rows; what makes them one by one may change a list for the next one, so of these each is copied."""
     return (list(row) if isinstance(row, list) else row for row in rows) if iter(rows) is rows else rows
+
+
+def partitions_in(frame: Any) -> List[Any]:
+    """The partitions by their numbers, each of which Dask is still to compute."""
+    from dask import delayed
+    return [delayed(numbered)(part, number) for number, part in enumerate(frame.to_delayed(), 1)]
+
+
+def mapped(function: Callable[[Any], Any], items: Iterable[Any]) -> List[Any]:
+    """What Dask is to do for each of these; nothing is done yet."""
+    from dask import delayed
+    return [delayed(function, pure=False)(item) for item in items]

@@ -39,23 +39,22 @@ from .errors import Refused, placed
 from .expressions import Node, read_condition, unmade
 from .loading import records_of
 from .missing import Missing, folded, note_of
-from .once import ask_once
 from .partial import Absent, Partial, together
-from .partition import Numbered, Partition, Reading, Source, called, is_of_dask, numbered, partitions_of
-from .preferences import Asked as AskedFor
-from .preferences import Operand, text_asked
+from .partition import Numbered, Partition, Reading, Source, called, is_of_dask, mapped, numbered, partitions_in, partitions_of
+from .preferences import Asked as AskedFor, Operand, text_asked
 from .questions import Question
-from .reading import check_names
+from .reading import Progress, check_names
 from .records import Record
 from .rows import Row, Zipped
-from .selection import Names, Selection, picked, plan_of_ties, without_twins
-from .selection import Reading as QuestionRead
+from .selection import Names, Reading as QuestionRead, Selection, picked, plan_of_ties, without_twins
 from .sources import Opened, opened
+from .table import ask_once
 from .warned import warn_of
 from .widening import Nothing, Segment, Undecided, as_in_a_frame
 
 MERGED = 8                 # partial results that one merge takes
 SHRINKS = 15 / 16          # rows that may be left of all rows where asking piece by piece goes on
+Map = Callable[..., Iterable[Any]]
 
 __all__ = ["Found", "Job", "Partial", "Partition", "RowsLeft", "best", "why"]
 
@@ -321,7 +320,6 @@ def _sources(partitions: Any, map: Callable[..., Any], reduce: Any = None) -> Tu
     if is_of_dask(partitions):
         if map is not builtins.map or reduce is not None:
             raise TypeError("a DataFrame of Dask is asked by Dask's own scheduler: leave out map= and reduce=")
-        from .dask_frames import mapped, partitions_in
         return partitions_in(partitions), mapped
     sources = partitions_of(partitions)
     if not sources:
@@ -436,3 +434,17 @@ def in_partition(why: Exception, partition: Source) -> Exception:
     if not isinstance(partition, (str, os.PathLike, Numbered)) or isinstance(why, Refused) and why.kind != "table" or called(partition) in str(why):
         return why
     return placed(f"{called(partition)}: ", why)
+
+
+def watched(map: Map, progress: Optional[Progress]) -> Map:
+    """The same map, which calls `progress` with "comparing", how many items are done, and how many there are."""
+    def mapped(function: Callable[[Any], Any], items: Iterable[Any]) -> List[Any]:
+        asked = list(items)
+        found = []
+        for result in map(function, asked):
+            found.append(result)
+            if progress:
+                progress("comparing", len(found), len(asked))
+        return found
+
+    return mapped

@@ -8,10 +8,10 @@ from .cursors import found_of, is_cursor, parts_of_rows
 from .errors import Refused
 from .follow import Followed
 from .frame import TABLE_OPTIONS, Frame, mappings
+from .hints import check_options
 from .loading import check_kinds
 from .moment import Moment
-from .options import check_options
-from .partition import Numbered, Reading, is_of_dask
+from .partition import Numbered, Reading, is_of_dask, mapped, partitions_in
 from .parts import Job, answer_of, found_in
 from .preferences import Asked, Operand, text_preferred
 from .questions import Mode
@@ -111,7 +111,6 @@ def _of_dataframe(dataframe: Any, text: str, selection: Selection, kinds: Option
 
 
 def _of_dask(frame: Any, job: Job) -> Any:
-    from .dask_frames import mapped, partitions_in
     found = found_in(job, partitions_in(frame), mapped)
     warn_of(found.rows.absent.values())
     order = sorted(range(len(found.levels)), key=lambda at: (found.levels[at], at))

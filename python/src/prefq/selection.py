@@ -14,13 +14,12 @@ from .expressions import Make, read_condition, read_frames_question, unmade
 from .hints import MODES, unknown_column
 from .intersection import Intersections, has_intersection
 from .moment import Moment
-from .once import ask_once
 from .preferences import Asked, Operand, text_of_operand, text_preferred
 from .query import Query
 from .questions import Mode, Question, names_asked_for, refuse, tokens_of
 from .reading import Progress
 from .rows import Row, Zipped
-from .table import Table
+from .table import Table, ask_once
 from .translate import Plan, bases_of, below, columns_in, plan, term_below, unknown_value
 from .warned import warn_of
 

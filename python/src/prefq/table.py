@@ -1,6 +1,6 @@
 """A table of whole numbers that other threads change and ask."""
 from functools import partial
-from typing import Any, Iterable, Iterator, List, Optional, Sequence, Tuple, Type, Union
+from typing import Any, Dict, Iterable, Iterator, List, Optional, Sequence, Tuple, Type, Union
 
 from . import checks
 from .answer import Answer
@@ -12,8 +12,9 @@ from .kinds import Whole
 from .library import Setup
 from .query import Query
 from .questions import explained
+from .reading import Progress
 from .records import Record
-from .rows import ColumnarRows, Packing, WholeRows, as_records, packed, rows_of
+from .rows import ColumnarRows, Packing, Row, WholeRows, Zipped, as_records, packed, rows_of
 
 Values = Iterable[int]
 IN_COMMIT = 8
@@ -267,3 +268,11 @@ def check_changes(changes: Sequence[Any]) -> List[Tuple[str, int, Any]]:
 
 def _id(id: Any) -> int:
     return id if type(id) is int and 0 <= id <= checks.MOST_IDS else checks.whole(id, "id", 0, checks.MOST_IDS)
+
+
+def ask_once(columns: Sequence[str], rows: Zipped, question: str, *, progress: Optional[Progress] = None, **options: Any) -> List[Row]:
+    """The answer to a question over these rows of whole numbers, as many as one table holds, whose ids are 1, 2, 3 and so on."""
+    settings: Dict[str, Any] = {"clients": 1, "capacity": max(1, len(rows)), **options}
+    with Table(columns, rows, **settings) as table:
+        with table.query(question) as query:
+            return query.rows(partial(progress, "comparing") if progress else None)

@@ -6,9 +6,9 @@ from .checks import MOST_COLUMNS, MOST_ROWS
 from .errors import Refused, called, no_such_row
 from .loading import Found
 from .moment import Moment
-from .once import ask_once
 from .rows import Zipped
 from .selection import Reading, Selection, check_width, reading
+from .table import ask_once
 from .translate import below, clause_of, term_below, terms_columns
 
 LEVELS = 1000
