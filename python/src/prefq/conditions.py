@@ -1,4 +1,7 @@
-"""Conditions and expressions over the rows of a part: which rows count, and over which columns that was computed."""
+"""Conditions and expressions over the rows of a part: which rows count, and over which columns that was computed.
+
+A column of a file with nothing but words such as n/a is missing beside values of another kind, and one of texts beside texts: these are the ways in which it may turn out.
+"""
 from itertools import product
 from typing import Callable, Collection, Dict, Iterable, Iterator, List, Mapping, Sequence, Tuple, TypeVar
 

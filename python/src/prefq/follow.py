@@ -95,8 +95,7 @@ class Followed:
 
     def __len__(self) -> int:
         """The number of rows."""
-        count: int = self._surviving(len)
-        return count
+        return self._surviving(len)
 
     def __bool__(self) -> bool:
         return True
@@ -156,8 +155,7 @@ class Followed:
 
     def refresh(self) -> int:
         """Takes in what the database has committed, and returns the place."""
-        place: int = self._surviving(lambda _: self.at)
-        return place
+        return self._surviving(lambda _: self.at)
 
     def get(self, id: Key) -> Record:
         """The row with this key."""
@@ -169,8 +167,7 @@ class Followed:
                 raise no_such_row(key)
             return records_of(dealt.columns, [(None, key, numbers)])[0]
 
-        row: Record = self._surviving(found)
-        return row
+        return self._surviving(found)
 
     def rows(self) -> List[Record]:
         """All rows, in order of key: numbers, then texts."""
@@ -216,8 +213,7 @@ class Followed:
             rows = asked.answer()
             return version, Answered(asked.columns, rows, asked.unknown, at)
 
-        found: Tuple[int, Answered] = self._asked(begun, answered, selection, is_there=True)
-        return found
+        return self._asked(begun, answered, selection, is_there=True)
 
     def snapshot(self, question: str, selection: Selection = Selection(), until: Optional[float] = None) -> Snapshot:
         """All rows and the answer to a question, with what is asked beside it, at one moment, as numbers; others are waited for until then."""
@@ -229,8 +225,7 @@ class Followed:
             version, columns, asked, everything = begun
             return Snapshot(version, asked.columns, dict(everything.rows()), asked.answer(), columns, asked.unknown)
 
-        found: Snapshot = self._asked(begun, answered, selection, until=until)
-        return found
+        return self._asked(begun, answered, selection, until=until)
 
     def why(self, id: Key, question: AskedFor, *, where: Optional[Operand] = None, by: Names = None) -> Answer:
         """The rows that dominate this one in a question: those because of which it is not in the answer, among those that meet the condition `where`."""
@@ -283,7 +278,7 @@ class Followed:
         if self._is_closed:
             raise Ended("the frame was closed", "closed")
 
-    def _surviving(self, call: Any, is_there: bool = False, until: Optional[float] = None) -> Any:
+    def _surviving(self, call: Callable[[Dealt], Result], is_there: bool = False, until: Optional[float] = None) -> Result:
         """A call of the tables once they have what is committed, or as they are where that `is_there`. Where one has ended, as for want of memory, everything
         is read anew."""
         self._check_process()
@@ -301,7 +296,7 @@ class Followed:
                     raise
         raise Refused(f"{self._source.name} was read {TRIES + 1} times, and other calls of this frame were interrupted each time: ask again", "follow")
 
-    def _asked(self, begin: Any, answer: Any, selection: Selection, is_there: bool = False, until: Optional[float] = None) -> Any:
+    def _asked(self, begin: Any, answer: Callable[[Any], Result], selection: Selection, is_there: bool = False, until: Optional[float] = None) -> Result:
         """What a question begins, which is answered while others go on. Where too many rows were left of the tables with a condition, it is begun once more, over the rows
         that meet it."""
         if selection.where is None:
@@ -310,7 +305,7 @@ class Followed:
             return self._answered(partial(begin, asked_of), answer, is_there, until)
         return self._answered(partial(begin, asked_of_rows), answer, is_there, until)
 
-    def _answered(self, begin: Any, answer: Any, is_there: bool = False, until: Optional[float] = None) -> Any:
+    def _answered(self, begin: Callable[[Dealt], Any], answer: Callable[[Any], Result], is_there: bool = False, until: Optional[float] = None) -> Result:
         """What is begun by one call, and answered while others go on."""
         for last in [False] * TRIES + [True]:
             begun = self._surviving(begin, is_there, until)

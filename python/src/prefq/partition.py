@@ -133,7 +133,7 @@ def _as_they_come(rows: Iterable[Any]) -> Iterable[Any]:
 
 
 def partitions_in(frame: Any) -> List[Any]:
-    """The partitions by their numbers, each of which Dask is still to compute."""
+    """The partitions of a DataFrame of Dask by their numbers: each is one of pandas where Dask's scheduler has it, which Dask is still to compute."""
     from dask import delayed
     return [delayed(numbered)(part, number) for number, part in enumerate(frame.to_delayed(), 1)]
 
