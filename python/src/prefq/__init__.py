@@ -9,8 +9,7 @@
 """
 from . import parts
 from .answer import Answer
-from .async_frame import AsyncFrame
-from .asynchronous import AsyncQuery, AsyncTable
+from .asynchronous import AsyncFrame, AsyncQuery, AsyncTable
 from .columns import Column
 from .errors import Ended, Error, LibraryNotFound, ProgramNotFound, Refused
 from .follow import Followed
