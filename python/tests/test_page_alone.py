@@ -142,6 +142,22 @@ class Alone(Paged):
         self.assertEqual(self.server.site.streams._value, replies.MOST_STREAMS - 1)
         self.assertEqual([page.faults for page in windows], [[]] * 7)
 
+    def test_a_shared_worker_whose_file_does_not_come_is_begun_again(self):
+        route, left = self.server.site.route, [replies.Wrong(503, "400 connections are open already")] * 2
+
+        def refuses(request):
+            if request.path == "/stream.js" and request.query and left:
+                raise left.pop()
+            return route(request)
+
+        with mock.patch.object(self.server.site, "route", refuses):
+            self.browser.open(self.server.url + "?question=best+low(Distance)")
+            self.browser.until("document.querySelectorAll('#rows tbody tr').length === 1")
+            self.server.desk.update(3, {"Distance": 1})
+            self.browser.until(f"{STATE} === 'Live, version 2'")
+        self.assertEqual(left, [])
+        self.browser.faults.clear()
+
     def test_a_browser_without_shared_workers_has_a_stream_for_each_window(self):
         script = self.browser.call("Page.addScriptToEvaluateOnNewDocument", source="delete window.SharedWorker")["identifier"]
         self.addCleanup(self.browser.call, "Page.removeScriptToEvaluateOnNewDocument", identifier=script)

@@ -41,16 +41,25 @@ class Stream {
 
 // What a window says: join, leave, or anew, where it has heard nothing for long. What is told of the server with this `run` goes to `hear`.
 export function streamOf(run, hear) {
-  const calls = act => Object.fromEntries(["join", "leave", "anew"].map(name => [name, () => act(name)]));
-  if (!globalThis.SharedWorker) {
-    const own = new Stream();
-    return calls(name => own[name](hear));
-  }
-  const worker = new SharedWorker(new URL(`stream.js?run=${run}`, import.meta.url), {type: "module"});
-  worker.addEventListener("error", () => hear({name: "error"}));
-  worker.port.addEventListener("message", ({data}) => hear(data));
-  worker.port.start();
-  return calls(name => worker.port.postMessage(name));
+  const own = globalThis.SharedWorker ? undefined : new Stream();
+  let port, isJoined = false;
+  const begin = () => {
+    const worker = new SharedWorker(new URL(`stream.js?run=${run}`, import.meta.url), {type: "module"});
+    port = worker.port;
+    port.addEventListener("message", ({data}) => hear(data));
+    port.start();
+    if (isJoined) port.postMessage("join");
+    // Its file did not come.
+    worker.addEventListener("error", () => {
+      hear({name: "error"});
+      setTimeout(begin, AGAIN);
+    });
+  };
+  if (!own) begin();
+  return Object.fromEntries(["join", "leave", "anew"].map(name => [name, () => {
+    isJoined = name !== "leave";
+    own ? own[name](hear) : port.postMessage(name);
+  }]));
 }
 
 if (!globalThis.document) {
