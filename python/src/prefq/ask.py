@@ -11,8 +11,7 @@ from .answer import Answer
 from .ask_files import asked_of_files, files_like
 from .columns import Column
 from .errors import Ended, Error
-from .infer import kind_of_texts, oddity
-from .kinds import Texts
+from .infer import kind_of_texts
 from .kinds.forms import Form
 from .loading import Encoded, File, records_of
 from .missing import Missing
@@ -22,6 +21,7 @@ from .reading import Dialect, is_blank, read_csv
 from .records import Record
 from .selection import Selection, selected
 from .streams import FULL, NotWritten, complain, give_up_output, standard_input, write
+from .translate import why_texts
 from .visible import in_xml, visible
 from .warned import UnknownValue
 
@@ -187,12 +187,8 @@ def draw(answer: Answer, path: str) -> None:
 
 def columns_of(file: File) -> List[str]:
     """The columns of a file with their kinds, a line each."""
-    lines = []
-    for name in file.cells.names:
-        column, _ = file.column(name)
-        why = oddity(column.kind.texts, column.form) if isinstance(column.kind, Texts) else None
-        lines.append(visible(f"{name}: {column.kind}" + (f" ({in_options(why)})" if why else "")))
-    return lines
+    columns = [file.column(name)[0] for name in file.cells.names]
+    return [visible(f"{column.name}: {column.kind}{in_options(why_texts(column))}") for column in columns]
 
 
 def asked(file: File, question: str, selection: Selection, progress: "Progress") -> Answer:
