@@ -16,11 +16,12 @@ from .columns import Column
 from .decoding import WHOLE, Layout, Log, place_of
 from .dealt import Key
 from .errors import Refused
-from .follow_source import UNCHANGED, Cells, Changes, Everything, Source, check_columns, client_of, identifier
+from .follow_source import UNCHANGED, Cells, Changes, Everything, Source, check_columns, client_of
 from .hints import unknown_column
 from .infer import first_inexact, kind_of_texts
 from .kinds import Booleans, Clock, Dates, Decimals, Floats, Kind, Texts, Times, Whole
 from .kinds.at_once import MOST_DECIMALS
+from .kinds.kind import quoted as identifier
 from .loading import chosen
 
 Result = TypeVar("Result")
@@ -117,9 +118,6 @@ class PostgresSource(Source):
     def interrupt(self) -> None:
         with suppress(Exception):       # Then the connection has ended.
             self._db.cancel()
-
-    def close(self) -> None:
-        self._db.close()
 
     def _everything(self) -> Everything:
         self._connect_if_closed()

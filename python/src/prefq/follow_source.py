@@ -41,6 +41,7 @@ class Source:
     columns: Tuple[str, ...] = ()
     faults: Tuple[Type[Exception], ...] = ()    # what the database itself raises
     until: Optional[float] = None       # how long a call may wait for others, as `time.monotonic` has it
+    _db: Any                            # its own connection
 
     def everything(self) -> Everything:
         """The table as it is now. What cannot be followed is refused."""
@@ -63,7 +64,7 @@ class Source:
 
     def close(self) -> None:
         """Ends the connection."""
-        raise NotImplementedError
+        self._db.close()
 
     def withdraw(self) -> None:
         """The same where no frame was made: what was added to the database for it is removed."""
@@ -91,11 +92,6 @@ def check_columns(table: str, followed: Mapping[str, Any], there: Mapping[str, A
         if there.get(name) != declared:
             now = f"has the type {shown(there[name])} now, and had {shown(declared)}" if name in there else "is not there any more"
             raise Refused(f"table {table} was changed: column {name!r} {now}. Follow it again", "follow")
-
-
-def identifier(name: str) -> str:
-    """A name as SQL has it, whatever it is."""
-    return '"' + name.replace('"', '""') + '"'
 
 
 def client_of(connection: Any) -> str:

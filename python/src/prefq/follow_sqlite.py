@@ -15,9 +15,10 @@ from urllib.parse import quote
 from .columns import Column
 from .dealt import Key
 from .errors import Refused
-from .follow_source import Cells, Changes, Everything, Source, check_columns, identifier
+from .follow_source import Cells, Changes, Everything, Source, check_columns
 from .hints import nearest, unknown_column
 from .kinds import Floats, Texts, Whole
+from .kinds.kind import quoted as identifier
 from .loading import chosen
 
 Result = TypeVar("Result")
@@ -73,9 +74,6 @@ class SqliteSource(Source):
 
     def now(self) -> Optional[int]:
         return self._at_one_moment(self._place)
-
-    def close(self) -> None:
-        self._db.close()
 
     def withdraw(self) -> None:
         try:
