@@ -7,7 +7,7 @@ from weakref import ref
 
 from .engine import Asker, Engine
 from .errors import Error, Refused
-from .locks import holding
+from .locks import FRAME, holding
 
 Result = TypeVar("Result")
 SECONDS_TO_WAIT = 60.0
@@ -118,7 +118,7 @@ def locked(lock: Any, call: Callable[[], Result]) -> Result:
     try:
         while True:
             try:
-                return holding(lock, call)
+                return holding(FRAME, lock, call)
             except NoClient as none:
                 if _thread.is_hasty:
                     raise

@@ -16,7 +16,7 @@ from weakref import ref
 
 from .errors import Ended, Error, Refused
 from .library import Change, Numbers, Refusal, Setup, calls
-from .locks import holding
+from .locks import TABLE, holding
 
 Result = TypeVar("Result")
 OK, REFUSED, OUT_OF_MEMORY = 0, -1, -2
@@ -244,7 +244,7 @@ class Engine:
         """A call with these words, behind which there are so many rows more."""
         if self._forks != _forks:
             self.ours()
-        holding(self.lock, self._changed, more, call, words)
+        holding(TABLE, self.lock, self._changed, more, call, words)
 
     def _changed(self, more: int, call: Any, words: Tuple[Any, ...]) -> None:
         self.changes += 1
@@ -268,7 +268,7 @@ class Engine:
     def settle(self) -> None:
         """Abandons the queries that nobody uses any more."""
         self.ours()
-        holding(self.lock, self._settle)
+        holding(TABLE, self.lock, self._settle)
 
     def _settle(self) -> None:
         for client, held in list(self.queries.items()):
@@ -312,7 +312,7 @@ class Engine:
         """A call of a query, which has its client as long as that takes."""
         if self._forks != _forks:
             self.ours()
-        return holding(self.lock, self._called_as, asker, call, words)
+        return holding(TABLE, self.lock, self._called_as, asker, call, words)
 
     def _called_as(self, asker: Asker, call: Callable[..., Result], words: Tuple[Any, ...]) -> Result:
         if not self.is_open(asker):

@@ -19,7 +19,7 @@ from .follow_source import UNCHANGED, Cells, Changes, Source, Unchanged
 from .kept import Answered, Kept
 from .kinds import Floats, Whole
 from .loading import check_kinds, column_of_values, encoded, plain_whole_numbers, records_of
-from .locks import Turns
+from .locks import FRAME, TURNS, Turns
 from .parts import RowsLeft
 from .preferences import Asked as AskedFor, Operand, text_asked
 from .records import Record
@@ -73,7 +73,7 @@ class Followed:
         self._source, self._kinds, self._options = source, dict(kinds), dict(options)
         self._owner = os.getpid()
         # Whose turn it is with the tables never waits for the database; who talks with that takes a turn with the tables in the middle.
-        self._with_tables, self._with_source = Turns(), Turns()
+        self._with_tables, self._with_source = Turns(TURNS), Turns(FRAME)
         self._is_closed = False
         # Whether the rows are those of the table at that place. They are not while they change, nor where that was interrupted.
         self._is_whole = False

@@ -6,7 +6,7 @@ from itertools import filterfalse, islice
 from typing import Any, Callable, Dict, FrozenSet, List, Optional, Sequence, Tuple
 
 from ..errors import NotRead
-from ..locks import holding
+from ..locks import TEXTS, holding
 from .kind import Kind, word
 
 # Held while new texts get their codes, in any code book; a signal handler or a finalizer of the same thread may take it once more.
@@ -71,7 +71,7 @@ class Texts(Kind):
             texts = list(map(plain_text, texts))
         if self._unused:
             self._unused = self._unused.difference(texts)
-        holding(ADDING, self._add, texts)
+        holding(TEXTS, ADDING, self._add, texts)
         return list(map(self._codes.__getitem__, texts))
 
     def _add(self, texts: Sequence[str]) -> None:
