@@ -10,6 +10,7 @@ from urllib.parse import quote
 
 import prefq
 import test_conflicts
+import test_events
 import test_http
 import test_serve
 from prefq import asgi, replies
@@ -89,7 +90,7 @@ class Changes(Uvicorn, test_serve.Changes):
     pass
 
 
-class Streams(Uvicorn, test_serve.Streams):
+class Streams(Uvicorn, test_events.Streams):
     pass
 
 

@@ -11,7 +11,7 @@ from unittest import mock
 import prefq
 from prefq.desk import Desk
 from prefq.kinds import NotRead
-from support import TestCase, raises
+from support import TestCase, around, raises
 
 COUNT = int(os.environ.get("PREFQ_TEST_COUNT", "40"))
 SECONDS = 120
@@ -66,6 +66,40 @@ class Commits(TestCase):
                         call({"price": value})
                     self.assertEqual((type(caught.exception), str(caught.exception).partition("column")[0]), (kind, where))
             self.assertEqual([(row.id, row.price) for row in frame.rows()], [(1, 60), (2, 50)])
+
+    def test_a_change_that_is_refused_leaves_no_texts(self):
+        """As full, since open queries have old versions, or since its row is not there: nobody was warned of its texts any more. They come with the next change."""
+        refused = {"full needed": [lambda frame: frame.insert({"name": "n9"}), lambda frame: frame.insert_many([{"name": "n8"}, {"name": "n9"}]), lambda frame: frame.update(1, {"name": "n9"}),
+                                   lambda frame: frame.commit(("update", 3, {"name": "n9"}), ("insert", {"name": "n8"}))],
+                   "no such row": [lambda frame: frame.update(7, [1, "n9"]), lambda frame: frame.update(7, {"name": "n9"}), lambda frame: frame.commit(("update", 7, [1, "n9"]))],
+                   "no text": [lambda frame: frame.commit(("update", 1, {"name": "n9"}), ("update", 3, {"name": 9}))]}
+        for words, calls in refused.items():
+            for call in calls:
+                with prices(60, 50, 40, capacity=4) as frame:
+                    with frame.query("best low(price)"):
+                        frame.delete(2)
+                        frame.insert({"name": "n5"})
+                        with self.refuses((prefq.Refused, TypeError), words):
+                            call(frame)
+                        with self.assertWarns(prefq.UnknownValue):
+                            frame.best("best pos(name, 'n9')")
+                        with self.assertWarns(prefq.UnknownValue):
+                            self.assertEqual(frame.best("best high(price)", where="name = 'n9'").ids, [])
+                    frame.update(1, {"name": "n9"})
+                    frame.update(3, {"name": "n7"})
+                    self.assertEqual((frame.best("best pos(name, 'n9')").ids, frame.best("best pos(name, 'n7')").ids, frame.best("best low(price)", where="name = 'n9'").ids), ([1], [3], [1]))
+                    self.assertEqual([row.name for row in frame.rows()], ["n9", "n7", "n5"])
+
+    def test_what_a_handler_raises_behind_a_change_takes_no_text(self):
+        """Nor what it is refused itself."""
+        def is_refused():
+            frame.table.update(99, [0, 0])
+
+        for behind in (raises(prefq.Refused("other")), is_refused):
+            with prices(60) as frame, around(frame.table, "insert", behind=behind):
+                with self.assertRaises(prefq.Refused):
+                    frame.insert({"name": "n9"})
+                self.assertEqual(frame.best("best pos(name, 'n9')").ids, [2])
 
     def test_random_commits(self):
         """As many changes of a dictionary. Queries that were begun before answer over the rows that there were."""
