@@ -24,7 +24,7 @@ def holding(of: int, lock: Any, call: Callable[..., Result], *words: Any) -> Res
     before = _wanted.get(thread, ())
     try:
         _wanted[thread] = (*before, (of, lock))     # before the look at others: of two threads that wait for each other, the later one sees it
-        if before and may_wait_for_ever(of, lock, thread, before):
+        if before and len(_wanted) > 1 and may_wait_for_ever(of, lock, thread, before):
             raise Refused("another thread has what this call wants in the middle of a call that is under way in this thread: they might wait for each other", "client")
         with lock:
             return call(*words)

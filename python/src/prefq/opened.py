@@ -52,6 +52,7 @@ class Columns:
         self.below = below(columns)
         # The places of columns, and those of texts.
         self.order = [[place for place, column in enumerate(columns) if isinstance(column.kind, Texts) == is_text] for is_text in (False, True)]
+        self._books = [column.kind for column in columns if isinstance(column.kind, Texts)]
         self._code_books = size_of_code_books(columns)
 
     @property
@@ -61,7 +62,7 @@ class Columns:
 
     def code_books(self) -> List[Tuple[Texts, CodeBookState]]:
         """The code books as they are now."""
-        return [(kind, kind.state()) for kind in (self.columns[place].kind for place in self.order[True]) if isinstance(kind, Texts)]
+        return [(book, book.state()) for book in self._books]
 
     def have_outgrown(self, rows: int) -> bool:
         """Whether their code books may be mostly texts that none of so many rows has any more."""
