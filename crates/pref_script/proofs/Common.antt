@@ -36,7 +36,7 @@ pub use Rattle.pref_script.specs.Reading.{IsDigitsWord, Reads, core_fault, first
 pub use Rattle.pref_script.specs.Run.{NothingWritten, Sink, Source, Wrote, WroteAll, WroteBeginning, sink_of, source_of}
 pub use Rattle.pref_script.specs.Script.{Sections, block_lines, is_end_line, is_line_feed, is_table_line, sections_of, with_line_feeds, without_line_end}
 pub use Rattle.pref_script.specs.Text.{level_line, level_lines, refused_line, reply_lines, row_text}
-pub use Rattle.pref_script.specs.Threads.{AreActs, ClosesOrStops, HoldsNobody, StopsClients, PrintsOnThreads, WereStopped, always_open, is_client, opening_of, unowned_line, unowned_lines}
+pub use Rattle.pref_script.specs.Threads.{ClosesOrStops, HoldsNobody, StopsClients, PrintsOnThreads, always_open, is_client, opening_of, unowned_line, unowned_lines}
 pub use Rattle.pref_script.specs.declared.command.Refusal.{Refusal}
 pub use Rattle.pref_script.specs.declared.fault.RunFault.{RunFault}
 pub use Rattle.pref_script.specs.declared.live_table.LiveTable.{LiveTable}

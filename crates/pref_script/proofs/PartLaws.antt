@@ -1,7 +1,7 @@
 -- A client's part of a script, one command at a time.
-use Rattle.pref_script.proofs.Common.{◌≡◌, ◌≢◌, ◌∙◌, ℕ, suc, ◌+◌, ◌<◌, ◌≤◌, ◌^◌, true, false, List, [], ◌∷◌, ◌++◌, length, map, slice_get, Result, Some, None, Ok, Err, refl, sym}
+use Rattle.pref_script.proofs.Common.{◌≡◌, ◌≢◌, ◌∙◌, ℕ, zero, suc, ◌+◌, ◌<◌, ◌≤◌, ◌^◌, true, false, List, [], ◌∷◌, ◌++◌, length, map, slice_get, Result, Some, None, Ok, Err, refl, sym}
 use Rattle.pref_script.proofs.Common.{ap, arith, append_assoc, inl, inr, string_bytes, list_all, All, Vec, append-nil, length-append, Event, AcceptsLeft, AllAccepted, AreParts, ArePartsUpTo}
-use Rattle.pref_script.proofs.Common.{HasReplied, IsAccepted, IsGiven, AllGiven, IsPart, AreActs, acts_in, acts_left, accepted_events, act_of, commands_in, commands_of, Refusal}
+use Rattle.pref_script.proofs.Common.{HasReplied, IsAccepted, IsGiven, AllGiven, IsPart, acts_in, acts_left, accepted_events, act_of, commands_in, commands_of, Refusal}
 use Rattle.pref_script.proofs.Common.{is_blank, prefix_len, event_of, client_named, said_in, word_of, raw_lines, without_line_end, reply_lines, texts, clients_lines, unowned_lines, Part}
 use Rattle.pref_script.proofs.Common.{◌==◌, NamesNone, cases_lt, cond, drop, drop_all, drop_more, eq-eqb, eqb-false, eqb-true, get_or, get_or_append_left, length-set, map-append, range_with_len, set, vec_len, Act}
 use Rattle.std.proofs.lemmas.List.Sums.{count_by-le-length, length-filter}
@@ -10,15 +10,13 @@ use Rattle.std.proofs.lemmas.Bool.{cases_Bool}
 use Rattle.std.proofs.Common.{Bor}
 use Rattle.std.proofs.lemmas.Grind.{get_or-set_at}
 use Rattle.std.proofs.lemmas.List.{get_or-map, get_or-set_other, get_or_push, length-map, same_lists}
-use Rattle.std.proofs.lemmas.List.FromFn.{get_or-map-range_with_len, length-map-range_with_len}
-use Rattle.std.proofs.lemmas.Simd.{map-map}
 use Rattle.std.proofs.lemmas.Option.{get_or_from_slice_get, slice_get-get_or, slice_get_read, slice_get_within}
 use Rattle.pref_core.specs.declared.event.Reply.{Reply}
 use Rattle.pref_share.specs.Interleavings.{acts_of}
-use Rattle.pref_share.specs.Reports.{AreTaken}
-use Rattle.pref_share.proofs.RunsLaws.{there}
+use Rattle.pref_share.specs.Runs.{Each}
 use Rattle.pref_script.specs.ClientParts.{AreAccepted, IsCommandOf, IsWhole, act_in, acts_by, commands_left, event_by}
 use Rattle.pref_script.specs.Commands.{event_said}
+use Rattle.pref_script.specs.Threads.{acts_of_clients}
 use Rattle.pref_script.proofs.CommandLaws.{accepted_events-append, event_in, events-any_number, events-in, events-of_lines, lines-few, unowned-blank, unowned-own}
 use Rattle.pref_script.proofs.TextLaws.{texts-append}
 
@@ -172,58 +170,45 @@ part-acts names raws client part is = sym (append-nil (acts_left part)) ∙ is.a
 pub parts-few : (names : List (List ℕ)) (text : List ℕ) (parts : List Part) → length text < 2 ^ 63 → AreParts names (raw_lines text) parts → All (λ part. length (acts_left part) < 2 ^ 63) parts
 parts-few names text parts short are i d within = grind (arith, part-acts names (raw_lines text) (suc i) (get_or parts i d) (are i (get_or parts i d) (slice_get-get_or parts i d within)), acts-short names (suc i) text)
 
--- The acts of clients whose lines are this text, as lists.
-module _ {X : Type 0} (given : Vec X) (names : List (List ℕ)) (text : List ℕ) (short : length text < 2 ^ 63) where
-  abbrev held : (client : ℕ) → Vec Act
-  held client =
-      let acts = acts_in names client (raw_lines text) in
-      record { ptr = given.ptr; len = length acts; cap = length acts; alloc = given.alloc; items = acts; ok = (refl, omega arith); small = omega (arith, acts-short names client text, short) }
+-- all lines were given to these parts, of which the first is this client's
+abbrev pub PartsFrom : List (List ℕ) → List (List ℕ) → ℕ → List Part → Type 0
+PartsFrom names raws client [] = Unit {0}
+PartsFrom names raws client (part ∷ more) = IsPart names raws [] client part × PartsFrom names raws (client + 1) more
 
-  abbrev pub acts_from : ℕ → List (Vec Act)
-  acts_from clients = map held (range_with_len 1 clients)
+parts-from : (names raws : List (List ℕ)) (client : ℕ) (parts : List Part) → ((index number : ℕ) (part : Part) → slice_get parts index ≡ Some part → number ≡ client + index → IsPart names raws [] number part) → PartsFrom names raws client parts
+parts-from names raws client [] each = tt
+parts-from names raws client (part ∷ more) each = (each 0 client part refl (omega arith), parts-from names raws (client + 1) more (λ index number p at same. each (suc index) number p at (omega arith)))
 
-  -- these are the acts of the parts
-  pub acts-listed : (clients : ℕ) (parts : List Part) → length parts ≡ clients → AreParts names (raw_lines text) parts → map (λ (list : Vec Act). list.items) (acts_from clients) ≡ map acts_left parts
-  acts-listed clients parts many are =
-      let each = λ (client : ℕ). acts_in names client (raw_lines text) in
-      let size = length-map-range_with_len each 1 clients in
-      map-map (λ (list : Vec Act). list.items) held (range_with_len 1 clients) ∙ same_lists (map each (range_with_len 1 clients)) (map acts_left parts) (omega (arith, size, many, length-map parts acts_left)) (λ index d within.
-      let (part, here) = there parts index (omega (arith, within, size, many)) in
-      grind (arith, within, size, many, get_or-map acts_left parts index part d, get_or_from_slice_get parts index part part here, part-acts names (raw_lines text) (suc index) part (are index part here), get_or-map-range_with_len each 1 clients index (suc index) d))
+pub parts-all : (names raws : List (List ℕ)) (parts : List Part) → AreParts names raws parts → PartsFrom names raws 1 parts
+parts-all names raws parts are = parts-from names raws 1 parts (λ index number part at same. let next : suc index ≡ number = omega arith in rw (← next) (are index part at))
 
-  pub are-acts : (clients first : ℕ) → AreActs clients (accepted_events (commands_of names first (raw_lines text))) (acts_from clients)
-  are-acts clients first = record {
-    lists = length-map-range_with_len held 1 clients;
-    each = λ index list here. grind (arith, slice_get_within (acts_from clients) index list here, length-map-range_with_len held 1 clients, get_or_from_slice_get (acts_from clients) index list list here, get_or-map-range_with_len held 1 clients index (suc index) list, events-any_number names 0 first (raw_lines text));
-  }
+-- their acts
+acts-from : (names : List (List ℕ)) (text : List ℕ) (first client : ℕ) (parts : List Part) → PartsFrom names (raw_lines text) client parts
+    → map (λ client. acts_of client (accepted_events (commands_of names first (raw_lines text)))) (range_with_len client (length parts)) ≡ map acts_left parts
+acts-from names text first client [] are = refl
+acts-from names text first client (part ∷ more) (is, are) = λ i. (ap (acts_of client) (events-any_number names first 0 (raw_lines text)) ∙ sym (part-acts names (raw_lines text) client part is)) i ∷ acts-from names text first (client + 1) more are i
 
--- the texts of the parts, one after the other
-parts-returned : (names : List (List ℕ)) (client : ℕ) (done : List Part) (replies : List (Vec Reply)) → length done ≡ length replies
-    → ((index : ℕ) (part : Part) (list : Vec Reply) → slice_get done index ≡ Some part → slice_get replies index ≡ Some list → string_bytes part.text ≡ texts (reply_lines (length names) (client + index)) list.items)
-    → texts (λ part. string_bytes part.text) done ≡ clients_lines (length names) client replies
+pub acts-listed : (names : List (List ℕ)) (text : List ℕ) (clients first : ℕ) (parts : List Part) → length parts ≡ clients → AreParts names (raw_lines text) parts → acts_of_clients clients (commands_of names first (raw_lines text)) ≡ map acts_left parts
+acts-listed names text clients first parts many are = rw (← many) (acts-from names text first 1 parts (parts-all names (raw_lines text) parts are))
+
+-- the texts of done parts, one after the other, are the lines of the replies that they took
+pub parts-shown : (names raws : List (List ℕ)) (client : ℕ) (parts done : List Part) (replies : List (List Reply)) → PartsFrom names raws client parts → Each HasReplied parts done replies → texts (λ part. string_bytes part.text) done ≡ clients_lines (length names) client replies
 unfolding texts clients_lines
-parts-returned names client [] [] same each = refl
-parts-returned names client (part ∷ more) (list ∷ lists) same each =
-    grind (arith, each 0 part list refl refl, parts-returned names (client + 1) more lists (omega (arith, same)) (λ index p l p_at l_at. let next : client + suc index ≡ (client + 1) + index = omega arith in rw next at (each (suc index) p l p_at l_at)))
-parts-returned names client done replies same each = absurd (omega (arith, same))
-
--- the texts of done parts are the lines of the replies that they took
-pub parts-shown : (names : List (List ℕ)) (text : List ℕ) (parts done : List Part) (replies : List (Vec Reply)) → AreParts names (raw_lines text) parts → AreTaken HasReplied parts done replies
-    → texts (λ part. string_bytes part.text) done ≡ clients_lines (length names) 1 replies
-parts-shown names text parts done replies are taken = parts-returned names 1 done replies (taken.tasks_done ∙ sym taken.lists) (λ index part list part_at list_at.
-    let (first, first_at) = there parts index (omega (arith, slice_get_within done index part part_at, taken.tasks_done)) in
-    let (returned, returned_at, has) = taken.each index first part first_at part_at in
-    grind (arith, are index first first_at, returned_at, list_at, has.text))
+parts-shown names raws client [] [] [] are taken = refl
+parts-shown names raws client (part ∷ parts) (new ∷ done) (list ∷ replies) (is, are) (has, taken) = grind (arith, is, has, parts-shown names raws (client + 1) parts done replies are taken)
+parts-shown names raws client parts done replies are taken = absurd taken
 
 -- no line that names a client whose part is whole was refused
-whole-accepts : (names : List (List ℕ)) (text : List ℕ) (parts done : List Part) (replies : List (Vec Reply)) → AreParts names (raw_lines text) parts → AreTaken HasReplied parts done replies → All IsWhole done
-    → (index : ℕ) → index < length done → AllAccepted names (suc index) (raw_lines text)
-whole-accepts names text parts done replies are taken all index inside =
-    let (first, first_at) = there parts index (omega (arith, inside, taken.tasks_done)) in
-    let (part, part_at) = there done index inside in
-    let (returned, returned_at, has) = taken.each index first part first_at part_at in
-    let whole : IsWhole part = grind (arith, get_or_from_slice_get done index part part part_at, all index part inside) in
-    (are index first first_at).accepted (has.accepted whole.accepted (rw (commands-none part (omega (arith, whole.through))) tt)) tt
+whole-accepts : (names raws : List (List ℕ)) (client : ℕ) (parts done : List Part) (replies : List (List Reply)) → PartsFrom names raws client parts → Each HasReplied parts done replies → All IsWhole done
+    → (index number : ℕ) → number ≡ client + index → index < length done → AllAccepted names number raws
+whole-accepts names raws client [] [] [] are taken whole index number same inside = absurd (omega arith)
+whole-accepts names raws client (part ∷ parts) (new ∷ done) (list ∷ replies) (is, are) (has, taken) whole zero number same inside =
+    let here = whole 0 new (omega arith) in
+    let own : client ≡ number = omega arith in
+    rw (← own) (is.accepted (has.accepted here.accepted (rw (commands-none new (omega (arith, here.through))) tt)) tt)
+whole-accepts names raws client (part ∷ parts) (new ∷ done) (list ∷ replies) (is, are) (has, taken) whole (suc index) number same inside =
+    whole-accepts names raws (client + 1) parts done replies are taken (λ i d lt. whole (suc i) d (omega arith)) index number (omega arith) (omega arith)
+whole-accepts names raws client parts done replies are taken whole index number same inside = absurd taken
 
 -- a line that was given to a part, and that is not refused, is none of nobody's
 unowned-given : (clients width : ℕ) (names : List (List ℕ)) (number : ℕ) (raw : List ℕ) → IsGiven clients raw → ((index : ℕ) → index < clients → IsAccepted names (suc index) (without_line_end raw))
@@ -242,6 +227,7 @@ all-given clients width names number (raw ∷ more) given accept =
     grind (arith, unowned-given clients width names number raw given.0 (λ index inside. (accept index inside).0), all-given clients width names (number + 1) more given.1 (λ index inside. (accept index inside).1))
 
 -- no line belongs to nobody, where each was given to a part and all parts are whole
-pub unowned-none : (names : List (List ℕ)) (text : List ℕ) (number : ℕ) (parts done : List Part) (replies : List (Vec Reply)) → AreParts names (raw_lines text) parts → AreTaken HasReplied parts done replies
+pub unowned-none : (names : List (List ℕ)) (text : List ℕ) (number : ℕ) (parts done : List Part) (replies : List (List Reply)) → AreParts names (raw_lines text) parts → Each HasReplied parts done replies
     → AllGiven (length done) (raw_lines text) → All IsWhole done → unowned_lines (length done) (length names) (commands_of names number (raw_lines text)) ≡ []
-unowned-none names text number parts done replies are taken given whole = all-given (length done) (length names) names number (raw_lines text) given (whole-accepts names text parts done replies are taken whole)
+unowned-none names text number parts done replies are taken given whole =
+    all-given (length done) (length names) names number (raw_lines text) given (λ index inside. whole-accepts names (raw_lines text) 1 parts done replies (parts-all names (raw_lines text) parts are) taken whole index (suc index) (omega arith) inside)

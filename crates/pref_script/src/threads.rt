@@ -1,9 +1,7 @@
 //! A script whose clients run on threads, from its bytes to the bytes of its output.
 ghost use Rattle.std.specs.Prelude.{◌≡◌, ◌<◌, ◌≤◌, ◌^◌, ◌⊎◌, ℕ, All, List, false, length, map, IfOk, IfErr};
-ghost use Rattle.std.specs.Global.{Vec as VecValue};
 ghost use Rattle.std.specs.Io.KnownBytes.{Consumes};
 ghost use Rattle.pref_core.specs.declared.fault.CoreFault.TheVariants as core;
-ghost use Rattle.pref_core.specs.declared.event.Act.{Act};
 ghost use Rattle.pref_share.specs.Reports.{RanTasks};
 ghost use Rattle.pref_script.specs.ClientParts.{HasReplied, acts_left};
 ghost use Rattle.pref_script.specs.Output.{in_bytes};
@@ -57,12 +55,10 @@ fn joint_parts<'script, J: BoardBrand + Send + Sync, R: Threads + Wait + Sync, G
     requires opening { J.opening ≡ record { limits = setup; rows = rows.now } }
     requires lists { length parts.items ≡ setup.clients }
     requires few { All (λ part. length (acts_left part) < 2 ^ 63) parts.items }
-    ensures ran { IfOk result (λ done. (acts : List (VecValue Act)) → map (λ list. list.items) acts ≡ map acts_left parts.entry.items
-        → RanTasks (record { limits = setup; rows = rows.now }) HasReplied acts parts.entry.items done.items) }
+    ensures ran { IfOk result (λ done. RanTasks (record { limits = setup; rows = rows.now }) HasReplied (map acts_left parts.entry.items) parts.entry.items done.items) }
     ensures room { IfOk result (λ _. setup.capacity < length rows.now → ⊥) }
     ensures stops { IfErr result (λ why. (setup.capacity < length rows.now) × (why ≡ ShareFault.Core (core.Full (length rows.now)))
-        ⊎ (setup.capacity < length rows.now → ⊥) × ((acts : List (VecValue Act)) → map (λ list. list.items) acts ≡ map acts_left parts.entry.items
-        → ClosesOrStops J (record { limits = setup; rows = rows.now }) (G.says gate.now) acts why)) }
+        ⊎ (setup.capacity < length rows.now → ⊥) × ClosesOrStops (record { limits = setup; rows = rows.now }) (G.says gate.now) (map acts_left parts.entry.items) why) }
 {
     let (board, clients) = open_board::<J, R>(rt, alloc, name, setup, rows)?;
     let done = run_tasks(rt, alloc, &board, clients, parts, gate);

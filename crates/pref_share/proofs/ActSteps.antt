@@ -90,20 +90,31 @@ adds : (o : Opening) (s t : Standing) (act : Act) (call : Call) (returned : Outc
     → ((system : System) → state_of system ≡ state_at o j.before → seat s.number system.members ≡ Some (member_of o s) → IsStep o s act reply t system) → StepsTo o s act reply t
 adds o s t act call returned reply j c steps = grind (arith)
 
+-- the reply to a change that is made
+abbrev made : Act → System → Reply
+made (Insert row) system = Inserted system.next_id
+made (Update id row) system = Updated id
+made (Delete id) system = Deleted id
+made (Commit commit) system = CommittedIs (committed_of system.next_id commit)
+made act system = Abandoned
+
+change_steps : (limits : Limits) (system : System) (client : ℕ) (member : Member) (act : Act) (call : Call) (q : Option Open) → is_change call ≡ true → call_of act ≡ Some call → step_of limits system client member act q ≡ numbered member system (change limits system client member call (made act system))
+change_steps limits system client member act call q change is = grind (arith)
+
 -- a change
-pub changes : (o : Opening) (s t : Standing) (act : Act) (call : Call) (returned : Outcome) (done : System → Reply) (reply : Reply) (j : Changes o s call returned t) → is_change call ≡ true → call_of act ≡ Some call
-    → ((system : System) → stepped o s act system ≡ numbered (member_of o s) system (change o.limits system s.number (member_of o s) call (done system)))
-    → ((system : System) (x : System) → state_of system ≡ state_at o j.0.before → (changed returned (done system) call x).reply ≡ reply) → StepsTo o s act reply t
-changes o s t act call returned done reply j c act_is steps replies = adds o s t act call returned reply j.0 act_is
+pub changes : (o : Opening) (s t : Standing) (act : Act) (call : Call) (returned : Outcome) (reply : Reply) (j : Changes o s call returned t) → is_change call ≡ true → call_of act ≡ Some call
+    → ((system : System) (x : System) → state_of system ≡ state_at o j.0.before → (changed returned (made act system) call x).reply ≡ reply) → StepsTo o s act reply t
+changes o s t act call returned reply j c act_is replies = adds o s t act call returned reply j.0 act_is
     (λ system state there.
     let who = member_of o s in
+    let done = made act system in
     let after_it = counted_with who.query s.number who system in
-    let is : step_by o s act system ≡ change o.limits system s.number who call (done system) = somebody_steps o.limits system s.number act who there ∙ steps system ∙ let_in_steps who system _ (let_in s.counter (is_some s.query) call j.0.accepted) in
+    let is : step_by o s act system ≡ change o.limits system s.number who call done = somebody_steps o.limits system s.number act who there ∙ change_steps o.limits system s.number who act call who.query c act_is ∙ let_in_steps who system _ (let_in s.counter (is_some s.query) call j.0.accepted) in
     let outcome_is : outcome o.limits.capacity (state_of system) call ≡ returned = ap (λ x. outcome o.limits.capacity x call) state ∙ sym j.0.reply in
     record {
-      reply_is = ap (λ (x : Step). x.reply) (is ∙ ap (λ w. changed w (done system) call after_it) outcome_is) ∙ replies system after_it state;
-      state = ap (λ (x : Step). state_of x.next) is ∙ state_of-changed o.limits.capacity system s.number who call (done system) there c ∙ ap (λ x. after o.limits.capacity x s.number call) state ∙ sym (joined_state o s t call returned j.0);
-      member = ap (λ (x : Step). seat s.number x.next.members) is ∙ ap (seat s.number) (members-changed (outcome o.limits.capacity (state_of system) call) (done system) call after_it)
+      reply_is = ap (λ (x : Step). x.reply) (is ∙ ap (λ w. changed w done call after_it) outcome_is) ∙ replies system after_it state;
+      state = ap (λ (x : Step). state_of x.next) is ∙ state_of-changed o.limits.capacity system s.number who call done there c ∙ ap (λ x. after o.limits.capacity x s.number call) state ∙ sym (joined_state o s t call returned j.0);
+      member = ap (λ (x : Step). seat s.number x.next.members) is ∙ ap (seat s.number) (members-changed (outcome o.limits.capacity (state_of system) call) done call after_it)
           ∙ seat-with_seat_same system.members s.number who (record { calls = suc who.calls; query = who.query }) there ∙ (λ i. Some (record { calls = sym j.0.counted i; query = option_map (open_of o) (sym j.1 i) }));
     })
 
@@ -127,14 +138,14 @@ added_next capacity next_id after_it id e = grind (arith)
 
 -- the acts that change rows
 pub inserted : (o : Opening) (s t : Standing) (row : Row) (id : ℕ) → Changes o s (CallInsert row) (Added id) t → StepsTo o s (Insert row) (Inserted id) t
-inserted o s t row id j = changes o s t (Insert row) (CallInsert row) (Added id) (λ system. Inserted system.next_id) (Inserted id) j refl refl (λ system. refl)
+inserted o s t row id j = changes o s t (Insert row) (CallInsert row) (Added id) (Inserted id) j refl refl
     (λ system x state. ap Inserted (ap (λ (y : State). y.next_id) state ∙ added_next o.limits.capacity (state_at o j.0.before).next_id _ id (sym j.0.reply)))
 
 pub updated : (o : Opening) (s t : Standing) (id : ℕ) (row : Row) → Changes o s (CallUpdate id row) Done t → StepsTo o s (Update id row) (Updated id) t
-updated o s t id row j = changes o s t (Update id row) (CallUpdate id row) Done (λ system. Updated id) (Updated id) j refl refl (λ system. refl) (λ system x state. refl)
+updated o s t id row j = changes o s t (Update id row) (CallUpdate id row) Done (Updated id) j refl refl (λ system x state. refl)
 
 pub deleted : (o : Opening) (s t : Standing) (id : ℕ) → Changes o s (CallDelete id) Done t → StepsTo o s (Delete id) (Deleted id) t
-deleted o s t id j = changes o s t (Delete id) (CallDelete id) Done (λ system. Deleted id) (Deleted id) j refl refl (λ system. refl) (λ system x state. refl)
+deleted o s t id j = changes o s t (Delete id) (CallDelete id) Done (Deleted id) j refl refl (λ system x state. refl)
 
 -- the first id of a commit that is done, by the id of the next row at its place
 same_first : (capacity : ℕ) (begins : Bool) (lost : Option ℕ) (size next_id id : ℕ) (adds_any : Bool)
@@ -150,7 +161,7 @@ commits o s t commit returned j =
     let adds_any = nat_lt 0 (added_by commit) in
     let state = state_at o j.0.0.before in
     let first = same_first o.limits.capacity (begins_row call) (missing (ended call) state.table) (length (needed (committed call state))) returned.first state.next_id adds_any j.0.0.reply in
-    changes o s t (Commit commit) call (success_outcome returned.first call) (λ system. CommittedIs (committed_of system.next_id commit)) (CommittedIs returned) j.0 refl refl (λ system. refl)
+    changes o s t (Commit commit) call (success_outcome returned.first call) (CommittedIs returned) j.0 refl refl
     (λ system x here.
     granted_reply returned.first call (CommittedIs (committed_of system.next_id commit)) x adds_any
     ∙ ap (λ (y : State). CommittedIs (committed_of y.next_id commit)) here
@@ -159,16 +170,7 @@ commits o s t commit returned j =
 
 -- .. and where they are refused with a number
 pub refused_change : (o : Opening) (s t : Standing) (act : Act) (call : Call) (returned : Outcome) (fault : CoreFault) → Changes o s call returned t → is_change call ≡ true → call_of act ≡ Some call → ((done : Reply) (x : System) → (changed returned done call x).reply ≡ RefusedReply fault) → StepsTo o s act (RefusedReply fault) t
-refused_change o s t (Insert row) call returned fault j c a r = changes o s t (Insert row) call returned (λ system. Inserted system.next_id) (RefusedReply fault) j c a (λ system. let same : call ≡ CallInsert row = cc in ap (λ k. numbered (member_of o s) system (change o.limits system s.number (member_of o s) k (Inserted system.next_id))) (sym same)) (λ system x state. r (Inserted system.next_id) x)
-refused_change o s t (Update id row) call returned fault j c a r = changes o s t (Update id row) call returned (λ system. Updated id) (RefusedReply fault) j c a (λ system. let same : call ≡ CallUpdate id row = cc in ap (λ k. numbered (member_of o s) system (change o.limits system s.number (member_of o s) k (Updated id))) (sym same)) (λ system x state. r (Updated id) x)
-refused_change o s t (Delete id) call returned fault j c a r = changes o s t (Delete id) call returned (λ system. Deleted id) (RefusedReply fault) j c a (λ system. let same : call ≡ CallDelete id = cc in ap (λ k. numbered (member_of o s) system (change o.limits system s.number (member_of o s) k (Deleted id))) (sym same)) (λ system x state. r (Deleted id) x)
-refused_change o s t (Commit commit) call returned fault j c a r = changes o s t (Commit commit) call returned (λ system. CommittedIs (committed_of system.next_id commit)) (RefusedReply fault) j c a (λ system. let same : call ≡ CallCommit commit = cc in ap (λ k. numbered (member_of o s) system (change o.limits system s.number (member_of o s) k (CommittedIs (committed_of system.next_id commit)))) (sym same)) (λ system x state. r (CommittedIs (committed_of system.next_id commit)) x)
-refused_change o s t (Begin ask) call returned fault j c a r = let same : call ≡ CallBegin = cc in absurd (cc (ap is_change same, c))
-refused_change o s t ScanAct call returned fault j c a r = absurd (cc)
-refused_change o s t Finish call returned fault j c a r = let same : call ≡ CallFinish = cc in absurd (cc (ap is_change same, c))
-refused_change o s t Abandon call returned fault j c a r = let same : call ≡ CallAbandon = cc in absurd (cc (ap is_change same, c))
-refused_change o s t (Get id) call returned fault j c a r = absurd (cc)
-refused_change o s t Room call returned fault j c a r = absurd (cc)
+refused_change o s t act call returned fault j c a r = changes o s t act call returned (RefusedReply fault) j c a (λ system x state. r (made act system) x)
 
 -- whose begin is let in has no query, and whose end is has one
 idle : (calls : ℕ) (q : Option Asking) → refusal_of (Some calls) (is_some q) CallBegin ≡ None → q ≡ None

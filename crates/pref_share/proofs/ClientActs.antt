@@ -1,8 +1,7 @@
 -- The parts of all clients in a history, and the last act of each.
 use Rattle.pref_share.proofs.Common.{◌≡◌, ◌==◌, ℕ, suc, ◌<◌, ◌≤◌, cond, List, [], ◌∷◌, ◌++◌, length, Some, refl, sym, ap, ◌∙◌, subst, arith, ◌⊎◌, inl, inr, eq-eqb, ne_eqb}
-use Rattle.pref_share.proofs.Common.{append-nil, length-append, same_Some, count_by, IsPrefix, Op, Act, Reply, Opening, IsLegalFrom, calls_at, Standing, newcomer, StepsTo, Looks, Adds, Runs, none, then, RunsTo}
+use Rattle.pref_share.proofs.Common.{append-nil, length-append, same_Some, count_by, IsPrefix, Op, Act, Reply, Opening, IsLegalFrom, calls_at, Standing, newcomer, StepsTo, Looks, Adds, Runs, none, then, RunsTo, StandsWithin}
 use Rattle.std.proofs.lemmas.List.{same_from_push}
-use Rattle.pref_share.specs.Reports.{StandsWithin}
 use Rattle.pref_share.proofs.PrefixLaws.{prefix_shorter}
 use Rattle.pref_share.proofs.HistoryLaws.{legal-prefix}
 use Rattle.pref_share.proofs.CallCounts.{count_last, count_own, count_prefix}

@@ -37,10 +37,10 @@ pub use Rattle.pref_share.specs.Clients.{Begins, Changes, Commits, Finishes, Has
 pub use Rattle.pref_share.specs.Book.{IsPageOf, count_by}
 pub use Rattle.pref_share.specs.SeenHistory.{Asks, AsksOrNone, GivesNone, IsAppended, IsTurn, JoinsBehind, RefusesToJoin, Stands, outcome_or_refusal, snapshot_at}
 pub use Rattle.pref_share.specs.Openings.{IsLegalFrom, LegalIsHistory, MayFollow, Opening, calls_at, contents_at, first_contents, first_state, history_of, state_at}
-pub use Rattle.pref_share.specs.Reports.{AreReports, AreTaken, Did, DidActs, Ends, IsFirstStopped, IsWithin, RefusesRun, StandsWithin, WasLetIn}
-pub use Rattle.pref_share.specs.Runs.{Adds, IsJointRun, IsPart, IsStep, Looks, Performs, Runs, RunsTo, StepsTo, StopsAt, call_of, member_of, nobody, none, open_of, step_by, then}
+pub use Rattle.pref_share.specs.Reports.{AreReports, Did, Ends, RefusesRun, Reported, WasLetIn, first_fault, reported_in}
+pub use Rattle.pref_share.specs.Runs.{Adds, Each, IsJointRun, IsPart, IsStep, Looks, Performs, Runs, RunsTo, StandsWithin, StepsTo, StopsAt, call_of, member_of, nobody, none, open_of, step_by, then}
 pub use Rattle.pref_share.specs.ClientReads.{HasMore, RefusesGet, RefusesScan, Scanned, room_at, row_after}
-pub use Rattle.pref_share.specs.TaskResults.{AreWorked, DidTask, IsFirstOf, Work, report_of}
+pub use Rattle.pref_share.specs.TaskResults.{DidTask, report_of}
 pub use Rattle.pref_share.specs.Standing.{Asking, Standing, newcomer, newcomers}
 pub use Rattle.pref_share.specs.Views.{AreLetIn, Fits, HoldsHistory, Kept, Knows, Opens, Reads, Stays, stamped}
 pub use Rattle.pref_share.specs.declared.fault.ShareFault.{ShareFault}

@@ -1,78 +1,62 @@
 -- A joint run is one run of the sequential table.
-use Rattle.pref_share.proofs.Common.{◌≡◌, ℕ, zero, suc, ◌<◌, ◌≤◌, List, [], ◌∷◌, ◌++◌, length, get_or, Some, None, slice_get, refl, sym, ap, ◌∙◌, subst, arith, ◌⊎◌, inl, inr, ⊎_elim, All, Vec}
-use Rattle.pref_share.proofs.Common.{cases_eq, length-append, same_Some, slice_get_within, slice_get_cases, Op, Act, Reply, Opening, newcomer, newcomers, IsJointRun}
+use Rattle.pref_share.proofs.Common.{◌≡◌, ℕ, zero, suc, ◌<◌, ◌≤◌, List, [], ◌∷◌, length, get_or, inl, inr, ap, refl, sym, ◌∙◌, subst, arith, All, slice_get_within, get_or_from_slice_get, newcomer, newcomers, Each, IsPart, Standing}
+use Rattle.std.proofs.lemmas.Bool.{cases_lt}
+use Rattle.std.proofs.lemmas.List.FromFn.{get_or-map-range_with_len, length-map-range_with_len}
 use Rattle.pref_share.specs.Interleavings.{Answered, JointRunsAreSequential}
-use Rattle.pref_share.proofs.PrefixLaws.{prefix_get}
 use Rattle.pref_share.proofs.LastCalls.{IsOneOf}
 use Rattle.pref_share.proofs.ClientActs.{Part, nothing_done, IsPartAt}
-use Rattle.pref_share.proofs.RunsLaws.{behind}
 use Rattle.pref_share.proofs.RunsReached.{Reached, acts_of-events, reached}
 
-pub length-newcomers : (n : ℕ) → length (newcomers n) ≡ n
-length-newcomers zero = refl
-length-newcomers (suc n) = omega (arith, length-append (newcomers n) (newcomer (suc n) ∷ []), length-newcomers n)
+-- how long three lists are that are alike, and what stands at a place of them
+pub each_lengths : {A B C : Type 0} (Holds : A → B → C → Type 0) (xs : List A) (ys : List B) (zs : List C) → Each Holds xs ys zs → (length ys ≡ length xs) × (length zs ≡ length xs)
+each_lengths Holds [] [] [] each = (refl, refl)
+each_lengths Holds (x ∷ xs) (y ∷ ys) (z ∷ zs) (here, each) = let sizes = each_lengths Holds xs ys zs each in (ap suc sizes.0, ap suc sizes.1)
+each_lengths Holds xs ys zs each = absurd each
 
--- the clients stand in order of number
-pub newcomer_at : (n place : ℕ) → place < n → slice_get (newcomers n) place ≡ Some (newcomer (suc place))
-newcomer_at zero place l = absurd (omega arith)
-newcomer_at (suc n) place l =
-    ⊎_elim (λ (e : place ≡ n). subst (λ k. slice_get (newcomers n ++ newcomer (suc n) ∷ []) k ≡ Some (newcomer (suc k))) (sym e)
-    (ap (slice_get (newcomers n ++ newcomer (suc n) ∷ [])) (sym (length-newcomers n)) ∙ behind (newcomers n) [] (newcomer (suc n))))
-    (λ (apart : place ≡ n → ⊥). prefix_get (newcomers n) (newcomers (suc n)) place (newcomer (suc place)) (newcomer (suc n) ∷ [], refl) (newcomer_at n place (omega (arith, apart, l))))
-    (cases_eq place n)
-
--- the part of the client whose lists stand at this place
-record Found (o : Opening) (history : List Op) (acts : List (Vec Act)) (returned : List (Vec Reply)) (place : ℕ) : Type 0 where
-  part : Part
-  is_part : IsOneOf o (suc place) → IsPartAt o history (suc place) part
-  acts_are : (list : Vec Act) → slice_get acts place ≡ Some list → part.acts ≡ list.items
-  replies_are : (list : Vec Reply) → slice_get returned place ≡ Some list → part.returned ≡ list.items
-
-found : (o : Opening) (acts : List (Vec Act)) (returned : List (Vec Reply)) (joint : IsJointRun o (newcomers o.limits.clients) acts returned) → length acts ≡ o.limits.clients → (place : ℕ) → Found o joint.history acts returned place
-found o acts returned joint many place = go (slice_get_cases acts place).1
-  where
-    go : ((list : Vec Act) × (place < length acts) × (slice_get acts place ≡ Some list) × (get_or acts place list ≡ list)) ⊎ ((length acts ≤ place) × (slice_get acts place ≡ None)) → Found o joint.history acts returned place
-    go (inl (list, within, acts_at, read)) =
-        let (replies, replies_at, part) = joint.each place (newcomer (suc place)) list (newcomer_at o.limits.clients place (omega (arith, within, many))) acts_at in record {
-          part = record { acts = list.items; returned = replies.items; last = part.last };
-          is_part = λ one_of. record { runs = part.runs; is_in = record { inside = part.inside; alone = part.alone } };
-          acts_are = λ other e. ap (λ (l : Vec Act). l.items) (same_Some list other (sym acts_at ∙ e));
-          replies_are = λ other e. ap (λ (l : Vec Reply). l.items) (same_Some replies other (sym replies_at ∙ e));
-        }
-    -- nobody's lists stand past the end
-    go (inr (past, none)) = record {
-      part = nothing_done (suc place);
-      is_part = λ one_of. absurd (omega (arith, one_of.1, many, past));
-      acts_are = λ list e. absurd (omega (arith, slice_get_within acts place list e, past));
-      replies_are = λ list e. absurd (omega (arith, slice_get_within returned place list e, many, joint.lists ∙ length-newcomers o.limits.clients, past));
-    }
-
--- the parts of all clients
-abbrev parts_of : (o : Opening) (acts : List (Vec Act)) (returned : List (Vec Reply)) → IsJointRun o (newcomers o.limits.clients) acts returned → length acts ≡ o.limits.clients → ℕ → Part
-parts_of o acts returned joint many zero = nothing_done zero
-parts_of o acts returned joint many (suc place) = (found o acts returned joint many place).part
+each_at : {A B C : Type 0} (Holds : A → B → C → Type 0) (xs : List A) (ys : List B) (zs : List C) → Each Holds xs ys zs → (i : ℕ) (a : A) (b : B) (c : C) → i < length xs → Holds (get_or xs i a) (get_or ys i b) (get_or zs i c)
+each_at Holds [] [] [] each i a b c lt = absurd (omega arith)
+each_at Holds (x ∷ xs) (y ∷ ys) (z ∷ zs) (here, each) zero a b c lt = here
+each_at Holds (x ∷ xs) (y ∷ ys) (z ∷ zs) (here, each) (suc i) a b c lt = each_at Holds xs ys zs each i a b c (omega arith)
+each_at Holds xs ys zs each i a b c lt = absurd each
 
 pub joint_runs_are_sequential : JointRunsAreSequential
-joint_runs_are_sequential o acts returned many joint = record {
+joint_runs_are_sequential o acts returned joint = record {
   run = r.run;
   interleaving = record {
-    lists = as_many ∙ sym many;
-    acts_in_order = λ place list e. acts_of-events (suc place) r.run ∙ r.acts (suc place) (one_of place (omega (arith, slice_get_within acts place list e, many))) ∙ (found o acts returned joint many place).acts_are list e;
-    replies_in_order = λ place list e. r.returned (suc place) (one_of place (omega (arith, slice_get_within returned place list e, as_many))) ∙ (found o acts returned joint many place).replies_are list e;
-    nobody_else = subst (λ n. All (λ (x : Answered). (0 < x.event.client) × (x.event.client ≤ n)) r.run) (sym many) r.nobody_else;
+    lists = omega (arith, sizes.0, sizes.1);
+    acts_in_order = λ place list e. acts_of-events (suc place) r.run ∙ r.acts (suc place) (one_of place (slice_get_within acts place list e) sizes.0) ∙ get_or_from_slice_get acts place list [] e;
+    replies_in_order = λ place list e. r.returned (suc place) (one_of place (slice_get_within returned place list e) sizes.1) ∙ get_or_from_slice_get returned place list [] e;
+    nobody_else = subst (λ n. All (λ (x : Answered). (0 < x.event.client) × (x.event.client ≤ n)) r.run) (sym (sizes.0 ∙ many)) r.nobody_else;
   };
   answers = r.answers;
 }
   where
-    as_many : length returned ≡ o.limits.clients
-    as_many = joint.lists ∙ length-newcomers o.limits.clients
+    many : length (newcomers o.limits.clients) ≡ o.limits.clients
+    many = length-map-range_with_len newcomer 1 o.limits.clients
 
-    one_of : (place : ℕ) → place < o.limits.clients → IsOneOf o (suc place)
-    one_of place l = (omega arith, omega arith)
+    sizes : (length acts ≡ length (newcomers o.limits.clients)) × (length returned ≡ length (newcomers o.limits.clients))
+    sizes = each_lengths (IsPart o joint.history) (newcomers o.limits.clients) acts returned joint.each
 
-    each : (number : ℕ) → IsOneOf o number → IsPartAt o joint.history number (parts_of o acts returned joint many number)
+    one_of : (place : ℕ) {n : ℕ} → place < n → n ≡ length (newcomers o.limits.clients) → IsOneOf o (suc place)
+    one_of place lt is = (omega arith, omega (arith, lt, is, many))
+
+    -- the part of the client whose lists stand at this place
+    at : (place : ℕ) → (last : Standing) × (IsOneOf o (suc place) → IsPartAt o joint.history (suc place) (record { acts = get_or acts place []; returned = get_or returned place []; last = last }))
+    at place = elim (cases_lt place o.limits.clients) [
+      | inl within ↦
+          let here = each_at (IsPart o joint.history) (newcomers o.limits.clients) acts returned joint.each place (newcomer 0) [] [] (omega (arith, within, many)) in
+          let own = subst (λ (s : Standing). IsPart o joint.history s (get_or acts place []) (get_or returned place [])) (get_or-map-range_with_len newcomer 1 o.limits.clients place (suc place) (newcomer 0) within (omega arith)) here in
+          (own.last, λ one. record { runs = own.runs; is_in = own.within })
+      | inr past ↦ (newcomer 0, λ one. absurd (omega (arith, one.1, past)))
+    ]
+
+    parts : ℕ → Part
+    parts zero = nothing_done zero
+    parts (suc place) = record { acts = get_or acts place []; returned = get_or returned place []; last = (at place).0 }
+
+    each : (number : ℕ) → IsOneOf o number → IsPartAt o joint.history number (parts number)
     each zero one = absurd (omega (arith, one.0))
-    each (suc place) one = (found o acts returned joint many place).is_part one
+    each (suc place) one = (at place).1 one
 
-    r : Reached o joint.history (parts_of o acts returned joint many)
-    r = reached o joint.history joint.legal (parts_of o acts returned joint many) each
+    r : Reached o joint.history parts
+    r = reached o joint.history joint.legal parts each

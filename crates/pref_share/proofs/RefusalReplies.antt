@@ -1,5 +1,5 @@
 -- What a refusal of a client's call is as the reply to an act.
-use Rattle.pref_share.proofs.Common.{◌≡◌, ℕ, true, Some, None, Result, Ok, Err, IfErr, refl, sym, ap, ◌∙◌, subst, Call, CallUpdate, CallDelete, CallCommit, CallBegin, CallFinish, CallAbandon, NoRow}
+use Rattle.pref_share.proofs.Common.{arith, ◌≡◌, ℕ, true, Some, None, Result, Ok, Err, IfErr, refl, sym, ap, ◌∙◌, subst, Call, CallUpdate, CallDelete, CallCommit, CallBegin, CallFinish, CallAbandon, NoRow}
 use Rattle.pref_share.proofs.Common.{NoRoom, Act, Insert, Update, Delete, Commit, Begin, Scan, Finish, Abandon, Get, Room, NoQuery, AllScanned, NotDone, NoSuchRow, OutOfMemory, is_change, ShareFault}
 use Rattle.pref_share.proofs.Common.{Core, Closed, Opening, IsLegalFrom, Standing, asks_for_memory, RefusesCall, RefusesChange, RefusesFinish, RefusesScan}
 use Rattle.pref_share.proofs.Common.{RefusesGet, Performs, call_of, Bool, false, Option, None, cond, nat_lt, ◌^◌, is_some, refusal_by_query, own_refusal, CoreFault, Spent}
@@ -11,16 +11,7 @@ use Rattle.pref_share.proofs.ActSteps.{never, sees_same, refused_by_itself, refu
 
 -- a call that asks for memory is an act that may
 wants_memory : (act : Act) (call : Call) → call_of act ≡ Some call → asks_for_memory call ≡ true → may_want_memory act ≡ true
-wants_memory (Insert row) call e h = refl
-wants_memory (Commit commit) call e h = let same : CallCommit commit ≡ call = cc in subst (λ c. asks_for_memory c ≡ true) (sym same) h
-wants_memory Scan call e h = refl
-wants_memory Finish call e h = refl
-wants_memory (Update id row) call e h = let same : CallUpdate id row ≡ call = cc in absurd (cc (ap asks_for_memory same))
-wants_memory (Delete id) call e h = let same : CallDelete id ≡ call = cc in absurd (cc (ap asks_for_memory same))
-wants_memory (Begin ask) call e h = let same : CallBegin ≡ call = cc in absurd (cc (ap asks_for_memory same))
-wants_memory Abandon call e h = let same : CallAbandon ≡ call = cc in absurd (cc (ap asks_for_memory same))
-wants_memory (Get id) call e h = absurd (cc)
-wants_memory Room call e h = absurd (cc)
+wants_memory act call e h = grind (arith)
 
 pub change_refused : (o : Opening) (s t : Standing) (act : Act) (call : Call) (fault : ShareFault) → IsLegalFrom o s.seen → is_change call ≡ true → call_of act ≡ Some call → RefusesChange o s call fault t → Performs o s act (reply_or_stop fault) t
 change_refused o s t act call (Core (NoSuchRow id)) l c a h = refused_change o s t act call (NoRow id) (NoSuchRow id) h c a (λ done x. refl)

@@ -1,25 +1,17 @@
 -- Runs of acts, one act longer, and what stands at a place of two lists.
 use Rattle.pref_share.proofs.Common.{option_map, length-map, ◌≡◌, ℕ, zero, suc, ◌<◌, Bool, true, false, List, [], ◌∷◌, ◌++◌, ◌+◌, length, map, get_or, Some, Result, Ok, slice_get, refl, sym, ap, ◌∙◌, subst, arith}
 use Rattle.pref_share.proofs.Common.{same_Some, append_assoc, get_or-map, length-append, slice_get_within, All, IfOk, Act, Reply, ShareFault}
-use Rattle.pref_share.proofs.Common.{Held, Sees, IsLegalFrom, Opening, Standing, StepsTo, Runs, none, then, RunsTo, StopsAt, nobody, DidActs, Ends, WasLetIn}
+use Rattle.pref_share.proofs.Common.{Held, Sees, IsLegalFrom, Opening, Standing, StepsTo, Runs, none, then, RunsTo, StopsAt, nobody, Did, Each, Ends, WasLetIn}
 use Rattle.std.specs.List.{zip}
 use Rattle.std.proofs.lemmas.Option.{slice_get-map}
 use Rattle.std.proofs.lemmas.Simd.{map-map}
-use Rattle.std.proofs.lemmas.Slice.Zip.{firsts-zip, seconds-zip}
+use Rattle.std.proofs.lemmas.Slice.Zip.{seconds-zip}
 use Rattle.pref_share.specs.declared.run.Job.{Job}
 use Rattle.pref_share.specs.TaskResults.{jobs_of}
 use Rattle.pref_share.proofs.ActSteps.{sees_same}
 
--- each act has its reply
-pub length_replies : (o : Opening) (s t : Standing) (acts : List Act) (replies : List Reply) → RunsTo o s acts replies t → length replies ≡ length acts
-length_replies o s t acts replies run = go acts replies run.stands t run.runs
-  where
-    go : (acts : List Act) (replies : List Reply) (stands : List Standing) (u : Standing) → Runs o s acts replies stands u → length replies ≡ length acts
-    go _ _ _ _ none = refl
-    go _ _ _ _ (then acts replies stands t act reply u runs step) = length-append replies (reply ∷ []) ∙ ap (λ n. n + 1) (go acts replies stands t runs) ∙ sym (length-append acts (act ∷ []))
-
 -- acts leave a client its number
-pub same_number : (o : Opening) (s t : Standing) (acts : List Act) (replies : List Reply) → RunsTo o s acts replies t → t.number ≡ s.number
+same_number : (o : Opening) (s t : Standing) (acts : List Act) (replies : List Reply) → RunsTo o s acts replies t → t.number ≡ s.number
 same_number o s t acts replies run = go acts replies run.stands t run.runs
   where
     go : (acts : List Act) (replies : List Reply) (stands : List Standing) (u : Standing) → Runs o s acts replies stands u → u.number ≡ s.number
@@ -27,14 +19,14 @@ same_number o s t acts replies run = go acts replies run.stands t run.runs
     go _ _ _ _ (then acts replies stands t act reply u runs step) = step.same ∙ go acts replies stands t runs
 
 -- the gate let in one act more
-pub let_in_more : (said : ℕ → Bool → Type 0) (acts : List Act) (act : Act) → ((turn : ℕ) → turn < length acts → said turn true) → said (length acts) true → (turn : ℕ) → turn < length (acts ++ act ∷ []) → said turn true
+let_in_more : (said : ℕ → Bool → Type 0) (acts : List Act) (act : Act) → ((turn : ℕ) → turn < length acts → said turn true) → said (length acts) true → (turn : ℕ) → turn < length (acts ++ act ∷ []) → said turn true
 let_in_more said acts act before now turn lt = grind (arith, length-append)
 
 -- why a client stops before an act it does with more acts behind it, and with a gate
-pub stops_before : (held : ℕ → Type 0) (s : Standing) (act : Act) (more : List Act) (fault : ShareFault) → StopsAt nobody s (act ∷ []) fault → StopsAt held s (act ∷ more) fault
+stops_before : (held : ℕ → Type 0) (s : Standing) (act : Act) (more : List Act) (fault : ShareFault) → StopsAt nobody s (act ∷ []) fault → StopsAt held s (act ∷ more) fault
 stops_before held s act more fault h = grind (arith)
 
-pub was_let_in : (said : Bool → Type 0) (rest : List Act) (fault : ShareFault) → said true → WasLetIn said rest fault
+was_let_in : (said : Bool → Type 0) (rest : List Act) (fault : ShareFault) → said true → WasLetIn said rest fault
 was_let_in said rest fault h = grind (arith)
 
 -- Where a client stands in its task, at the turn of the next act: it has done the first of the acts, and the task took the replies.
@@ -80,44 +72,28 @@ module _ {T : Type 0} (o : Opening) (says : ℕ → ℕ → Bool → Type 0) (le
 
   -- it stopped before the next act, and has seen no less since
   stops : (client stopped : Standing) (old came : T) (turn : ℕ) (act : Act) (fault : ShareFault) (now : Now client old turn) → left old ≡ act ∷ left came → ((replies : List Reply) → took old replies → took came replies) → Sees o client stopped
-      → Ends (λ client. says client (length now.done)) stopped (act ∷ left came) (Some fault) → (replies : List Reply) × took came replies × DidActs o says s acts stopped replies (Some fault)
+      → Ends (λ client. says client (length now.done)) stopped (act ∷ left came) (Some fault) → (replies : List Reply) × took came replies × Did o says s acts (record { client = stopped; replies = replies; stopped = Some fault })
   stops client stopped old came turn act fault now comes kept sees ends = grind (arith)
 
   -- it was held before the next act
   pub goes_held : (client : Standing) (old came : T) (turn : ℕ) (act : Act) → Now client old turn → left old ≡ act ∷ left came → ((replies : List Reply) → took old replies → took came replies) → says s.number turn false
-      → (replies : List Reply) × took came replies × DidActs o says s acts client replies (Some (Held s.number))
+      → (replies : List Reply) × took came replies × Did o says s acts (record { client = client; replies = replies; stopped = Some (Held s.number) })
   goes_held client old came turn act now comes kept said = stops client client old came turn act (Held s.number) now comes kept (sees_same o client client now.legal refl)
       ((sym (same_number o s client now.done now.replies now.runs), omega arith, subst (λ n. says s.number n false) now.turns said), tt)
 
   -- the next act stopped it
   pub goes_no_further : (client stopped : Standing) (old came : T) (turn : ℕ) (act : Act) (fault : ShareFault) → Now client old turn → left old ≡ act ∷ left came → ((replies : List Reply) → took old replies → took came replies) → says s.number turn true
-      → Sees o client stopped × StopsAt nobody stopped (act ∷ []) fault → (replies : List Reply) × took came replies × DidActs o says s acts stopped replies (Some fault)
+      → Sees o client stopped × StopsAt nobody stopped (act ∷ []) fault → (replies : List Reply) × took came replies × Did o says s acts (record { client = stopped; replies = replies; stopped = Some fault })
   goes_no_further client stopped old came turn act fault now comes kept said (sees, stopping) =
       let number : s.number ≡ stopped.number = sym (same_number o s client now.done now.replies now.runs) ∙ sym sees.same in
       let said_here : says stopped.number (length now.done) true = subst (λ n. says n (length now.done) true) number (subst (λ n. says s.number n true) now.turns said) in
       stops client stopped old came turn act fault now comes kept sees
       (stops_before (λ client. says client (length now.done) false) stopped act (left came) fault stopping, was_let_in (says stopped.number (length now.done)) (act ∷ left came) fault said_here)
 
-pub there : {B : Type 0} (l : List B) (i : ℕ) → i < length l → (b : B) × (slice_get l i ≡ Some b)
-there [] i lt = absurd (omega arith)
-there (x ∷ xs) zero lt = (x, refl)
-there (x ∷ xs) (suc i) lt = there xs i (omega arith)
-
-pub mapped : {B C : Type 0} (f : B → C) (l : List B) (i : ℕ) (x : B) → slice_get l i ≡ Some x → slice_get (map f l) i ≡ Some (f x)
-mapped f l i x e = slice_get-map f l i ∙ ap (option_map f) e
-
--- what stands behind a beginning
-pub behind : {B : Type 0} (before after : List B) (x : B) → slice_get (before ++ x ∷ after) (length before) ≡ Some x
-behind [] after x = refl
-behind (y ∷ ys) after x = behind ys after x
-
 -- what holds of all images holds so of what has them
 pub all_mapped : {A B : Type 0} (f : A → B) (P : B → Type 0) (xs : List A) (ys : List B) → map f xs ≡ ys → All P ys → All (λ x. P (f x)) xs
 all_mapped f P xs ys same all = λ i d lt. subst P (ap (λ l. get_or l i (f d)) (sym same) ∙ get_or-map f xs i d (f d) lt) (all i (f d) (omega (arith, lt, ap length same, length-map xs f)))
 
--- the clients and the tasks of jobs
-pub of_jobs : {J T : Type 0} (clients : List Standing) (tasks : List T) (jobs : List (Job J T)) → jobs ≡ jobs_of clients tasks → length tasks ≡ length clients → (map (λ job. job.client) jobs ≡ clients) × (map (λ job. job.task) jobs ≡ tasks)
-of_jobs {J} {T} clients tasks jobs are long = (
-  ap (map (λ (job : Job J T). job.client)) are ∙ map-map (λ (job : Job J T). job.client) _ (zip clients tasks) ∙ firsts-zip clients tasks long,
-  ap (map (λ (job : Job J T). job.task)) are ∙ map-map (λ (job : Job J T). job.task) _ (zip clients tasks) ∙ seconds-zip clients tasks long,
-)
+-- the tasks of jobs
+pub tasks_of_jobs : (J : Type 0) {T : Type 0} (clients : List Standing) (tasks : List T) → length tasks ≡ length clients → map (λ (job : Job J T). job.task) (jobs_of clients tasks) ≡ tasks
+tasks_of_jobs J {T} clients tasks long = map-map (λ (job : Job J T). job.task) _ (zip clients tasks) ∙ seconds-zip clients tasks long

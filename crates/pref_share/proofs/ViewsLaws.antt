@@ -7,6 +7,7 @@ use Rattle.crossbeam_utils.specs.Register.{Admits, TurnsAt, Forks, Merges}
 use Rattle.atomic_table.proofs.Lists.{at_set, at_snoc}
 use Rattle.pref_core.proofs.LegalLaws.{is_next-from}
 use Rattle.pref_share.proofs.HistoryLaws.{ran-append, legal_stands}
+use Rattle.pref_share.specs.Book.{ops_of}
 use Rattle.pref_share.specs.declared.published.Base.{Base}
 use Rattle.pref_share.specs.declared.published.View.{View}
 use Rattle.pref_core.specs.Planned.{boxed_op}
@@ -89,11 +90,11 @@ let_in_more contents [] op let_in next fits = (next, fits, tt)
 let_in_more contents (x ∷ xs) op let_in next fits = (let_in.0, let_in.1, let_in_more (applied contents x) xs op let_in.2 next fits)
 
 -- the published store is what its history leaves
-pub published_left : (o : Opening) (book : Book) (x : Published) (history : List Op) → HoldsHistory (first_contents o) book x → x.seen.log ≡ history → x.store ≡ contents_at o history
+pub published_left : (o : Opening) (book : Book) (x : Published) (history : List Op) → HoldsHistory (first_contents o) book x → ops_of x.seen.log ≡ history → x.store ≡ contents_at o history
 published_left o book x history stands same = stands.store ∙ ap (contents_at o) same
 
 -- the copy that a planned operation leaves
-pub published_next : (o : Opening) (book : Book) (x : Published) (s : Stamp) (op : Op) (history : List Op) → op ≡ boxed_op s.op → IsLegalFrom o history → x.seen.log ≡ history → HoldsHistory (first_contents o) book x → MayFollow o history op → s.seen.log ≡ history ++ op ∷ [] → s.len ≡ length s.seen.log → s.seen.book ≡ book
+pub published_next : (o : Opening) (book : Book) (x : Published) (s : Stamp) (op : Op) (history : List Op) → op ≡ boxed_op s.op → IsLegalFrom o history → ops_of x.seen.log ≡ history → HoldsHistory (first_contents o) book x → MayFollow o history op → ops_of s.seen.log ≡ history ++ op ∷ [] → s.len ≡ length (ops_of s.seen.log) → s.seen.book ≡ book
     → HoldsHistory (first_contents o) book (stamped x s)
 published_next o book x s op history is legal same stands may ends len in_book =
     let next : is_next (contents_at o history) op ≡ true = is_next-from (contents_at o history) (state_at o history) op (legal_stands o history legal) may.next in

@@ -73,11 +73,6 @@ IsWhole s v found w = (w.1.0 ≡ v.1.0) × AreBacked w.0 × ((before : List Entr
 abbrev pub Adds : Step Entry → View Entry ℕ → ℕ → View Entry ℕ → Type 0
 Adds s v found w = (before : List Entry) → IsPrefix before v.0 → key_after s.key before ≡ Some v.1.0.key → (ops_on s.key w.0 ≡ ops_on s.key before ++ noted s.key s.ask) × (key_after s.key w.0 ≡ Some s.ask.key)
 
--- the history, and the book that reached it
-pub record Reached : Type 0 where
-  pub log : List Op
-  pub book : Book
-
 -- a page, and what stands on it
 pub record Page : Type 0 where
   pub number : ℕ

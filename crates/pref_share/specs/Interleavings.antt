@@ -1,6 +1,5 @@
 -- Runs in which the acts of all clients are interleaved, and the replies of the sequential table to them. (this project)
 use Rattle.std.specs.Prelude.{◌≡◌, ◌==◌, ℕ, suc, ◌<◌, ◌≤◌, List, map, filter, length, All, Some, slice_get}
-use Rattle.std.specs.Global.{Vec}
 use Rattle.pref_core.specs.declared.event.Act.{Act}
 use Rattle.pref_core.specs.declared.event.Event.{Event}
 use Rattle.pref_core.specs.declared.event.Reply.{Reply}
@@ -32,18 +31,18 @@ part_of client run = filter (λ answered. answered.event.client == client) run
 
 -- The run has each act of each client once, in the client's order, with the reply that the client got, and nothing else. There is
 -- a list of replies for each list of acts, and the first lists are those of client 1.
-pub record IsInterleaving (acts : List (Vec Act)) (returned : List (Vec Reply)) (run : List Answered) : Type 0 where
+pub record IsInterleaving (acts : List (List Act)) (returned : List (List Reply)) (run : List Answered) : Type 0 where
   pub lists : length returned ≡ length acts
-  pub acts_in_order : (place : ℕ) (list : Vec Act) → slice_get acts place ≡ Some list → acts_of (suc place) (events_of run) ≡ list.items
-  pub replies_in_order : (place : ℕ) (list : Vec Reply) → slice_get returned place ≡ Some list → replies_of (part_of (suc place) run) ≡ list.items
+  pub acts_in_order : (place : ℕ) (list : List Act) → slice_get acts place ≡ Some list → acts_of (suc place) (events_of run) ≡ list
+  pub replies_in_order : (place : ℕ) (list : List Reply) → slice_get returned place ≡ Some list → replies_of (part_of (suc place) run) ≡ list
   pub nobody_else : All (λ answered. (0 < answered.event.client) × (answered.event.client ≤ length acts)) run
 
 -- There is an interleaving of the lists whose replies are those of the sequential table, from the opening on.
-pub record IsSequential (o : Opening) (acts : List (Vec Act)) (returned : List (Vec Reply)) : Type 0 where
+pub record IsSequential (o : Opening) (acts : List (List Act)) (returned : List (List Reply)) : Type 0 where
   pub run : List Answered
   pub interleaving : IsInterleaving acts returned run
   pub answers : replies o.limits o.rows (events_of run) ≡ replies_of run
 
 -- A joint run of one act list for each client is one run of the sequential table, for some interleaving of the lists.
 abbrev pub JointRunsAreSequential : Type 0
-JointRunsAreSequential = (o : Opening) (acts : List (Vec Act)) (returned : List (Vec Reply)) → length acts ≡ o.limits.clients → IsJointRun o (newcomers o.limits.clients) acts returned → IsSequential o acts returned
+JointRunsAreSequential = (o : Opening) (acts : List (List Act)) (returned : List (List Reply)) → IsJointRun o (newcomers o.limits.clients) acts returned → IsSequential o acts returned

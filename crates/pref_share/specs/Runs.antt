@@ -1,7 +1,6 @@
 -- Acts of clients on threads, and when they with their replies are one run of the sequential table. (this project)
-use Rattle.std.specs.Prelude.{◌≡◌, ℕ, suc, ◌<◌, Bool, true, false, List, [], ◌∷◌, ◌++◌, length, slice_get, Option, Some, None, Result, Ok, Err, MatchResult, ◌⊎◌}
+use Rattle.std.specs.Prelude.{◌≡◌, ℕ, suc, ◌<◌, Bool, true, false, List, [], ◌∷◌, ◌++◌, length, Option, Some, None, Result, Ok, Err, MatchResult, ◌⊎◌}
 use Rattle.std.specs.Option.{option_map}
-use Rattle.std.specs.Global.{Vec}
 use mathlib.Core.List.{IsPrefix}
 use Rattle.pref_core.specs.declared.call.Op.{Op}
 use Rattle.pref_core.specs.declared.call.Call.{Call}
@@ -86,21 +85,28 @@ pub record RunsTo (o : Opening) (s : Standing) (acts : List Act) (replies : List
   pub stands : List Standing
   pub runs : Runs o s acts replies stands t
 
--- One client's acts with their replies are its part of the history: it has seen a beginning of it, and the history holds just the
--- calls that it made.
+-- The client has seen a beginning of the history, which holds just the calls that it made.
+pub record StandsWithin (o : Opening) (history : List Op) (client : Standing) : Type 0 where
+  pub inside : IsPrefix client.seen history
+  pub alone : calls_at o history client.number ≡ Some client.counter
+
+-- One client's acts with their replies are its part of the history.
 pub record IsPart (o : Opening) (history : List Op) (s : Standing) (acts : List Act) (replies : List Reply) : Type 0 where
   pub last : Standing
   pub runs : RunsTo o s acts replies last
-  pub inside : IsPrefix last.seen history
-  pub alone : calls_at o history last.number ≡ Some last.counter
+  pub within : StandsWithin o history last
+
+-- this holds of what stands at each place of these lists, which are of one length
+abbrev pub Each : {A B C : Type 0} → (A → B → C → Type 0) → List A → List B → List C → Type 0
+Each Holds [] [] [] = Unit {0}
+Each Holds (x ∷ xs) (y ∷ ys) (z ∷ zs) = Holds x y z × Each Holds xs ys zs
+Each Holds xs ys zs = ⊥
 
 -- Act lists with the replies to each, one list for each client, are a joint run: there is one legal history of which each is a part.
-pub record IsJointRun (o : Opening) (clients : List Standing) (acts : List (Vec Act)) (replies : List (Vec Reply)) : Type 0 where
+pub record IsJointRun (o : Opening) (clients : List Standing) (acts : List (List Act)) (replies : List (List Reply)) : Type 0 where
   pub history : List Op
   pub legal : IsLegalFrom o history
-  pub lists : length replies ≡ length clients
-  pub each : (i : ℕ) (client : Standing) (list : Vec Act) → slice_get clients i ≡ Some client → slice_get acts i ≡ Some list
-      → (returned : Vec Reply) × (slice_get replies i ≡ Some returned) × IsPart o history client list.items returned.items
+  pub each : Each (IsPart o history) clients acts replies
 
 -- the next of these acts is no numbered call: a scan, a get or a room
 abbrev pub ReadsNext : List Act → Type 0

@@ -1,5 +1,6 @@
 -- What contracts see of a client. (this project)
-use Rattle.std.specs.Prelude.{ℕ, zero, suc, ◌++◌, ◌∷◌, List, [], Option, None}
+use Rattle.std.specs.Prelude.{ℕ, List, [], map, Option, None}
+use Rattle.std.specs.List.{range_with_len}
 use Rattle.pref_core.specs.declared.call.Op.{Op}
 use Rattle.pref_core.specs.Scans.{Scan}
 
@@ -21,5 +22,4 @@ newcomer number = record { number = number; counter = 0; seen = []; query = None
 
 -- the clients of a new board, in order of number
 abbrev pub newcomers : ℕ → List Standing
-newcomers zero = []
-newcomers (suc n) = newcomers n ++ newcomer (suc n) ∷ []
+newcomers clients = map newcomer (range_with_len 1 clients)

@@ -8,6 +8,7 @@ use Rattle.pref_core.specs.declared.call.Op.{Op}
 use Rattle.pref_core.specs.Slots.{Contents}
 use Rattle.pref_core.specs.Operations.{applied, ran, is_next, slots_after}
 use Rattle.pref_core.specs.Planned.{boxed_op}
+use Rattle.pref_share.specs.Book.{ops_of}
 use Rattle.pref_share.specs.declared.published.Base.{Base}
 use Rattle.pref_share.specs.declared.published.View.{View}
 use Rattle.pref_share.specs.declared.published.Published.{Published}
@@ -24,9 +25,9 @@ AreLetIn contents (op ∷ ops) = (is_next contents op ≡ true) × (is_some (slo
 
 -- the store is what its history leaves of this opening, in this book
 pub record HoldsHistory (opening : Contents) (book : Book) (x : Published) : Type 0 where
-  pub legal : AreLetIn opening x.seen.log
-  pub store : x.store ≡ ran opening x.seen.log
-  pub len : x.len ≡ length x.seen.log
+  pub legal : AreLetIn opening (ops_of x.seen.log)
+  pub store : x.store ≡ ran opening (ops_of x.seen.log)
+  pub len : x.len ≡ length (ops_of x.seen.log)
   pub in_book : x.seen.book ≡ book
 
 -- what a seat knows is this opening and this book
@@ -53,7 +54,7 @@ pub record Knows (opening : Contents) (book : Book) (v : View) : Type 0 where
 
 -- where there is no operation yet, the seat comes to know the opening and the book
 abbrev pub Opens : View → Published → Published → View → Type 0
-Opens v x y w = x.seen.log ≡ [] → Knows x.store x.seen.book w
+Opens v x y w = ops_of x.seen.log ≡ [] → Knows x.store x.seen.book w
 
 -- the view stays
 abbrev pub Stays : View → Published → Published → View → Type 0

@@ -1,15 +1,17 @@
 //! A board that threads share: how it is opened and closed.
 
-ghost use Rattle.std.specs.Prelude.{◌≡◌, ◌<◌, [], length, Err, IfOk, IfErr, ◌⊎◌, ◌↔◌};
+ghost use Rattle.std.specs.Prelude.{◌≡◌, ◌<◌, ◌+◌, [], length, Err, IfOk, IfErr, ◌⊎◌, ◌↔◌};
 ghost use Rattle.pref_core.specs.declared.fault.CoreFault as fault;
+ghost use Rattle.pref_share.specs.Book.{pages};
 ghost use Rattle.pref_share.specs.Openings.{IsLegalFrom};
 ghost use Rattle.pref_share.specs.Standing.{newcomers};
 
-use crate::book::{BoardBrand, BoardName};
+use crate::book::{BoardBrand, BoardName, Entries};
 use crate::client::Client;
 use crate::fault::ShareFault;
-use crate::history::{Prefix, Rights};
+use crate::page::Page;
 use crate::publisher::Publisher;
+use logbook::Pens;
 use pref_core::engine::Store;
 use pref_core::{CoreFault, Setup};
 use pref_table::Row;
@@ -66,11 +68,12 @@ pub fn open_board<J: BoardBrand, R: Wait>(
     ensures other { IfErr result (λ fault. (fault ≡ ShareFault.Core CoreFault.OutOfMemory) ⊎ (fault ≡ ShareFault.Closed) ⊎ (setup.capacity < length rows.now)) }
 {
     let store = Store::new(alloc, &setup, rows)?;
-    let Some((history, mut rights, nothing)) = name.begin::<J>() else {
+    let BoardName { mut rights, seen } = name;
+    let Some(page) = Page::begin(&mut rights, &seen) else {
         return Err(ShareFault::Closed);
     };
-    let mut publisher = Publisher::open(rt, alloc, store, history, setup.clients())?;
-    match all_clients(alloc, &mut publisher, &mut rights, &nothing, setup) {
+    let mut publisher = Publisher::open(rt, alloc, store, page, setup.clients())?;
+    match all_clients(alloc, &mut publisher, &mut rights, &seen, setup) {
         Ok(clients) => Ok((
             Board {
                 publisher: Mutex::new(publisher),
@@ -88,12 +91,13 @@ pub fn open_board<J: BoardBrand, R: Wait>(
 fn all_clients<J: BoardBrand>(
     alloc: Global,
     publisher: &mut Publisher<J>,
-    rights: &mut Rights<J>,
-    nothing: &Prefix<J>,
+    rights: &mut Pens,
+    seen: &Entries,
     setup: Setup,
 ) -> Result<Vec<Client<J>>, ShareFault>
-    requires rights { rights.old ≡ 1 }
-    requires nothing { nothing.now ≡ [] }
+    requires publisher { publisher.old ≡ [] }
+    requires book { (rights.old.book ≡ J.book) × (seen.now.book ≡ J.book) }
+    requires rights { (rights.old.next ≡ 1) × (rights.old.next + rights.old.left ≡ pages) }
     requires setup { setup ≡ J.opening.limits }
     ensures clients { IfOk result (λ all. all.items ≡ newcomers setup.clients) }
     ensures other { IfErr result (λ fault. (fault ≡ ShareFault.Core CoreFault.OutOfMemory) ⊎ (fault ≡ ShareFault.Closed)) }
@@ -103,10 +107,10 @@ fn all_clients<J: BoardBrand>(
         let Ok(reader) = publisher.reader() else {
             return Err(ShareFault::Closed);
         };
-        let Some(page) = rights.page() else {
+        let Some(page) = Page::begin(rights, seen) else {
             return Err(ShareFault::Closed);
         };
-        let client = Client::new(client + 1, setup, nothing.again(), page, reader);
+        let client = Client::new(client + 1, setup, publisher.whole(), page, reader);
         if all.push(client).is_err() {
             return Err(ShareFault::Core(CoreFault::OutOfMemory));
         }

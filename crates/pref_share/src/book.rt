@@ -21,15 +21,13 @@
 //! who has seen the entry that names pen 12, and has pen 12, knows that nothing follows it on its page: else pen 12 would
 //! be home.
 
-ghost use Rattle.std.specs.Prelude.{◌≡◌, [], List};
-ghost use mathlib.Core.List.{IsPrefix};
-ghost use Rattle.pref_share.specs.declared.entry.Entry.{Entry as EntryValue};
-ghost use Rattle.pref_share.specs.Book.{ops_of, pages};
+ghost use Rattle.std.specs.Prelude.{◌≡◌, []};
+ghost use Rattle.pref_share.specs.Book.{pages};
 
 use crate::entry::Entry;
 use logbook::{Gain, Opening, Pen, Pens, Plain, Play, Rule, Seen, Start, Word};
 use pref_core::engine::Planned;
-use std::marker::{Brand, Model};
+use std::marker::Brand;
 
 /// The rule of the book.
 pub struct Law;
@@ -52,69 +50,11 @@ impl Rule<Entry, u64> for Law {
     ghost moves = { λ ask before after answer. Unit {0} };
 }
 
-/// A proof that the book reached some entries. It has no bytes.
-pub(crate) type Entries = Seen<Entry, u64, Law>;
+/// A proof that the book reached some entries, and so a history. It has no bytes.
+pub type Entries = Seen<Entry, u64, Law>;
 
 /// The word of a page.
 pub(crate) type PageWord = Word<Entry, u64, Law>;
-
-/// A proof that the book reached a history. It has no bytes.
-pub struct Witness {
-    seen: Entries,
-}
-
-// By hand, so that letting one go is a call: a derived `drop` is written out, and proved, at each way out of each function that owns one.
-impl Drop for Witness {
-    fn drop(self) {
-        let Witness { seen: _ } = self;
-    }
-}
-
-impl Model for Witness {
-    ghost use Rattle.pref_share.specs.Book.{Reached, ops_of};
-
-    ghost Value = { Reached };
-
-    ghost view = { λ t. record { log = ops_of t.seen.log; book = t.seen.book } };
-}
-
-impl Witness {
-    pub(crate) fn of(seen: &Entries) -> Witness
-        ensures log { result.log ≡ ops_of seen.now.log }
-        ensures book { result.book ≡ seen.now.book }
-    {
-        Witness { seen: seen.again() }
-    }
-
-    /// A copy.
-    pub(crate) fn again(&self) -> Witness
-        ensures { result ≡ self.now }
-    {
-        Witness {
-            seen: self.seen.again(),
-        }
-    }
-
-    /// Afterwards it knows what both knew.
-    pub(crate) fn learn(&mut self, other: &Witness)
-        requires { other.now.book ≡ self.old.book }
-        ensures book { self.new.book ≡ self.old.book }
-        ensures this { IsPrefix self.old.log self.new.log }
-        ensures that { IsPrefix other.now.log self.new.log }
-    {
-        self.seen.learn(&other.seen);
-    }
-
-    /// Says the same of entries.
-    pub(crate) fn teach(&self, seen: &mut Entries)
-        requires { self.now.book ≡ seen.old.book }
-        ensures book { seen.new.book ≡ seen.old.book }
-        ensures more { IsPrefix seen.old.log seen.new.log }
-        ensures returned { (log : List EntryValue) × IsPrefix log seen.new.log × (ops_of log ≡ self.now.log) }
-    {
-        seen.learn(&self.seen);
-    }
-}
 
 /// Callers trade nothing.
 pub struct NoTrade;

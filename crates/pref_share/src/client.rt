@@ -10,7 +10,7 @@ ghost use Rattle.left_right.specs.Sides.{view};
 ghost use Rattle.pref_share.specs.Openings.{IsLegalFrom, first_contents};
 ghost use Rattle.pref_share.specs.Standing.{newcomer};
 ghost use Rattle.pref_share.specs.Clients.{Sees};
-ghost use Rattle.pref_share.specs.Reports.{StandsWithin};
+ghost use Rattle.pref_share.specs.Runs.{StandsWithin};
 ghost use Rattle.pref_share.specs.Book.{IsPageOf};
 ghost use Rattle.pref_share.specs.Views.{Knows};
 

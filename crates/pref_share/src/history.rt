@@ -1,139 +1,18 @@
-//! The history of a board: the whole of it, which lies under the lock, and its beginnings, which clients have seen.
+//! The beginnings of a board's history that clients have seen.
 
-ghost use Rattle.std.specs.Prelude.{◌≡◌, suc, ◌++◌, ◌∷◌, ◌+◌, ◌<◌, ◌≤◌, [], length, IfSome, MatchBool};
+ghost use Rattle.std.specs.Prelude.{◌≡◌, ◌<◌, ◌≤◌, length, MatchBool};
 ghost use mathlib.Core.List.{IsPrefix};
-ghost use Rattle.pref_core.specs.Limits.{AreAllowed};
-ghost use Rattle.pref_core.specs.Planned.{op_of};
-ghost use Rattle.pref_share.specs.Book.{IsPageOf, count_by, pages};
-ghost use Rattle.pref_share.specs.Openings.{IsLegalFrom, MayFollow};
+ghost use Rattle.pref_share.specs.Book.{count_by, ops_of};
+ghost use Rattle.pref_share.specs.Openings.{IsLegalFrom};
 
-use crate::book::{BoardBrand, BoardName, Entries, Witness};
+use crate::book::{BoardBrand, Entries};
 use crate::page::Page;
-use logbook::Pens;
-use pref_core::engine::Planned;
 use std::marker::{Model, PhantomData};
-
-/// The whole history. Who has it alone may add to it, and only the calls of clients whose pages are lent. Contracts see its
-/// operations.
-#[derive(Drop)]
-pub(crate) struct History<J: BoardBrand> {
-    page: Page,
-    len: u64,
-    of: PhantomData<J>,
-}
-
-impl<J: BoardBrand> Model for History<J> {
-    ghost use Rattle.std.specs.Prelude.{◌≡◌, List, length};
-    ghost use Rattle.pref_core.specs.declared.call.Op.{Op};
-    ghost use Rattle.pref_share.specs.Book.{history_page};
-    ghost use Rattle.pref_share.specs.Openings.{IsLegalFrom};
-
-    ghost Value = { List Op };
-
-    ghost view = { λ h. h.page.ops };
-
-    ghost invariant = { λ h. (h.page.number ≡ history_page) × (h.page.book ≡ J.book) × (h.len ≡ length h.page.ops) × IsLegalFrom J.opening h.page.ops };
-}
-
-/// The rights to begin the pages of the clients, in order of their numbers. Contracts see the next number.
-#[derive(Drop)]
-pub(crate) struct Rights<J: BoardBrand> {
-    pens: Pens,
-    seen: Entries,
-    of: PhantomData<J>,
-}
-
-impl<J: BoardBrand> Model for Rights<J> {
-    ghost use Rattle.std.specs.Prelude.{◌≡◌, ◌+◌, ℕ};
-    ghost use Rattle.pref_share.specs.Book.{pages};
-
-    ghost Value = { ℕ };
-
-    ghost view = { λ r. r.pens.next };
-
-    ghost invariant = { λ r. (r.pens.book ≡ r.seen.book) × (r.seen.book ≡ J.book) × (r.pens.next + r.pens.left ≡ pages) };
-}
-
-impl<J: BoardBrand> Rights<J> {
-    /// The page of the next client, on which nothing stands. No run returns `None`: each page is begun once.
-    pub(crate) fn page(&mut self) -> Option<Page>
-        requires { self.old < pages }
-        ensures rest { self.new ≡ self.old + 1 }
-        ensures page { IfSome result (λ page. page ≡ record { number = self.old; ops = []; book = J.book }) }
-    {
-        Page::begin(&mut self.pens, &self.seen)
-    }
-}
-
-impl BoardName {
-    /// The history, the rights to the pages of the clients, and the beginning that has seen nothing. This book has been begun by
-    /// no one else, so no run returns `None`.
-    pub(crate) fn begin<J: BoardBrand>(self) -> Option<(History<J>, Rights<J>, Prefix<J>)>
-        requires book { self.seen.book ≡ J.book }
-        requires legal { IsLegalFrom J.opening [] }
-        ensures { IfSome result (λ r. (r.0 ≡ []) × (r.1 ≡ 1) × (r.2 ≡ [])) }
-    {
-        let BoardName { mut rights, seen } = self;
-        let page = Page::begin(&mut rights, &seen)?;
-        let prefix = Prefix {
-            len: 0,
-            seen: page.witness(),
-            of: PhantomData,
-        };
-        let history = History {
-            page,
-            len: 0,
-            of: PhantomData,
-        };
-        let rights = Rights {
-            pens: rights,
-            seen,
-            of: PhantomData,
-        };
-        Some((history, rights, prefix))
-    }
-}
-
-impl<J: BoardBrand> History<J> {
-    /// All of it, as a beginning.
-    pub(crate) fn whole(&self) -> Prefix<J>
-        ensures same { result ≡ self.now }
-        ensures legal { IsLegalFrom J.opening self.now }
-    {
-        Prefix {
-            len: self.len,
-            seen: self.page.witness(),
-            of: PhantomData,
-        }
-    }
-
-    /// Shows that a beginning that was seen on this board begins it.
-    pub(crate) fn check(&mut self, prefix: &Prefix<J>)
-        ensures same { self.new ≡ self.old }
-        ensures begins { IsPrefix prefix.now self.old }
-        ensures legal { IsLegalFrom J.opening self.old }
-    {
-        self.page.check(&prefix.seen);
-    }
-
-    /// Adds an operation, which its client writes on its page before.
-    pub(crate) fn add(&mut self, op: &Planned<'_>, page: &mut Page)
-        requires follows { MayFollow J.opening self.old (op_of op.now) }
-        requires page { IsPageOf J.book (op_of op.now).client (length page.old.ops) page.old }
-        requires few { count_by (op_of op.now).client self.old ≤ length page.old.ops }
-        ensures added { self.new ≡ self.old ++ op_of op.now ∷ [] }
-        ensures page { IsPageOf J.book (op_of op.now).client (suc (length page.old.ops)) page.new }
-    {
-        page.write(op, &self.page);
-        self.page.write(op, page);
-        self.len += 1;
-    }
-}
 
 /// A beginning of the history, which was seen. Contracts see its operations.
 pub(crate) struct Prefix<J: BoardBrand> {
     len: u64,
-    seen: Witness,
+    seen: Entries,
     of: PhantomData<J>,
 }
 
@@ -151,22 +30,23 @@ impl<J: BoardBrand> Drop for Prefix<J> {
 impl<J: BoardBrand> Model for Prefix<J> {
     ghost use Rattle.std.specs.Prelude.{◌≡◌, List, length};
     ghost use Rattle.pref_core.specs.declared.call.Op.{Op};
+    ghost use Rattle.pref_share.specs.Book.{ops_of};
     ghost use Rattle.pref_share.specs.Openings.{IsLegalFrom};
 
     ghost Value = { List Op };
 
-    ghost view = { λ p. p.seen.log };
+    ghost view = { λ p. ops_of p.seen.log };
 
-    ghost invariant = { λ p. (p.len ≡ length p.seen.log) × (p.seen.book ≡ J.book) × IsLegalFrom J.opening p.seen.log };
+    ghost invariant = { λ p. (p.len ≡ length (ops_of p.seen.log)) × (p.seen.book ≡ J.book) × IsLegalFrom J.opening (ops_of p.seen.log) };
 }
 
 impl<J: BoardBrand> Prefix<J> {
-    /// The history of a witness that was seen on this board.
-    pub(crate) fn of(len: u64, seen: &Witness) -> Prefix<J>
-        requires len { len ≡ length seen.now.log }
+    /// The history that entries show that were seen on this board.
+    pub(crate) fn of(len: u64, seen: &Entries) -> Prefix<J>
+        requires len { len ≡ length (ops_of seen.now.log) }
         requires book { seen.now.book ≡ J.book }
-        requires legal { IsLegalFrom J.opening seen.now.log }
-        ensures { result ≡ seen.now.log }
+        requires legal { IsLegalFrom J.opening (ops_of seen.now.log) }
+        ensures { result ≡ ops_of seen.now.log }
     {
         Prefix {
             len,
@@ -175,12 +55,12 @@ impl<J: BoardBrand> Prefix<J> {
         }
     }
 
-    /// The witness that shows it.
-    pub(crate) fn witness(&self) -> Witness
-        ensures log { result.log ≡ self.now }
-        ensures book { result.book ≡ J.book }
+    /// The entries that show it.
+    pub(crate) fn entries(&self) -> &Entries
+        ensures all { ops_of result.now.log ≡ self.now }
+        ensures book { result.now.book ≡ J.book }
     {
-        self.seen.again()
+        &self.seen
     }
 
     /// How many operations it has.

@@ -1,12 +1,12 @@
 //! The pages of the book, each with the right to write on it.
 
-ghost use Rattle.std.specs.Prelude.{◌≡◌, ◌≢◌, ◌++◌, ◌∷◌, ◌+◌, ◌<◌, ◌≤◌, [], length, IfSome, MatchBool, Some};
+ghost use Rattle.std.specs.Prelude.{◌≡◌, ◌≢◌, suc, ◌++◌, ◌∷◌, ◌+◌, ◌<◌, ◌≤◌, [], length, IfSome, MatchBool, Some};
 ghost use mathlib.Core.List.{IsPrefix};
 ghost use Rattle.logbook.specs.Pages.{may_write};
 ghost use Rattle.pref_core.specs.Planned.{op_of};
-ghost use Rattle.pref_share.specs.Book.{word_of, pages, history_page, count_by, key_after, ops_on};
+ghost use Rattle.pref_share.specs.Book.{IsPageOf, word_of, pages, history_page, count_by, key_after, ops_of, ops_on};
 
-use crate::book::{Entries, Law, MakePen, NoTrade, PageWord, ShowWhole, Witness, WriteOp, Writing};
+use crate::book::{Entries, Law, MakePen, NoTrade, PageWord, ShowWhole, WriteOp, Writing};
 use crate::entry::Entry;
 use logbook::{Offer, Pen, Pens, Word};
 use pref_core::engine::Planned;
@@ -80,24 +80,24 @@ impl Page {
         }
     }
 
-    /// A witness of the history: that which stands on the page, where the page is the history's.
-    pub(crate) fn witness(&self) -> Witness
-        ensures history { self.now.number ≡ history_page → result.log ≡ self.now.ops }
+    /// The entries that it has seen, with all that stands on it.
+    pub(crate) fn entries(&self) -> Entries
+        ensures all { ops_on self.now.number result.log ≡ self.now.ops }
         ensures book { result.book ≡ self.now.book }
     {
-        Witness::of(&self.seen)
+        self.seen.again()
     }
 
     /// Shows that a history that was reached begins this one, where the page is the history's, and that it holds
     /// no more calls of a client than stand on the page, where it is the client's.
-    pub(crate) fn check(&mut self, witness: &Witness)
-        requires book { witness.now.book ≡ self.old.book }
+    pub(crate) fn check(&mut self, reached: &Entries)
+        requires book { reached.now.book ≡ self.old.book }
         ensures same { self.new ≡ self.old }
-        ensures begins { self.old.number ≡ history_page → IsPrefix witness.now.log self.old.ops }
-        ensures few { 0 < self.old.number → count_by self.old.number witness.now.log ≤ length self.old.ops }
+        ensures begins { self.old.number ≡ history_page → IsPrefix (ops_of reached.now.log) self.old.ops }
+        ensures few { 0 < self.old.number → count_by self.old.number (ops_of reached.now.log) ≤ length self.old.ops }
     {
         let mut seen = self.seen.again();
-        witness.teach(&mut seen);
+        seen.learn(reached);
         let mut offer: Offer<Entry, u64, Law, NoTrade> = seen.plain::<
             NoTrade,
             ShowWhole,
@@ -139,5 +139,17 @@ impl Page {
         } = writing;
         self.seen = seen;
         self.pen = next;
+    }
+    /// Adds an operation to the history, whose page this is, which its client writes on its page before.
+    pub(crate) fn add(&mut self, op: &Planned<'_>, page: &mut Page)
+        requires history { self.old.number ≡ history_page }
+        requires page { IsPageOf self.old.book (op_of op.now).client (length page.old.ops) page.old }
+        requires few { count_by (op_of op.now).client self.old.ops ≤ length page.old.ops }
+        ensures added { self.new.ops ≡ self.old.ops ++ op_of op.now ∷ [] }
+        ensures same { (self.new.number ≡ self.old.number) × (self.new.book ≡ self.old.book) }
+        ensures page { IsPageOf self.old.book (op_of op.now).client (suc (length page.old.ops)) page.new }
+    {
+        page.write(op, self);
+        self.write(op, page);
     }
 }

@@ -3,7 +3,7 @@
 //! The rule says that there is one opening and one book, over which the published store represents its history. Each seat of
 //! the writer or of a reader knows them from its first step on.
 
-use crate::book::Witness;
+use crate::book::Entries;
 use atomic_table::{Join, Split};
 use crossbeam_utils::rule::{Outcome, Protocol};
 use left_right::writer::Writer;
@@ -11,20 +11,20 @@ use left_right::{Absorb, reader};
 use pref_core::engine::{BoxedOp, Store};
 use std::alloc::AllocError;
 
-/// A store, and the witness of the history that made it.
+/// A store, and what shows the history that made it.
 #[derive(Drop)]
 pub struct Published {
     pub store: Store,
     pub len: u64,
-    pub seen: Witness,
+    pub seen: Entries,
 }
 
-/// An operation that joined the history, and the witness of the history that it ends.
+/// An operation that joined the history, and what shows the history that it ends.
 #[derive(Drop)]
 pub struct Stamp {
     pub op: BoxedOp,
     pub len: u64,
-    pub seen: Witness,
+    pub seen: Entries,
 }
 
 impl Absorb<Stamp> for Published {
@@ -47,10 +47,10 @@ impl Absorb<Stamp> for Published {
     }
 }
 
-/// The opening of a board, and a witness of its book. No value of it is made.
+/// The opening of a board, and what shows its book. No value of it is made.
 pub struct Base {
     pub opening: Store,
-    pub seen: Witness,
+    pub seen: Entries,
 }
 
 /// The knowledge of a seat. No value of it is made.

@@ -19,12 +19,12 @@ ghost use Rattle.pref_core.specs.declared.fault.CoreFault.TheVariants.{OutOfMemo
 ghost use Rattle.pref_core.specs.Planned.{boxed_op};
 ghost use Rattle.pref_core.specs.State.{added, refusal};
 ghost use Rattle.pref_share.specs.SeenHistory.{IsAppended};
-ghost use Rattle.pref_share.specs.Book.{IsPageOf, count_by};
+ghost use Rattle.pref_share.specs.Book.{IsPageOf, count_by, history_page, ops_of};
 ghost use Rattle.pref_share.specs.Openings.{IsLegalFrom, first_contents, contents_at, state_at};
 ghost use Rattle.pref_share.specs.Views.{stamped, HoldsHistory, Knows};
 
 use crate::book::BoardBrand;
-use crate::history::{History, Prefix};
+use crate::history::Prefix;
 use crate::page::Page;
 use crate::published::{
     GiveView, OpenStep, PublishStep, Published, Stamp, StoreReader, StoreWriter, TakeView,
@@ -33,17 +33,19 @@ use core::mem::replace_with;
 use pref_core::CoreFault;
 use pref_core::engine::{BoxedCall, BoxedOp, Index, Outcome, Planned, SlotList, Store};
 use std::alloc::{AllocError, Global};
-use std::marker::Model;
+use std::marker::{Model, PhantomData};
 use std::mem::ManuallyDrop;
 use std::sync::Wait;
 
 /// The whole history, the index of the published store, and the writer: the published store, which is what the history leaves, is the
 /// copy that the writer has published. Contracts see the history.
 pub(crate) struct Publisher<J: BoardBrand> {
-    history: History<J>,
+    // The page of the history: who has it alone may add to it, and only the calls of clients whose pages are lent.
+    page: Page,
     index: Index,
     // A lock may hold only what is dropped or needs no drop; `close` takes the writer out.
     writer: ManuallyDrop<StoreWriter>,
+    of: PhantomData<J>,
 }
 
 impl<J: BoardBrand> Model for Publisher<J> {
@@ -52,20 +54,21 @@ impl<J: BoardBrand> Model for Publisher<J> {
     ghost use Rattle.left_right.specs.Sides.{view as view_of};
     ghost use Rattle.pref_core.specs.declared.call.Op.{Op};
     ghost use Rattle.pref_core.specs.Indexes.{IsIndexOf};
+    ghost use Rattle.pref_share.specs.Book.{history_page, ops_of};
     ghost use Rattle.pref_share.specs.Openings.{IsLegalFrom, first_contents, contents_at};
     ghost use Rattle.pref_share.specs.Views.{HoldsHistory, Knows};
 
     ghost Value = { List Op };
 
-    ghost view = { λ m. m.history };
+    ghost view = { λ m. m.page.ops };
 
-    ghost invariant = { λ m. IsLegalFrom J.opening m.history × IsIndexOf (contents_at J.opening m.history) m.index × ((manually_drop_value m.writer).desk.shown.value.seen.log ≡ m.history) × HoldsHistory (first_contents J.opening) J.book (manually_drop_value m.writer).desk.shown.value × Knows (first_contents J.opening) J.book (view_of (manually_drop_value m.writer).desk.place) × (drop (manually_drop_value m.writer).behind (manually_drop_value m.writer).log.items ≡ []) };
+    ghost invariant = { λ m. (m.page.number ≡ history_page) × (m.page.book ≡ J.book) × IsLegalFrom J.opening m.page.ops × IsIndexOf (contents_at J.opening m.page.ops) m.index × (ops_of (manually_drop_value m.writer).desk.shown.value.seen.log ≡ m.page.ops) × HoldsHistory (first_contents J.opening) J.book (manually_drop_value m.writer).desk.shown.value × Knows (first_contents J.opening) J.book (view_of (manually_drop_value m.writer).desk.place) × (drop (manually_drop_value m.writer).behind (manually_drop_value m.writer).log.items ≡ []) };
 }
 
 /// Lets the writer know what the board opens with. What is pending changes nothing.
 fn open_with<R: Wait>(rt: &R, writer: StoreWriter) -> StoreWriter
     requires pending { fold stamped writer.desk.shown.value (drop writer.behind writer.log.items) ≡ writer.desk.shown.value }
-    requires empty { writer.desk.shown.value.seen.log ≡ [] }
+    requires empty { ops_of writer.desk.shown.value.seen.log ≡ [] }
     ensures knows { Knows writer.desk.shown.value.store writer.desk.shown.value.seen.book (view result.desk.place) }
     ensures shown { result.desk.shown.value ≡ writer.desk.shown.value }
     ensures pending { drop result.behind result.log.items ≡ [] }
@@ -113,6 +116,16 @@ fn published_store(writer: &StoreWriter) -> &Store
     &writer.published().store
 }
 
+/// The history that the published store represents.
+fn published_history<J: BoardBrand>(writer: &StoreWriter) -> Prefix<J>
+    requires stands { HoldsHistory (first_contents J.opening) J.book writer.now.desk.shown.value }
+    requires legal { IsLegalFrom J.opening (ops_of writer.now.desk.shown.value.seen.log) }
+    ensures { result ≡ ops_of writer.now.desk.shown.value.seen.log }
+{
+    let published = writer.published();
+    Prefix::of(published.len, &published.seen)
+}
+
 /// Publishes what is pending.
 fn publish<J: BoardBrand, R: Wait>(rt: &R, writer: StoreWriter) -> StoreWriter
     requires knows { Knows (first_contents J.opening) J.book (view writer.desk.place) }
@@ -147,12 +160,12 @@ impl<J: BoardBrand> Publisher<J> {
         rt: &R,
         alloc: Global,
         store: Store,
-        history: History<J>,
+        page: Page,
         readers: u8,
     ) -> Result<Publisher<J>, AllocError>
         requires opening { store ≡ first_contents J.opening }
         requires legal { IsLegalFrom J.opening [] }
-        requires history { history ≡ [] }
+        requires page { page ≡ record { number = history_page; ops = []; book = J.book } }
         requires readers { 0 < readers }
         ensures { IfOk result (λ m. m ≡ []) }
     {
@@ -160,7 +173,7 @@ impl<J: BoardBrand> Publisher<J> {
         let second = Published {
             store: store.copy(alloc)?,
             len: 0,
-            seen: history.whole().witness(),
+            seen: page.entries(),
         };
         let first = Published {
             store,
@@ -170,9 +183,10 @@ impl<J: BoardBrand> Publisher<J> {
         let writer = StoreWriter::new(alloc, first, second, readers as usize)?;
         match with_room(writer) {
             Ok(writer) => Ok(Publisher {
-                history,
+                page,
                 index,
                 writer: unsafe { ManuallyDrop::new_unchecked(open_with(rt, writer)) },
+                of: PhantomData,
             }),
             Err(writer) => {
                 drop(writer.take(rt));
@@ -194,7 +208,7 @@ impl<J: BoardBrand> Publisher<J> {
         ensures same { result ≡ self.now }
         ensures legal { IsLegalFrom J.opening self.now }
     {
-        self.history.whole()
+        published_history(&*self.writer)
     }
 
     /// Shows that a beginning that was seen on this board begins the history.
@@ -203,7 +217,7 @@ impl<J: BoardBrand> Publisher<J> {
         ensures begins { IsPrefix prefix.now self.old }
         ensures legal { IsLegalFrom J.opening self.old }
     {
-        self.history.check(prefix);
+        self.page.check(prefix.entries());
     }
 
     /// How many commits there were.
@@ -248,7 +262,7 @@ impl<J: BoardBrand> Publisher<J> {
             Err(fault) => return Err(fault),
         };
         store.reindex(alloc, &mut self.index, &op)?;
-        self.history.add(&op, page);
+        self.page.add(&op, page);
         let Planned {
             client,
             number,
@@ -256,7 +270,7 @@ impl<J: BoardBrand> Publisher<J> {
             outcome,
             call: _,
         } = op;
-        let seen = self.history.whole();
+        let len = self.writer.published().len + 1;
         let stamp = Stamp {
             op: BoxedOp {
                 client,
@@ -265,8 +279,8 @@ impl<J: BoardBrand> Publisher<J> {
                 slots,
                 outcome,
             },
-            len: seen.len(),
-            seen: seen.witness(),
+            len,
+            seen: self.page.entries(),
         };
         append(rt, &mut *self.writer, stamp);
         replace_with(
@@ -283,9 +297,10 @@ impl<J: BoardBrand> Publisher<J> {
     /// Readers take nothing from now on. Waits for those that are reading.
     pub(crate) fn close<R: Wait>(self, rt: &R) {
         let Publisher {
-            history: _history,
+            page: _page,
             index: _index,
             writer,
+            of: _,
         } = self;
         drop(ManuallyDrop::into_inner(writer).take(rt));
     }

@@ -1,15 +1,13 @@
 //! Act lists of clients, each on a thread of its own.
 
-ghost use Rattle.std.specs.Prelude.{◌≡◌, ◌⊎◌, ◌<◌, ◌^◌, ℕ, All, None, Ok, List, [], map, length, vec_len, slice_index_or, IfOk, IfErr};
-ghost use Rattle.std.specs.Global.{Vec as VecValue};
-ghost use Rattle.pref_core.specs.declared.event.Act.{Act as ActValue};
+ghost use Rattle.std.specs.Prelude.{◌≡◌, ◌⊎◌, ◌<◌, ◌^◌, ℕ, All, None, Some, Ok, [], map, length, vec_len, slice_index_or, IfOk, IfErr};
 ghost use Rattle.pref_core.specs.declared.fault.CoreFault.TheVariants.{OutOfMemory};
 ghost use Rattle.pref_share.specs.Openings.{IsLegalFrom};
 ghost use Rattle.pref_share.specs.Standing.{newcomers};
-ghost use Rattle.pref_share.specs.Runs.{IsJointRun};
+ghost use Rattle.pref_share.specs.Runs.{IsJointRun, StandsWithin};
 ghost use Rattle.pref_share.specs.Interleavings.{IsSequential};
-ghost use Rattle.pref_share.specs.Reports.{AreReports, RanTasks, RefusesRun, StandsWithin};
-ghost use Rattle.pref_share.specs.TaskResults.{AreWorked, DidTask, IsFirstOf, jobs_of, report_of};
+ghost use Rattle.pref_share.specs.Reports.{AreReports, RanTasks, RefusesRun, first_fault, reported_in};
+ghost use Rattle.pref_share.specs.TaskResults.{AreWorked, DidTask, jobs_of, report_of};
 
 use crate::board::Board;
 use crate::book::BoardBrand;
@@ -97,7 +95,7 @@ pub fn run_each<J: BoardBrand + Send + Sync, R: Threads + Wait + Sync, G: Gate +
     gate: &G,
 ) -> Result<Vec<Report<J>>, AllocError>
     requires { vec_len acts ≡ vec_len clients }
-    ensures { IfOk result (λ reports. AreReports J.opening (G.says gate.now) clients.items acts.items reports.items) }
+    ensures { IfOk result (λ reports. AreReports J.opening (G.says gate.now) clients.items (map (λ list. list.items) acts.items) (map reported_in reports.items)) }
 {
     let tasks = listed_tasks(alloc, acts)?;
     let worked = work_tasks(rt, alloc, board, clients, tasks, gate)?;
@@ -126,9 +124,9 @@ pub fn run_all<J: BoardBrand + Send + Sync, R: Threads + Wait + Sync, G: Gate + 
 ) -> Result<Vec<Vec<Reply>>, ShareFault>
     requires clients { clients.items ≡ newcomers J.opening.limits.clients }
     requires lists { vec_len acts ≡ vec_len clients }
-    ensures joint { IfOk result (λ replies. IsJointRun J.opening clients.items acts.items replies.items) }
-    ensures sequential { IfOk result (λ replies. IsSequential J.opening acts.items replies.items) }
-    ensures refused { IfErr result (RefusesRun J J.opening (G.says gate.now) clients.items acts.items) }
+    ensures joint { IfOk result (λ replies. IsJointRun J.opening clients.items (map (λ list. list.items) acts.items) (map (λ list. list.items) replies.items)) }
+    ensures sequential { IfOk result (λ replies. IsSequential J.opening (map (λ list. list.items) acts.items) (map (λ list. list.items) replies.items)) }
+    ensures refused { IfErr result (RefusesRun J.opening (G.says gate.now) clients.items (map (λ list. list.items) acts.items)) }
 {
     let tasks = listed_tasks(alloc, acts)?;
     let done = run_tasks(rt, alloc, board, clients, tasks, gate)?;
@@ -161,8 +159,8 @@ pub fn run_tasks<
     requires lists { vec_len tasks ≡ vec_len clients }
     requires fresh { All (λ task. T.took task task []) tasks.items }
     requires few { All (λ task. length (T.left task) < 2 ^ 63) tasks.items }
-    ensures ran { IfOk result (λ done. (acts : List (VecValue ActValue)) → map (λ list. list.items) acts ≡ map T.left tasks.items → RanTasks J.opening T.took acts tasks.items done.items) }
-    ensures refused { IfErr result (λ fault. (acts : List (VecValue ActValue)) → map (λ list. list.items) acts ≡ map T.left tasks.items → RefusesRun J J.opening (G.says gate.now) clients.items acts fault) }
+    ensures ran { IfOk result (λ done. RanTasks J.opening T.took (map T.left tasks.items) tasks.items done.items) }
+    ensures refused { IfErr result (RefusesRun J.opening (G.says gate.now) clients.items (map T.left tasks.items)) }
 {
     let worked = work_tasks(rt, alloc, board, clients, tasks, gate)?;
     let done = tasks_of(alloc, worked)?;
@@ -324,7 +322,7 @@ fn work_tasks<
 /// Shows of each client that the whole history goes on with what it has seen, and holds just the calls that it made.
 fn check_each<J: BoardBrand, T: Drop>(publisher: &mut Publisher<J>, all: &mut [Worked<J, T>])
     ensures same { (publisher.new ≡ publisher.old) × (all.new ≡ all.old) }
-    ensures within { (i : ℕ) (d : _) → i < length all.old → StandsWithin J.opening publisher.old (slice_index_or all.old i d).client }
+    ensures within { All (λ worked. StandsWithin J.opening publisher.old worked.client) all.old }
 {
     for worked in all.iter_mut() {
         worked.client.check(publisher);
@@ -339,7 +337,7 @@ fn check_all<J: BoardBrand, R: Wait, T: Drop>(
 ) -> Prefix<J>
     ensures legal { IsLegalFrom J.opening result }
     ensures same { all.new ≡ all.old }
-    ensures within { (i : ℕ) (d : _) → i < length all.old → StandsWithin J.opening result (slice_index_or all.old i d).client }
+    ensures within { All (λ worked. StandsWithin J.opening result worked.client) all.old }
 {
     let mut guard = board.publisher.lock(rt);
     let publisher = &mut *guard;
@@ -376,8 +374,8 @@ fn tasks_of<J: BoardBrand, T: Task + Drop>(
     all: Vec<Worked<J, T>>,
 ) -> Result<Vec<T>, ShareFault>
     ensures all { IfOk result (λ tasks. tasks.items ≡ map (λ worked. worked.task) all.items) }
-    ensures done { IfOk result (λ _. All (λ worked. worked.stopped ≡ None) all.items) }
-    ensures first { IfErr result (λ fault. IsFirstOf all.items fault ⊎ (fault ≡ ShareFault.Core OutOfMemory)) }
+    ensures done { IfOk result (λ _. first_fault (map (λ worked. worked.stopped) all.items) ≡ None) }
+    ensures first { IfErr result (λ fault. (first_fault (map (λ worked. worked.stopped) all.items) ≡ Some fault) ⊎ (fault ≡ ShareFault.Core OutOfMemory)) }
 {
     let mut tasks = Vec::new(alloc);
     for worked in all {

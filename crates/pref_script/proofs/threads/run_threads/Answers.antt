@@ -20,15 +20,15 @@ joint_parts-requires-clause-few g c κs within =
 
 pub unowned_text-requires-clause-none : goal.unowned_text-requires-clause-none
 unowned_text-requires-clause-none g c = λ given whole.
-    prints-none c.args.setup (g.G.Gate.says c.args.gate.now) c.args.bytes.now c.in_ok-sections.sections c.in_ok-sections.ensures.sections _ _ c.in_ok-schema.ensures c.in_ok-parts.parts (c.in_ok-parts.ensures.count ∙ c.clients.ensures.value) c.in_ok-parts.ensures.parts c.in_ok-sections.ensures.few (omega arith)
-    _ _ _ (rw c.clients.ensures.value at c.in_ok-parts.ensures.given given) c.in_ok-done.ensures.ran c.as_slice-2.ensures.value whole
+    prints-none c.args.setup (g.G.Gate.says c.args.gate.now) c.args.bytes.now c.in_ok-sections.sections c.in_ok-sections.ensures.sections _ _ c.in_ok-schema.ensures c.in_ok-parts.parts.items (c.in_ok-parts.ensures.count ∙ c.clients.ensures.value) c.in_ok-parts.ensures.parts
+    _ _ _ _ (rw c.clients.ensures.value at c.in_ok-parts.ensures.given given) c.in_ok-done.ensures.ran c.as_slice-2.ensures.value whole
 
 pub returns-in_err-done : goal.returns-in_err-done
 returns-in_err-done g c =
-    rw (exits c.from_residual-in_err-done.result c.from_residual-in_err-done.ensures.1) (prints-refused c.args.setup (g.G.Gate.says c.args.gate.now) c.args.bytes.now c.in_ok-sections.sections c.in_ok-sections.ensures.sections _ _ c.in_ok-schema.ensures c.in_ok-parts.parts (c.in_ok-parts.ensures.count ∙ c.clients.ensures.value) c.in_ok-parts.ensures.parts c.in_ok-sections.ensures.few (omega arith)
+    rw (exits c.from_residual-in_err-done.result c.from_residual-in_err-done.ensures.1) (prints-refused c.args.setup (g.G.Gate.says c.args.gate.now) c.args.bytes.now c.in_ok-sections.sections c.in_ok-sections.ensures.sections _ _ c.in_ok-schema.ensures c.in_ok-parts.parts.items (c.in_ok-parts.ensures.count ∙ c.clients.ensures.value) c.in_ok-parts.ensures.parts
     _ c.in_err-done.field-0.0 c.as_slice.ensures.value c.in_err-done.ensures.stops)
 
 pub returns : goal.returns
 returns g c =
-    prints-joint c.args.setup (g.G.Gate.says c.args.gate.now) c.args.bytes.now c.in_ok-sections.sections c.in_ok-sections.ensures.sections _ _ c.in_ok-schema.ensures c.in_ok-parts.parts (c.in_ok-parts.ensures.count ∙ c.clients.ensures.value) c.in_ok-parts.ensures.parts c.in_ok-sections.ensures.few (omega arith)
+    prints-joint c.args.setup (g.G.Gate.says c.args.gate.now) c.args.bytes.now c.in_ok-sections.sections c.in_ok-sections.ensures.sections _ _ c.in_ok-schema.ensures c.in_ok-parts.parts.items (c.in_ok-parts.ensures.count ∙ c.clients.ensures.value) c.in_ok-parts.ensures.parts
     _ _ _ _ _ _ c.as_slice.ensures.value c.in_ok-done.ensures.room c.in_ok-done.ensures.ran c.in_ok-out.ensures.returned c.as_slice-2.ensures.value c.in_ok-push_parts.ensures c.as_slice-3.ensures.value

@@ -8,4 +8,5 @@ work_tasks-requires-send-T g c κs within = search (sendable, listed_send)
 
 pub returns : goal.returns
 returns g c =
-    reports_of_lists g.J.BoardBrand.opening (g.G.Gate.says c.args.gate.now) (λ listed. into_iter_items listed.acts) c.args.clients.items c.args.acts.items c.in_ok-tasks.tasks.items c.in_ok-worked.worked.items c.in_ok-reports.reports.items c.in_ok-tasks.ensures.acts c.in_ok-reports.ensures c.in_ok-worked.ensures
+    let done = c.in_ok-worked.ensures in
+    rw (← c.in_ok-tasks.ensures.acts, c.in_ok-reports.ensures) (record { history = done.history; legal = done.legal; each = reports_of_lists g.J.BoardBrand.opening (g.G.Gate.says c.args.gate.now) done.history (λ listed. into_iter_items listed.acts) _ _ _ done.each })

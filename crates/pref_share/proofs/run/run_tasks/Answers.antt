@@ -1,24 +1,25 @@
-use Rattle.pref_share.proofs.Common.{length-map, ◌≡◌, ◌∙◌, ℕ, Bool, List, Err, IfErr, ⊎_elim, ap, arith, inl, inr, length, map, rules, subst, sym, Vec, Act, OutOfMemory, ShareFault, Core, RefusesRun, IsJointRun}
-use Rattle.pref_share.proofs.Common.{IsFirstOf, Standing}
+use Rattle.pref_share.proofs.Common.{◌≡◌, ◌∙◌, List, None, ap, inl, inr, map, subst, ⊎_elim, Core, IsJointRun, OutOfMemory, Some, Standing, first_fault}
 use Rattle.pref_share.proofs.ExitLaws.{exits}
-use Rattle.pref_share.proofs.InterleavingsLaws.{joint_runs_are_sequential, length-newcomers}
-use Rattle.pref_share.proofs.ReportsLaws.{tasks_joint, tasks_refused}
+use Rattle.pref_share.proofs.InterleavingsLaws.{joint_runs_are_sequential}
+use Rattle.pref_share.proofs.ReportsLaws.{parts, reports_of_tasks}
 use Rattle.pref_share.proofs.run.run_tasks.Goals as goal
 
 pub returns-clause-ran : goal.returns-clause-ran
-returns-clause-ran g c = λ acts listed.
+returns-clause-ran g c =
     let o = g.J.BoardBrand.opening in
-    let says : ℕ → ℕ → Bool → Type 0 = g.G.Gate.says c.args.gate.now in
-    let clients = c.args.clients.items in
-    let many : length acts ≡ length clients =
-    omega (arith, ap length listed, length-map acts (λ (list : Vec Act). list.items), length-map c.args.tasks.items g.T.Task.left, c.requires.lists, c.args.tasks.ok.0, c.args.clients.ok.0) in
-    let (replies, taken, run) =
-    tasks_joint o says g.T.Task.left g.T.Task.took clients acts c.args.tasks.items c.in_ok-worked.worked.items c.args.clients listed c.in_ok-worked.ensures c.in_ok-done.done.items c.in_ok-done.ensures.all c.in_ok-done.ensures.done in
-    let joint = subst (λ (l : List Standing). IsJointRun o l acts replies) c.requires.clients run in
-    record { replies = replies; taken = taken; joint = joint; sequential = joint_runs_are_sequential o acts replies (many ∙ ap length c.requires.clients ∙ length-newcomers o.limits.clients) joint }
+    let all = c.in_ok-worked.ensures in
+    let acts = map g.T.Task.left c.args.tasks.items in
+    let (reports, taken, each, stopped) = reports_of_tasks o (g.G.Gate.says c.args.gate.now) all.history g.T.Task.left g.T.Task.took _ _ _ all.each in
+    let joint : IsJointRun o c.args.clients.items acts (map (λ report. report.replies) reports) =
+    record { history = all.history; legal = all.legal; each = parts o (g.G.Gate.says c.args.gate.now) all.history _ _ reports each (ap first_fault stopped ∙ c.in_ok-done.ensures.done) } in
+    let run = subst (λ (l : List Standing). IsJointRun o l acts (map (λ report. report.replies) reports)) c.requires.clients joint in
+    rw c.in_ok-done.ensures.all (record { replies = map (λ report. report.replies) reports; taken = taken; joint = run; sequential = joint_runs_are_sequential o _ _ run })
 
 pub returns-in_err-done-clause-refused : goal.returns-in_err-done-clause-refused
 returns-in_err-done-clause-refused g c =
-    rw (exits c.from_residual-in_err-done.result c.from_residual-in_err-done.ensures.1) (λ acts listed.
-    ⊎_elim (λ (first : IsFirstOf c.in_ok-worked.worked.items c.in_err-done.field-0.0). inr (tasks_refused g.J.BoardBrand.opening (g.G.Gate.says c.args.gate.now) g.T.Task.left g.T.Task.took c.args.clients.items acts c.args.tasks.items c.in_ok-worked.worked.items c.args.clients listed c.in_ok-worked.ensures c.in_err-done.field-0.0 first))
-    (λ (memory : c.in_err-done.field-0.0 ≡ Core OutOfMemory). inl memory) c.in_err-done.ensures.first)
+    let all = c.in_ok-worked.ensures in
+    let fault = c.in_err-done.field-0.0 in
+    let (reports, taken, each, stopped) = reports_of_tasks g.J.BoardBrand.opening (g.G.Gate.says c.args.gate.now) all.history g.T.Task.left g.T.Task.took _ _ _ all.each in
+    rw (exits c.from_residual-in_err-done.result c.from_residual-in_err-done.ensures.1)
+    (⊎_elim (λ (first : first_fault (map (λ worked. worked.stopped) c.in_ok-worked.worked.items) ≡ Some fault). inr (reports, record { history = all.history; legal = all.legal; each = each }, ap first_fault stopped ∙ first))
+    (λ (memory : fault ≡ Core OutOfMemory). inl memory) c.in_err-done.ensures.first)

@@ -10,37 +10,28 @@ use Rattle.pref_share.proofs.page.Page.check.Goals as goal
 pub compare_exchange-found-requires : goal.compare_exchange-found-requires
 compare_exchange-found-requires c =
     let h = c.self.invariant.0 in
-    let book = c.teach.ensures.book ∙ ap (λ s. s.book) c.again-seen.ensures in
+    let book = c.learn.ensures.0 ∙ ap (λ s. s.book) c.again-seen.ensures in
     let offer = c.plain-offer.ensures in (
       ap (λ w. w.tracked) h,
       book ∙ sym (ap (λ w. w.book) h),
       c.self.invariant.2 ∙ sym (ap (λ w. w.book) h),
       offer.0,
-      rw (offer.3) (whole_moves c.teach.new.seen.log c.self.inside.pen.nib c.plain-offer.result.ask c.self.inside.word.key c.self.invariant.1 c.self.invariant.3),
+      rw (offer.3) (whole_moves c.learn.new.self.log c.self.inside.pen.nib c.plain-offer.result.ask c.self.inside.word.key c.self.invariant.1 c.self.invariant.3),
     )
 
 pub returns-clause-begins : goal.returns-clause-begins
 returns-clause-begins c =
     let e = c.compare_exchange-found.ensures in
-    let key = c.self.inside.word.key in
-    let mine = c.self.inside.seen.log in
     let w = c.compare_exchange-found.new.seen.log in
-    let (log, pre, is) = c.teach.ensures.returned in
-    let begins : IsPrefix mine c.teach.new.seen.log = subst (λ s. IsPrefix s c.teach.new.seen.log) (ap (λ s. s.log) c.again-seen.ensures) c.teach.ensures.more in
-    let whole : ops_on key w ≡ ops_on key mine = e.7.2 mine begins c.self.invariant.4 in
+    let own = subst (λ s. IsPrefix s c.learn.new.self.log) (ap (λ s. s.log) c.again-seen.ensures) c.learn.ensures.2 in
     rw (← c.self.view_is)
-    (λ none.
-    subst (λ (l : List Op). IsPrefix l (ops_on key mine)) is
-    (subst (λ (l : List Op). IsPrefix (ops_of log) l) (ap (λ k. ops_on k w) (sym none) ∙ whole) (ops_prefix 0 log w (prefix_trans log c.teach.new.seen.log w pre e.6))))
+    (λ none. subst (λ (l : List Op). IsPrefix (ops_of c.args.reached.now.log) l) (ap (λ k. ops_on k w) (sym none) ∙ e.7.2 c.self.inside.seen.log own c.self.invariant.4) (ops_prefix 0 _ w (prefix_trans _ _ w c.learn.ensures.3 e.6)))
 
 pub returns-clause-few : goal.returns-clause-few
 returns-clause-few c =
     let e = c.compare_exchange-found.ensures in
-    let key = c.self.inside.word.key in
-    let mine = c.self.inside.seen.log in
     let w = c.compare_exchange-found.new.seen.log in
-    let (log, pre, is) = c.teach.ensures.returned in
-    let begins : IsPrefix mine c.teach.new.seen.log = subst (λ s. IsPrefix s c.teach.new.seen.log) (ap (λ s. s.log) c.again-seen.ensures) c.teach.ensures.more in
-    let whole : ops_on key w ≡ ops_on key mine = e.7.2 mine begins c.self.invariant.4 in
-    let counted = count_prefix key (ops_of log) (ops_of w) (ops_prefix 0 log w (prefix_trans log c.teach.new.seen.log w pre e.6)) in
-    rw (← c.self.view_is) (λ some. omega (arith, e.7.1 key some, counted, ap (count_by key) is, ap length whole))
+    let key = c.self.inside.word.key in
+    let own = subst (λ s. IsPrefix s c.learn.new.self.log) (ap (λ s. s.log) c.again-seen.ensures) c.learn.ensures.2 in
+    let counted = count_prefix key (ops_of c.args.reached.now.log) (ops_of w) (ops_prefix 0 _ w (prefix_trans _ _ w c.learn.ensures.3 e.6)) in
+    rw (← c.self.view_is) (λ some. omega (arith, e.7.1 key some, counted, ap length (e.7.2 c.self.inside.seen.log own c.self.invariant.4)))

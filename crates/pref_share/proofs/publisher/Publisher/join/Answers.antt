@@ -1,12 +1,14 @@
 use Rattle.pref_share.proofs.Common.{nat_lt, Some, true, ◌⊎◌, inl, ◌≡◌, ◌∷◌, List, [], length, drop, fold, sym, subst, ◌∙◌, ap, refl, manually_drop_value, Op, op_of, added, refusal, applied, Contents}
 use Rattle.pref_share.proofs.Common.{first_contents, MayFollow, contents_at, state_at, Published, stamped, HoldsHistory}
-use Rattle.pref_share.proofs.Common.{IsAppended, OutOfMemory, Bool, ℕ, Option, None, cond, arith, inr, is_change, missing, ended, begins_row, ◌&&◌, outcome, Added, Done, NoRow, NoRoom}
+use Rattle.pref_share.proofs.Common.{IsAppended, OutOfMemory, length-append, ◌+◌, Bool, ℕ, Option, None, cond, arith, inr, is_change, missing, ended, begins_row, ◌&&◌, outcome, Added, Done, NoRow, NoRoom}
 use Rattle.pref_core.specs.State.{needed_after}
 use Rattle.pref_core.specs.declared.call.Outcome.{Outcome}
 use Rattle.pref_core.specs.Planned.{boxed_op}
 use Rattle.pref_core.specs.Indexes.{IsIndexOf, adds}
 use Rattle.pref_share.specs.declared.published.Stamp.{Stamp}
-use Rattle.pref_share.proofs.HistoryLaws.{ran-append, planned, unplanned}
+use Rattle.pref_share.specs.Book.{ops_of, ops_on}
+use Rattle.pref_share.proofs.CallCounts.{few_ops}
+use Rattle.pref_share.proofs.HistoryLaws.{legal-more, legal_is_history, ran-append, planned, unplanned}
 use Rattle.pref_share.proofs.ViewsLaws.{published_left, published_next}
 use Rattle.std.proofs.lemmas.Result.{IfOk-from_err, err_from_is_err_and}
 use Rattle.pref_share.proofs.publisher.Publisher.join.Given.{Over}
@@ -14,14 +16,14 @@ use Rattle.pref_share.proofs.publisher.Publisher.join.Goals.{After-published_sto
 use Rattle.pref_share.proofs.publisher.Publisher.join.Goals as goal
 
 -- the published store is what the history leaves
-store_left : (g : Over) (c : After-published_store-store g) → c.published_store-store.result.now ≡ contents_at g.J.BoardBrand.opening c.self.inside.history
-store_left g c = rw (c.published_store-store.ensures, c.deref.ensures) (published_left g.J.BoardBrand.opening g.J.BoardBrand.book (manually_drop_value c.self.inside.writer).desk.shown.value c.self.inside.history c.self.invariant.3 c.self.invariant.2)
+store_left : (g : Over) (c : After-published_store-store g) → c.published_store-store.result.now ≡ contents_at g.J.BoardBrand.opening c.self.inside.page.ops
+store_left g c = rw (c.published_store-store.ensures, c.deref.ensures) (published_left g.J.BoardBrand.opening g.J.BoardBrand.book (manually_drop_value c.self.inside.writer).desk.shown.value c.self.inside.page.ops c.self.invariant.5 c.self.invariant.4)
 
 -- what was planned is the call of the arguments, and may follow the history
-plan : (g : Over) (c : In-Ok g) → c.published_store-store.result.now ≡ contents_at g.J.BoardBrand.opening c.self.inside.history
-    → (c.in-Ok.op.client ≡ c.args.client) × (c.in-Ok.op.call.now ≡ c.args.call) × MayFollow g.J.BoardBrand.opening c.self.inside.history (op_of c.in-Ok.op)
+plan : (g : Over) (c : In-Ok g) → c.published_store-store.result.now ≡ contents_at g.J.BoardBrand.opening c.self.inside.page.ops
+    → (c.in-Ok.op.client ≡ c.args.client) × (c.in-Ok.op.call.now ≡ c.args.call) × MayFollow g.J.BoardBrand.opening c.self.inside.page.ops (op_of c.in-Ok.op)
 plan g c left =
-    let (by, what, may) = planned g.J.BoardBrand.opening c.self.inside.history c.published_store-store.result.now c.args.client c.lend-lent.result (op_of c.in-Ok.op) c.self.invariant.0 left c.in-Ok.ensures.state in
+    let (by, what, may) = planned g.J.BoardBrand.opening c.self.inside.page.ops c.published_store-store.result.now c.args.client c.lend-lent.result (op_of c.in-Ok.op) c.self.invariant.2 left c.in-Ok.ensures.state in
     (by, what ∙ c.lend-lent.ensures, may)
 
 -- a call whose outcome is that it added a row adds one
@@ -40,26 +42,25 @@ returns-in-Err-clause-refused g c =
     let o = g.J.BoardBrand.opening in
     let left = store_left g (goal.at.returns-in-Err-clause-refused g c).After-published_store-store in
     subst (λ (l : List Op). (refusal (state_at o l) c.args.client c.args.call ≡ Some c.in-Err.fault) ⊎ ((c.in-Err.fault ≡ OutOfMemory) × (nat_lt 0 (added c.args.call) ≡ true))) c.self.view_is
-    (inl (ap (refusal (state_at o c.self.inside.history) c.args.client) (sym c.lend-lent.ensures) ∙ unplanned o c.self.inside.history c.published_store-store.result.now c.args.client c.lend-lent.result c.in-Err.fault c.self.invariant.0 left c.in-Err.ensures.state))
+    (inl (ap (refusal (state_at o c.self.inside.page.ops) c.args.client) (sym c.lend-lent.ensures) ∙ unplanned o c.self.inside.page.ops c.published_store-store.result.now c.args.client c.lend-lent.result c.in-Err.fault c.self.invariant.2 left c.in-Err.ensures.state))
 
 pub invariant_of-self : goal.invariant_of-self
 invariant_of-self g c =
     let left = store_left g (goal.at.invariant_of-self g c).After-published_store-store in (
       c.self.invariant.0,
-      subst (λ (s : Contents). IsIndexOf s c.reindex.new.index) left c.in_err-reindex.ensures.same,
+      c.self.invariant.1,
       c.self.invariant.2,
-      c.self.invariant.3,
+      subst (λ (s : Contents). IsIndexOf s c.reindex.new.index) left c.in_err-reindex.ensures.same,
       c.self.invariant.4,
       c.self.invariant.5,
+      c.self.invariant.6,
+      c.self.invariant.7,
     )
-
-pub add-requires-clause-follows : goal.add-requires-clause-follows
-add-requires-clause-follows g c = (plan g (goal.at.add-requires-clause-follows g c).In-Ok (store_left g (goal.at.add-requires-clause-follows g c).After-published_store-store)).2
 
 pub add-requires-clause-page : goal.add-requires-clause-page
 add-requires-clause-page g c =
     let by = (plan g (goal.at.add-requires-clause-page g c).In-Ok (store_left g (goal.at.add-requires-clause-page g c).After-published_store-store)).0 in
-    rw by c.requires.page
+    rw (by, c.self.invariant.1) c.requires.page
 
 pub add-requires-clause-few : goal.add-requires-clause-few
 add-requires-clause-few g c =
@@ -69,20 +70,21 @@ add-requires-clause-few g c =
 pub returns-clause-page : goal.returns-clause-page
 returns-clause-page g c =
     let by = (plan g (goal.at.returns-clause-page g c).In-Ok (store_left g (goal.at.returns-clause-page g c).After-published_store-store)).0 in
-    rw (← by) c.add.ensures.page
+    rw (← by, ← c.self.invariant.1) c.add.ensures.page
 
 pub replace_with-requires : goal.replace_with-requires
 replace_with-requires g c =
     let o = g.J.BoardBrand.opening in
     let x = (manually_drop_value c.self.inside.writer).desk.shown.value in
     let op = c.in-Ok.op in
-    let stamp : Stamp = record { op = record { client = op.client; number = op.number; call = c.args.call; slots = op.slots; outcome = op.outcome }; len = c.len.result; seen = c.witness.result } in
+    let stamp : Stamp = record { op = record { client = op.client; number = op.number; call = c.args.call; slots = op.slots; outcome = op.outcome }; len = c.published.result.now.len + 1; seen = c.entries.result } in
     let plan = plan g (goal.at.replace_with-requires g c).In-Ok (store_left g (goal.at.replace_with-requires g c).After-published_store-store) in
     let boxed : op_of op ≡ boxed_op stamp.op = λ i. record { client = op.client; number = op.number; call = plan.1 i; slots = op.slots; outcome = op.outcome } in
-    let log : stamp.seen.log ≡ c.add.new.self = c.witness.ensures.log ∙ c.whole-seen.ensures.same in
+    let log : ops_of stamp.seen.log ≡ c.add.new.self.ops = ap (λ n. ops_on n c.entries.result.log) (sym (c.add.ensures.same.0 ∙ c.self.invariant.0)) ∙ c.entries.ensures.all in
+    let len : stamp.len ≡ length (ops_of stamp.seen.log) = omega (arith, ap (λ (p : Published). p.len) (c.published.ensures ∙ ap (λ w. w.desk.shown.value) c.deref-2.ensures), c.self.invariant.5.len, ap length c.self.invariant.4, ap length log, ap length c.add.ensures.added, length-append c.self.inside.page.ops (op_of op ∷ [])) in
     let stands : HoldsHistory (first_contents o) g.J.BoardBrand.book (stamped x stamp) =
-    published_next o g.J.BoardBrand.book x stamp (op_of op) c.self.inside.history boxed c.self.invariant.0 c.self.invariant.2 c.self.invariant.3 plan.2 (log ∙ c.add.ensures.added) (c.len.ensures.length ∙ ap length (sym c.witness.ensures.log)) c.witness.ensures.book in
-    rw (c.deref_mut-2.ensures.value, c.append.ensures.desk, c.append.ensures.pending, c.deref_mut.ensures.value, c.self.invariant.5) (c.self.invariant.4, stands)
+    published_next o g.J.BoardBrand.book x stamp (op_of op) c.self.inside.page.ops boxed c.self.invariant.2 c.self.invariant.4 c.self.invariant.5 plan.2 (log ∙ c.add.ensures.added) len (c.entries.ensures.book ∙ c.add.ensures.same.1 ∙ c.self.invariant.1) in
+    rw (c.deref_mut-2.ensures.value, c.append.ensures.desk, c.append.ensures.pending, c.deref_mut.ensures.value, c.self.invariant.7) (c.self.invariant.6, stands)
 
 pub invariant_of-self-2 : goal.invariant_of-self-2
 invariant_of-self-2 g c =
@@ -90,22 +92,25 @@ invariant_of-self-2 g c =
     let left = store_left g (goal.at.invariant_of-self-2 g c).After-published_store-store in
     let x = (manually_drop_value c.self.inside.writer).desk.shown.value in
     let op = c.in-Ok.op in
-    let stamp : Stamp = record { op = record { client = op.client; number = op.number; call = c.args.call; slots = op.slots; outcome = op.outcome }; len = c.len.result; seen = c.witness.result } in
+    let stamp : Stamp = record { op = record { client = op.client; number = op.number; call = c.args.call; slots = op.slots; outcome = op.outcome }; len = c.published.result.now.len + 1; seen = c.entries.result } in
     let plan = plan g (goal.at.invariant_of-self-2 g c).In-Ok left in
     let boxed : op_of op ≡ boxed_op stamp.op = λ i. record { client = op.client; number = op.number; call = plan.1 i; slots = op.slots; outcome = op.outcome } in
-    let log : stamp.seen.log ≡ c.add.new.self = c.witness.ensures.log ∙ c.whole-seen.ensures.same in
+    let log : ops_of stamp.seen.log ≡ c.add.new.self.ops = ap (λ n. ops_on n c.entries.result.log) (sym (c.add.ensures.same.0 ∙ c.self.invariant.0)) ∙ c.entries.ensures.all in
+    let len : stamp.len ≡ length (ops_of stamp.seen.log) = omega (arith, ap (λ (p : Published). p.len) (c.published.ensures ∙ ap (λ w. w.desk.shown.value) c.deref-2.ensures), c.self.invariant.5.len, ap length c.self.invariant.4, ap length log, ap length c.add.ensures.added, length-append c.self.inside.page.ops (op_of op ∷ [])) in
     let stands : HoldsHistory (first_contents o) g.J.BoardBrand.book (stamped x stamp) =
-    published_next o g.J.BoardBrand.book x stamp (op_of op) c.self.inside.history boxed c.self.invariant.0 c.self.invariant.2 c.self.invariant.3 plan.2 (log ∙ c.add.ensures.added) (c.len.ensures.length ∙ ap length (sym c.witness.ensures.log)) c.witness.ensures.book in
+    published_next o g.J.BoardBrand.book x stamp (op_of op) c.self.inside.page.ops boxed c.self.invariant.2 c.self.invariant.4 c.self.invariant.5 plan.2 (log ∙ c.add.ensures.added) len (c.entries.ensures.book ∙ c.add.ensures.same.1 ∙ c.self.invariant.1) in
     let folded : fold stamped c.deref_mut-2.result.now.desk.shown.value (drop c.deref_mut-2.result.now.behind c.deref_mut-2.result.now.log.items) ≡ stamped x stamp =
-    rw (c.deref_mut-2.ensures.value, c.append.ensures.desk, c.append.ensures.pending, c.deref_mut.ensures.value, c.self.invariant.5) refl in
+    rw (c.deref_mut-2.ensures.value, c.append.ensures.desk, c.append.ensures.pending, c.deref_mut.ensures.value, c.self.invariant.7) refl in
     let shown : c.replace_with.new.dest.desk.shown.value ≡ stamped x stamp = c.replace_with.ensures.1 ∙ folded in
-    let store : applied c.published_store-store.result.now (op_of op) ≡ contents_at o c.add.new.self =
-    ap (λ (s : Contents). applied s (op_of op)) left ∙ sym (ran-append (first_contents o) c.self.inside.history (op_of op ∷ [])) ∙ ap (contents_at o) (sym c.add.ensures.added) in (
-      c.whole-seen.ensures.legal,
+    let store : applied c.published_store-store.result.now (op_of op) ≡ contents_at o c.add.new.self.ops =
+    ap (λ (s : Contents). applied s (op_of op)) left ∙ sym (ran-append (first_contents o) c.self.inside.page.ops (op_of op ∷ [])) ∙ ap (contents_at o) (sym c.add.ensures.added) in (
+      c.add.ensures.same.0 ∙ c.self.invariant.0,
+      c.add.ensures.same.1 ∙ c.self.invariant.1,
+      rw c.add.ensures.added (legal-more o c.self.inside.page.ops (op_of op) c.self.invariant.2 plan.2),
       subst (λ (s : Contents). IsIndexOf s c.reindex.new.index) store c.in_ok-reindex.ensures.after,
-      ap (λ (p : Published). p.seen.log) shown ∙ log,
+      ap (λ (p : Published). ops_of p.seen.log) shown ∙ log,
       subst (HoldsHistory (first_contents o) g.J.BoardBrand.book) (sym shown) stands,
-      rw (c.replace_with.ensures.0, c.deref_mut-2.ensures.value, c.append.ensures.desk, c.deref_mut.ensures.value) c.self.invariant.4,
+      rw (c.replace_with.ensures.0, c.deref_mut-2.ensures.value, c.append.ensures.desk, c.deref_mut.ensures.value) c.self.invariant.6,
       c.replace_with.ensures.2,
     )
 
@@ -113,25 +118,25 @@ pub returns-clause-joined : goal.returns-clause-joined
 returns-clause-joined g c =
     let o = g.J.BoardBrand.opening in
     let plan = plan g (goal.at.returns-clause-joined g c).In-Ok (store_left g (goal.at.returns-clause-joined g c).After-published_store-store) in
-    subst (λ (l : List Op). IsAppended o l c.args.client c.args.call c.in-Ok.op.outcome c.add.new.self) c.self.view_is
+    subst (λ (l : List Op). IsAppended o l c.args.client c.args.call c.in-Ok.op.outcome c.add.new.self.ops) c.self.view_is
     (record { op = op_of c.in-Ok.op; by = plan.0; what = plan.1; outcome = refl; may = plan.2; ends = c.add.ensures.added })
 
 pub look_up-requires : goal.look_up-requires
 look_up-requires g c =
     let left = store_left g (goal.at.look_up-requires g c).After-published_store-store in
-    subst (λ (s : Contents). IsIndexOf s c.self.inside.index) (sym left) c.self.invariant.1
+    subst (λ (s : Contents). IsIndexOf s c.self.inside.index) (sym left) c.self.invariant.3
 
 pub reindex-requires-clause-index : goal.reindex-requires-clause-index
 reindex-requires-clause-index g c =
     let left = store_left g (goal.at.reindex-requires-clause-index g c).After-published_store-store in
-    subst (λ (s : Contents). IsIndexOf s c.self.inside.index) (sym left) c.self.invariant.1
+    subst (λ (s : Contents). IsIndexOf s c.self.inside.index) (sym left) c.self.invariant.3
 
 pub returns-in_err-reindex-clause-refused : goal.returns-in_err-reindex-clause-refused
 returns-in_err-reindex-clause-refused g c =
     let o = g.J.BoardBrand.opening in
     let plan = plan g (goal.at.returns-in_err-reindex-clause-refused g c).In-Ok (store_left g (goal.at.returns-in_err-reindex-clause-refused g c).After-published_store-store) in
-    let state = state_at o c.self.inside.history in
-    let capacity = length (contents_at o c.self.inside.history).slots in
+    let state = state_at o c.self.inside.page.ops in
+    let capacity = length (contents_at o c.self.inside.page.ops).slots in
     let call = c.args.call in
     let is : c.in-Ok.op.outcome ≡ outcome capacity state call = plan.2.next.outcome ∙ ap (outcome capacity state) plan.1 in
     let some = adds_rows (is_change call) (missing (ended call) state.table) (begins_row call && nat_lt capacity (needed_after state call)) (nat_lt 0 (added call)) (needed_after state call) state.next_id (ap adds (sym is) ∙ c.in_err-reindex.ensures.refused) in
@@ -140,3 +145,10 @@ returns-in_err-reindex-clause-refused g c =
 
 pub returns-in_err-reindex-clause-joined : goal.returns-in_err-reindex-clause-joined
 returns-in_err-reindex-clause-joined g c = IfOk-from_err c.from_residual.result _ c.from_residual.ensures.0
+
+pub overflow_add-len : goal.overflow_add-len
+overflow_add-len g c =
+    let o = g.J.BoardBrand.opening in
+    let legal = c.self.invariant.2 in
+    let few = few_ops o.limits.capacity o.limits.clients _ c.self.inside.page.ops refl legal.allowed.clients.1 (legal_is_history o c.self.inside.page.ops legal) in
+    omega (arith, few, ap (λ (p : Published). p.len) (c.published.ensures ∙ ap (λ w. w.desk.shown.value) c.deref-2.ensures), c.self.invariant.5.len, ap length c.self.invariant.4)
