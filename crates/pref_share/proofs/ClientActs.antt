@@ -1,9 +1,8 @@
 -- The parts of all clients in a history, and the last act of each.
-use Rattle.pref_share.proofs.Common.{◌≡◌, ◌==◌, ℕ, suc, ◌<◌, ◌≤◌, cond, List, [], ◌∷◌, ◌++◌, length, Some, refl, sym, ap, ◌∙◌, subst, arith, ◌⊎◌, inl, inr, eq-eqb, ne_eqb}
+use Rattle.pref_share.proofs.Common.{◌≡◌, ◌==◌, ℕ, ◌<◌, cond, List, [], ◌∷◌, ◌++◌, length, Some, refl, sym, ap, ◌∙◌, subst, arith, ◌⊎◌, inl, inr, eq-eqb, ne_eqb}
 use Rattle.pref_share.proofs.Common.{append-nil, length-append, same_Some, count_by, IsPrefix, Op, Act, Reply, Opening, IsLegalFrom, calls_at, Standing, newcomer, StepsTo, Looks, Adds, Runs, none, then, RunsTo, StandsWithin}
 use Rattle.std.proofs.lemmas.List.{same_from_push}
 use Rattle.pref_share.proofs.PrefixLaws.{prefix_shorter}
-use Rattle.pref_share.proofs.HistoryLaws.{legal-prefix}
 use Rattle.pref_share.proofs.CallCounts.{count_last, count_own, count_prefix}
 use Rattle.pref_share.proofs.LastCalls.{counted_at, last_other, last_one_of, IsOneOf, Counts, counts}
 

@@ -1,6 +1,6 @@
 -- The last operation of a history: whose call it is, and what the others' counts are before it.
-use Rattle.pref_share.proofs.Common.{◌≡◌, ℕ, suc, ◌<◌, ◌≤◌, List, [], ◌∷◌, ◌++◌, length, Some, refl, sym, ap, ◌∙◌, subst, arith, inl, inr, ◌⊎◌}
-use Rattle.pref_share.proofs.Common.{slice_get_within, eq-eqb, count_by, IsPrefix, Op, Act, Reply, Client, seat, calls_of, Opening, IsLegalFrom, first_state}
+use Rattle.pref_share.proofs.Common.{◌≡◌, ℕ, ◌<◌, ◌≤◌, List, [], ◌∷◌, ◌++◌, length, Some, refl, ap, ◌∙◌, arith, inl, inr, ◌⊎◌}
+use Rattle.pref_share.proofs.Common.{slice_get_within, eq-eqb, count_by, IsPrefix, Op, Act, Reply, Client, seat, Opening, IsLegalFrom, first_state}
 use Rattle.pref_share.proofs.Common.{state_at, calls_at, Standing, newcomer, Looks, Adds, Runs, none, then}
 use Rattle.pref_share.proofs.HistoryLaws.{rest_history, legal_is_history, legal-prefix, state_at-append}
 use Rattle.pref_share.proofs.CallCounts.{IsCaller, caller, calls_in, calls_counted, count_last, count_own, count_prefix, idle_seat, length-after, length-idle, seat_other}

@@ -1,7 +1,6 @@
 -- Who has the pen of a page writes behind all that stands on it, whatever the book is.
 use Rattle.pref_share.proofs.Common.{◌≡◌, ◌≢◌, ℕ, suc, zero, ◌+◌, ◌<◌, ◌≤◌, ◌==◌, Bool, true, false, ◌⊎◌, List, [], ◌∷◌, ◌++◌, length, set, replicate, refl, ap, sym, ◌∙◌, subst, arith, inl, inr, Option, None, Some, ⊎_elim}
-use Rattle.pref_share.proofs.Common.{cases_eq, eqb-true, ne_eqb, eq-eqb, append-nil, append_assoc, length-append, length-set, filter-append, same_Some, filter, IsPrefix, Cell, cell, keeps, gives, adds, Nib, no_nib, may_write, Moves, Op}
-use Rattle.std.proofs.Common.{if◌then◌else◌}
+use Rattle.pref_share.proofs.Common.{cases_eq, eqb-true, ne_eqb, eq-eqb, append-nil, append_assoc, length-append, length-set, same_Some, IsPrefix, Cell, cell, keeps, gives, adds, Nib, no_nib, may_write, Moves, Op}
 use Rattle.std.proofs.lemmas.List.{get_or-set_same, get_or-set_other, get_or_append_left}
 use prog.Atomic.{either}
 use Rattle.logbook.specs.Pages.{Goes, step}

@@ -1,6 +1,6 @@
 -- What a refusal of a client's call is as the reply to an act.
-use Rattle.pref_share.proofs.Common.{arith, ◌≡◌, ℕ, true, Some, None, Result, Ok, Err, IfErr, refl, sym, ap, ◌∙◌, subst, Call, CallUpdate, CallDelete, CallCommit, CallBegin, CallFinish, CallAbandon, NoRow}
-use Rattle.pref_share.proofs.Common.{NoRoom, Act, Insert, Update, Delete, Commit, Begin, Scan, Finish, Abandon, Get, Room, NoQuery, AllScanned, NotDone, NoSuchRow, OutOfMemory, is_change, ShareFault}
+use Rattle.pref_share.proofs.Common.{arith, ◌≡◌, ℕ, true, Some, None, Result, Ok, Err, IfErr, refl, sym, ap, ◌∙◌, subst, Call, CallFinish, NoRow}
+use Rattle.pref_share.proofs.Common.{NoRoom, Act, Scan, Finish, Get, NoQuery, AllScanned, NotDone, NoSuchRow, OutOfMemory, is_change, ShareFault}
 use Rattle.pref_share.proofs.Common.{Core, Closed, Opening, IsLegalFrom, Standing, asks_for_memory, RefusesCall, RefusesChange, RefusesFinish, RefusesScan}
 use Rattle.pref_share.proofs.Common.{RefusesGet, Performs, call_of, Bool, false, Option, None, cond, nat_lt, ◌^◌, is_some, refusal_by_query, own_refusal, CoreFault, Spent}
 use Rattle.std.specs.Prelude.{IsErrAnd}

@@ -1,9 +1,8 @@
 -- Runs of acts, one act longer, and what stands at a place of two lists.
-use Rattle.pref_share.proofs.Common.{option_map, length-map, ◌≡◌, ℕ, zero, suc, ◌<◌, Bool, true, false, List, [], ◌∷◌, ◌++◌, ◌+◌, length, map, get_or, Some, Result, Ok, slice_get, refl, sym, ap, ◌∙◌, subst, arith}
-use Rattle.pref_share.proofs.Common.{same_Some, append_assoc, get_or-map, length-append, slice_get_within, All, IfOk, Act, Reply, ShareFault}
-use Rattle.pref_share.proofs.Common.{Held, Sees, IsLegalFrom, Opening, Standing, StepsTo, Runs, none, then, RunsTo, StopsAt, nobody, Did, Each, Ends, WasLetIn}
+use Rattle.pref_share.proofs.Common.{length-map, ◌≡◌, ℕ, ◌<◌, Bool, true, false, List, [], ◌∷◌, ◌++◌, ◌+◌, length, map, get_or, Some, refl, sym, ap, ◌∙◌, subst, arith}
+use Rattle.pref_share.proofs.Common.{append_assoc, get_or-map, length-append, All, Act, Reply, ShareFault}
+use Rattle.pref_share.proofs.Common.{Held, Sees, IsLegalFrom, Opening, Standing, StepsTo, Runs, none, then, RunsTo, StopsAt, nobody, Did, Ends, WasLetIn}
 use Rattle.std.specs.List.{zip}
-use Rattle.std.proofs.lemmas.Option.{slice_get-map}
 use Rattle.std.proofs.lemmas.Simd.{map-map}
 use Rattle.std.proofs.lemmas.Slice.Zip.{seconds-zip}
 use Rattle.pref_share.specs.declared.run.Job.{Job}

@@ -1,5 +1,5 @@
 -- What a client's counter and query are along the history that it sees.
-use Rattle.pref_share.proofs.Common.{first_contents, ◌≡◌, ℕ, suc, ◌^◌, ◌<◌, ◌≤◌, true, false, ◌&&◌, ◌==◌, List, [], ◌∷◌, ◌++◌, Option, Some, None, is_some, Result, Ok, refl, sym, ap}
+use Rattle.pref_share.proofs.Common.{first_contents, ◌≡◌, ℕ, suc, ◌<◌, ◌≤◌, true, false, ◌&&◌, ◌==◌, List, [], ◌∷◌, ◌++◌, Option, Some, None, is_some, Result, Ok, refl, sym, ap}
 use Rattle.pref_share.proofs.Common.{◌∙◌, subst, arith, MatchResult, IfOk, IfErr, AllByRecursion, Vec, IsPrefix, Call, Op, ShareFault, CoreFault, State, Client}
 use Rattle.pref_share.proofs.Common.{Snapshot, is_change, calls_of, begun_of, begun_after, after, refusal, refusal_of, Contents, StandsFor, Shows, ShowsBegin}
 use Rattle.pref_share.proofs.Common.{eqb-true, same_number, state_after, begin, NextIsNew, IsScanned, Answers, begun_after-change, Opening, IsLegalFrom}
@@ -17,10 +17,10 @@ use Rattle.pref_core.proofs.OutcomeLaws.{SameSeat, nobody, somebody, same_seat}
 use Rattle.pref_core.proofs.VisibleAfterOp.{begun_kept}
 use Rattle.pref_core.proofs.QueryLaws.{stays_on_its_way, begun_on_its_way, next_is_new_on_its_way, scanned_on_its_way, answers_the_begin}
 use Rattle.pref_share.proofs.PrefixLaws.{prefix_self, prefix_trans}
-use Rattle.pref_share.proofs.HistoryLaws.{legal-more, legal-prefix, legal_stands, legal_capacity, ran-append, state_at-append, rest_history, legal_is_history}
+use Rattle.pref_share.proofs.HistoryLaws.{legal-more, legal-prefix, legal_stands, legal_capacity, ran-append, state_at-append, rest_history}
 use Rattle.pref_share.proofs.CallCounts.{calls_in, begun_in, calls_own, begun_own, count_prefix, none_own, idle_seat}
 use Rattle.pref_share.proofs.LastCalls.{counted_at, last_caller}
-use Rattle.pref_share.proofs.Common.{⊎_elim, same_Some, first_state, OutOfMemory, IsTurn, JoinsBehind, RefusesToJoin, count_by}
+use Rattle.pref_share.proofs.Common.{⊎_elim, same_Some, OutOfMemory, IsTurn, JoinsBehind, RefusesToJoin, count_by}
 use Rattle.pref_share.specs.declared.client.calls.Joined.{Joined}
 use Rattle.pref_share.proofs.Common.{rules, Bool, cond, nat_lt, added, begins_row, ended, missing, success_outcome, Added, Done, Full, NoRow}
 use Rattle.pref_core.specs.State.{needed_after, outcome}

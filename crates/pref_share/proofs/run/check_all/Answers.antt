@@ -1,4 +1,4 @@
-use Rattle.pref_share.proofs.Common.{All, List, subst, sym, ◌∙◌, Op, StandsWithin, Worked}
+use Rattle.pref_share.proofs.Common.{◌∙◌}
 use Rattle.pref_share.proofs.run.check_all.Goals as goal
 
 pub returns-clause-within : goal.returns-clause-within

@@ -1,4 +1,4 @@
-use Rattle.pref_share.proofs.Common.{◌≡◌, ◌∙◌, List, None, ap, inl, inr, map, subst, ⊎_elim, Core, IsJointRun, OutOfMemory, Some, Standing, first_fault}
+use Rattle.pref_share.proofs.Common.{◌≡◌, ◌∙◌, List, ap, inl, inr, map, subst, ⊎_elim, Core, IsJointRun, OutOfMemory, Some, Standing, first_fault}
 use Rattle.pref_share.proofs.ExitLaws.{exits}
 use Rattle.pref_share.proofs.InterleavingsLaws.{joint_runs_are_sequential}
 use Rattle.pref_share.proofs.ReportsLaws.{parts, reports_of_tasks}

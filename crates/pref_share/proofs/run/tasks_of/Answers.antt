@@ -1,4 +1,4 @@
-use Rattle.pref_share.proofs.Common.{arith, append_assoc, append-nil}
+use Rattle.pref_share.proofs.Common.{arith, append_assoc}
 use Rattle.std.proofs.lemmas.Grind.{common_steps}
 use Rattle.pref_share.proofs.run.tasks_of.Goals as goal
 

@@ -1,4 +1,4 @@
-use Rattle.pref_share.proofs.Common.{length-map, ◌≡◌, ◌++◌, ◌<◌, ◌^◌, ◌∙◌, ℕ, List, Result, Ok, ap, arith, drop, get_or, [], length, map, subst, sym, take, All, Worked, StandsWithin}
+use Rattle.pref_share.proofs.Common.{length-map, ◌≡◌, ◌++◌, ◌<◌, ◌^◌, ◌∙◌, List, Result, Ok, ap, arith, drop, [], length, map, subst, sym, take, All, Worked, StandsWithin}
 use Rattle.std.proofs.Math.Seq.{take-append_seam}
 use Rattle.std.specs.declared.alloc.AllocError.{AllocError}
 use Rattle.pref_share.specs.declared.run.Job.{Job}

@@ -1,6 +1,5 @@
 use Rattle.pref_share.proofs.Common.{◌≡◌, suc, ◌+◌, length, Option, Some, None, refl, sym, subst, ap, ◌∙◌, arith, begin, own_refusal, state_at, Asking, Standing, IsPageOf, Joins, Stands}
 use Rattle.pref_core.specs.Limits.{blocks}
-use Rattle.pref_core.specs.declared.call.Call.{Call}
 use Rattle.pref_core.specs.declared.call.Call.TheVariants.{Begin}
 use Rattle.pref_core.specs.declared.call.Outcome.{Outcome}
 use Rattle.pref_share.proofs.StandingLaws.{joins, only_memory, stands_begun}

@@ -1,4 +1,4 @@
-use Rattle.pref_share.proofs.Common.{◌≡◌, suc, ◌+◌, length, None, refl, sym, subst, ap, ◌∙◌, arith, Standing, own_refusal, Core, IsPageOf, Joins, RefusesChange}
+use Rattle.pref_share.proofs.Common.{◌≡◌, suc, ◌+◌, length, None, refl, sym, subst, ap, ◌∙◌, arith, Standing, own_refusal, Core, IsPageOf, Joins}
 use Rattle.pref_share.proofs.RefusalReplies.{passed_on, refuses_change}
 use Rattle.pref_share.proofs.StandingLaws.{joins, only_memory, stands_changed, change_returned, success_returned}
 use Rattle.pref_share.proofs.client.Client.change.Given.{Over}

@@ -1,4 +1,4 @@
-use Rattle.pref_share.proofs.Common.{◌≡◌, suc, ◌+◌, length, None, refl, sym, subst, ◌∙◌, arith, Done, own_refusal, state_at, IsPageOf, Joins, Standing}
+use Rattle.pref_share.proofs.Common.{◌≡◌, suc, ◌+◌, length, None, refl, subst, ◌∙◌, arith, Done, state_at, IsPageOf, Joins, Standing}
 use Rattle.pref_share.proofs.StandingLaws.{end_done, end_takes_no_memory, joins, only_memory, stands_ended}
 use Rattle.pref_share.proofs.client.Client.end.Goals as goal
 

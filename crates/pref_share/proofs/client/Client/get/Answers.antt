@@ -1,7 +1,6 @@
 use Rattle.pref_share.proofs.Common.{rules, refl, sym, ◌≡◌, ◌∙◌, state_at, row_after}
 use Rattle.pref_share.proofs.HistoryLaws.{left_stands}
-use Rattle.pref_share.proofs.StandingLaws.{sees, stands_seen}
-use Rattle.pref_share.proofs.ViewsLaws.{still_knows}
+use Rattle.pref_share.proofs.StandingLaws.{sees}
 use Rattle.pref_share.proofs.client.Client.get.Goals.{Joined-row, in-Some-row, in-None}
 use Rattle.pref_share.proofs.client.Client.get.Given.{Over}
 use Rattle.pref_share.proofs.client.Client.get.Goals as goal

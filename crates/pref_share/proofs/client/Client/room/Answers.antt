@@ -1,7 +1,6 @@
 use Rattle.pref_share.proofs.Common.{◌-◌, length, refl, ap, ◌∙◌, needed, Contents, state_at}
 use Rattle.pref_share.proofs.HistoryLaws.{left_stands, legal_capacity}
-use Rattle.pref_share.proofs.StandingLaws.{sees, stands_seen}
-use Rattle.pref_share.proofs.ViewsLaws.{still_knows}
+use Rattle.pref_share.proofs.StandingLaws.{sees}
 use Rattle.pref_share.proofs.client.Client.room.Goals as goal
 
 pub returns-clause-room : goal.returns-clause-room

@@ -1,7 +1,7 @@
-use Rattle.std.proofs.Common.{◌≡◌, length, List, subst, arith, ap, sym, ◌∙◌}
+use Rattle.std.proofs.Common.{length, List, subst, arith, ap, sym, ◌∙◌}
 use mathlib.Core.List.{IsPrefix}
 use Rattle.pref_core.specs.declared.call.Op.{Op}
-use Rattle.pref_share.specs.Book.{ops_on, ops_of, count_by}
+use Rattle.pref_share.specs.Book.{ops_on, ops_of}
 use Rattle.pref_share.proofs.CallCounts.{count_prefix}
 use Rattle.pref_share.proofs.PageSteps.{whole_moves, ops_prefix}
 use Rattle.pref_share.proofs.PrefixLaws.{prefix_trans}

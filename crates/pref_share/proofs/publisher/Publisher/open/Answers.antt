@@ -1,4 +1,4 @@
-use Rattle.pref_share.proofs.Common.{◌≡◌, [], length, sym, subst, ap, ◌∙◌, List, manually_drop_value, Op, ran, Contents, Book, IsLegalFrom, first_contents, contents_at, AreLetIn, HoldsHistory, Knows}
+use Rattle.pref_share.proofs.Common.{◌≡◌, [], length, sym, subst, ap, ◌∙◌, manually_drop_value, ran, Contents, Book, first_contents, contents_at, HoldsHistory, Knows}
 use Rattle.pref_share.proofs.Common.{Published}
 use Rattle.left_right.specs.Sides.{view}
 use Rattle.pref_core.specs.Indexes.{IsIndexOf}
