@@ -62,10 +62,15 @@ def load(path):
 class Table:
     """A table of the library."""
 
-    def __init__(self, library, text, width, **setup):
+    def __init__(self, library, text, width, rows=None, **setup):
+        """Opens the table of a text; where there are rows, the text is that of the names alone."""
         self._library, self.width, self._table = library, width, c_void_p()
         self._row = (c_int64 * width)()
-        self._call("open_text", text, len(text), byref(Setup(**setup)), byref(self._table))
+        if rows is None:
+            self._call("open_text", text, len(text), byref(Setup(**setup)), byref(self._table))
+        else:
+            flat = [value for row in rows for value in row]
+            self._call("open", text, len(text), (c_int64 * len(flat))(*flat), len(rows), width, byref(Setup(**setup)), byref(self._table))
 
     def _call(self, name, *arguments):
         result = getattr(self._library, f"prefq_{name}")(*arguments)

@@ -4,8 +4,9 @@
     campaign.py LIBRARY PROGRAM [--count N] [--seed N]
 
 Half of the scripts are those of bench/random_scripts.py; the others have each command, with faults of each kind. Each script goes through the library twice: as
-lines, by prefq_lines, and command by command, by the call that each is, whose result is written as the program writes it. Stops at the first script on which
-the three differ. Beside each script random updates are made by one call, and by the commits that it stands for."""
+lines, by prefq_lines, and command by command, by the call that each is, whose result is written as the program writes it. The second table is opened by its rows as
+numbers. Stops at the first script on which the three differ. Beside each script random updates and inserts are made by one call each, and by the commits
+and the inserts that it stands for."""
 import argparse
 import random
 import re
@@ -22,6 +23,7 @@ import random_scripts  # noqa: E402
 QUESTIONS = ["best low(a)", "best low(a) * high(b)", "top_level 3 low(a) & around(b, 4)", "at_least 5 low(b) by a", "skyline of a min, b max", "best  low(a) ",
              "best low(c)", "best low(a", "top_level 0 low(a)", "best between(a, 5, 4)", "", "best pos(b, 1, 2) * -(low(a))", "skyline of a diff", "worst low(a)",
              "best low(\u00e9)", "best " + "-" * 65 + "low(a)", "best around(a, 9223372036854775808)", "best low(a)" + " " * 4100]
+CAPACITY = 23   # of a table into which rows are inserted
 VALUES = [0, 1, 2, 3, 5, 9, -7, 2**63 - 1, -2**63]
 
 
@@ -91,7 +93,8 @@ def done(table, client, verb, rest):
 
 
 def by_calls(library, text, commands, first, width, setup):
-    table = binding.Table(library, text, width, **setup)
+    names, *rows = text.splitlines()
+    table = binding.Table(library, names, width, rows=[list(map(int, row.split(b","))) for row in rows], **setup)
     replies = "".join(reply_of(table, line, number) for number, line in enumerate(commands, first))
     table.close()
     return replies
@@ -176,6 +179,34 @@ def updates_differ(library, r):
     return None if found[0] == found[1] else (ids, rows, capacity, *found)
 
 
+def one_by_one(table, rows):
+    """The id of the first of these rows, which are inserted where there is room for all."""
+    left = table.room()
+    if len(rows) > left:
+        return f"full needed {CAPACITY - left + len(rows)}"
+    return [table.insert(row) for row in rows][0] if rows else 0
+
+
+def all_at_once(table, rows):
+    """The same by one call."""
+    try:
+        return table.insert_many(rows)
+    except binding.Refused as why:
+        return str(why)
+
+
+def inserts_differ(library, r):
+    """What is made of random inserts, where the two ways differ."""
+    rows, found = [[r.choice(VALUES), r.choice(VALUES)] for _ in range(r.choice([0, 1, 7, 8, 9, 20, 21]))], []
+    for way in (one_by_one, all_at_once):
+        table = binding.Table(library, b"a,b\n1,1\n1,2\n", 2, capacity=CAPACITY)
+        table.begin(2, b"best low(a)")
+        table.update(1, [2, 2])
+        found.append((way(table, rows), way(table, rows), table.rows(), table.room()))
+        table.close()
+    return None if found[0] == found[1] else (rows, *found)
+
+
 def main():
     parser = argparse.ArgumentParser(description=__doc__, formatter_class=argparse.RawDescriptionHelpFormatter)
     parser.add_argument("library")
@@ -194,7 +225,10 @@ def main():
         found = updates_differ(library, r)
         if found:
             sys.exit("updates differ: ids, rows, capacity, by commits, by one call:\n" + "\n".join(map(str, found)))
-    print(f"{given.count} random scripts: the library gives what play gives, by its calls and by lines; and as many lists of updates")
+        found = inserts_differ(library, r)
+        if found:
+            sys.exit("inserts differ: rows, one by one, by one call:\n" + "\n".join(map(str, found)))
+    print(f"{given.count} random scripts: the library gives what play gives, by its calls and by lines; and as many lists of updates and of inserts")
 
 
 main()

@@ -1,6 +1,5 @@
 /* Requests for memory: each refused in turn, and calls, forks and signals around each. */
 #define _GNU_SOURCE
-#include "../c/memory.h"
 #include "tests.h"
 #include <signal.h>
 #include <stdatomic.h>
@@ -30,6 +29,8 @@ static int is_request_refused(void)
     return atomic_fetch_add(&requests, 1) + 1 == atomic_load(&refused_request);
 }
 
+void *paged_malloc(size_t size); /* of library/c/memory.c */
+void *paged_realloc(void *block, size_t size);
 void *__real_calloc(size_t count, size_t size);
 void *__wrap_malloc(size_t size);
 void *__wrap_calloc(size_t count, size_t size);

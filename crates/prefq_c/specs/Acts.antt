@@ -1,27 +1,28 @@
 -- What the calls on rows and queries do to a table. (this project)
-use Rattle.std.specs.Prelude.{ℕ, ℤ, pos, negsuc, ◌≡◌, ◌⊎◌, ◌==◌, false, List, [], length, map, take, Result, Ok, Err, MatchResult, if◌then◌else◌}
-use Rattle.pref_table.specs.Rows.{numbers_row, padded}
+use Rattle.std.specs.Prelude.{ℕ, ℤ, pos, negsuc, ◌≡◌, ◌⊎◌, ◌==◌, ◌||◌, ◌+◌, ◌-◌, ◌^◌, min, nat_lt, false, List, [], ◌∷◌, length, take, Result, Ok, Err, IfOk, MatchResult, if◌then◌else◌}
+use Rattle.pref_table.specs.Rows.{numbers_row}
 use Rattle.pref_table.specs.declared.fault.TableFault.TheVariants.{Width}
 use Rattle.pref_term.specs.Asked.{asked}
 use Rattle.pref_term.specs.Preference.{scored, between}
 use Rattle.pref_term.specs.Question.{Question}
 use Rattle.pref_term.specs.declared.ask.Mode.TheVariants.{Best}
 use Rattle.pref_sky.specs.declared.entry.Ranked.{Ranked}
-use Rattle.pref_core.specs.Changes.{commit_of}
 use Rattle.pref_core.specs.Systems.{Does, as_reply}
-use Rattle.pref_core.specs.declared.changes.Change.{Change}
-use Rattle.pref_core.specs.declared.changes.Change.TheVariants.{Add, Set, Remove}
-use Rattle.pref_core.specs.declared.event.Act.{Act}
+use Rattle.pref_core.specs.declared.event.Act.{Act as ActIs}
 use Rattle.pref_core.specs.declared.event.Act.TheVariants.{Insert, Update, Delete, Commit, Begin, Scan, Finish, Abandon, Get, Room}
 use Rattle.pref_core.specs.declared.event.Reply.{Reply}
 use Rattle.pref_core.specs.declared.event.Reply.TheVariants.{Inserted, Updated, Deleted, Committed, Begun, Left, Answer, Abandoned, Found, Room as RoomIs}
 use Rattle.pref_core.specs.declared.fault.CoreFault.{CoreFault}
+use Rattle.pref_core.specs.declared.fault.CoreFault.TheVariants.{Full}
+use Rattle.pref_table.specs.Numbered.{◌>>=◌}
 use Rattle.pref_script.specs.LiveTable.{names_of, running_of}
+use Rattle.prefq_c.specs.Commits.{changes_of, updates_of}
+use Rattle.prefq_c.specs.Openings.{rows_in}
 use Rattle.prefq_c.specs.Faults.{act_fault, question_fault, values_fault}
 use Rattle.prefq_c.specs.Numbers.{rows_numbers}
 use Rattle.prefq_c.specs.declared.changes.Piece.{Piece}
 use Rattle.prefq_c.specs.declared.fault.Fault.{Fault}
-use Rattle.prefq_c.specs.declared.fault.Fault.TheVariants.{Values, Changes, Memory}
+use Rattle.prefq_c.specs.declared.fault.Fault.TheVariants.{Act, Values, Memory}
 use Rattle.prefq_c.specs.declared.table.Table.{Table}
 
 abbrev pub width_of : Table → ℕ
@@ -32,7 +33,7 @@ abbrev pub running_as : Table → Table → Table
 running_as before after = record before { live = record before.live { machine = running_of after.live } }
 
 -- a client's act is done on what runs: this is returned for it, a refusal too, and nothing else has changed
-abbrev pub Acts : ℕ → Act → (ℕ → Reply) → Table → Result ℕ Fault → Table → Type 0
+abbrev pub Acts : ℕ → ActIs → (ℕ → Reply) → Table → Result ℕ Fault → Table → Type 0
 Acts client act kind before result after = (after ≡ running_as before after) × MatchResult result
     (λ number. Does (running_of before.live) client act (Ok (kind number)) (running_of after.live))
     (λ fault. (why : CoreFault) × (fault ≡ act_fault why) × Does (running_of before.live) client act (Err why) (running_of after.live))
@@ -69,15 +70,48 @@ Gets id old new before result after = (after ≡ before)
     × (length old ≡ width_of before → (found : Result (List ℤ) CoreFault) × Does (running_of before.live) 1 (Get id) (as_reply (Found id) found) (running_of before.live) × CopiesRow id found old new result)
     × ((length old ≡ width_of before → ⊥) → (result ≡ Err (Values (Width 0))) × (new ≡ old))
 
--- the change that a piece of a commit is: its verb is 1 for an insert, 2 for an update and else a delete
-abbrev pub change_of : ℕ → Piece → Change
-change_of width piece = let row = padded (take width piece.values) in if piece.verb == 1 then Add row else (if piece.verb == 2 then Set piece.id row else Remove piece.id)
-
--- these changes are made in one commit, and the id of the first row that they add is the result
-abbrev pub Commits : List Piece → Table → Result ℕ Fault → Table → Type 0
-Commits pieces before result after = MatchResult (commit_of (map (change_of (width_of before)) pieces))
+-- the changes of these pieces are made in one commit, and the id of the first row that they add is the result
+abbrev pub Commits : ℕ → List Piece → Table → Result ℕ Fault → Table → Type 0
+Commits width pieces before result after = MatchResult (changes_of (width_of before) width pieces)
     (λ changes. Acts 1 (Commit changes) (λ first. Committed (record { changes = length changes; first = first })) before result after)
-    (λ why. Refuses (Changes why) before result after)
+    (λ why. Refuses why before result after)
+
+-- the first updates that can be made at one moment are made in one commit, and how many they are is the result
+abbrev pub UpdatesFirst : ℕ → List Piece → Table → Result ℕ Fault → Table → Type 0
+UpdatesFirst width pieces before result after = MatchResult (updates_of (width_of before) width pieces)
+    (λ changes. (first : ℕ) × Acts 1 (Commit changes) (λ made. Committed (record { changes = made; first = first })) before result after)
+    (λ why. Refuses why before result after)
+
+-- the rows of these numbers, or why they are refused: they have to be as wide as the table, and there has to be room for all of them
+abbrev pub insertable : Table → Result ℕ Fault → ℕ → ℕ → List ℤ → Result (List (List ℤ)) Fault
+insertable table room count width numbers = if count == 0
+    then Ok []
+    else (if width == width_of table
+    then (do
+      left ← room
+      if nat_lt left count || nat_lt 65536 count then Err (Act (Full (table.capacity - left + min count (2 ^ 63)))) else Ok (rows_in width count numbers))
+    else Err (Values (Width 0)))
+
+-- the id of the first of some rows, by that of the first one before, 0 where there was none, and of the next one
+abbrev pub first_id : ℕ → ℕ → ℕ
+first_id first id = if first == 0 then id else first
+
+-- rows are inserted one after the other, up to one that is refused; the result is the id of the first one, or this one where there was one before
+abbrev pub InsertsEach : ℕ → List (List ℤ) → Table → Result ℕ Fault → Table → Type 0
+InsertsEach first [] before result after = (result ≡ Ok first) × (after ≡ before)
+InsertsEach first (row ∷ rows) before result after = (mid : Table) × (inserted : Result ℕ Fault) × Acts 1 (Insert row) Inserted before inserted mid × MatchResult inserted
+    (λ id. InsertsEach (first_id first id) rows mid result after)
+    (λ why. (result ≡ Err why) × (after ≡ mid))
+
+-- so many rows of these numbers are inserted, where there is room for all of them, and the id of the first one is the result, 0 where there is none
+abbrev pub InsertsWithin : Result ℕ Fault → ℕ → ℕ → List ℤ → Table → Result ℕ Fault → Table → Type 0
+InsertsWithin room count width numbers before result after = MatchResult (insertable before room count width numbers)
+    (λ rows. InsertsEach 0 rows before result after)
+    (λ why. Refuses why before result after)
+
+-- the same by the room that the table tells
+abbrev pub InsertsMany : ℕ → ℕ → List ℤ → Table → Result ℕ Fault → Table → Type 0
+InsertsMany count width numbers before result after = (room : Result ℕ Fault) × TellsRoom before room before × InsertsWithin room count width numbers before result after
 
 -- without memory for a question nothing has changed
 abbrev pub UnlessMemory : Table → Result ℕ Fault → Table → Type 0 → Type 0
@@ -99,8 +133,9 @@ BeginsAll client before result after = UnlessMemory before result after (Acts cl
 abbrev pub Scans : ℕ → Table → Result ℕ Fault → Table → Type 0
 Scans client before result after = Acts client Scan Left before result after
 
+-- a query ends without an answer, and the result is 0
 abbrev pub Abandons : ℕ → Table → Result ℕ Fault → Table → Type 0
-Abandons client before result after = Acts client Abandon (λ _. Abandoned) before result after
+Abandons client before result after = Acts client Abandon (λ _. Abandoned) before result after × IfOk result (λ number. number ≡ 0)
 
 -- the rows of an answer are kept, and how many they are is the result
 abbrev pub KeepsAnswer : Result (List Ranked) CoreFault → Table → Result ℕ Fault → Table → Type 0

@@ -6,10 +6,14 @@ use Rattle.prefq_c.specs.declared.ended.Ended.{Ended}
 abbrev pub nowhere : ℕ
 nowhere = 18446744073709551615
 
+-- a call that ended with these numbers, and with no others
+abbrev pub ended_as : ℕ → ℕ → ℕ → ℕ → Ended
+ended_as outcome kind number amount = record { outcome = outcome; kind = kind; number = number; place = nowhere; row = nowhere; amount = amount; length = 0 }
+
 -- a call that was done, with this result
 abbrev pub done : ℕ → Ended
-done amount = record { outcome = 0; kind = 0; number = 0; place = nowhere; row = nowhere; amount = amount; length = 0 }
+done amount = ended_as 0 0 0 amount
 
 -- a call that is refused, by the kind and the number of the refusal
 abbrev pub numbered : ℕ → ℕ → Ended
-numbered kind number = record { outcome = 1; kind = kind; number = number; place = nowhere; row = nowhere; amount = 0; length = 0 }
+numbered kind number = ended_as 1 kind number 0

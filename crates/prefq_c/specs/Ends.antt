@@ -1,12 +1,15 @@
 -- What a call behind a handle answers. (this project)
-use Rattle.std.specs.Prelude.{ℕ, ◌≡◌, ◌⊎◌, List, Option, None, Some, Result, Ok, Err}
-use Rattle.prefq_c.specs.Lines.{Copied}
+use Rattle.std.specs.Prelude.{ℕ, ◌≡◌, ◌⊎◌, ◌++◌, List, take, drop, length, Option, None, Some, Result, Ok, Err}
 use Rattle.prefq_c.specs.Ended.{done}
 use Rattle.prefq_c.specs.Faults.{refusal, refusal_numbers, refusal_text}
 use Rattle.prefq_c.specs.declared.ended.Ended.{Ended}
 use Rattle.prefq_c.specs.declared.fault.Fault.{Fault}
 use Rattle.prefq_c.specs.declared.fault.Fault.TheVariants.{Memory}
 use Rattle.prefq_c.specs.declared.table.Table.{Table}
+
+-- a text was copied to the head of an array, as far as it fits; what is behind it stays
+abbrev pub Copied : List ℕ → List ℕ → List ℕ → Type 0
+Copied text old new = new ≡ take (length old) text ++ drop (length text) old
 
 -- a call is refused with the numbers and the text of this refusal
 abbrev pub IsRefusal : Fault → List ℕ → List ℕ → Ended → Type 0

@@ -1,5 +1,6 @@
 -- Why a call is refused, in numbers and as a text. (this project)
-use Rattle.std.specs.Prelude.{ℕ, List, [], length}
+use Rattle.std.specs.Prelude.{ℕ, List, [], ◌++◌, length, codes}
+use Rattle.std.specs.Fmt.{decimal}
 use Rattle.pref_table.specs.declared.fault.TableFault.{TableFault}
 use Rattle.pref_table.specs.declared.fault.TableFault.TheVariants as table
 use Rattle.pref_term.specs.declared.fault.TermFault.{TermFault}
@@ -10,7 +11,7 @@ use Rattle.pref_script.specs.Text.{core_fault_text, table_fault_text, term_fault
 use Rattle.prefq_c.specs.Ended.{numbered}
 use Rattle.prefq_c.specs.declared.ended.Ended.{Ended}
 use Rattle.prefq_c.specs.declared.fault.Fault.{Fault}
-use Rattle.prefq_c.specs.declared.fault.Fault.TheVariants.{Act, Values, Question, Changes, Opening, Memory}
+use Rattle.prefq_c.specs.declared.fault.Fault.TheVariants.{Act, Values, Question, Changes, Opening, Outside, NoChange, NoValues, Memory}
 
 -- the faults of the crates below as those of a call
 abbrev pub act_fault : CoreFault → Fault
@@ -70,6 +71,9 @@ refusal_numbers (Values why) = table_refusal why
 refusal_numbers (Question why) = term_refusal why
 refusal_numbers (Changes why) = core_refusal 4 why
 refusal_numbers (Opening why) = core_refusal 5 why
+refusal_numbers Outside = numbered 6 0
+refusal_numbers (NoChange place) = record (numbered 6 0) { place = place }
+refusal_numbers NoValues = numbered 6 0
 refusal_numbers Memory = numbered 7 0
 
 -- the number of a refusal and what the program says behind it
@@ -79,6 +83,9 @@ refusal_text (Values why) = table_fault_text why
 refusal_text (Question why) = term_fault_text why
 refusal_text (Changes why) = core_fault_text why
 refusal_text (Opening why) = core_fault_text why
+refusal_text Outside = codes "0: a number of the setup is outside its range"
+refusal_text (NoChange place) = codes "0: there is no such change place " ++ decimal place
+refusal_text NoValues = codes "0: the values are NULL"
 refusal_text Memory = []
 
 -- a call that is refused for this, with the length of the text

@@ -1,24 +1,20 @@
 -- What the calls that give a table lines do. (this project)
-use Rattle.std.specs.Prelude.{ℕ, ◌≡◌, ◌≤◌, ◌+◌, ◌++◌, ◌^◌, List, [], length, take, drop, Option, None, IfSome, string_bytes}
-use Rattle.pref_script.specs.LiveTable.{PrintsLine, next_number}
-use Rattle.prefq_c.specs.declared.said.Said.{Said}
+use Rattle.std.specs.Prelude.{ℕ, ◌≡◌, List, [], length, Result, MatchResult, string_bytes}
+use Rattle.pref_script.specs.LiveTable.{PrintsLine}
+use Rattle.prefq_c.specs.declared.fault.Fault.{Fault}
+use Rattle.prefq_c.specs.declared.fault.Fault.TheVariants.{Memory}
 use Rattle.prefq_c.specs.declared.table.Table.{Table}
 
--- so many lines can still be given to a table, so that their numbers stay in range
-abbrev pub TakesLines : Table → Type 0
-TakesLines table = next_number table.live + table.lines_left ≤ 2 ^ 63
+-- the same table but for its rows, its clients and the replies that it keeps
+abbrev pub replied_as : Table → Table → Table
+replied_as before after = record before { live = after.live; text = after.text }
 
--- a text was copied to the head of an array, as far as it fits; what is behind it stays
-abbrev pub Copied : List ℕ → List ℕ → List ℕ → Type 0
-Copied text old new = new ≡ take (length old) text ++ drop (length text) old
+-- a table has taken a line: its replies are behind those that the table kept before, and how many bytes these are together is the result; or there was no memory
+abbrev pub Replies : List ℕ → Table → Result ℕ Fault → Table → Type 0
+Replies line before result after = MatchResult result
+    (λ size. PrintsLine before.live line (string_bytes before.text) (string_bytes after.text) after.live × (size ≡ length (string_bytes after.text)) × (after ≡ replied_as before after))
+    (λ why. why ≡ Memory)
 
--- this text was answered, in an array
-pub record Answers (text old new : List ℕ) (said : Said) : Type 0 where
-  pub length_is : said.length ≡ length text
-  pub copied : Copied text old new
-
--- how a line ended: the table has taken it, and its replies were answered; or there is no table any more
-abbrev pub Takes : Table → List ℕ → Option Table → List ℕ → List ℕ → Said → Type 0
-Takes before line after old new said =
-    (said.outcome ≡ 0 → IfSome after (λ table. PrintsLine before.live line [] (string_bytes table.text) table.live × TakesLines table × Answers (string_bytes table.text) old new said))
-    × ((said.outcome ≡ 0 → ⊥) → after ≡ None)
+-- a table keeps no replies, and else it is this one
+abbrev pub KeepsNoReplies : Table → Table → Type 0
+KeepsNoReplies before after = (string_bytes after.text ≡ []) × (after ≡ record before { text = after.text })

@@ -1,12 +1,15 @@
 //! What the calls on rows and queries do to a table.
 ghost use Rattle.std.specs.Prelude.{◌≡◌, ◌≤◌, [], take, length};
-ghost use Rattle.prefq_c.specs.Acts.{Abandons, Begins, BeginsAll, Commits, Deletes, Finishes, Gets, Inserts, Scans, TellsRoom, Updates, answer_numbers};
+ghost use Rattle.pref_core.specs.declared.event.Act.{Act};
+ghost use Rattle.pref_core.specs.declared.event.Reply.{Reply};
+ghost use Rattle.prefq_c.specs.Acts.{Abandons, Acts, Begins, BeginsAll, Commits, Deletes, Finishes, Gets, Inserts, InsertsEach, InsertsMany, InsertsWithin, Scans, TellsRoom, Updates, UpdatesFirst, answer_numbers, first_id, width_of};
+ghost use Rattle.prefq_c.specs.Openings.{HaveRows, rows_in};
 
 use crate::answer::put_rows;
-use crate::changes::{Piece, commit_of};
+use crate::changes::{Piece, changes_of, row_of, updates_of};
 use crate::fault::Fault;
-use crate::table::Table;
-use pref_core::RankedList;
+use crate::table::{MOST_ROWS, Table, behind};
+use pref_core::{CoreFault, RankedList};
 use pref_table::{Row, TableFault};
 use pref_term::{Ask, Mode, Term, read_ask};
 use std::alloc::Global;
@@ -24,13 +27,88 @@ fn copy_cells(row: &Row, numbers: &mut [i64])
     }
 }
 
+/// The id of the first of some rows, by that of the first one before and of the next one.
+fn first_id(first: u64, id: u64) -> u64
+    ensures { result ≡ first_id first id }
+{
+    if first == 0 { id } else { first }
+}
+
 impl Table {
+    /// Inserts a row that is one of the table, and returns its id.
+    fn insert_row(&mut self, alloc: Global, row: &Row) -> Result<u64, Fault>
+        ensures { Acts 1 (Act.Insert row.now) Reply.Inserted self.old result self.new }
+    {
+        Ok(self.live.machine.insert(alloc, CLIENT, row)?)
+    }
+
     /// Inserts a row, and returns its id.
     pub fn insert(&mut self, alloc: Global, numbers: &[i64]) -> Result<u64, Fault>
         ensures { Inserts numbers.now self.old result self.new }
     {
         let row = Row::of(&self.live.schema, numbers)?;
-        Ok(self.live.machine.insert(alloc, CLIENT, &row)?)
+        self.insert_row(alloc, &row)
+    }
+
+    /// Inserts rows, and returns the id of the first one.
+    fn insert_rows(&mut self, alloc: Global, count: usize, numbers: &[i64]) -> Result<u64, Fault>
+        requires { HaveRows (width_of self.old) count numbers.now }
+        ensures { InsertsEach 0 (rows_in (width_of self.old) count numbers.now) self.old result self.new }
+    {
+        let mut first = 0;
+        let mut left = numbers;
+        for _row in 0..count {
+            let row = row_of(&self.live.schema, left);
+            let id = self.insert_row(alloc, &row)?;
+            first = first_id(first, id);
+            left = behind(&self.live.schema, left);
+        }
+        Ok(first)
+    }
+
+    /// Inserts rows of these numbers, where there is room for all of them, and returns the id of the first one, 0 where there is none.
+    fn insert_within(
+        &mut self,
+        alloc: Global,
+        room: Result<u64, Fault>,
+        count: usize,
+        width: usize,
+        numbers: &[i64],
+    ) -> Result<u64, Fault>
+        requires { count ≤ 65536 → width ≤ 16 → HaveRows width count numbers.now }
+        ensures { InsertsWithin room count width numbers.now self.old result self.new }
+    {
+        if count == 0 {
+            return Ok(0);
+        }
+        if width != self.live.schema.width() {
+            return Err(Fault::Values(TableFault::Width { row: 0 }));
+        }
+        let left = match room {
+            Ok(left) => left,
+            Err(why) => return Err(why),
+        };
+        if left < count as u64 || count > MOST_ROWS {
+            let needed = u64::from(self.capacity).saturating_sub(left)
+                + (count as u64).min(1 << 63);
+            return Err(Fault::Act(CoreFault::Full { needed }));
+        }
+        self.insert_rows(alloc, count, numbers)
+    }
+
+    /// The same by the room that there is.
+    pub fn insert_many(
+        &mut self,
+        alloc: Global,
+        count: usize,
+        width: usize,
+        numbers: &[i64],
+    ) -> Result<u64, Fault>
+        requires { count ≤ 65536 → width ≤ 16 → HaveRows width count numbers.now }
+        ensures { InsertsMany count width numbers.now self.old result self.new }
+    {
+        let room = self.room();
+        self.insert_within(alloc, room, count, width, numbers)
     }
 
     /// Puts another row in place of the one of this id.
@@ -51,14 +129,31 @@ impl Table {
     }
 
     /// Makes the changes of a commit at one moment, and returns the id of the first row that they add, 0 where they add none.
-    pub fn commit(&mut self, alloc: Global, pieces: &[Piece]) -> Result<u64, Fault>
-        ensures { Commits pieces.now self.old result self.new }
+    pub fn commit(&mut self, alloc: Global, width: usize, pieces: &[Piece]) -> Result<u64, Fault>
+        ensures { Commits width pieces.now self.old result self.new }
     {
-        let commit = match commit_of(&self.live.schema, pieces) {
+        let commit = match changes_of(&self.live.schema, width, pieces) {
             Ok(commit) => commit,
-            Err(why) => return Err(Fault::Changes(why)),
+            Err(why) => return Err(why),
         };
         Ok(self.live.machine.commit(alloc, CLIENT, &commit)?.first)
+    }
+
+    /// Makes the first updates that can be made at one moment, and returns how many they are.
+    pub fn update_first(
+        &mut self,
+        alloc: Global,
+        width: usize,
+        pieces: &[Piece],
+    ) -> Result<u64, Fault>
+        ensures { UpdatesFirst width pieces.now self.old result self.new }
+    {
+        let commit = match updates_of(&self.live.schema, width, pieces) {
+            Ok(commit) => commit,
+            Err(why) => return Err(why),
+        };
+        let committed = self.live.machine.commit(alloc, CLIENT, &commit)?;
+        Ok(u64::from(committed.changes))
     }
 
     /// Copies the values of the row of this id, for which there are as many places as columns.

@@ -1,22 +1,29 @@
 //! What a call answers of what was returned.
 ghost use Rattle.std.specs.Prelude.{◌≡◌, ◌≤◌, ◌++◌, ◌+◌, None, length, take, Result};
-ghost use Rattle.prefq_c.specs.Ends.{Answered, Refused, Returns};
+ghost use Rattle.prefq_c.specs.Ends.{Answered, Copied, Refused, Returns};
 ghost use Rattle.prefq_c.specs.Numbers.{row_numbers, rows_numbers};
 
-use crate::ended::{Ended, OUT_OF_MEMORY, done, without};
+use crate::ended::{Ended, OUT_OF_MEMORY, done, without_memory};
 use crate::fault::{Fault, refusal_numbers, refusal_text};
 use crate::handle::{Handle, freeze};
-use crate::said::copy_text;
 use crate::table::Table;
 use pref_sky::Ranked;
 use std::alloc::Global;
+
+/// Copies a text to the head of an array, as far as it fits.
+pub fn copy_text(text: &[u8], array: &mut [u8])
+    ensures { Copied text.now array.old array.new }
+{
+    let count = text.len().min(array.len());
+    array[..count].copy_from_slice(&text[..count]);
+}
 
 /// The refusal of a call, with its text in the array; without one where there is no memory for it.
 pub fn refuse(alloc: Global, why: Fault, said: &mut [u8]) -> Ended
     ensures { Refused why said.old said.new result }
 {
     if let Fault::Memory = why {
-        return without(OUT_OF_MEMORY);
+        return without_memory();
     }
     match refusal_text(alloc, why) {
         Ok(text) => {

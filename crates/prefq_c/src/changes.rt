@@ -2,21 +2,22 @@
 ghost use Rattle.std.specs.Prelude.{◌≡◌, ◌≤◌, length, map, take};
 ghost use Rattle.pref_table.specs.Rows.{padded};
 ghost use Rattle.pref_core.specs.Changes.{commit_of};
-ghost use Rattle.prefq_c.specs.Acts.{change_of};
+ghost use Rattle.prefq_c.specs.Commits.{change_of, changes_of, first_moment, is_change, no_change_from, updates_of};
 
+use crate::fault::Fault;
 use pref_core::{Change, Commit, CoreFault};
-use pref_table::{Row, Schema};
+use pref_table::{Row, Schema, TableFault};
 
-/// The verbs of changes; any other is that of a delete.
-const INSERT: u8 = 1;
+/// The verbs of changes; any other is that of none.
+const INSERT: u32 = 1;
 
-const UPDATE: u8 = 2;
+const UPDATE: u32 = 2;
 
 /// One change of a commit, as C has it: of the values as many count as the table has columns.
 #[repr(C)]
 #[derive(Clone, Copy)]
 pub struct Piece {
-    pub verb: u8,
+    pub verb: u32,
     pub id: u64,
     pub values: [i64; 16],
 }
@@ -35,7 +36,7 @@ pub fn row_of(schema: &Schema, values: &[i64]) -> Row
     }
 }
 
-/// The change that a piece is.
+/// The change that a piece is, where it is one.
 fn change_of(schema: &Schema, piece: &Piece) -> Change
     ensures { result ≡ change_of (length schema.now) piece.now }
 {
@@ -46,8 +47,8 @@ fn change_of(schema: &Schema, piece: &Piece) -> Change
     }
 }
 
-/// The commit of these pieces. Refused for their number and their ids.
-pub fn commit_of(schema: &Schema, pieces: &[Piece]) -> Result<Commit, CoreFault>
+/// The commit of these pieces, where each is a change. Refused for their number and their ids.
+fn commit_of(schema: &Schema, pieces: &[Piece]) -> Result<Commit, CoreFault>
     ensures { result ≡ commit_of (map (change_of (length schema.now)) pieces.now) }
 {
     if pieces.len() > MOST_CHANGES {
@@ -58,4 +59,62 @@ pub fn commit_of(schema: &Schema, pieces: &[Piece]) -> Result<Commit, CoreFault>
         changes[place] = change_of(schema, piece);
     }
     Commit::of(&changes[..pieces.len()])
+}
+
+/// Whether a piece is a change.
+fn is_change(piece: &Piece) -> bool
+    ensures { result ≡ is_change piece.now }
+{
+    0 < piece.verb && piece.verb < 4
+}
+
+/// The place, from 1 on, of the first piece that is no change.
+fn no_change(pieces: &[Piece]) -> Option<u64>
+    ensures { result ≡ no_change_from 1 pieces.now }
+{
+    for (at, piece) in pieces.iter().enumerate() {
+        if !is_change(piece) {
+            return Some(at as u64 + 1);
+        }
+    }
+    None
+}
+
+/// The commit of these pieces, whose values have this width.
+pub fn changes_of(schema: &Schema, width: usize, pieces: &[Piece]) -> Result<Commit, Fault>
+    ensures { result ≡ changes_of (length schema.now) width pieces.now }
+{
+    if !pieces.is_empty() && width != schema.width() {
+        return Err(Fault::Values(TableFault::Width { row: 0 }));
+    }
+    if let Some(place) = no_change(pieces) {
+        return Err(Fault::NoChange { place });
+    }
+    match commit_of(schema, pieces) {
+        Ok(commit) => Ok(commit),
+        Err(why) => Err(Fault::Changes(why)),
+    }
+}
+
+/// The first pieces that can be made at one moment: those before the first one that names an id again.
+fn first_moment<'a>(schema: &Schema, pieces: &'a [Piece]) -> &'a [Piece]
+    ensures { result.now ≡ first_moment (length schema.now) pieces.now }
+{
+    match commit_of(schema, pieces) {
+        Err(CoreFault::Twice { place }) => {
+            let count = (place as usize).saturating_sub(1).min(pieces.len());
+            &pieces[..count]
+        }
+        _ => pieces,
+    }
+}
+
+/// The commit of the first updates that can be made at one moment.
+pub fn updates_of(schema: &Schema, width: usize, pieces: &[Piece]) -> Result<Commit, Fault>
+    ensures { result ≡ updates_of (length schema.now) width pieces.now }
+{
+    match changes_of(schema, width, first_moment(schema, pieces)) {
+        Err(Fault::NoChange { place: _ }) => Err(Fault::NoValues),
+        made => made,
+    }
 }

@@ -1,18 +1,15 @@
 //! How a call ends.
 ghost use Rattle.std.specs.Prelude.{◌≡◌};
-ghost use Rattle.prefq_c.specs.Ended.{done, numbered};
+ghost use Rattle.prefq_c.specs.Ended.{done, ended_as, numbered};
 
 /// It was done.
-pub const DONE: u8 = 0;
+const DONE: u8 = 0;
 
 /// It was refused, and the table is as the refusal leaves it.
-pub const REFUSED: u8 = 1;
+const REFUSED: u8 = 1;
 
 /// There was no memory, and there is no table.
 pub const OUT_OF_MEMORY: u8 = 2;
-
-/// A number of the setup is outside its range.
-pub const OUTSIDE: u8 = 3;
 
 /// A place or a row that a refusal has not.
 const NOWHERE: u64 = u64::MAX;
@@ -30,14 +27,14 @@ pub struct Ended {
     pub length: usize,
 }
 
-/// A call that was done, with this result.
-pub fn done(amount: u64) -> Ended
-    ensures { result ≡ done amount }
+/// These numbers, and neither a place nor a row nor a text.
+fn of(outcome: u8, kind: u8, number: u8, amount: u64) -> Ended
+    ensures { result ≡ ended_as outcome kind number amount }
 {
     Ended {
-        outcome: DONE,
-        kind: 0,
-        number: 0,
+        outcome,
+        kind,
+        number,
         place: NOWHERE,
         row: NOWHERE,
         amount,
@@ -45,32 +42,23 @@ pub fn done(amount: u64) -> Ended
     }
 }
 
+/// A call that was done, with this result.
+pub fn done(amount: u64) -> Ended
+    ensures { result ≡ done amount }
+{
+    of(DONE, 0, 0, amount)
+}
+
 /// A call that is refused, by the kind and the number of the refusal.
 pub fn numbered(kind: u8, number: u8) -> Ended
     ensures { result ≡ numbered kind number }
 {
-    Ended {
-        outcome: REFUSED,
-        kind,
-        number,
-        place: NOWHERE,
-        row: NOWHERE,
-        amount: 0,
-        length: 0,
-    }
+    of(REFUSED, kind, number, 0)
 }
 
-/// A call with neither a result nor a refusal.
-pub fn without(outcome: u8) -> Ended
-    ensures { result.outcome ≡ outcome }
+/// A call with neither a result nor a refusal, since there was no memory.
+pub fn without_memory() -> Ended
+    ensures { result.outcome ≡ 2 }
 {
-    Ended {
-        outcome,
-        kind: 0,
-        number: 0,
-        place: NOWHERE,
-        row: NOWHERE,
-        amount: 0,
-        length: 0,
-    }
+    of(OUT_OF_MEMORY, 0, 0, 0)
 }

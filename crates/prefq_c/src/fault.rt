@@ -24,6 +24,12 @@ pub enum Fault {
     Changes(CoreFault),
     /// There are more opening rows than there is room for.
     Opening(CoreFault),
+    /// A number of the setup is outside its range.
+    Outside,
+    /// The change of this place, from 1 on, is none.
+    NoChange { place: u64 },
+    /// An update has no values.
+    NoValues,
     /// An allocation was refused.
     Memory,
 }
@@ -80,6 +86,8 @@ const TERM: u8 = 3;
 const COMMIT: u8 = 4;
 
 const OPENING: u8 = 5;
+
+const ARGUMENTS: u8 = 6;
 
 const TABLE_END: u8 = 7;
 
@@ -182,6 +190,8 @@ pub fn refusal_numbers(why: Fault) -> Ended
         Fault::Question(why) => term_refusal(why),
         Fault::Changes(why) => core_refusal(COMMIT, why),
         Fault::Opening(why) => core_refusal(OPENING, why),
+        Fault::NoChange { place } => at_place(ARGUMENTS, 0, place),
+        Fault::Outside | Fault::NoValues => numbered(ARGUMENTS, 0),
         Fault::Memory => numbered(TABLE_END, 0),
     }
 }
@@ -197,6 +207,11 @@ pub fn refusal_text(alloc: Global, why: Fault) -> Result<String, AllocError>
         }
         Fault::Values(why) => push_table_fault(&mut text, why)?,
         Fault::Question(why) => push_term_fault(&mut text, why)?,
+        Fault::Outside => text.push_str("0: a number of the setup is outside its range")?,
+        Fault::NoChange { place } => {
+            return format!(in alloc; "0: there is no such change place {place}");
+        }
+        Fault::NoValues => text.push_str("0: the values are NULL")?,
         Fault::Memory => {}
     }
     Ok(text)

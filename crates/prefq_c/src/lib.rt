@@ -14,5 +14,5 @@ mod lines;
 mod opening;
 mod queries;
 mod rows;
-mod said;
+mod sizes;
 mod table;

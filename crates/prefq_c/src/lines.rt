@@ -1,47 +1,40 @@
 //! The calls that give a table lines of the language of `prefq live`.
 ghost use Rattle.std.specs.Prelude.{◌≡◌, IfSome, IsSome, string_bytes};
-ghost use Rattle.prefq_c.specs.Lines.{Answers, Takes, TakesLines};
+ghost use Rattle.prefq_c.specs.Ends.{Copied, Ends};
+ghost use Rattle.prefq_c.specs.Lines.{KeepsNoReplies, Replies};
 
-use crate::ended::OUT_OF_MEMORY;
+use crate::answer::{copy_text, end};
+use crate::ended::Ended;
 use crate::handle::{Handle, freeze, take};
-use crate::said::{Said, say};
 use std::alloc::Global;
 
-/// Gives a table a line, without its end, and answers the replies, which are none where it is blank.
-///
-/// The outcome is 0, or 2 where there was no memory: then the table is ended, and the handle has none.
+/// Gives a table a line, without its end. Its replies, which are none where it is blank, come behind those that the table keeps; the result is how many bytes
+/// these are together.
 #[unsafe(no_mangle)]
 pub extern "C" fn prefq_table_reply(
     alloc: Global,
     handle: &mut Handle,
     line: &[u8],
     said: &mut [u8],
-) -> Said
-    requires some { IsSome handle.old.value }
-    requires lines { IfSome handle.old.value (λ table. TakesLines table) }
-    ensures { IfSome handle.old.value (λ before. Takes before line.now handle.new.value said.old said.new result) }
+) -> Ended
+    requires { IsSome handle.old.value }
+    ensures { IfSome handle.old.value (λ before. Ends (Replies line.now before) handle.new.value said.old said.new result) }
 {
     let mut table = take(alloc, handle);
-    if table.reply_to(alloc, line).is_err() {
-        return Said {
-            length: 0,
-            outcome: OUT_OF_MEMORY,
-        };
-    }
-    let said = say(table.text.as_bytes(), said);
-    *handle = freeze(table);
-    said
+    let returned = table.reply_to(alloc, line);
+    end(alloc, handle, table, returned, said)
 }
 
-/// Answers the replies to the line that a table took last once more, for an array that has room for all of them.
+/// Copies the replies that a table keeps, as far as they fit. The table has them no more then.
 #[unsafe(no_mangle)]
-pub extern "C" fn prefq_table_said(alloc: Global, handle: &mut Handle, said: &mut [u8]) -> Said
+pub extern "C" fn prefq_table_replies(alloc: Global, handle: &mut Handle, replies: &mut [u8])
     requires { IsSome handle.old.value }
-    ensures same { handle.new.value ≡ handle.old.value }
-    ensures answers { IfSome handle.old.value (λ table. Answers (string_bytes table.text) said.old said.new result) }
+    ensures replies { IfSome handle.old.value (λ before. Copied (string_bytes before.text) replies.old replies.new) }
+    ensures left { IfSome handle.old.value (λ before. IfSome handle.new.value (λ after. KeepsNoReplies before after)) }
+    ensures some { IsSome handle.new.value }
 {
-    let table = take(alloc, handle);
-    let said = say(table.text.as_bytes(), said);
+    let mut table = take(alloc, handle);
+    copy_text(table.text.as_bytes(), replies);
+    table.forget_replies();
     *handle = freeze(table);
-    said
 }

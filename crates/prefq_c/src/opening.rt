@@ -1,17 +1,16 @@
 //! The calls that open and close a table.
 //!
-//! An opening answers the outcome 0 with the number of columns, 1 with the refusal, 2 where there was no memory, or 3 where a number of the setup is outside its
-//! range.
+//! An opening answers the outcome 0 with the number of columns, 1 with the refusal, or 2 where there was no memory.
 ghost use Rattle.std.specs.Prelude.{◌≡◌, ◌≤◌, None, IsSome};
-ghost use Rattle.pref_core.specs.Limits.{Limits, AreAllowed};
-ghost use Rattle.prefq_c.specs.Openings.{Gives, HaveRows, Opens, OpensNumbers, OpensText, numbers_table, sizes};
+ghost use Rattle.pref_table.specs.Tables.{table_of};
+ghost use Rattle.prefq_c.specs.Openings.{Gives, HaveRows, OpensIn, feeds, limits_of, numbers_table};
 
 use crate::answer::refuse;
-use crate::ended::{Ended, OUT_OF_MEMORY, OUTSIDE, done, without};
+use crate::ended::{Ended, done, without_memory};
 use crate::fault::Fault;
 use crate::handle::{Handle, freeze, take};
+use crate::sizes::Sizes;
 use crate::table::Table;
-use pref_core::Setup;
 use std::alloc::Global;
 
 /// The end of an opening: the handle gets the table.
@@ -28,7 +27,7 @@ fn give(alloc: Global, opened: Result<Table, Fault>, handle: &mut Handle, said: 
             *handle = freeze(table);
             done(width)
         }
-        Err(_) => without(OUT_OF_MEMORY),
+        Err(_) => without_memory(),
     }
 }
 
@@ -36,52 +35,37 @@ fn give(alloc: Global, opened: Result<Table, Fault>, handle: &mut Handle, said: 
 #[unsafe(no_mangle)]
 pub extern "C" fn prefq_table_open(
     alloc: Global,
-    clients: u8,
-    capacity: u32,
-    block: u32,
-    window: u32,
-    text: &[u8],
     handle: &mut Handle,
+    sizes: &Sizes,
+    text: &[u8],
     said: &mut [u8],
 ) -> Ended
-    ensures opens { AreAllowed (sizes clients capacity block window) → Opens (OpensText (sizes clients capacity block window) text.now) handle.old.value handle.new.value said.old said.new result }
-    ensures outside { (AreAllowed (sizes clients capacity block window) → ⊥) → (result.outcome ≡ 3) × (handle.new.value ≡ handle.old.value) }
+    ensures { OpensIn (limits_of sizes.now (feeds text.now)) (table_of text.now) handle.old.value handle.new.value said.old said.new result }
 {
-    match Setup::new(clients, capacity, block, window) {
-        Some(setup) => give(alloc, Table::open(alloc, setup, text), handle, said),
-        None => without(OUTSIDE),
-    }
+    give(alloc, Table::open(alloc, sizes, text), handle, said)
 }
 
 /// Opens the table of a header, which is the first line of a table text, and of `count` rows of these numbers, each of which has `width`.
 #[unsafe(no_mangle)]
 pub extern "C" fn prefq_table_open_rows(
     alloc: Global,
-    clients: u8,
-    capacity: u32,
-    block: u32,
-    window: u32,
+    handle: &mut Handle,
+    sizes: &Sizes,
     header: &[u8],
     count: usize,
     width: usize,
     numbers: &[i64],
-    handle: &mut Handle,
     said: &mut [u8],
 ) -> Ended
     requires { count ≤ 65536 → width ≤ 16 → HaveRows width count numbers.now }
-    ensures opens { AreAllowed (sizes clients capacity block window) →
-        Opens (OpensNumbers (sizes clients capacity block window) (numbers_table header.now count width numbers.now)) handle.old.value handle.new.value said.old said.new result }
-    ensures outside { (AreAllowed (sizes clients capacity block window) → ⊥) → (result.outcome ≡ 3) × (handle.new.value ≡ handle.old.value) }
+    ensures { OpensIn (limits_of sizes.now count) (numbers_table header.now count width numbers.now) handle.old.value handle.new.value said.old said.new result }
 {
-    match Setup::new(clients, capacity, block, window) {
-        Some(setup) => give(
-            alloc,
-            Table::open_rows(alloc, setup, header, count, width, numbers),
-            handle,
-            said,
-        ),
-        None => without(OUTSIDE),
-    }
+    give(
+        alloc,
+        Table::open_rows(alloc, sizes, header, count, width, numbers),
+        handle,
+        said,
+    )
 }
 
 /// Ends a table, and gives back its memory.

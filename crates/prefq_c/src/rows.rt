@@ -2,8 +2,9 @@
 //!
 //! Each answers what was returned: the outcome 0 with the result, 1 with the refusal, or 2 where there was no memory. Then the table is ended, and the handle has
 //! none.
-ghost use Rattle.std.specs.Prelude.{◌≡◌, IfSome, IsSome};
-ghost use Rattle.prefq_c.specs.Acts.{Commits, Deletes, Gets, Inserts, TellsRoom, Updates};
+ghost use Rattle.std.specs.Prelude.{◌≡◌, ◌≤◌, IfSome, IsSome};
+ghost use Rattle.prefq_c.specs.Acts.{Commits, Deletes, Gets, Inserts, InsertsMany, TellsRoom, Updates, UpdatesFirst};
+ghost use Rattle.prefq_c.specs.Openings.{HaveRows};
 ghost use Rattle.prefq_c.specs.Ends.{Ends};
 
 use crate::answer::end;
@@ -25,6 +26,25 @@ pub extern "C" fn prefq_table_insert(
 {
     let mut table = take(alloc, handle);
     let returned = table.insert(alloc, numbers);
+    end(alloc, handle, table, returned, said)
+}
+
+/// Inserts `count` rows of these numbers, each of which has `width`, all or none. The result is the id of the first one, 0 where there is none.
+#[unsafe(no_mangle)]
+pub extern "C" fn prefq_table_insert_many(
+    alloc: Global,
+    handle: &mut Handle,
+    count: usize,
+    width: usize,
+    numbers: &[i64],
+    said: &mut [u8],
+) -> Ended
+    requires some { IsSome handle.old.value }
+    requires rows { count ≤ 65536 → width ≤ 16 → HaveRows width count numbers.now }
+    ensures { IfSome handle.old.value (λ before. Ends (InsertsMany count width numbers.now before) handle.new.value said.old said.new result) }
+{
+    let mut table = take(alloc, handle);
+    let returned = table.insert_many(alloc, count, width, numbers);
     end(alloc, handle, table, returned, said)
 }
 
@@ -66,14 +86,32 @@ pub extern "C" fn prefq_table_delete(
 pub extern "C" fn prefq_table_commit(
     alloc: Global,
     handle: &mut Handle,
+    width: usize,
     pieces: &[Piece],
     said: &mut [u8],
 ) -> Ended
     requires { IsSome handle.old.value }
-    ensures { IfSome handle.old.value (λ before. Ends (Commits pieces.now before) handle.new.value said.old said.new result) }
+    ensures { IfSome handle.old.value (λ before. Ends (Commits width pieces.now before) handle.new.value said.old said.new result) }
 {
     let mut table = take(alloc, handle);
-    let returned = table.commit(alloc, pieces);
+    let returned = table.commit(alloc, width, pieces);
+    end(alloc, handle, table, returned, said)
+}
+
+/// Makes the first of these updates, as many as can be made at one moment. The result is how many they are.
+#[unsafe(no_mangle)]
+pub extern "C" fn prefq_table_update_first(
+    alloc: Global,
+    handle: &mut Handle,
+    width: usize,
+    pieces: &[Piece],
+    said: &mut [u8],
+) -> Ended
+    requires { IsSome handle.old.value }
+    ensures { IfSome handle.old.value (λ before. Ends (UpdatesFirst width pieces.now before) handle.new.value said.old said.new result) }
+{
+    let mut table = take(alloc, handle);
+    let returned = table.update_first(alloc, width, pieces);
     end(alloc, handle, table, returned, said)
 }
 

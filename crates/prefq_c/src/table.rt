@@ -1,48 +1,38 @@
-//! A live table with the replies to its last line.
-ghost use Rattle.std.specs.Prelude.{◌≡◌, ◌≤◌, drop, length, string_bytes, [], OnOk, IfOk, IfErr};
+//! A live table with what it keeps for its callers.
+ghost use Rattle.std.specs.Prelude.{◌≡◌, ◌≤◌, drop, length, IfOk, Ok};
 ghost use Rattle.pref_table.specs.Tables.{Gives};
-ghost use Rattle.prefq_c.specs.Lines.{TakesLines};
-ghost use Rattle.prefq_c.specs.Openings.{HaveRows, OpensNumbers, OpensText, numbers_table, opening_fault, rows_in, rows_of};
-ghost use Rattle.pref_script.specs.LiveTable.{PrintsLine, next_number};
+ghost use Rattle.prefq_c.specs.Lines.{KeepsNoReplies, Replies};
+ghost use Rattle.prefq_c.specs.Openings.{HaveRows, Opens, OpensTable, feeds, limits_of, line_end_from, numbers_table, rows_in, rows_of};
+ghost use Rattle.pref_table.specs.Tables.{table_of};
 
 use crate::changes::row_of;
 use crate::fault::Fault;
+use crate::sizes::{Sizes, count_feeds, setup_of};
 use pref_core::{CoreFault, Machine, RankedList, Setup};
-use pref_script::{LiveTable, RunFault};
+use pref_script::LiveTable;
 use pref_table::{Row, Schema, TableFault, read_table};
 use std::alloc::{AllocError, Global};
 
 /// The most lines that a table takes.
 const MOST_LINES: u64 = 1 << 62;
 
-/// The most rows that a table is opened with.
-const MOST_ROWS: usize = 65536;
+/// The most rows of a table.
+pub const MOST_ROWS: usize = 65536;
 
-/// Of the room that replies took, as many bytes stay for those to the next line.
+/// Of the room that replies took, as many bytes stay for those to the next lines.
 const KEPT_BYTES: usize = 4096;
 
-/// A live table, the rows of the answer that was asked for last, the replies to the line that it took last, and how many more lines it takes.
+/// A live table, the rows of the answer that was asked for last, the replies to its last lines, and how many versions of rows it has room for.
 #[derive(Drop)]
 pub struct Table {
     pub live: LiveTable,
     pub answer: RankedList,
     pub text: String,
-    pub lines_left: u64,
-}
-
-/// Why a text is no table that can be opened, as the fault of a call.
-fn opening_fault(why: RunFault) -> Fault
-    ensures { result ≡ opening_fault why }
-{
-    match why {
-        RunFault::Table(why) => Fault::Values(why),
-        RunFault::Opening(why) => Fault::Opening(why),
-        _ => Fault::Memory,
-    }
+    pub capacity: u32,
 }
 
 /// The numbers behind those of a row.
-fn behind<'a>(schema: &Schema, numbers: &'a [i64]) -> &'a [i64]
+pub fn behind<'a>(schema: &Schema, numbers: &'a [i64]) -> &'a [i64]
     requires { length schema.now ≤ length numbers.now }
     ensures { result.now ≡ drop (length schema.now) numbers.now }
 {
@@ -92,73 +82,93 @@ fn read_rows(
     Ok(cut_rows(alloc, schema, count, numbers)?)
 }
 
+/// The column, from 1 on, in whose name a header has a line end.
+fn line_end(header: &[u8]) -> Option<u64>
+    ensures { result ≡ line_end_from 1 header.now }
+{
+    let mut col = 1;
+    for byte in header {
+        match *byte {
+            b'\n' | b'\r' => return Some(col),
+            b',' => col += 1,
+            _ => {}
+        }
+    }
+    None
+}
+
 impl Table {
-    /// A table that has taken no line.
-    fn of(alloc: Global, live: LiveTable) -> Table
-        requires { next_number live ≡ 1 }
-        ensures live { result.live ≡ live }
-        ensures lines { TakesLines result }
+    /// Opens the table of these names and rows, which has taken no line.
+    fn of(alloc: Global, setup: Setup, schema: Schema, rows: &[Row]) -> Result<Table, Fault>
+        ensures { OpensTable setup (Ok (schema, rows.now)) result }
     {
-        Table {
-            live,
+        let capacity = setup.capacity();
+        let machine = match Machine::new(alloc, setup, rows) {
+            Ok(machine) => machine,
+            Err(CoreFault::OutOfMemory) => return Err(Fault::Memory),
+            Err(why) => return Err(Fault::Opening(why)),
+        };
+        Ok(Table {
+            live: LiveTable {
+                schema,
+                machine,
+                number: 1,
+            },
             answer: RankedList::of(Vec::new(alloc)),
             text: String::new(alloc),
-            lines_left: MOST_LINES,
-        }
+            capacity,
+        })
     }
 
     /// Opens the table of a text; its first line is line 1.
-    pub fn open(alloc: Global, setup: Setup, text: &[u8]) -> Result<Table, Fault>
-        ensures { OpensText setup text.now result }
+    pub fn open(alloc: Global, sizes: &Sizes, text: &[u8]) -> Result<Table, Fault>
+        ensures { Opens (limits_of sizes.now (feeds text.now)) (table_of text.now) result }
     {
-        match LiveTable::open(alloc, setup, text, 1) {
-            Ok(live) => Ok(Table::of(alloc, live)),
-            Err(why) => Err(opening_fault(why)),
-        }
+        let setup = setup_of(sizes, count_feeds(text))?;
+        let (schema, rows) = read_table(alloc, text)?;
+        Table::of(alloc, setup, schema, rows.as_slice())
     }
 
     /// Opens the table of a header and of `count` rows of these numbers, each of which has `width`.
     pub fn open_rows(
         alloc: Global,
-        setup: Setup,
+        sizes: &Sizes,
         header: &[u8],
         count: usize,
         width: usize,
         numbers: &[i64],
     ) -> Result<Table, Fault>
         requires { count ≤ 65536 → width ≤ 16 → HaveRows width count numbers.now }
-        ensures { OpensNumbers setup (numbers_table header.now count width numbers.now) result }
+        ensures { Opens (limits_of sizes.now count) (numbers_table header.now count width numbers.now) result }
     {
+        let setup = setup_of(sizes, count)?;
+        if let Some(col) = line_end(header) {
+            return Err(Fault::Values(TableFault::BadName { col }));
+        }
         let (schema, _) = read_table(alloc, header)?;
         let rows = read_rows(alloc, &schema, count, width, numbers)?;
-        match Machine::new(alloc, setup, &rows) {
-            Ok(machine) => Ok(Table::of(
-                alloc,
-                LiveTable {
-                    schema,
-                    machine,
-                    number: 1,
-                },
-            )),
-            Err(CoreFault::OutOfMemory) => Err(Fault::Memory),
-            Err(why) => Err(Fault::Opening(why)),
+        Table::of(alloc, setup, schema, rows.as_slice())
+    }
+
+    /// Gives it a line, without its end, and returns how many bytes the replies have that it keeps. Refused `Memory` alone, also after 2^62 lines; it is to be
+    /// given no more lines then.
+    pub fn reply_to(&mut self, alloc: Global, line: &[u8]) -> Result<u64, Fault>
+        ensures { Replies line.now self.old result self.new }
+    {
+        if self.live.number >= MOST_LINES {
+            return Err(Fault::Memory);
+        }
+        match self.live.reply_to(alloc, line, &mut self.text) {
+            Ok(()) => Ok(self.text.len() as u64),
+            Err(_) => Err(Fault::Memory),
         }
     }
 
-    /// Gives it a line, without its end. Refused `Memory` alone, also after 2^62 lines; it is to be given no more lines then.
-    pub fn reply_to(&mut self, alloc: Global, line: &[u8]) -> Result<(), RunFault>
-        requires { TakesLines self.old }
-        ensures lines { OnOk result (TakesLines self.new) }
-        ensures returned { OnOk result (PrintsLine self.old.live line.now [] (string_bytes self.new.text) self.new.live) }
-        ensures memory { IfErr result (λ fault. fault ≡ RunFault.Memory) }
+    /// Lets the replies go that it keeps.
+    pub fn forget_replies(&mut self)
+        ensures { KeepsNoReplies self.old self.new }
     {
-        if self.lines_left == 0 {
-            return Err(RunFault::Memory);
-        }
         self.text.clear();
         self.text.shrink_to(KEPT_BYTES);
-        self.live.reply_to(alloc, line, &mut self.text)?;
-        self.lines_left -= 1;
-        Ok(())
     }
 }

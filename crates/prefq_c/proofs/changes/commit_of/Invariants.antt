@@ -1,5 +1,5 @@
 use Rattle.std.proofs.Common.{◌≡◌, length, map, take}
-use Rattle.prefq_c.specs.Acts.{change_of}
+use Rattle.prefq_c.specs.Commits.{change_of}
 use Rattle.prefq_c.proofs.changes.commit_of.Given as goal
 
 abbrev pub invariant-loop-place : goal.invariant-loop-place
