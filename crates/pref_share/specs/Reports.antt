@@ -19,6 +19,7 @@ pub record Reported : Type 0 where
   pub replies : List Reply
   pub stopped : Option ShareFault
 
+-- a report, as contracts see it
 abbrev pub reported_in : {J : Type 0} → Report J → Reported
 reported_in report = record { client = report.client; replies = report.replies.items; stopped = report.stopped }
 
@@ -32,8 +33,8 @@ abbrev pub Ends : (ℕ → Bool → Type 0) → Standing → List Act → Option
 Ends said s rest None = rest ≡ []
 Ends said s rest (Some fault) = StopsAt (λ client. said client false) s rest fault × WasLetIn (said s.number) rest fault
 
--- The client did the first of these acts with these replies, and has seen no less since. The gate let it in to each of them, and was asked
--- at the turn of the next.
+-- The client did the first of these acts with the replies of the report, and has seen no less since. The gate let it in to each of them, and
+-- was asked at the turn of the next.
 pub record Did (o : Opening) (says : ℕ → ℕ → Bool → Type 0) (s : Standing) (acts : List Act) (report : Reported) : Type 0 where
   pub done : List Act
   pub rest : List Act
@@ -50,7 +51,7 @@ pub record AreReports (o : Opening) (says : ℕ → ℕ → Bool → Type 0) (cl
   pub legal : IsLegalFrom o history
   pub each : Each (λ client list report. Did o says client list report × StandsWithin o history report.client) clients acts reports
 
--- why the first of these stopped that did, in order of number
+-- the first fault of these, if there is one
 abbrev pub first_fault : List (Option ShareFault) → Option ShareFault
 first_fault [] = None
 first_fault (None ∷ more) = first_fault more

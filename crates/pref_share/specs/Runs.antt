@@ -90,7 +90,7 @@ pub record StandsWithin (o : Opening) (history : List Op) (client : Standing) : 
   pub inside : IsPrefix client.seen history
   pub alone : calls_at o history client.number ≡ Some client.counter
 
--- One client's acts with their replies are its part of the history.
+-- One client's acts with their replies are its part of the history: they lead to a client that has seen a beginning of it, and made all its calls there.
 pub record IsPart (o : Opening) (history : List Op) (s : Standing) (acts : List Act) (replies : List Reply) : Type 0 where
   pub last : Standing
   pub runs : RunsTo o s acts replies last

@@ -41,7 +41,7 @@ impl<J: BoardBrand> Model for Prefix<J> {
 }
 
 impl<J: BoardBrand> Prefix<J> {
-    /// The history that entries show that were seen on this board.
+    /// The history that the entries seen on this board show.
     pub(crate) fn of(len: u64, seen: &Entries) -> Prefix<J>
         requires len { len ≡ length (ops_of seen.now.log) }
         requires book { seen.now.book ≡ J.book }

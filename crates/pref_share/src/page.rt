@@ -140,6 +140,7 @@ impl Page {
         self.seen = seen;
         self.pen = next;
     }
+
     /// Adds an operation to the history, whose page this is, which its client writes on its page before.
     pub(crate) fn add(&mut self, op: &Planned<'_>, page: &mut Page)
         requires history { self.old.number ≡ history_page }
