@@ -1,5 +1,5 @@
 //! The changes of a commit.
-ghost use Rattle.std.specs.Prelude.{◌≡◌, ◌≤◌, length, map, take};
+ghost use Rattle.std.specs.Prelude.{◌≡◌, ◌≤◌, ◌-◌, length, map, take};
 ghost use Rattle.pref_table.specs.Rows.{padded};
 ghost use Rattle.pref_core.specs.Changes.{commit_of};
 ghost use Rattle.prefq_c.specs.Commits.{change_of, changes_of, first_moment, is_change, no_change_from, updates_of};
@@ -96,24 +96,34 @@ pub fn changes_of(schema: &Schema, width: usize, pieces: &[Piece]) -> Result<Com
     }
 }
 
+/// The pieces before the one at this place, from 1 on.
+fn pieces_before(pieces: &[Piece], place: u64) -> &[Piece]
+    ensures { result.now ≡ take (place - 1) pieces.now }
+{
+    let count = (place as usize).saturating_sub(1).min(pieces.len());
+    &pieces[..count]
+}
+
 /// The first pieces that can be made at one moment: those before the first one that names an id again.
 fn first_moment<'a>(schema: &Schema, pieces: &'a [Piece]) -> &'a [Piece]
     ensures { result.now ≡ first_moment (length schema.now) pieces.now }
 {
     match commit_of(schema, pieces) {
-        Err(CoreFault::Twice { place }) => {
-            let count = (place as usize).saturating_sub(1).min(pieces.len());
-            &pieces[..count]
-        }
+        Err(CoreFault::Twice { place }) => pieces_before(pieces, place),
         _ => pieces,
     }
 }
 
-/// The commit of the first updates that can be made at one moment.
+/// The commit of the first updates that can be made at one moment. Most often these are all, so all are tried before any is cut off.
 pub fn updates_of(schema: &Schema, width: usize, pieces: &[Piece]) -> Result<Commit, Fault>
     ensures { result ≡ updates_of (length schema.now) width pieces.now }
 {
-    match changes_of(schema, width, first_moment(schema, pieces)) {
+    let first = match changes_of(schema, width, pieces) {
+        Ok(commit) => return Ok(commit),
+        Err(Fault::Changes(CoreFault::Twice { place })) => pieces_before(pieces, place),
+        Err(_) => first_moment(schema, pieces),
+    };
+    match changes_of(schema, width, first) {
         Err(Fault::NoChange { place: _ }) => Err(Fault::NoValues),
         made => made,
     }
