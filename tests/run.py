@@ -304,7 +304,7 @@ TESTS_BUILT = [command("tests/count_begin_and_abandon.sh"), command("tests/refus
 def asking(program):
     """The checks that ask a program and the library that is there."""
     return [
-        command("python/tests/run.sh"),
+        command("env", f"PREFQ_PROGRAM={TOP / program}", "python/tests/run.sh", name="python/tests/run.sh"),
         command("python3", "tests/model/compare.py", program),
         command("python3", "tests/model/threads.py", program),
         command("python3", "tests/live.py", program),
