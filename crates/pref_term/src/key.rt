@@ -219,7 +219,7 @@ impl Key {
         Relation::by_sides(better, worse)
     }
 
-    /// How the first row compares with the second one, where values are scored by these sets.
+    /// How the first row compares with the second one, where values are scored by these sets. Equal cells are looked for in none.
     #[inline(always)]
     fn by_sets(&self, sets: &NumberSets, a: &Row, b: &Row) -> Relation
         requires column { self.now.col < 16 }
@@ -227,6 +227,9 @@ impl Key {
         ensures { result ≡ by_key self.now a.now b.now }
     {
         let (first, second) = (a.cell(self.col), b.cell(self.col));
+        if first == second {
+            return Relation::Same;
+        }
         if self.turned {
             by_sets(sets.as_slice(), second, first)
         } else {
