@@ -54,8 +54,8 @@ pub use Rattle.pref_term.specs.Reading.{low_kind, named, next, next_factor, next
 pub use Rattle.pref_term.specs.Reading.{part_leaves, parted, pos_kind, prior_depth, product_depth, range_ended, ranged, ranked, read_of, reading, reverse_named, run, set_due, sets_listed}
 pub use Rattle.pref_term.specs.Reading.{skyline_named, start, start_of, stepped, unary_depth, whole, whole_base, with_next, CountKind, levels, rows, count_word, count_head, count_due}
 pub use Rattle.pref_term.specs.SeenTokens.{IsFront, seen}
-pub use Rattle.pref_term.specs.Shown.{IsShownAs, held, held_nests, is_composed, is_prior, more_names, name_at, nests, shown, shown_base, shown_diffs, shown_dims, shown_group, shown_mode, shown_set}
-pub use Rattle.pref_term.specs.Shown.{shown_sets, shown_term, shown_values, worked_names}
+pub use Rattle.pref_term.specs.Shown.{IsShownAs, held, held_nests, is_composed, is_prior, name_at, nests, shown, shown_after_commas, shown_base, shown_diff, shown_dims, shown_group, shown_mode, shown_set}
+pub use Rattle.pref_term.specs.Shown.{shown_term, worked_names}
 pub use Rattle.pref_term.specs.Signatures.{Suit, bits_by, is_within, signature, signed_onto, with_bit}
 pub use Rattle.pref_term.specs.Spells.{Faults, FirstFault, HasOwnFault, IsGood, IsUnexpected, LacksOrder, Names, OwnFault, Spells, Starts, UnlessMemory, bad_count, base_meaning, below, column_at}
 pub use Rattle.pref_term.specs.Spells.{empty_range, group_by, groups_of, last_place, mode_of, number_range, number_value, order_by, orders_of, own_fault, prior_meaning, product_meaning, product_of}

@@ -1,154 +1,159 @@
 -- What is shown of an ask that keeps all equal rows spells it.
-use Rattle.pref_term.proofs.Common.{[], ◌≡◌, ◌<◌, ◌≤◌, ◌^◌, ◌+◌, ℕ, ℤ, pos, negsuc, List, ◌∷◌, ◌++◌, map, true, cond, Some, None, Ok, length, refl, sym, ap, ◌∙◌, append_assoc, arith}
-use Rattle.pref_term.proofs.Common.{false, FitsSigned, decimal, is_none, codes, AllByRecursion, is_ascii_digit, all_ascii_digits, digits_value-decimal, digits_decimal, decimal_nonempty}
-use Rattle.pref_term.proofs.Common.{recursion_from_All, nat_tests, left, right, minus, comma, tokens_of, Sign, right_brace, PriorText, one_product, then_product, then_factor, grouped}
-use Rattle.pref_term.proofs.Common.{rated, mark, column_name, count_digits, head_leaves, group_leaves, number_leaves, base_leaves, prior_leaves, product_leaves}
-use Rattle.pref_term.proofs.Common.{unary_leaves, list_leaves, set_leaves, schema_of, fits_cell, column, ReadsBelow, IsWritableSet, IsWritableBase, IsWritable}
-use Rattle.pref_term.proofs.Common.{Question, FitsWidth, IsCount, cut_of, IsAsk, Names, Spells, IsGood, own_fault, mode_of, unknown_column, number_range, below}
-use Rattle.pref_term.proofs.Common.{Base, low, high, around, one_of, Preference, scored, pareto, prior, reverse, between, layered, is_prior, is_composed, held_nests, nests, name_at}
-use Rattle.pref_term.proofs.Common.{shown, Mode, Option, is_name_byte, IsWritten, Leaf, NumberText}
-use Rattle.pref_term.proofs.Common.{number_digits, signed_leaves, after_commas, column_leaves}
-use Rattle.std.proofs.lemmas.List.Sums.{AllPass-from_list_all}
+use Rattle.pref_term.proofs.Common.{[], ◌≡◌, ◌<◌, ◌≤◌, ◌+◌, ℕ, ℤ, pos, negsuc, suc, List, ◌∷◌, ◌++◌, map, true, cond, Option, Some, None, Ok, length, refl, ap, ◌∙◌, append_assoc, append-nil, arith}
+use Rattle.pref_term.proofs.Common.{false, FitsSigned, decimal, is_none, codes, AllByRecursion, digits_value-decimal, recursion_from_All, nat_tests, left, right, minus, comma, star, ampersand}
+use Rattle.pref_term.proofs.Common.{Sign, left_brace, right_brace, rated, mark, opens, name, last, column_name, number_digits, count_digits, head_leaves, group_leaves, number_leaves, base_leaves}
+use Rattle.pref_term.proofs.Common.{product_leaves, unary_leaves, set_leaves, schema_of, fits_cell, column, ReadsBelow, IsWritableSet, IsWritableBase, IsWritable, Question, FitsWidth, IsCount, cut_of, IsAsk}
+use Rattle.pref_term.proofs.Common.{Names, Spells, IsGood, IsWritten, own_fault, unknown_column, number_range, below, Base, low, high, around, one_of, Preference, scored, pareto, prior, reverse, between, layered}
+use Rattle.pref_term.proofs.Common.{is_prior, is_composed, held, held_nests, nests, name_at, shown, shown_after_commas, shown_base, shown_group, shown_mode, shown_set, shown_term, Mode, Best, TopLevel, AtLeast}
+use Rattle.pref_term.proofs.Common.{is_name_byte, Leaf, token_of, tokens_on, NumberText, signed_leaves, after_commas, column_leaves, Keyword, letters_of, low_word, high_word, around_word, between_word, pos_word}
+use Rattle.pref_term.proofs.Common.{layered_word, best_word, top_level_word, at_least_word, by_word, ask_leaves, prior_leaves, AskText}
+use Rattle.std.specs.Fmt.{signed_decimal}
 use Rattle.std.specs.Int.{w64}
-use Rattle.pref_term.proofs.ShownNames.{IsNamed, is_named}
-use Rattle.pref_term.proofs.ShownLemmas.{AreInRange, CanShow, leaves_text, leaves_text-append, head_text, head_shown, group_shown, columns_same, number_text, base_text, Shape, factor, as_prior}
-use Rattle.pref_term.proofs.ShownLemmas.{as_product, as_factor, shape_of, shape_leaves, prior_same, number_same, meaning_same, prior_text, text_shown, own_numerals, set_text}
 use Rattle.pref_term.proofs.CycleLemmas.{depth_good}
-use Rattle.pref_term.proofs.DistinctLemmas.{head_said, plain_tokens}
-use Rattle.pref_term.proofs.ShownTokens.{lexed, IsDigitsText, said, rated_lexed, Ends, Apart, apart_both, rated_all, spelled_written}
+use Rattle.pref_term.proofs.DistinctLemmas.{tree_spells}
+use Rattle.pref_term.proofs.ShownNames.{IsNamed, is_named}
+use Rattle.pref_term.proofs.ShownLemmas.{CanShow, own_numerals, number_text, number_same, set_text, base_text, head_text, head_same, columns_same, Shape, shape_leaves, factor, as_prior, as_product, as_factor, shape_of, prior_same, meaning_same}
+use Rattle.pref_term.proofs.ShownTokens.{lexed, Ends, place_free, sign_text, sign_lexed, word_lexed, keyword_word, decimal_lexed}
 
-digits_text : (ds : List ℕ) → all_ascii_digits ds ≡ true → 0 < length ds → IsDigitsText ds
-digits_text [] h n = absurd (omega arith)
-digits_text (d ∷ ds) h n = recursion_from_All (λ c. is_ascii_digit c ≡ true) (d ∷ ds) (AllPass-from_list_all is_ascii_digit (d ∷ ds) h)
+-- ---- what a text says
 
-decimal_text : (n : ℕ) → n < 2 ^ 64 → IsDigitsText (decimal n)
-decimal_text n h = digits_text (decimal n) (digits_decimal own_numerals n h) (decimal_nonempty n h)
+-- the text has these leaves, none with a fault, and each word in its case
+pub record Says (names : Names) (text : List ℕ) (leaves : List Leaf) : Type 0 where
+  pub tokens : lexed text ≡ tokens_on leaves
+  pub good : AllByRecursion (IsGood names) leaves
+  pub written : AllByRecursion IsWritten leaves
 
-number_fine : (v : ℤ) → FitsSigned w64 v → IsDigitsText (number_text v).digits
-number_fine v h = grind (arith, h.sfits, decimal_text)
+-- nothing is left
+pub ended : (names : Names) → Says names [] (last ∷ [])
+ended names = record { tokens = refl; good = (refl, tt); written = (tt, tt) }
 
--- ---- the leaves of what is shown
+module _ {names : Names} {rest : List ℕ} {more : List Leaf} where
+  -- a leaf before what is said
+  pub leaf_said : (text : List ℕ) (leaf : Leaf) → lexed (text ++ rest) ≡ token_of leaf ∷ lexed rest → IsGood names leaf → IsWritten leaf → Says names rest more → Says names (text ++ rest) (leaf ∷ more)
+  leaf_said text leaf e good written h = record { tokens = e ∙ ap (λ ts. token_of leaf ∷ ts) h.tokens; good = (good, h.good); written = (written, h.written) }
 
-count_small : (k : ℕ) → IsCount k → k < 2 ^ 64
-count_small k h = omega (arith, h.0, h.1)
+  pub blank : Says names rest more → Says names (32 ∷ rest) more
+  blank h = record { tokens = place_free 0 1 0 rest ∙ h.tokens; good = h.good; written = h.written }
+
+  pub marked : (s : Sign) → Says names rest more → Says names (sign_text s ++ rest) (mark s ∷ more)
+  marked s = leaf_said (sign_text s) (mark s) (sign_lexed s rest) refl tt
+
+  opened : (s : Sign) (depth : ℕ) → depth < 64 → Says names rest more → Says names (sign_text s ++ rest) (opens depth s ∷ more)
+  opened s depth room = leaf_said (sign_text s) (opens depth s) (sign_lexed s rest) (depth_good names depth s room) tt
+
+  worded : (k : Keyword) → Ends is_name_byte rest → Says names rest more → Says names (letters_of k ++ rest) (name k ∷ more)
+  worded k e = leaf_said (letters_of k) (name k) (word_lexed (letters_of k) rest (keyword_word k) e) refl tt
+
+  pub named : (col : ℕ) → IsNamed names col → Ends is_name_byte rest → Says names rest more → Says names (name_at names col ++ rest) (column_name (name_at names col) ∷ more)
+  named col n e = leaf_said (name_at names col) _ (word_lexed (name_at names col) rest n.0 e) (ap (λ o. cond (is_none o) (Some unknown_column) None) n.1) tt
+
+  counted : (k : ℕ) → IsCount k → Ends is_name_byte rest → Says names rest more → Says names (decimal k ++ rest) (count_digits (decimal k) ∷ more)
+  counted k c e = leaf_said (decimal k) _ (decimal_lexed k rest (omega (arith, c.1)) e) (grind (arith, digits_value-decimal, own_numerals, c.0, c.1)) tt
+
+number_good : (names : Names) (least : Option NumberText) (v : ℤ) → FitsSigned w64 v → below least v ≡ None → own_fault names (number_digits least (number_text v).negative (number_text v).digits) ≡ None
+number_good names least v h above =
+    ap (λ x. cond (fits_cell x) (below least x) (Some number_range)) (number_same v h) ∙ (ap (λ b. cond b (below least v) (Some number_range)) (fits v h) ∙ above)
+  where
+    fits : (v : ℤ) → FitsSigned w64 v → fits_cell v ≡ true
+    fits (pos n) h = grind (arith, nat_tests, h.sfits)
+    fits (negsuc n) h = grind (arith, nat_tests, h.sfits)
+
+-- the tree of a question that keeps all equal rows
+abbrev tree_of : Names → Question → AskText
+tree_of names q = rated (head_text q.mode) (as_prior (shape_of names q.preference)) (map (name_at names) q.group)
+
+-- a text that is said with these leaves, whatever follows it that no name goes on with
+abbrev pub IsSaid : Names → List ℕ → List Leaf → Type 0
+IsSaid names text leaves = (rest : List ℕ) (more : List Leaf) → Ends is_name_byte rest → Says names rest more → Says names (text ++ rest) (leaves ++ more)
+
+pub after_commas_end : {X : Type 0} (text : X → List ℕ) (xs : List X) (rest : List ℕ) → Ends is_name_byte rest → Ends is_name_byte (shown_after_commas text xs ++ rest)
+after_commas_end text [] rest e = e
+after_commas_end text (x ∷ xs) rest e = refl
 
 module _ (names : Names) where
-  pub column_fine : (col : ℕ) → IsNamed names col → own_fault names (column_name (name_at names col)) ≡ None
-  column_fine col h = ap (λ o. cond (is_none o) (Some unknown_column) None) h.1
+  numbered : (least : Option NumberText) (v : ℤ) → FitsSigned w64 v → below least v ≡ None → IsSaid names (signed_decimal v) (signed_leaves least (number_text v).negative (number_text v).digits)
+  numbered least (pos n) f above rest more e h = leaf_said (decimal n) (number_digits least false (decimal n)) (decimal_lexed n rest (omega (arith, f.sfits)) e) (number_good names least (pos n) f above) tt h
+  numbered least (negsuc n) f above rest more e h =
+      marked minus (leaf_said (decimal (suc n)) (number_digits least true (decimal (suc n))) (decimal_lexed (suc n) rest (omega (arith, f.sfits)) e) (number_good names least (negsuc n) f above) tt h)
 
-  number_good : (least : Option NumberText) (v : ℤ) → FitsSigned w64 v → below least v ≡ None → own_fault names (number_digits least (number_text v).negative (number_text v).digits) ≡ None
-  number_good least v h above =
-      ap (λ x. cond (fits_cell x) (below least x) (Some number_range)) (number_same v h) ∙ (ap (λ b. cond b (below least v) (Some number_range)) (fits v h) ∙ above)
-    where
-      fits : (v : ℤ) → FitsSigned w64 v → fits_cell v ≡ true
-      fits (pos n) h = grind (arith, nat_tests, h.sfits)
-      fits (negsuc n) h = grind (arith, nat_tests, h.sfits)
+  -- each after a comma
+  pub after_commas_said : {X T : Type 0} (text : X → List ℕ) (leaves : T → List Leaf) (tree : X → T) (Fits : X → Type 0) → ((x : X) → Fits x → IsSaid names (text x) (leaves (tree x))) → (xs : List X) → AllByRecursion Fits xs
+      → IsSaid names (shown_after_commas text xs) (after_commas leaves (map tree xs))
+  after_commas_said text leaves tree Fits each [] k rest more e h = h
+  after_commas_said text leaves tree Fits each (x ∷ xs) k rest more e h =
+      simp append_assoc (marked comma (each x k.0 _ _ (after_commas_end text xs rest e) (after_commas_said text leaves tree Fits each xs k.1 rest more e h)))
 
-  apart_number : (least : Option NumberText) (v : ℤ) (rest : List ℕ) → FitsSigned w64 v → below least v ≡ None → Ends is_ascii_digit rest → Apart names (signed_leaves least (number_text v).negative (number_text v).digits) rest
-  apart_number least (pos n) rest h above e = (number_fine (pos n) h, number_good least (pos n) h above, e, tt)
-  apart_number least (negsuc n) rest h above e = (tt, refl, tt, (number_fine (negsuc n) h, number_good least (negsuc n) h above, e, tt))
+  -- numbers, and the sign that closes their list
+  list_said : (v : ℤ) (vs : List ℤ) (closing : Sign) (rest : List ℕ) (more : List Leaf) → AllByRecursion (FitsSigned w64) (v ∷ vs) → Ends is_name_byte (sign_text closing ++ rest) → Says names rest more
+      → Says names (signed_decimal v ++ (shown_after_commas signed_decimal vs ++ (sign_text closing ++ rest))) (number_leaves (number_text v) ++ (after_commas number_leaves (map number_text vs) ++ mark closing ∷ more))
+  list_said v vs closing rest more f e h =
+      numbered None v f.0 refl _ _ (after_commas_end signed_decimal vs _ e) (after_commas_said signed_decimal number_leaves number_text (FitsSigned w64) (λ w k. numbered None w k refl) vs f.1 _ _ e (marked closing h))
 
-  apart_others : (vs : List ℤ) (rest : List ℕ) → AreInRange vs → Ends is_ascii_digit rest → Apart names (after_commas number_leaves (map number_text vs)) rest
-  apart_others [] rest h e = tt
-  apart_others (v ∷ vs) rest h e = (
-    tt,
-    refl,
-    tt,
-    apart_both names (number_leaves (number_text v)) (after_commas number_leaves (map number_text vs)) rest
-        (apart_number None v (leaves_text (after_commas number_leaves (map number_text vs)) ++ rest) h.0 refl (ends vs)) (apart_others vs rest h.1 e),
-  )
-    where
-      ends : (vs : List ℤ) → Ends is_ascii_digit (leaves_text (after_commas number_leaves (map number_text vs)) ++ rest)
-      ends [] = e
-      ends (w ∷ ws) = refl
+  set_said : (set : List ℤ) → IsWritableSet set → IsSaid names (shown_set set) (set_leaves (set_text set))
+  set_said [] w rest more e h = absurd (w.0 refl)
+  set_said (v ∷ vs) w rest more e h = simp append_assoc (marked left_brace (list_said v vs right_brace rest more (recursion_from_All (FitsSigned w64) (v ∷ vs) w.1) refl h))
 
-  -- numbers, and a sign that no digit begins
-  apart_list : (v : ℤ) (vs : List ℤ) (closing : Sign) (rest : List ℕ) → AreInRange (v ∷ vs) → Ends is_ascii_digit (leaves_text (mark closing ∷ []) ++ rest) → Apart names (list_leaves (number_text v) (map number_text vs) closing) rest
-  apart_list v vs closing rest h e =
-      apart_both names (number_leaves (number_text v)) (after_commas number_leaves (map number_text vs) ++ mark closing ∷ []) rest
-      (apart_number None v (leaves_text (after_commas number_leaves (map number_text vs) ++ mark closing ∷ []) ++ rest) h.0 refl (ends vs))
-      (apart_both names (after_commas number_leaves (map number_text vs)) (mark closing ∷ []) rest (apart_others vs (leaves_text (mark closing ∷ []) ++ rest) h.1 e) (tt, refl, tt, tt))
-    where
-      ends : (vs : List ℤ) → Ends is_ascii_digit (leaves_text (after_commas number_leaves (map number_text vs) ++ mark closing ∷ []) ++ rest)
-      ends [] = e
-      ends (w ∷ ws) = refl
+  base_said : (b : Base) → IsNamed names (column b) → IsWritableBase b → IsSaid names (shown_base names b) (base_leaves (base_text names b))
+  base_said (low col) n w rest more e h = simp append_assoc (worded low_word refl (marked left (named col n refl (marked right h))))
+  base_said (high col) n w rest more e h = simp append_assoc (worded high_word refl (marked left (named col n refl (marked right h))))
+  base_said (around col centre) n w rest more e h =
+      simp append_assoc (worded around_word refl (marked left (named col n refl (marked comma (numbered None centre w refl _ _ refl (marked right h))))))
+  base_said (between col l r) n w rest more e h =
+      simp append_assoc (worded between_word refl (marked left (named col n refl (marked comma (numbered None l w.0 refl _ _ refl (marked comma (numbered (Some (number_text l)) r w.1 (grind (arith, number_same, w.0, w.2)) _ _ refl (marked right h))))))))
+  base_said (one_of col []) n w rest more e h = absurd (w.0 refl)
+  base_said (one_of col (v ∷ vs)) n w rest more e h =
+      simp append_assoc (worded pos_word refl (marked left (named col n refl (marked comma (list_said v vs right rest more (recursion_from_All (FitsSigned w64) (v ∷ vs) w.1) refl h)))))
+  base_said (layered col []) n w rest more e h = absurd (w.0 refl)
+  base_said (layered col (s ∷ ss)) n w rest more e h =
+      let sets = recursion_from_All IsWritableSet (s ∷ ss) w.1 in
+      let others = after_commas_said shown_set set_leaves set_text IsWritableSet set_said ss sets.1 _ _ refl (marked right h) in
+      let all = set_said s sets.0 _ _ (after_commas_end shown_set ss _ refl) others in
+      simp append_assoc (simp append_assoc at (worded layered_word refl (marked left (named col n refl (marked comma all)))))
 
-  apart_set : (set : List ℤ) (rest : List ℕ) → IsWritableSet set → Apart names (set_leaves (set_text set)) rest
-  apart_set [] rest h = absurd (h.0 refl)
-  apart_set (v ∷ vs) rest h = (tt, refl, tt, apart_list v vs right_brace rest (recursion_from_All (FitsSigned w64) (v ∷ vs) h.1) refl)
+  -- so is a term within so many open nestings
+  abbrev IsSaidWithin : Preference → Type 0
+  IsSaidWithin p = (depth : ℕ) → nests p + depth ≤ 64 → IsSaid names (shown_term names p) (shape_leaves (shape_of names p) depth)
 
-  apart_sets : (sets : List (List ℤ)) (rest : List ℕ) → AllByRecursion IsWritableSet sets → Apart names (after_commas set_leaves (map set_text sets)) rest
-  apart_sets [] rest h = tt
-  apart_sets (s ∷ ss) rest h =
-      (tt, refl, tt, apart_both names (set_leaves (set_text s)) (after_commas set_leaves (map set_text ss)) rest (apart_set s (leaves_text (after_commas set_leaves (map set_text ss)) ++ rest) h.0) (apart_sets ss rest h.1))
+  prior_said : (s : Shape) (depth : ℕ) (text : List ℕ) → IsSaid names text (shape_leaves s depth) → IsSaid names text (prior_leaves (as_prior s) depth)
+  prior_said (factor u) depth text g = g
+  prior_said _ depth text g = g
 
-  -- the parenthesis behind the word of a base term, its column, and what is behind that
-  opened : (col : ℕ) (leaves : List Leaf) (rest : List ℕ) → IsNamed names col → Ends is_name_byte (leaves_text leaves ++ rest) → Apart names leaves rest → Apart names (mark left ∷ column_name (name_at names col) ∷ leaves) rest
-  opened col leaves rest h e k = (tt, refl, tt, (h.0, column_fine col h, e, k))
+  grouped_said : (text : List ℕ) (leaves : List Leaf) (depth : ℕ) → depth < 64 → IsSaid names text leaves → IsSaid names (codes "(" ++ text ++ codes ")") (opens depth left ∷ leaves ++ mark right ∷ [])
+  grouped_said text leaves depth room g rest more e h = simp append_assoc (opened left depth room (g _ _ refl (marked right h)))
 
-  apart_base : (b : Base) (rest : List ℕ) → IsNamed names (column b) → IsWritableBase b → Apart names (base_leaves (base_text names b)) rest
-  apart_base (low col) rest h w = (tt, refl, refl, opened col (mark right ∷ []) rest h refl (tt, refl, tt, tt))
-  apart_base (high col) rest h w = (tt, refl, refl, opened col (mark right ∷ []) rest h refl (tt, refl, tt, tt))
-  apart_base (around col centre) rest h w = grind (arith, w, opened, apart_both, apart_number None centre)
-  apart_base (between col l r) rest h w = grind (arith, w, number_same, opened, apart_both, apart_number None l, apart_number (Some (number_text l)) r)
-  apart_base (one_of col []) rest h w = absurd (w.0 refl)
-  apart_base (one_of col (v ∷ vs)) rest h w =
-      let numbers = apart_list v vs right rest (recursion_from_All (FitsSigned w64) (v ∷ vs) w.1) refl in
-      (tt, refl, refl, opened col (mark comma ∷ list_leaves (number_text v) (map number_text vs) right) rest h refl (tt, refl, tt, numbers))
-  apart_base (layered col []) rest h w = absurd (w.0 refl)
-  apart_base (layered col (s ∷ ss)) rest h w = grind (arith, recursion_from_All IsWritableSet (s ∷ ss) w.1, opened, apart_both, apart_set, apart_sets)
+  product_said : (p : Preference) → IsSaidWithin p → (depth : ℕ) → held_nests (is_prior p) (nests p) + depth ≤ 64 → IsSaid names (held (is_prior p) (shown_term names p)) (product_leaves (as_product (shape_of names p)) depth)
+  product_said (prior p q) g depth k = grouped_said _ _ depth (omega arith) (g (depth + 1) (omega arith))
+  product_said _ g depth k = g depth k
 
-  -- within so many open nestings, whatever follows
-  abbrev ApartWithin : Preference → Type 0
-  ApartWithin p = (depth : ℕ) (rest : List ℕ) → nests p + depth ≤ 64 → Apart names (shape_leaves (shape_of names p) depth) rest
+  factor_said : (p : Preference) → IsSaidWithin p → (depth : ℕ) → held_nests (is_composed p) (nests p) + depth ≤ 64 → IsSaid names (held (is_composed p) (shown_term names p)) (unary_leaves (as_factor (shape_of names p)) depth)
+  factor_said (pareto p q) g depth k = grouped_said _ _ depth (omega arith) (g (depth + 1) (omega arith))
+  factor_said (prior p q) g depth k = grouped_said _ _ depth (omega arith) (g (depth + 1) (omega arith))
+  factor_said _ g depth k = g depth k
 
-  apart_prior : (s : Shape) (depth : ℕ) (rest : List ℕ) → Apart names (shape_leaves s depth) rest → Apart names (prior_leaves (as_prior s) depth) rest
-  apart_prior (factor u) depth rest h = h
-  apart_prior _ depth rest h = h
+  term_said : (p : Preference) → CanShow names p → IsSaidWithin p
+  term_said (scored b) c depth k rest more e h = base_said b c.0 c.1 rest more e h
+  term_said (pareto p q) c depth k rest more e h = simp append_assoc (product_said p (term_said p c.0) depth (omega arith) _ _ refl (marked star (factor_said q (term_said q c.1) depth (omega arith) rest more e h)))
+  term_said (prior p q) c depth k rest more e h =
+      simp append_assoc (prior_said (shape_of names p) depth _ (term_said p c.0 depth (omega arith)) _ _ refl (marked ampersand (product_said q (term_said q c.1) depth (omega arith) rest more e h)))
+  term_said (reverse p) c depth k rest more e h = opened minus depth (omega arith) (factor_said p (term_said p c) (depth + 1) (omega arith) rest more e h)
 
-  apart_nesting : (r : PriorText) (depth : ℕ) (rest : List ℕ) → depth < 64 → Apart names (prior_leaves r (depth + 1)) (codes ")" ++ rest) → Apart names (unary_leaves (grouped r) depth) rest
-  apart_nesting r depth rest h k = (tt, depth_good names depth left h, tt, apart_both names (prior_leaves r (depth + 1)) (mark right ∷ []) rest k (tt, refl, tt, tt))
+  mode_said : (m : Mode) → IsCount (cut_of m) → (rest : List ℕ) (more : List Leaf) → Says names rest more → Says names (shown_mode m ++ rest) (head_leaves (head_text m) ++ more)
+  mode_said Best c rest more h = worded best_word refl (blank h)
+  mode_said (TopLevel k) c rest more h = simp append_assoc (worded top_level_word refl (blank (counted k c refl (blank h))))
+  mode_said (AtLeast k) c rest more h = simp append_assoc (worded at_least_word refl (blank (counted k c refl (blank h))))
 
-  apart_product : (p : Preference) (depth : ℕ) (rest : List ℕ) → ApartWithin p → held_nests (is_prior p) (nests p) + depth ≤ 64 → Apart names (product_leaves (as_product (shape_of names p)) depth) rest
-  apart_product (prior p q) depth rest g h = apart_nesting (then_product (as_prior (shape_of names p)) (as_product (shape_of names q))) depth rest (omega arith) (g (depth + 1) (codes ")" ++ rest) (omega arith))
-  apart_product _ depth rest g h = g depth rest h
+  group_said : (cs : List ℕ) → AllByRecursion (IsNamed names) cs → Ends is_name_byte (shown_group names cs) × Says names (shown_group names cs) (group_leaves (map (name_at names) cs) ++ last ∷ [])
+  group_said [] n = (tt, ended names)
+  group_said (c ∷ cs) n =
+      let others = after_commas_said (name_at names) column_leaves (name_at names) (IsNamed names) (λ d k rest more. named d k) cs n.1 [] _ tt (ended names) in
+      (refl, simp append-nil at (blank (worded by_word refl (blank (named c n.0 (after_commas_end (name_at names) cs [] tt) others)))))
 
-  apart_factor : (p : Preference) (depth : ℕ) (rest : List ℕ) → ApartWithin p → held_nests (is_composed p) (nests p) + depth ≤ 64 → Apart names (unary_leaves (as_factor (shape_of names p)) depth) rest
-  apart_factor (pareto p q) depth rest g h = apart_nesting (one_product (then_factor (as_product (shape_of names p)) (as_factor (shape_of names q)))) depth rest (omega arith) (g (depth + 1) (codes ")" ++ rest) (omega arith))
-  apart_factor (prior p q) depth rest g h = apart_nesting (then_product (as_prior (shape_of names p)) (as_product (shape_of names q))) depth rest (omega arith) (g (depth + 1) (codes ")" ++ rest) (omega arith))
-  apart_factor _ depth rest g h = g depth rest h
-
-  apart_shape : (p : Preference) → CanShow names p → ApartWithin p
-  apart_shape (scored b) h depth rest k = apart_base b rest h.0 h.1
-  apart_shape (pareto p q) h depth rest k = grind (arith, k, apart_both, apart_product, apart_factor, apart_shape p h.0, apart_shape q h.1)
-  apart_shape (prior p q) h depth rest k = grind (arith, k, apart_both, apart_prior, apart_product, apart_shape p h.0, apart_shape q h.1)
-  apart_shape (reverse p) h depth rest k =
-      (tt, depth_good names depth minus (omega arith), tt, apart_factor p (depth + 1) rest (apart_shape p h) (omega arith))
-
-  count_fine : (k : ℕ) → IsCount k → own_fault names (count_digits (decimal k)) ≡ None
-  count_fine k h = grind (arith, digits_value-decimal, own_numerals, count_small)
-
-  apart_head : (m : Mode) (rest : List ℕ) → IsCount (cut_of m) → Apart names (head_leaves (head_text m)) rest
-  apart_head m rest h = grind (arith, decimal_text, count_small, count_fine)
-
-  columns_end : (cs : List ℕ) → Ends is_name_byte (leaves_text (after_commas column_leaves (map (name_at names) cs)) ++ [])
-  columns_end [] = tt
-  columns_end (c ∷ cs) = refl
-
-  apart_columns : (cs : List ℕ) → AllByRecursion (IsNamed names) cs → Apart names (after_commas column_leaves (map (name_at names) cs)) []
-  apart_columns [] h = tt
-  apart_columns (c ∷ cs) h = (tt, refl, tt, (h.0.0, column_fine c h.0, columns_end cs, apart_columns cs h.1))
-
-  apart_group : (cs : List ℕ) → AllByRecursion (IsNamed names) cs → Apart names (group_leaves (map (name_at names) cs)) []
-  apart_group [] h = tt
-  apart_group (c ∷ cs) h = apart_columns (c ∷ cs) h
-
-  apart_said : (q : Question) → IsCount (cut_of q.mode) → CanShow names q.preference → AllByRecursion (IsNamed names) q.group → nests q.preference ≤ 64
-      → Apart names (said (head_text q.mode) (as_prior (shape_of names q.preference)) (map (name_at names) q.group)) []
-  apart_said q count can columns deep = grind (arith, as_prior, shape_of, apart_both, head_text, apart_head, leaves_text, apart_prior, apart_shape, apart_group)
-
-head_same : (m : Mode) → IsCount (cut_of m) → mode_of (head_text m) ≡ m
-head_same m h = grind (arith, digits_value-decimal, own_numerals, count_small)
+  tree_said : (q : Question) → IsCount (cut_of q.mode) → CanShow names q.preference → AllByRecursion (IsNamed names) q.group → nests q.preference ≤ 64 → q.distinct ≡ false
+      → Says names (shown names q) (ask_leaves (tree_of names q))
+  tree_said q count can columns deep all =
+      let group = group_said q.group columns in
+      let term = prior_said (shape_of names q.preference) 0 _ (term_said q.preference can 0 (omega arith)) _ _ group.0 group.1 in
+      rw all (simp append_assoc (mode_said q.mode count _ _ term))
 
 -- ---- what can be shown is what contracts see of an ask over the columns of a schema
 
@@ -163,27 +168,12 @@ module _ (names : Names) (each : (col : ℕ) → col < length names → IsNamed 
   all_named [] h = tt
   all_named (c ∷ cs) h = (each c h.0, all_named cs h.1)
 
--- where all equal rows are kept, a question is shown as a term
-tree_text : (names : Names) (q : Question) → CanShow names q.preference → q.distinct ≡ false → leaves_text (said (head_text q.mode) (as_prior (shape_of names q.preference)) (map (name_at names) q.group)) ≡ shown names q
-tree_text names q h all = grind (arith, all, leaves_text-append, head_shown, prior_text, text_shown names q.preference h 0, group_shown, append_assoc)
-
 -- where the shown text keeps the limits of length and nesting, it spells what was shown
 pub plain_spells : (names : Names) (q : Question) → schema_of names ≡ Ok names → IsAsk q → q.distinct ≡ false → FitsWidth (length names) q → nests q.preference ≤ 64 → length (shown names q) ≤ 4096 → Spells names (shown names q) q
 plain_spells names q schema ask all width deep short =
     let each = is_named names schema in
     let can = can_show names each q.preference ask.writable width.preference in
     let columns = all_named names each q.group (recursion_from_All (λ col. col < length names) q.group width.group) in
-    let shape = shape_of names q.preference in
-    let term = as_prior shape in
-    let group = map (name_at names) q.group in
-    let head = head_text q.mode in
-    let apart = apart_said names q ask.count can columns deep in
-    let lexed_is = ap lexed (sym (tree_text names q can all)) ∙ rated_lexed names head term group apart in
-    record {
-      tree = rated head term group;
-      written = rated_all names head term group apart IsWritten (λ leaf h _. spelled_written leaf h) tt;
-      short = short;
-      tokens = plain_tokens (tokens_of (shown names q)) _ lexed_is (head_said head term group (tokens_of (shown names q)) lexed_is);
-      good = rated_all names head term group apart (IsGood names) (λ leaf _ k. k) refl;
-      meaning = grind (arith, all, prior_same shape names, meaning_same names q.preference can, columns_same names q.group columns, head_same q.mode ask.count);
-    }
+    let said = tree_said names q ask.count can columns deep all in
+    tree_spells names (shown names q) (tree_of names q) q said.written short said.tokens said.good
+    (grind (arith, all, prior_same (shape_of names q.preference) names, meaning_same names q.preference can, columns_same names q.group columns, head_same q.mode ask.count))

@@ -1,19 +1,17 @@
 -- What is shown is a text of the grammar with the meaning of what was shown.
-use Rattle.pref_term.proofs.Common.{[], ◌≡◌, ◌+◌, ℕ, ℤ, pos, negsuc, suc, List, ◌∷◌, ◌++◌, map, true, false, refl, sym, ap, ◌∙◌, append_assoc, append-nil, arith, codes, unwrap_or}
-use Rattle.pref_term.proofs.Common.{FitsSigned, decimal, AllByRecursion, all_ascii_digits, digits_value-decimal, Sign, left, right, comma, star, ampersand, minus, left_brace, right_brace}
-use Rattle.pref_term.proofs.Common.{Keyword, best_word, low_word, high_word, around_word, pos_word, reverse_word, top_level_word, at_least_word, by_word, NumberText, BaseText, low_text, high_text}
+use Rattle.pref_term.proofs.Common.{[], ◌≡◌, ℕ, ℤ, pos, negsuc, suc, List, ◌∷◌, map, true, false, refl, ap, ◌∙◌, arith, unwrap_or}
+use Rattle.pref_term.proofs.Common.{FitsSigned, decimal, AllByRecursion, all_ascii_digits, digits_value-decimal}
+use Rattle.pref_term.proofs.Common.{NumberText, BaseText, low_text, high_text}
 use Rattle.pref_term.proofs.Common.{around_text, pos_text, PriorText, one_product, then_product, ProductText, one_factor, then_factor, UnaryText, negated, grouped, based, HeadText, best_head}
-use Rattle.pref_term.proofs.Common.{top_level_head, at_least_head, Leaf, name, mark, opens, column_name, number_digits, count_digits, cased, last, number_leaves, base_leaves}
-use Rattle.pref_term.proofs.Common.{prior_leaves, product_leaves, unary_leaves, head_leaves, group_leaves, between_word, between_text, end_leaves, layered_word, layered_text, SetText}
-use Rattle.pref_term.proofs.Common.{list_leaves, set_leaves, Names, number_value, set_value, column_at, base_meaning, prior_meaning, product_meaning, unary_meaning, Base, low, high, around}
-use Rattle.pref_term.proofs.Common.{one_of, Preference, scored, pareto, prior, reverse, between, layered, name_at, shown_values, shown_set, shown_sets, shown_base, is_prior, is_composed, held}
-use Rattle.pref_term.proofs.Common.{shown_term, shown_mode, more_names, shown_group, Mode, Best, TopLevel, AtLeast, recursion_from_All, column, IsWritableBase, IsWritableSet, after_commas, column_leaves}
-use Rattle.std.specs.Fmt.{signed_decimal}
+use Rattle.pref_term.proofs.Common.{top_level_head, at_least_head, Leaf}
+use Rattle.pref_term.proofs.Common.{prior_leaves, product_leaves, unary_leaves, between_text, layered_text, SetText}
+use Rattle.pref_term.proofs.Common.{Names, number_value, set_value, column_at, base_meaning, prior_meaning, product_meaning, unary_meaning, Base, low, high, around}
+use Rattle.pref_term.proofs.Common.{one_of, Preference, scored, pareto, prior, reverse, between, layered, name_at}
+use Rattle.pref_term.proofs.Common.{Mode, Best, TopLevel, AtLeast, recursion_from_All, column, IsWritableBase, IsWritableSet, IsCount, cut_of, mode_of}
 use Rattle.std.specs.Int.{w64}
 use Rattle.std.specs.Str.Parse.{digits_value}
 use Rattle.std.proofs.lemmas.Str.Parse.{IsNumeralModel, numerals_by_value, tells_all_ascii_digits}
 use Rattle.pref_term.proofs.ShownNames.{IsNamed}
-use Rattle.std.proofs.Common.{rules}
 
 -- ---- what can be shown
 
@@ -27,49 +25,6 @@ CanShow names (scored b) = IsNamed names (column b) × IsWritableBase b
 CanShow names (pareto p q) = CanShow names p × CanShow names q
 CanShow names (prior p q) = CanShow names p × CanShow names q
 CanShow names (reverse p) = CanShow names p
-
--- ---- the text of leaves
-
-abbrev pub sign_text : Sign → List ℕ
-sign_text left = codes "("
-sign_text right = codes ")"
-sign_text comma = codes ", "
-sign_text star = codes " * "
-sign_text ampersand = codes " & "
-sign_text minus = codes "-"
-sign_text left_brace = codes "{"
-sign_text right_brace = codes "}"
-
-abbrev pub word_text : Keyword → List ℕ
-word_text best_word = codes "best "
-word_text low_word = codes "low"
-word_text high_word = codes "high"
-word_text around_word = codes "around"
-word_text between_word = codes "between"
-word_text pos_word = codes "pos"
-word_text layered_word = codes "layered"
-word_text reverse_word = codes "reverse"
-word_text top_level_word = codes "top_level "
-word_text at_least_word = codes "at_least "
-word_text by_word = codes " by "
-
-abbrev pub leaf_text : Leaf → List ℕ
-leaf_text (name k) = word_text k
-leaf_text (mark s) = sign_text s
-leaf_text (opens depth s) = sign_text s
-leaf_text (column_name letters) = letters
-leaf_text (number_digits least negative ds) = ds
-leaf_text (count_digits ds) = ds ++ codes " "
-leaf_text (cased k letters) = letters
-leaf_text last = []
-
-abbrev pub leaves_text : List Leaf → List ℕ
-leaves_text [] = []
-leaves_text (leaf ∷ leaves) = leaf_text leaf ++ leaves_text leaves
-
-pub leaves_text-append : (a b : List Leaf) → leaves_text (a ++ b) ≡ leaves_text a ++ leaves_text b
-leaves_text-append [] b = refl
-leaves_text-append (x ∷ a) b = rw (leaves_text-append a b) (sym (append_assoc (leaf_text x) (leaves_text a) (leaves_text b)))
 
 -- ---- the tree of what is shown
 
@@ -119,6 +74,11 @@ shape_of names (pareto p q) = product (then_factor (as_product (shape_of names p
 shape_of names (prior p q) = ranked (then_product (as_prior (shape_of names p)) (as_product (shape_of names q)))
 shape_of names (reverse p) = factor (negated (as_factor (shape_of names p)))
 
+abbrev pub shape_leaves : Shape → ℕ → List Leaf
+shape_leaves (factor u) depth = unary_leaves u depth
+shape_leaves (product p) depth = product_leaves p depth
+shape_leaves (ranked r) depth = prior_leaves r depth
+
 -- ---- its meaning
 
 abbrev pub shape_meaning : Shape → Names → Preference
@@ -146,7 +106,7 @@ column_same names col h = ap (λ o. unwrap_or o 0) h.1
 
 numbers_same : (vs : List ℤ) → AreInRange vs → map number_value (map number_text vs) ≡ vs
 numbers_same [] h = refl
-numbers_same (v ∷ vs) h = ap (λ x. x ∷ map number_value (map number_text vs)) (number_same v h.0) ∙ ap (λ xs. v ∷ xs) (numbers_same vs h.1)
+numbers_same (v ∷ vs) h = grind (arith, number_same v h.0, numbers_same vs h.1)
 
 set_same : (set : List ℤ) → IsWritableSet set → set_value (set_text set) ≡ set
 set_same [] h = absurd (h.0 refl)
@@ -154,7 +114,7 @@ set_same (v ∷ vs) h = numbers_same (v ∷ vs) (recursion_from_All (FitsSigned 
 
 sets_same : (sets : List (List ℤ)) → AllByRecursion IsWritableSet sets → map set_value (map set_text sets) ≡ sets
 sets_same [] h = refl
-sets_same (s ∷ ss) h = ap (λ x. x ∷ map set_value (map set_text ss)) (set_same s h.0) ∙ ap (λ xs. s ∷ xs) (sets_same ss h.1)
+sets_same (s ∷ ss) h = grind (arith, set_same s h.0, sets_same ss h.1)
 
 base_same : (names : Names) (b : Base) → IsNamed names (column b) → IsWritableBase b → base_meaning names (base_text names b) ≡ b
 base_same names (low col) h w = ap low (column_same names col h)
@@ -173,72 +133,6 @@ meaning_same names (pareto p q) h = grind (arith, meaning_same names p h.0, mean
 meaning_same names (prior p q) h = grind (arith, meaning_same names p h.0, meaning_same names q h.1)
 meaning_same names (reverse p) h = ap reverse (factor_same (shape_of names p) names ∙ meaning_same names p h)
 
--- ---- its text
-
-abbrev pub shape_leaves : Shape → ℕ → List Leaf
-shape_leaves (factor u) depth = unary_leaves u depth
-shape_leaves (product p) depth = product_leaves p depth
-shape_leaves (ranked r) depth = prior_leaves r depth
-
-number_shown : (v : ℤ) → leaves_text (number_leaves (number_text v)) ≡ signed_decimal v
-number_shown (pos n) = append-nil (decimal n)
-number_shown (negsuc n) = simp append-nil
-
-end_shown : (l v : ℤ) → leaves_text (end_leaves (number_text l) (number_text v)) ≡ signed_decimal v
-end_shown l (pos n) = append-nil (decimal n)
-end_shown l (negsuc n) = simp append-nil
-
-values_shown : (vs : List ℤ) → leaves_text (after_commas number_leaves (map number_text vs)) ≡ shown_values vs
-values_shown [] = refl
-values_shown (v ∷ vs) = grind (arith, values_shown vs)
-
--- numbers and the sign that closes their list
-list_shown : (v : ℤ) (vs : List ℤ) (closing : Sign) → leaves_text (list_leaves (number_text v) (map number_text vs) closing) ≡ signed_decimal v ++ (shown_values vs ++ sign_text closing)
-list_shown v vs closing = grind (arith, leaves_text-append, number_shown, values_shown)
-
-set_shown : (set : List ℤ) → IsWritableSet set → leaves_text (set_leaves (set_text set)) ≡ shown_set set
-set_shown [] h = absurd (h.0 refl)
-set_shown (v ∷ vs) h = ap (λ xs. codes "{" ++ xs) (list_shown v vs right_brace)
-
-sets_shown : (sets : List (List ℤ)) → AllByRecursion IsWritableSet sets → leaves_text (after_commas set_leaves (map set_text sets)) ≡ shown_sets sets
-sets_shown [] h = refl
-sets_shown (s ∷ ss) h = grind (arith, sets_shown ss h.1, leaves_text-append, set_shown)
-
-base_shown : (names : Names) (b : Base) → IsWritableBase b → leaves_text (base_leaves (base_text names b)) ≡ shown_base names b
-base_shown names (low col) h = simp append_assoc
-base_shown names (high col) h = simp append_assoc
-base_shown names (around col centre) h = grind (arith, leaves_text-append, number_shown, append_assoc)
-base_shown names (between col l r) h = grind (arith, leaves_text-append, number_shown, end_shown, append_assoc)
-base_shown names (one_of col []) h = absurd (h.0 refl)
-base_shown names (one_of col (v ∷ vs)) h = grind (arith, list_shown, append_assoc)
-base_shown names (layered col []) h = absurd (h.0 refl)
-base_shown names (layered col (s ∷ ss)) h = grind (arith, recursion_from_All IsWritableSet (s ∷ ss) h.1, leaves_text-append, set_shown, sets_shown, append_assoc)
-
-abbrev pub Shows : Names → Preference → Type 0
-Shows names p = (depth : ℕ) → leaves_text (shape_leaves (shape_of names p) depth) ≡ shown_term names p
-
-parentheses : (r : PriorText) (depth : ℕ) (text : List ℕ) → leaves_text (prior_leaves r (depth + 1)) ≡ text → leaves_text (unary_leaves (grouped r) depth) ≡ codes "(" ++ text ++ codes ")"
-parentheses r depth text h = ap (λ xs. codes "(" ++ xs) (leaves_text-append (prior_leaves r (depth + 1)) (mark right ∷ []) ∙ ap (λ xs. xs ++ codes ")") h)
-
-pub prior_text : (s : Shape) (depth : ℕ) → leaves_text (prior_leaves (as_prior s) depth) ≡ leaves_text (shape_leaves s depth)
-prior_text s depth = grind arith
-
-product_text : (names : Names) (p : Preference) → Shows names p → (depth : ℕ) → leaves_text (product_leaves (as_product (shape_of names p)) depth) ≡ held (is_prior p) (shown_term names p)
-product_text names (prior p q) h depth = parentheses (then_product (as_prior (shape_of names p)) (as_product (shape_of names q))) depth _ (h (depth + 1))
-product_text names _ h depth = h depth
-
-factor_text : (names : Names) (p : Preference) → Shows names p → (depth : ℕ) → leaves_text (unary_leaves (as_factor (shape_of names p)) depth) ≡ held (is_composed p) (shown_term names p)
-factor_text names (pareto p q) h depth = parentheses (one_product (then_factor (as_product (shape_of names p)) (as_factor (shape_of names q)))) depth _ (h (depth + 1))
-factor_text names (prior p q) h depth = parentheses (then_product (as_prior (shape_of names p)) (as_product (shape_of names q))) depth _ (h (depth + 1))
-factor_text names _ h depth = h depth
-
--- the text of the tree is what is shown
-pub text_shown : (names : Names) (p : Preference) → CanShow names p → Shows names p
-text_shown names (scored b) h depth = base_shown names b h.1
-text_shown names (pareto p q) h depth = grind (arith, text_shown names p h.0, text_shown names q h.1, leaves_text-append, product_text, factor_text, append_assoc)
-text_shown names (prior p q) h depth = grind (arith, text_shown names p h.0 depth, text_shown names q h.1, leaves_text-append, prior_text, product_text, append_assoc)
-text_shown names (reverse p) h depth = ap (λ xs. codes "-" ++ xs) (factor_text names p (text_shown names p h) (depth + 1))
-
 -- ---- the head and the group
 
 -- how the mode is written
@@ -247,16 +141,9 @@ head_text Best = best_head
 head_text (TopLevel k) = top_level_head (decimal k)
 head_text (AtLeast k) = at_least_head (decimal k)
 
-pub head_shown : (m : Mode) → leaves_text (head_leaves (head_text m)) ≡ shown_mode m
-head_shown m = search (rules)
-
-pub columns_shown : (names : Names) (cs : List ℕ) → leaves_text (after_commas column_leaves (map (name_at names) cs)) ≡ more_names names cs
-columns_shown names [] = refl
-columns_shown names (c ∷ cs) = ap (λ xs. codes ", " ++ (name_at names c ++ xs)) (columns_shown names cs)
-
-pub group_shown : (names : Names) (cs : List ℕ) → leaves_text (group_leaves (map (name_at names) cs)) ≡ shown_group names cs
-group_shown names cs = grind (arith, columns_shown)
+pub head_same : (m : Mode) → IsCount (cut_of m) → mode_of (head_text m) ≡ m
+head_same m h = grind (arith, digits_value-decimal, own_numerals, h.1)
 
 pub columns_same : (names : Names) (cs : List ℕ) → AllByRecursion (IsNamed names) cs → map (column_at names) (map (name_at names) cs) ≡ cs
 columns_same names [] h = refl
-columns_same names (c ∷ cs) h = ap (λ x. x ∷ map (column_at names) (map (name_at names) cs)) (column_same names c h.0) ∙ ap (λ xs. c ∷ xs) (columns_same names cs h.1)
+columns_same names (c ∷ cs) h = grind (arith, column_same names c h.0, columns_same names cs h.1)

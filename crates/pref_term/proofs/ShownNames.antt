@@ -1,30 +1,23 @@
 -- Each name of a schema is a word, and its first column is its own.
 use Rattle.pref_term.proofs.Common.{or_parts, ◌≡◌, ◌<◌, ◌+◌, ℕ, zero, suc, List, [], ◌∷◌, length, take, get_or, Bool, true, false, ◌&&◌, Some, Result, Ok}
-use Rattle.pref_term.proofs.Common.{arith, position, is_ascii_alphabetic, AllByRecursion, list_any, list_all, position_or_len, bytes_eq, bytes_eq-Decides}
-use Rattle.pref_term.proofs.Common.{is_name, is_name_byte, name_after, schema_of, and_parts, Names, name_at}
+use Rattle.pref_term.proofs.Common.{arith, position, is_ascii_alphabetic, list_any, list_all, position_or_len, bytes_eq, bytes_eq-Decides}
+use Rattle.pref_term.proofs.Common.{is_name, is_name_byte, name_after, name_in, schema_of, and_parts, Names, name_at}
 use Rattle.pref_table.specs.Columns.{column_of}
 use Rattle.pref_table.specs.Numbered.{all_from}
 use Rattle.pref_table.proofs.NumberedFacts.{all_from-parts}
 use Rattle.pref_table.proofs.NamesFacts.{schema-size, schema_of-some}
 
--- a letter, and then bytes of words
-abbrev pub IsWordText : List ℕ → Type 0
-IsWordText [] = ⊥
-IsWordText (b ∷ bs) = (is_ascii_alphabetic b ≡ true) × AllByRecursion (λ c. is_name_byte c ≡ true) bs
+-- a letter, and then bytes of names
+abbrev pub is_word_text : List ℕ → Bool
+is_word_text [] = false
+is_word_text (b ∷ bs) = is_ascii_alphabetic b && list_all is_name_byte bs
 
 -- a column that has a name of its own
 abbrev pub IsNamed : Names → ℕ → Type 0
-IsNamed names col = IsWordText (name_at names col) × (column_of names (name_at names col) ≡ Some col)
+IsNamed names col = (is_word_text (name_at names col) ≡ true) × (column_of names (name_at names col) ≡ Some col)
 
-all_word : (bs : List ℕ) → list_all is_name_byte bs ≡ true → AllByRecursion (λ c. is_name_byte c ≡ true) bs
-all_word [] h = tt
-all_word (b ∷ bs) h = let k = and_parts (is_name_byte b) (list_all is_name_byte bs) h in (k.0, all_word bs k.1)
-
-last_parts : (a b c d : Bool) → (a && b && c && d) ≡ true → (c ≡ true) × (d ≡ true)
-last_parts a b c d h = grind arith
-
-name_is_word : (name : List ℕ) → is_name name ≡ true → IsWordText name
-name_is_word name h = grind (arith, last_parts, all_word)
+name_is_word : (name : List ℕ) → is_name name ≡ true → is_word_text name ≡ true
+name_is_word name h = grind (arith, and_parts)
 
 -- what the check of a name says
 after_says : (earlier : Names) (col : ℕ) (name : List ℕ) → name_after earlier col name ≡ Ok name → (is_name name ≡ true) × (list_any (λ other. bytes_eq other name) earlier ≡ false)
@@ -46,4 +39,8 @@ first_position p xs i k e = grind (arith)
 
 -- each column of a schema has a name of its own
 pub is_named : (names : Names) → schema_of names ≡ Ok names → (col : ℕ) → col < length names → IsNamed names col
-is_named names h col inside = grind (arith, schema-size, schema_of-some, all_from-at, after_says, bytes_eq-Decides, first_place, name_is_word, first_position)
+is_named names h col inside =
+    let said : name_in names (1 + col) (name_at names col) ≡ Ok (name_at names col) = grind (arith, schema-size, schema_of-some, all_from-at) in
+    let free = after_says _ _ _ said in
+    let first : position_or_len (λ known. bytes_eq known (name_at names col)) names ≡ col = first_place _ names col [] inside (grind (arith, bytes_eq-Decides)) (grind (arith, free.1)) in
+    (name_is_word (name_at names col) free.0, first_position _ names col inside first)

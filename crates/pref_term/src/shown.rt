@@ -84,7 +84,7 @@ fn show_number(text: &mut Vec<u8>, value: i64) -> Result<(), AllocError>
 
 /// The values of a set, each after a comma.
 fn show_values(text: &mut Vec<u8>, set: &[i64]) -> Result<(), AllocError>
-    ensures { OnOk result (text.new.items ≡ text.old.items ++ shown.shown_values set.now) }
+    ensures { OnOk result (text.new.items ≡ text.old.items ++ shown.shown_after_commas signed_decimal set.now) }
 {
     for value in set {
         text.extend_from_slice(b", ")?;
@@ -108,7 +108,7 @@ fn show_set(text: &mut Vec<u8>, set: &Numbers) -> Result<(), AllocError>
 
 /// The sets, each after a comma.
 fn show_sets(text: &mut Vec<u8>, sets: &[Numbers]) -> Result<(), AllocError>
-    ensures { OnOk result (text.new.items ≡ text.old.items ++ shown.shown_sets sets.now) }
+    ensures { OnOk result (text.new.items ≡ text.old.items ++ shown.shown_after_commas shown.shown_set sets.now) }
 {
     for set in sets {
         text.extend_from_slice(b", ")?;
@@ -131,7 +131,7 @@ fn show_group(text: &mut Vec<u8>, schema: &Schema, group: &[usize]) -> Result<()
 /// The names of the columns, each after a comma.
 fn show_more_names(text: &mut Vec<u8>, schema: &Schema, columns: &[usize]) -> Result<(), AllocError>
     requires { All (λ col. col < length schema.now) columns.now }
-    ensures { OnOk result (text.new.items ≡ text.old.items ++ shown.more_names schema.now columns.now) }
+    ensures { OnOk result (text.new.items ≡ text.old.items ++ shown.shown_after_commas (shown.name_at schema.now) columns.now) }
 {
     for col in columns {
         show_named(text, schema, b", ", *col)?;
@@ -148,7 +148,7 @@ fn show_base(
     values: &[i64],
 ) -> Result<(), AllocError>
     requires { col < length schema.now }
-    ensures { OnOk result (text.new.items ≡ text.old.items ++ (before.now ++ shown.name_at schema.now col ++ shown.shown_values values.now ++ codes ")")) }
+    ensures { OnOk result (text.new.items ≡ text.old.items ++ (before.now ++ shown.name_at schema.now col ++ shown.shown_after_commas signed_decimal values.now ++ codes ")")) }
 {
     show_named(text, schema, before, col)?;
     show_values(text, values)?;
@@ -163,7 +163,7 @@ fn show_layers(
     sets: &[Numbers],
 ) -> Result<(), AllocError>
     requires { col < length schema.now }
-    ensures { OnOk result (text.new.items ≡ text.old.items ++ (codes "layered(" ++ shown.name_at schema.now col ++ shown.shown_sets sets.now ++ codes ")")) }
+    ensures { OnOk result (text.new.items ≡ text.old.items ++ (codes "layered(" ++ shown.name_at schema.now col ++ shown.shown_after_commas shown.shown_set sets.now ++ codes ")")) }
 {
     show_named(text, schema, b"layered(", col)?;
     show_sets(text, sets)?;
@@ -263,7 +263,7 @@ fn show_dimensions(text: &mut Vec<u8>, schema: &Schema, term: &Term) -> Result<(
 /// The DIFF columns of a clause, each behind a comma.
 fn show_differing(text: &mut Vec<u8>, schema: &Schema, columns: &[usize]) -> Result<(), AllocError>
     requires { All (λ col. col < length schema.now) columns.now }
-    ensures { OnOk result (text.new.items ≡ text.old.items ++ shown.shown_diffs schema.now columns.now) }
+    ensures { OnOk result (text.new.items ≡ text.old.items ++ shown.shown_after_commas (shown.shown_diff schema.now) columns.now) }
 {
     for col in columns {
         show_said(text, schema, b", ", *col, b" diff")?;
