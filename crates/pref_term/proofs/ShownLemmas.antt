@@ -1,30 +1,17 @@
 -- What is shown is a text of the grammar with the meaning of what was shown.
 use Rattle.pref_term.proofs.Common.{[], ◌≡◌, ℕ, ℤ, pos, negsuc, suc, List, ◌∷◌, map, true, false, refl, ap, ◌∙◌, arith, unwrap_or}
-use Rattle.pref_term.proofs.Common.{FitsSigned, decimal, AllByRecursion, all_ascii_digits, digits_value-decimal}
+use Rattle.pref_term.proofs.Common.{FitsSigned, decimal, All, All-head, All-tail, Ok, length, ◌<◌, schema_of, IsWritable, ReadsBelow, all_ascii_digits, digits_value-decimal}
 use Rattle.pref_term.proofs.Common.{NumberText, BaseText, low_text, high_text}
 use Rattle.pref_term.proofs.Common.{around_text, pos_text, PriorText, one_product, then_product, ProductText, one_factor, then_factor, UnaryText, negated, grouped, based, HeadText, best_head}
 use Rattle.pref_term.proofs.Common.{top_level_head, at_least_head, Leaf}
 use Rattle.pref_term.proofs.Common.{prior_leaves, product_leaves, unary_leaves, between_text, layered_text, SetText}
 use Rattle.pref_term.proofs.Common.{Names, number_value, set_value, column_at, base_meaning, prior_meaning, product_meaning, unary_meaning, Base, low, high, around}
 use Rattle.pref_term.proofs.Common.{one_of, Preference, scored, pareto, prior, reverse, between, layered, name_at}
-use Rattle.pref_term.proofs.Common.{Mode, Best, TopLevel, AtLeast, recursion_from_All, column, IsWritableBase, IsWritableSet, IsCount, cut_of, mode_of}
+use Rattle.pref_term.proofs.Common.{Mode, Best, TopLevel, AtLeast, column, IsWritableBase, IsWritableSet, IsCount, cut_of, mode_of}
 use Rattle.std.specs.Int.{w64}
 use Rattle.std.specs.Str.Parse.{digits_value}
 use Rattle.std.proofs.lemmas.Str.Parse.{IsNumeralModel, numerals_by_value, tells_all_ascii_digits}
-use Rattle.pref_term.proofs.ShownNames.{IsNamed}
-
--- ---- what can be shown
-
--- values of 64 bits
-abbrev pub AreInRange : List ℤ → Type 0
-AreInRange values = AllByRecursion (FitsSigned w64) values
-
--- its columns have names, and it is one that a text can write
-abbrev pub CanShow : Names → Preference → Type 0
-CanShow names (scored b) = IsNamed names (column b) × IsWritableBase b
-CanShow names (pareto p q) = CanShow names p × CanShow names q
-CanShow names (prior p q) = CanShow names p × CanShow names q
-CanShow names (reverse p) = CanShow names p
+use Rattle.pref_term.proofs.ShownNames.{is_named}
 
 -- ---- the tree of what is shown
 
@@ -42,8 +29,7 @@ base_text names (low col) = low_text (name_at names col)
 base_text names (high col) = high_text (name_at names col)
 base_text names (around col centre) = around_text (name_at names col) (number_text centre)
 base_text names (between col l r) = between_text (name_at names col) (number_text l) (number_text r)
-base_text names (one_of col []) = low_text (name_at names col)
-base_text names (one_of col (v ∷ vs)) = pos_text (name_at names col) (number_text v) (map number_text vs)
+base_text names (one_of col set) = pos_text (name_at names col) (set_text set).first (set_text set).others
 base_text names (layered col []) = low_text (name_at names col)
 base_text names (layered col (s ∷ ss)) = layered_text (name_at names col) (set_text s) (map set_text ss)
 
@@ -101,39 +87,35 @@ own_numerals = numerals_by_value (λ ds. all_ascii_digits ds ≡ true) tells_all
 pub number_same : (v : ℤ) → FitsSigned w64 v → number_value (number_text v) ≡ v
 number_same v h = grind (arith, digits_value-decimal, own_numerals)
 
-pub column_same : (names : Names) (col : ℕ) → IsNamed names col → column_at names (name_at names col) ≡ col
-column_same names col h = ap (λ o. unwrap_or o 0) h.1
-
-numbers_same : (vs : List ℤ) → AreInRange vs → map number_value (map number_text vs) ≡ vs
-numbers_same [] h = refl
-numbers_same (v ∷ vs) h = grind (arith, number_same v h.0, numbers_same vs h.1)
+-- so of each of a list
+lists_same : {X T : Type 0} (value : T → X) (text : X → T) (Fits : X → Type 0) → ((x : X) → Fits x → value (text x) ≡ x) → (xs : List X) → All Fits xs → map value (map text xs) ≡ xs
+lists_same value text Fits each [] h = refl
+lists_same value text Fits each (x ∷ xs) h = grind (arith, each x (All-head Fits x xs h), lists_same value text Fits each xs (All-tail Fits x xs h))
 
 set_same : (set : List ℤ) → IsWritableSet set → set_value (set_text set) ≡ set
 set_same [] h = absurd (h.0 refl)
-set_same (v ∷ vs) h = numbers_same (v ∷ vs) (recursion_from_All (FitsSigned w64) (v ∷ vs) h.1)
+set_same (v ∷ vs) h = lists_same number_value number_text (FitsSigned w64) number_same (v ∷ vs) h.1
 
-sets_same : (sets : List (List ℤ)) → AllByRecursion IsWritableSet sets → map set_value (map set_text sets) ≡ sets
-sets_same [] h = refl
-sets_same (s ∷ ss) h = grind (arith, set_same s h.0, sets_same ss h.1)
+module _ (names : Names) (schema : schema_of names ≡ Ok names) where
+  pub column_same : (col : ℕ) → col < length names → column_at names (name_at names col) ≡ col
+  column_same col h = ap (λ o. unwrap_or o 0) (is_named names schema col h).1
 
-base_same : (names : Names) (b : Base) → IsNamed names (column b) → IsWritableBase b → base_meaning names (base_text names b) ≡ b
-base_same names (low col) h w = ap low (column_same names col h)
-base_same names (high col) h w = ap high (column_same names col h)
-base_same names (around col centre) h w = ap (λ c. around c (number_value (number_text centre))) (column_same names col h) ∙ ap (around col) (number_same centre w)
-base_same names (between col l r) h w = grind (arith, column_same, number_same)
-base_same names (one_of col []) h w = absurd (w.0 refl)
-base_same names (one_of col (v ∷ vs)) h w = ap (λ c. one_of c (set_value (set_text (v ∷ vs)))) (column_same names col h) ∙ ap (one_of col) (set_same (v ∷ vs) w)
-base_same names (layered col []) h w = absurd (w.0 refl)
-base_same names (layered col (s ∷ ss)) h w = grind (arith, column_same names col h, sets_same (s ∷ ss) (recursion_from_All IsWritableSet (s ∷ ss) w.1), recursion_from_All IsWritableSet (s ∷ ss) w.1)
+  pub columns_same : (cs : List ℕ) → All (λ col. col < length names) cs → map (column_at names) (map (name_at names) cs) ≡ cs
+  columns_same = lists_same (column_at names) (name_at names) (λ col. col < length names) column_same
 
--- the tree has the meaning of what is shown
-pub meaning_same : (names : Names) (p : Preference) → CanShow names p → shape_meaning (shape_of names p) names ≡ p
-meaning_same names (scored b) h = ap scored (base_same names b h.0 h.1)
-meaning_same names (pareto p q) h = grind (arith, meaning_same names p h.0, meaning_same names q h.1)
-meaning_same names (prior p q) h = grind (arith, meaning_same names p h.0, meaning_same names q h.1)
-meaning_same names (reverse p) h = ap reverse (factor_same (shape_of names p) names ∙ meaning_same names p h)
+  base_same : (b : Base) → column b < length names → IsWritableBase b → base_meaning names (base_text names b) ≡ b
+  base_same (layered col []) h w = absurd (w.0 refl)
+  base_same (layered col (s ∷ ss)) h w = grind (arith, column_same col h, lists_same set_value set_text IsWritableSet set_same (s ∷ ss) w.1)
+  base_same b h w = grind (arith, column_same (column b) h, number_same, set_same)
 
--- ---- the head and the group
+  -- the tree has the meaning of what is shown
+  pub meaning_same : (p : Preference) → ReadsBelow (length names) p → IsWritable p → shape_meaning (shape_of names p) names ≡ p
+  meaning_same (scored b) h w = ap scored (base_same b h w)
+  meaning_same (pareto p q) h w = grind (arith, meaning_same p h.0 w.0, meaning_same q h.1 w.1)
+  meaning_same (prior p q) h w = grind (arith, meaning_same p h.0 w.0, meaning_same q h.1 w.1)
+  meaning_same (reverse p) h w = ap reverse (factor_same (shape_of names p) names ∙ meaning_same p h w)
+
+-- ---- the head
 
 -- how the mode is written
 abbrev pub head_text : Mode → HeadText
@@ -143,7 +125,3 @@ head_text (AtLeast k) = at_least_head (decimal k)
 
 pub head_same : (m : Mode) → IsCount (cut_of m) → mode_of (head_text m) ≡ m
 head_same m h = grind (arith, digits_value-decimal, own_numerals, h.1)
-
-pub columns_same : (names : Names) (cs : List ℕ) → AllByRecursion (IsNamed names) cs → map (column_at names) (map (name_at names) cs) ≡ cs
-columns_same names [] h = refl
-columns_same names (c ∷ cs) h = grind (arith, column_same names c h.0, columns_same names cs h.1)
