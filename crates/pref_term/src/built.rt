@@ -1,5 +1,6 @@
 //! Questions that are built from their parts.
-ghost use Rattle.std.specs.Prelude.{◌≡◌, ◌≢◌, ◌≤◌, ◌<◌, [], Bool, true, false, int_lt, All, FitsSigned, IfOk, MatchResult, None, Some};
+ghost use Rattle.std.specs.Prelude.{◌≡◌, ◌≢◌, ◌≤◌, ◌<◌, [], Bool, true, false, int_lt, All, FitsSigned, IfOk, MatchResult};
+ghost use Rattle.std.specs.Result.{result_err};
 ghost use Rattle.std.specs.Int.{w64};
 ghost use Rattle.pref_term.specs.Built.{IsRefused, column_fault, count_fault, fault_if, first_among, first_fault, layers_fault, set_fault, term_fault};
 ghost use Rattle.pref_term.specs.Columns.{ReadsBelow};
@@ -89,11 +90,9 @@ impl Ask {
 }
 
 /// Looks for the first fault of these parts.
-#[tactic(auto, using(crate::proofs::BuiltLemmas::refused_exit))]
 fn check_parts(term: &Term, group: &[usize], mode: Mode) -> Result<(), AskFault>
     ensures found { IfOk result (λ _. ReadsBelow 16 (preference_of term.now) × IsWritable (preference_of term.now) × All (λ col. col < 16) group.now × IsCount (cut_of mode)) }
-    ensures first { let first = first_fault (preference_of term.now) group.now mode in
-        MatchResult result (λ _. first ≡ None) (λ fault. first ≡ Some fault) }
+    ensures first { result_err result ≡ first_fault (preference_of term.now) group.now mode }
 {
     check_term(term)?;
     check_group(group)?;
@@ -102,7 +101,7 @@ fn check_parts(term: &Term, group: &[usize], mode: Mode) -> Result<(), AskFault>
 
 fn check_column(col: usize) -> Result<(), AskFault>
     ensures found { IfOk result (λ _. col < 16) }
-    ensures first { MatchResult result (λ _. column_fault col ≡ None) (λ fault. column_fault col ≡ Some fault) }
+    ensures first { result_err result ≡ column_fault col }
 {
     if col < COLUMNS {
         Ok(())
@@ -113,7 +112,7 @@ fn check_column(col: usize) -> Result<(), AskFault>
 
 fn check_range(col: usize, left: i64, right: i64) -> Result<(), AskFault>
     ensures found { IfOk result (λ _. int_lt right left ≡ false) }
-    ensures first { MatchResult result (λ _. fault_if (int_lt right left) (AskFault.EmptyRange col) ≡ None) (λ fault. fault_if (int_lt right left) (AskFault.EmptyRange col) ≡ Some fault) }
+    ensures first { result_err result ≡ fault_if (int_lt right left) (AskFault.EmptyRange col) }
 {
     if right < left {
         Err(AskFault::EmptyRange { col })
@@ -133,7 +132,7 @@ fn read_numbers(numbers: &[i64])
 
 fn check_set(col: usize, set: &Numbers) -> Result<(), AskFault>
     ensures found { IfOk result (λ _. IsWritableSet set.now) }
-    ensures first { MatchResult result (λ _. set_fault col set.now ≡ None) (λ fault. set_fault col set.now ≡ Some fault) }
+    ensures first { result_err result ≡ set_fault col set.now }
 {
     let numbers = set.as_slice();
     if numbers.is_empty() {
@@ -145,7 +144,7 @@ fn check_set(col: usize, set: &Numbers) -> Result<(), AskFault>
 
 fn check_sets(col: usize, sets: &NumberSets) -> Result<(), AskFault>
     ensures found { IfOk result (λ _. (sets.now ≢ []) × All IsWritableSet sets.now) }
-    ensures first { MatchResult result (λ _. layers_fault col sets.now ≡ None) (λ fault. layers_fault col sets.now ≡ Some fault) }
+    ensures first { result_err result ≡ layers_fault col sets.now }
 {
     if sets.as_slice().is_empty() {
         return Err(AskFault::NoSets { col });
@@ -159,7 +158,7 @@ fn check_sets(col: usize, sets: &NumberSets) -> Result<(), AskFault>
 /// Looks for the first base term from the left that no question has.
 fn check_term(term: &Term) -> Result<(), AskFault>
     ensures found { IfOk result (λ _. ReadsBelow 16 (preference_of term.now) × IsWritable (preference_of term.now)) }
-    ensures first { MatchResult result (λ _. term_fault (preference_of term.now) ≡ None) (λ fault. term_fault (preference_of term.now) ≡ Some fault) }
+    ensures first { result_err result ≡ term_fault (preference_of term.now) }
 {
     match term {
         Term::Low { col } | Term::High { col } => check_column(*col),
@@ -190,7 +189,7 @@ fn check_term(term: &Term) -> Result<(), AskFault>
 
 fn check_group(group: &[usize]) -> Result<(), AskFault>
     ensures found { IfOk result (λ _. All (λ col. col < 16) group.now) }
-    ensures first { MatchResult result (λ _. first_among column_fault group.now ≡ None) (λ fault. first_among column_fault group.now ≡ Some fault) }
+    ensures first { result_err result ≡ first_among column_fault group.now }
 {
     for col in group {
         check_column(*col)?;
@@ -200,7 +199,7 @@ fn check_group(group: &[usize]) -> Result<(), AskFault>
 
 fn check_count(mode: Mode) -> Result<(), AskFault>
     ensures found { IfOk result (λ _. IsCount (cut_of mode)) }
-    ensures first { MatchResult result (λ _. count_fault (cut_of mode) ≡ None) (λ fault. count_fault (cut_of mode) ≡ Some fault) }
+    ensures first { result_err result ≡ count_fault (cut_of mode) }
 {
     let (Mode::TopLevel(count) | Mode::AtLeast(count)) = mode else {
         return Ok(());
