@@ -1,8 +1,8 @@
 -- A chain that tells no two of some entries apart can be left out of those that lead them.
-use Rattle.pref_sky.proofs.Common.{◌≡◌, ◌<◌, ◌≤◌, ◌+◌, ◌-◌, ◌++◌, ◌∷◌, ◌∙◌, ℕ, zero, suc, ℤ, true, List, [], inl, inr, refl, sym, ap, subst, arith, add-one, append-nil, append_assoc}
-use Rattle.pref_sky.proofs.Common.{cases_lt, drop, drop-cons, drop_of_length-le, get_or, length}
-use Rattle.pref_sky.proofs.Common.{Among, Entry, by_chain, is_same}
-use Rattle.pref_sky.proofs.ChainLaws.{keys_chain, same_in}
+use Rattle.pref_sky.proofs.Common.{◌≡◌, ◌<◌, ◌≤◌, ◌+◌, ◌++◌, ◌∷◌, ◌∙◌, ℕ, ℤ, true, List, [], sym, ap, subst, arith, add-one, append-nil, append_assoc}
+use Rattle.pref_sky.proofs.Common.{drop, drop-cons, drop_of_length-le, get_or, length}
+use Rattle.pref_sky.proofs.Common.{Among, Entry, better_in, by_chain, is_same}
+use Rattle.pref_sky.proofs.ChainLaws.{keys_chain, level_above, level_below, same_in}
 use Rattle.pref_sky.proofs.ListLaws.{place_of}
 use Rattle.pref_sky.specs.Chains.{tells_none_apart}
 use Rattle.pref_sky.specs.ChosenChains.{SayTheSame}
@@ -12,36 +12,13 @@ use Rattle.pref_term.specs.Walk.{in_priority, in_product}
 use Rattle.pref_term.specs.declared.key.Key.{Key}
 use Rattle.pref_term.specs.declared.relation.Relation.{Relation}
 
-same_itself : (keys : List Key) (a : List ℤ) → is_same (by_chain keys a a) ≡ true
-same_itself keys a = grind (arith, same_in keys a a, (keys_chain keys).strict.irreflexive a)
-
-same_back : (keys : List Key) (a b : List ℤ) → is_same (by_chain keys a b) ≡ true → is_same (by_chain keys b a) ≡ true
-same_back keys a b h = grind (arith, same_in keys a b, same_in keys b a)
-
-same_on : (keys : List Key) (a b c : List ℤ) → is_same (by_chain keys a b) ≡ true → is_same (by_chain keys b c) ≡ true → is_same (by_chain keys a c) ≡ true
-same_on keys a b c h k = grind (arith, same_in keys a b, same_in keys b c, same_in keys a c, (keys_chain keys).between a b c, (keys_chain keys).between c b a)
-
--- entries of which each two neighbours are the same in a chain are all the same in it
-same_behind : (keys : List Key) (entries : List Entry) → tells_none_apart keys entries → (j n k : ℕ) (d : Entry) → j + n ≡ k → k < length entries
-    → is_same (by_chain keys (get_or entries j d).row (get_or entries k d).row) ≡ true
-same_behind keys entries none j zero k d at inside =
-    let here : j ≡ k = omega (arith, at) in
-    subst (λ m. is_same (by_chain keys (get_or entries j d).row (get_or entries m d).row) ≡ true) here (same_itself keys (get_or entries j d).row)
-same_behind keys entries none j (suc n) k d at inside =
-    let next : j + n + 1 ≡ k = omega (arith, at) in
-    subst (λ m. is_same (by_chain keys (get_or entries j d).row (get_or entries m d).row) ≡ true) next
-    (same_on keys (get_or entries j d).row (get_or entries (j + n) d).row (get_or entries (j + n + 1) d).row (same_behind keys entries none j n (j + n) d refl (omega (arith, next, inside))) (none (j + n) d (omega (arith, next, inside))))
-
+-- entries of which each is the same in a chain as the first of them are all the same in it
 same_among : (keys : List Key) (entries : List Entry) → tells_none_apart keys entries → (a b : Entry) → Among a entries → Among b entries → is_same (by_chain keys a.row b.row) ≡ true
 same_among keys entries none a b m n =
+    let first = (get_or entries 0 a).row in
     let v = place_of entries a a m in
     let w = place_of entries b a n in
-    subst (λ x. is_same (by_chain keys x.row b.row) ≡ true) v.2
-    (subst (λ y. is_same (by_chain keys (get_or entries v.0 a).row y.row) ≡ true) w.2
-    (elim (cases_lt w.0 v.0) [
-      | inl before ↦ same_back keys (get_or entries w.0 a).row (get_or entries v.0 a).row (same_behind keys entries none w.0 (v.0 - w.0) v.0 a (omega (arith, before)) v.1)
-      | inr behind ↦ same_behind keys entries none v.0 (w.0 - v.0) w.0 a (omega (arith, behind)) w.1
-    ]))
+    grind (arith, none v.0 a v.1, none w.0 a w.1, same_in keys first a.row, same_in keys first b.row, same_in keys a.row b.row, level_above (better_in keys) (keys_chain keys) first a.row b.row, level_below (better_in keys) (keys_chain keys) first a.row b.row)
 
 -- a relation that says the same adds nothing to another
 product_of_same : (r s : Relation) → is_same r ≡ true → s ≡ in_product r s

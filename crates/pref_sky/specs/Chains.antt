@@ -1,5 +1,5 @@
 -- Chains: weak orders, and lists in an order. A list of keys is one, and so are the columns of groups. (this project)
-use Rattle.std.specs.Prelude.{⊤, ◌≡◌, ◌+◌, ◌<◌, Bool, true, false, not, ◌&&◌, ◌||◌, int_lt, ℕ, ℤ, List, [], ◌∷◌, get_or, length}
+use Rattle.std.specs.Prelude.{⊤, ◌≡◌, ◌<◌, Bool, true, false, not, ◌&&◌, ◌||◌, int_lt, ℕ, ℤ, List, [], ◌∷◌, get_or, length}
 use Rattle.pref_term.specs.Better.{cell}
 use Rattle.pref_term.specs.Chains.{by_chain}
 use Rattle.pref_term.specs.Order.{IsStrictOrder, is_better, is_same}
@@ -42,6 +42,6 @@ earlier_in (col ∷ columns) a b = in_turn (λ x y. int_lt (cell x col) (cell y 
 abbrev pub by_row : (List ℤ → List ℤ → Bool) → Entry → Entry → Bool
 by_row better a b = better a.row b.row
 
--- entries that stand beside each other are the same in a chain
+-- each of some entries is the same in a chain as the first of them
 abbrev pub tells_none_apart : List Key → List Entry → Type 0
-tells_none_apart keys entries = (i : ℕ) (d : Entry) → i + 1 < length entries → is_same (by_chain keys (get_or entries i d).row (get_or entries (i + 1) d).row) ≡ true
+tells_none_apart keys entries = (i : ℕ) (d : Entry) → i < length entries → is_same (by_chain keys (get_or entries 0 d).row (get_or entries i d).row) ≡ true

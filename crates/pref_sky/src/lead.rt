@@ -38,14 +38,13 @@ pub(crate) struct Lead<'a> {
     ghost in_row: { All AreInRow (map (λ chain. chain.now) chains.items) },
 }
 
-/// Whether two of these entries that stand beside each other differ in a chain.
+/// Whether one of these entries differs from the first in a chain.
 fn tells_apart(chain: &Chain, entries: &[Entry]) -> bool
     requires { AreInRow chain.now }
     ensures { result ≡ false → tells_none_apart chain.now entries.now }
 {
-    for place in 1..entries.len() {
-        let before = &entries[place - 1];
-        if !chain.compare(&before.row, &entries[place].row).is_same() {
+    for entry in entries {
+        if !chain.compare(&entries[0].row, &entry.row).is_same() {
             return true;
         }
     }
