@@ -1,5 +1,5 @@
 -- Chains: weak orders; keys and columns are such, and lists that are sorted by one.
-use Rattle.pref_sky.proofs.Common.{◌≡◌, ℤ, ℕ, Bool, true, false, not, ◌&&◌, ◌||◌, List, [], ◌∷◌, refl, sym, subst, arith, int_lt, nat_lt, int_eq, cell, in_same_group, suc, length, get_or, filter, map, ◌∙◌}
+use Rattle.pref_sky.proofs.Common.{◌≡◌, ℤ, ℕ, Bool, true, false, not, ◌&&◌, ◌||◌, List, [], ◌∷◌, refl, sym, subst, arith, int_lt, nat_lt, int_eq, cell, in_same_group, suc, length, get_or, map, ◌∙◌}
 use Rattle.pref_sky.proofs.Common.{by_chain, is_better, is_same, is_worse, IsChain, are_level, better_in, earlier_in, in_turn, Entry, Bor, Ordering, ◌<◌, ◌≤◌, IsInOrder, ap}
 use Rattle.pref_sky.proofs.Common.{Called, IsSortedByClosure, is_lt, always_returns_same, sorted_far, Mut}
 use Rattle.std.proofs.lemmas.Int.{ints}
@@ -8,7 +8,7 @@ use Rattle.pref_term.specs.Keys.{keyed}
 use Rattle.pref_term.specs.Walk.{by_scores, by_sides, in_priority}
 use Rattle.pref_term.specs.declared.key.Key.{Key}
 use Rattle.pref_term.specs.declared.relation.Relation.{Relation}
-use Rattle.pref_sky.proofs.ListLaws.{from_filter, from_map, place_of}
+use Rattle.pref_sky.proofs.ListLaws.{from_map, place_of}
 
 -- one chain, and where that sees no difference another one
 pub chain_in_turn : {E : Type 0} (f g : E → E → Bool) → IsChain f → IsChain g → IsChain (in_turn f g)

@@ -1,7 +1,7 @@
 -- What is kept of a level in a sweep: its steps and its run tell whether an entry of the level dominates the next entry, and how they stand for one entry more.
 use Rattle.pref_sky.proofs.Common.{◌≡◌, ℕ, suc, ◌<◌, ◌≤◌, ◌+◌, ◌-◌, Bool, true, false, not, ◌&&◌, ◌⊎◌, inl, inr, List, [], ◌∷◌, ◌++◌, refl, sym, ◌∙◌, ap, subst, arith, length, get_or, take, drop}
 use Rattle.pref_sky.proofs.Common.{Vec, Global, length-take, length-drop, get_or-take, get_or-drop, take-append-drop}
-use Rattle.pref_sky.proofs.Common.{All, both_ways, and_from, and_right, cases_Bool, or_cases, cases_eq, cases_lt, false_from_ne_true, Entry, entry_at, Item, Among, StandAlike, IsChain, IsInOrder}
+use Rattle.pref_sky.proofs.Common.{both_ways, and_from, and_right, cases_Bool, or_cases, cases_eq, cases_lt, false_from_ne_true, Entry, entry_at, Item, Among, StandAlike, IsChain, IsInOrder}
 use Rattle.pref_sky.proofs.ChainLaws.{level_above, level_below}
 use Rattle.pref_sky.proofs.ListLaws.{among_place, any_from, place_of, in_either, in_left, in_right, in_order_at, in_order_back, in_order_front, in_order_joined, in_order_with}
 use Rattle.pref_sky.proofs.Merges.{comes_after, unbeaten_over}

@@ -1,8 +1,8 @@
 -- One pass over entries in order: the class of the next entry, how many levels are above it, and what is known behind it.
 use Rattle.pref_sky.proofs.Common.{◌≡◌, ℕ, suc, zero, ◌<◌, ◌≤◌, ◌+◌, ◌-◌, Bool, true, false, not, inl, inr, List, [], ◌∷◌, ◌++◌, refl, sym, ◌∙◌, ap, subst, arith, length, get_or, set}
-use Rattle.pref_sky.proofs.Common.{both_ways, and_from, cases_Bool, cases_eq, cases_lt, cond-true, cond-false, false_from_ne_true, get_or-set_same, get_or-set_other, length-set, length_push}
-use Rattle.pref_sky.proofs.Common.{get_or_push, get_or_append_left, All, add-one, comes_after, Entry, entry_at, Item, count_above, Among, IsChain, StandAlike, are_level, comes_first, in_turn}
-use Rattle.pref_sky.proofs.ChainLaws.{chain_in_turn}
+use Rattle.pref_sky.proofs.Common.{both_ways, and_from, cases_Bool, cases_eq, cases_lt, false_from_ne_true, get_or-set_same, get_or-set_other, length-set, length_push}
+use Rattle.pref_sky.proofs.Common.{get_or_push, get_or_append_left, add-one, comes_after, Entry, entry_at, count_above, Among, IsChain, StandAlike, are_level, comes_first, in_turn}
+use Rattle.pref_sky.proofs.ChainLaws.{chain_in_turn, level_above, level_below}
 use Rattle.pref_sky.proofs.LeveledLaws.{HasChain, count_is}
 use Rattle.pref_sky.proofs.ListLaws.{among_place, place_of}
 use Rattle.pref_sky.proofs.Merges.{comes_after_upto, unbeaten_over}
@@ -38,24 +38,7 @@ each_pushed P xs y before last k d inside =
 -- as many as a chain over it has entries
 pub chain_of_count : {E : Type 0} (over : E → E → Bool) (cut : ℕ) (all : List E) (e : E) → HasChain over cut all e (count_above over all cut e)
 chain_of_count over zero all e = record { within = omega arith; after = refl; no_more = λ less. absurd (omega (arith, less)) }
-chain_of_count over (suc cut) all e =
-    elim (cases_Bool (comes_after over all (suc cut) e)) [
-      | inl below ↦
-          let is : count_above over all (suc cut) e ≡ suc cut = cond-true (comes_after over all (suc cut) e) (suc cut) (count_above over all cut e) below in
-          subst (HasChain over (suc cut) all e) (sym is) (record { within = omega arith; after = below; no_more = λ less. absurd (omega (arith, less)) })
-      | inr within ↦
-          let is : count_above over all (suc cut) e ≡ count_above over all cut e = cond-false (comes_after over all (suc cut) e) (suc cut) (count_above over all cut e) within in
-          let chain = chain_of_count over cut all e in
-          let n = count_above over all cut e in
-          subst (HasChain over (suc cut) all e) (sym is) (record {
-            within = omega (arith, chain.within);
-            after = chain.after;
-            no_more = λ less. elim (cases_lt n cut) [
-              | inl early ↦ chain.no_more early
-              | inr last ↦ let same : cut ≡ n = omega (arith, last, less) in subst (λ k. comes_after over all (suc k) e ≡ false) same within
-            ];
-          })
-    ]
+chain_of_count over (suc cut) all e = let chain = chain_of_count over cut all e in grind (arith, chain.within, chain.after, chain.no_more)
 
 -- alike entries have the same above them
 alike_after : {E : Type 0} (over : E → E → Bool) (all : List E) (a b : E) → StandAlike over a b → (n : ℕ) → comes_after over all n a ≡ comes_after over all n b
@@ -104,33 +87,18 @@ module _ {E L : Type 0} (over : E → E → Bool) (all : List E) (e : E) (levels
 
 -- ---- classes: entries that are level in three chains
 
--- two that are level with a third in one chain are level in it
-level_in_one : {E : Type 0} (better : E → E → Bool) → IsChain better → (a b c : E) → are_level better a b ≡ true → are_level better b c ≡ true → are_level better a c ≡ true
-level_in_one better chain a b c ab bc = grind (arith, chain.between a b c, chain.between c b a)
+-- those that are level in all three are level in their order
+level_in_order : {E : Type 0} (first second third : E → E → Bool) (a b : E) → are_level_in first second third a b ≡ are_level (comes_first first second third) a b
+level_in_order first second third a b = grind arith
 
-module _ {E : Type 0} (first second third : E → E → Bool) (f : IsChain first) (s : IsChain second) (t : IsChain third) where
-  level_with_itself : (a : E) → are_level_in first second third a a ≡ true
-  level_with_itself a = grind (arith, f.strict.irreflexive a, s.strict.irreflexive a, t.strict.irreflexive a)
-
-  level_back : (a b : E) → are_level_in first second third a b ≡ true → are_level_in first second third b a ≡ true
-  level_back a b level = grind (arith)
-
-  level_then : (a b c : E) → are_level_in first second third a b ≡ true → are_level_in first second third b c ≡ true → are_level_in first second third a c ≡ true
-  level_then a b c ab bc = grind (arith, level_in_one first f a b c, level_in_one second s a b c, level_in_one third t a b c)
-
-  -- those that are level in all three are level in their order
-  level_in_order : (a b : E) → are_level_in first second third a b ≡ true → comes_first first second third a b ≡ false
-  level_in_order a b level = grind (arith, level)
-
-  level_from_order : (a b : E) → comes_first first second third a b ≡ false → comes_first first second third b a ≡ false → are_level_in first second third a b ≡ true
-  level_from_order a b ab ba = grind (arith, ab, ba)
+module _ {E : Type 0} (before : E → E → Bool) (chain : IsChain before) where
+  -- two that are level are level with the same
+  level_alike : (a b c : E) → are_level before a b ≡ true → are_level before c a ≡ are_level before c b
+  level_alike a b c level = grind (arith, level_above before chain a b c level, level_below before chain a b c level)
 
   -- of three in order the middle one is level with the last where the first is
-  between_level : (a b c : E) → comes_first first second third b a ≡ false → comes_first first second third c b ≡ false
-      → are_level_in first second third a c ≡ true → are_level_in first second third b c ≡ true
-  between_level a b c ba cb ac =
-      let order = chain_in_turn first (in_turn second third) f (chain_in_turn second third s t) in
-      level_from_order b c (false_from_ne_true (comes_first first second third b c) (λ h. both_ways (comes_first first second third a c) (level_in_order a c ac) (order.between b a c h ba))) cb
+  between_level : (a b c : E) → before b a ≡ false → before c b ≡ false → are_level before a c ≡ true → are_level before b c ≡ true
+  between_level a b c ba cb ac = grind (arith, level_above before chain a c b ac)
 
 -- ---- what stands for members is inside
 
@@ -152,40 +120,34 @@ module _ {over first second third : Entry → Entry → Bool} {all : List Entry}
   abbrev Class : ℕ → ℕ → Type 0
   Class class i = IsClass first second third all class i
 
+  abbrev order : Entry → Entry → Bool
+  order = comes_first first second third
+
+  order_chain : IsChain order
+  order_chain = let led = swept.led in chain_in_turn first (in_turn second third) led.first_is_chain (chain_in_turn second third led.second_is_chain led.third_is_chain)
+
+  level : (i j : ℕ) → is_level i j ≡ are_level order (entry_at all i) (entry_at all j)
+  level i j = level_in_order first second third (entry_at all i) (entry_at all j)
+
   -- an entry that is level with the one before it is of its class
   pub class_goes_on : (class i : ℕ) → 0 < i → Class class (i - 1) → is_level (i - 1) i ≡ true → Class class i
-  class_goes_on class i some is level =
-      let f = swept.led.first_is_chain in
-      let s = swept.led.second_is_chain in
-      let t = swept.led.third_is_chain in
-      let before = entry_at all (i - 1) in
-      let e = entry_at all i in
+  class_goes_on class i some is same =
       record {
         begins = omega (arith, is.begins);
-        level = λ j from to. elim (cases_eq j i) [
-          | inl same ↦ subst (λ k. is_level k i ≡ true) (sym same) (level_with_itself first second third f s t e)
-          | inr other ↦ level_then first second third f s t (entry_at all j) before e (is.level j from (omega (arith, to, other, some))) level
-        ];
-        apart = λ j earlier. false_from_ne_true (is_level j i)
-            (λ h. both_ways (is_level j (i - 1)) (is.apart j earlier) (level_then first second third f s t (entry_at all j) e before h (level_back first second third f s t before e level)));
+        apart = λ j earlier.
+            let alike = level_alike order order_chain (entry_at all (i - 1)) (entry_at all i) (entry_at all j) (sym (level (i - 1) i) ∙ same) in
+            level j i ∙ (sym alike ∙ (sym (level j (i - 1)) ∙ is.apart j earlier));
       }
 
   -- another begins a class: what is before the one before it is no nearer
   pub class_begins : (i : ℕ) → i < length all → (0 < i → is_level (i - 1) i ≡ false) → Class i i
   class_begins i inside apart =
-      let f = swept.led.first_is_chain in
-      let s = swept.led.second_is_chain in
-      let t = swept.led.third_is_chain in
-      let before = entry_at all (i - 1) in
-      let e = entry_at all i in
       record {
         begins = omega arith;
-        level = λ j from to. let same : i ≡ j = omega (arith, from, to) in subst (λ k. is_level k i ≡ true) same (level_with_itself first second third f s t e);
         apart = λ j earlier.
             let to_before = swept.in_lead j (i - 1) (omega (arith, earlier)) (omega (arith, earlier, inside)) in
-            let from_before = swept.in_lead (i - 1) i (omega arith) inside in
-            false_from_ne_true (is_level j i)
-            (λ h. both_ways (is_level (i - 1) i) (apart (omega (arith, earlier))) (between_level first second third f s t (entry_at all j) before e to_before from_before h));
+            let between = between_level order order_chain (entry_at all j) (entry_at all (i - 1)) (entry_at all i) to_before (swept.in_lead (i - 1) i (omega arith) inside) in
+            false_from_ne_true (is_level j i) (λ h. both_ways (is_level (i - 1) i) (apart (omega (arith, earlier))) (level (i - 1) i ∙ between (sym (level j i) ∙ h)));
       }
 
   module _ (i : ℕ) (inside : i < length all) where

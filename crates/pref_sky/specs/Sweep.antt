@@ -1,6 +1,6 @@
 -- No public contract cites this.
 -- One pass over entries in order: three chains that lead their order, and what is kept of each level so far, as far as later entries are compared with it.
-use Rattle.std.specs.Prelude.{◌≡◌, ◌<◌, ◌≤◌, ◌-◌, get_or, Bool, true, false, not, ◌&&◌, ◌||◌, ℕ, suc, List, All, ◌⊎◌, length}
+use Rattle.std.specs.Prelude.{◌≡◌, ◌<◌, ◌≤◌, get_or, Bool, true, false, not, ◌&&◌, ◌||◌, ℕ, suc, List, All, ◌⊎◌, length}
 use Rattle.pref_term.specs.Order.{IsStrictOrder, StandAlike}
 use Rattle.pref_sky.specs.OwnOrders.{comes_after}
 use Rattle.pref_sky.specs.Items.{entry_at}
@@ -33,10 +33,9 @@ pub record AreSwept (over first second third : Entry → Entry → Bool) (all : 
   pub in_order : (j p : ℕ) → j ≤ p → p < length all → over (entry_at all p) (entry_at all j) ≡ false
   pub in_lead : (j p : ℕ) → j ≤ p → p < length all → comes_first first second third (entry_at all p) (entry_at all j) ≡ false
 
--- the entries from one place up to another are level in the leading chains, and none before them is level with these
+-- no entry before a place is level in the leading chains with the one at another, which stands there or behind
 pub record IsClass (first second third : Entry → Entry → Bool) (all : List Entry) (class i : ℕ) : Type 0 where
   pub begins : class ≤ i
-  pub level : (j : ℕ) → class ≤ j → j ≤ i → are_level_in first second third (entry_at all j) (entry_at all i) ≡ true
   pub apart : (j : ℕ) → j < class → are_level_in first second third (entry_at all j) (entry_at all i) ≡ false
 
 -- n levels are above an entry, and no more
