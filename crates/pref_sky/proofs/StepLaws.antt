@@ -1,13 +1,13 @@
 -- What is kept of a level in a sweep: its steps and its run tell whether an entry of the level dominates the next entry, and how they stand for one entry more.
-use Rattle.pref_sky.proofs.Common.{◌≡◌, ℕ, suc, ◌<◌, ◌≤◌, ◌+◌, ◌-◌, Bool, true, false, not, ◌&&◌, ◌⊎◌, inl, inr, List, [], ◌∷◌, ◌++◌, refl, sym, ◌∙◌, ap, subst, arith, length, get_or, take, drop}
-use Rattle.pref_sky.proofs.Common.{Vec, Global, length-take, length-drop, get_or-take, get_or-drop, take-append-drop}
-use Rattle.pref_sky.proofs.Common.{both_ways, and_from, and_right, cases_Bool, or_cases, cases_eq, cases_lt, false_from_ne_true, Entry, entry_at, Item, Among, StandAlike, IsChain, IsInOrder}
+use Rattle.pref_sky.proofs.Common.{◌≡◌, ℕ, suc, ◌<◌, ◌≤◌, ◌+◌, ◌-◌, Bool, true, false, not, ◌&&◌, ◌⊎◌, inl, inr, List, [], ◌∷◌, ◌++◌, refl, sym, ◌∙◌, ap, arith, length, get_or, take, drop}
+use Rattle.pref_sky.proofs.Common.{length-append, length-take, length-drop, get_or-append_right, get_or-take, get_or-drop, get_or_append_left, get_or_default}
+use Rattle.pref_sky.proofs.Common.{both_ways, and_from, and_right, cases_Bool, or_cases, cases_eq, cases_lt, false_from_ne_true, Entry, entry_at, Item, Among, StandAlike, IsChain}
 use Rattle.pref_sky.proofs.ChainLaws.{level_above, level_below}
-use Rattle.pref_sky.proofs.ListLaws.{among_place, any_from, place_of, in_either, in_left, in_right, in_order_at, in_order_back, in_order_front, in_order_joined, in_order_with}
+use Rattle.pref_sky.proofs.ListLaws.{among_place, any_from, place_of, in_either, in_left, in_right}
 use Rattle.pref_sky.proofs.Merges.{comes_after, unbeaten_over}
-use Rattle.pref_sky.specs.Sweep.{AreSwept, IsAskedOf, IsClass, IsKept, IsMember, IsOneMore, IsSameLevel, StandsFor, are_level_in, is_ahead, is_at}
+use Rattle.pref_sky.specs.Sweep.{AreSwept, IsAskedOf, IsClass, IsKept, IsMember, IsOfClass, HasAlike, IsOneMore, IsSameLevel, StandsFor, are_level_in, is_ahead, is_at}
 use Rattle.pref_sky.specs.Held.{AreHeld}
-use Rattle.pref_sky.specs.Steps.{AreNoWorse, IsAsked, IsStepPut}
+use Rattle.pref_sky.specs.Steps.{AreNoWorse, IsAsked, IsCovered, IsStepPut, stands_before, step_at}
 use Rattle.pref_sky.specs.declared.level.Level.{Level}
 use Rattle.pref_term.specs.Signatures.{is_within}
 
@@ -50,17 +50,15 @@ pub same_level : (over second third : Entry → Entry → Bool) (rule : Entry �
     → StandsFor over second third rule mark all class i n old → StandsFor over second third rule mark all class i n new
 same_level over second third rule mark all class i n old new same stands =
     record {
-      steps_within = λ p m. stands.steps_within p (subst (Among p) same.steps m);
-      steps_cover = λ j member. let w = stands.steps_cover j member in (w.0, subst (Among w.0) (sym same.steps) w.1, w.2, w.3);
-      by_second = subst (IsInOrder (λ p q. not (second (entry_at all q) (entry_at all p)))) (sym same.steps) stands.by_second;
-      by_third = subst (IsInOrder (λ p q. not (third (entry_at all p) (entry_at all q)))) (sym same.steps) stands.by_third;
+      steps_within = rw same.steps stands.steps_within;
+      steps_cover = rw same.steps stands.steps_cover;
+      in_order = rw same.steps stands.in_order;
       kept_within = λ x m. stands.kept_within x (elim m [ inl old ↦ inl (same.run.back x old) | inr came ↦ inr (same.fresh.back x came) ]);
       run_held = λ x m. stands.run_held x (same.run.back x m);
       kept_cover = λ j behind member.
           let w = stands.kept_cover j behind member in
           let x = w.1.0 in
-          let kept : IsKept x new = elim w.1.1 [ inl old ↦ inl (same.run.there x old) | inr came ↦ inr (same.fresh.there x came) ] in
-          (same.class ∙ w.0, (x, kept, w.1.2));
+          (same.class ∙ w.0, (x, elim w.1.1 [ inl old ↦ inl (same.run.there x old) | inr came ↦ inr (same.fresh.there x came) ], w.1.2));
     }
 
 module _ (over second third : Entry → Entry → Bool) (rule : Entry → ℕ) (mark : ℕ → ℕ) (all : List Entry) (class i n : ℕ) (kept : Level) where
@@ -73,107 +71,52 @@ module _ (over second third : Entry → Entry → Bool) (rule : Entry → ℕ) (
     pub new_class : (later : ℕ) → i ≤ later → StandsFor over second third rule mark all later i n kept
     new_class later behind = grind (arith)
 
-    earlier : (j : ℕ) → IsMember over all i n j → IsMember over all (i + 1) n j
-    earlier j member = (omega (arith, member.0), member.1)
-
-    still : is_at over all n (entry_at all i) ≡ false → (j : ℕ) → IsMember over all (i + 1) n j → IsMember over all i n j
-    still other j member = elim (cases_eq j i) [ inl same ↦ grind (arith) | inr before ↦ (omega (arith, member.0, before), member.1) ]
-
-    -- an entry of another level changes nothing
-    pub stays : is_at over all n (entry_at all i) ≡ false → StandsFor over second third rule mark all class (i + 1) n kept
-    stays other =
+    -- where the next entry is covered too, nothing changes
+    covered : (IsMember over all (i + 1) n i → IsCovered second third all kept.steps.items (entry_at all i)) → (class ≤ i → IsMember over all (i + 1) n i → (kept.class ≡ class) × HasAlike over all kept (entry_at all i))
+        → StandsFor over second third rule mark all class (i + 1) n kept
+    covered step alike =
         record {
-          steps_within = λ p m. earlier p (stands.steps_within p m);
-          steps_cover = λ j member. stands.steps_cover j (still other j member);
-          by_second = stands.by_second;
-          by_third = stands.by_third;
-          kept_within = λ x m. let w = stands.kept_within x m in (earlier x.place w.0, w.1);
-          run_held = stands.run_held;
-          kept_cover = λ j behind member. stands.kept_cover j behind (still other j member);
-        }
-
-    -- nor does one that is alike to a member before it, and level with it in all chains
-    pub alike_stays : (first : Entry → Entry → Bool) → IsChain second → IsChain third → 0 < i → class ≤ i - 1 → is_at over all n (entry_at all (i - 1)) ≡ true
-        → StandAlike over (entry_at all (i - 1)) (entry_at all i) → are_level_in first second third (entry_at all (i - 1)) (entry_at all i) ≡ true → StandsFor over second third rule mark all class (i + 1) n kept
-    alike_stays first second_is_chain third_is_chain some from at alike level =
-        let last : IsMember over all i n (i - 1) = (omega (arith, some), at) in
-        let m = entry_at all (i - 1) in
-        let e = entry_at all i in
-        let no_better_in_second : second e m ≡ false = grind (arith, level) in
-        let no_better_in_third : third e m ≡ false = grind (arith, level) in
-        record {
-          steps_within = λ p there. earlier p (stands.steps_within p there);
-          steps_cover = λ j member. elim (cases_eq j i) [
-            | inl same ↦
-                let w = stands.steps_cover (i - 1) last in (
-                  w.0,
-                  w.1,
-                  ap (λ k. second (entry_at all k) (entry_at all w.0)) same ∙ no_worse_then second second_is_chain (entry_at all w.0) m e w.2 no_better_in_second,
-                  ap (λ k. third (entry_at all k) (entry_at all w.0)) same ∙ no_worse_then third third_is_chain (entry_at all w.0) m e w.3 no_better_in_third,
-                )
-            | inr before ↦ stands.steps_cover j (omega (arith, member.0, before), member.1)
-          ];
-          by_second = stands.by_second;
-          by_third = stands.by_third;
-          kept_within = λ x there. let w = stands.kept_within x there in (earlier x.place w.0, w.1);
+          steps_within = λ k d there. grind (arith, stands.steps_within k d there);
+          steps_cover = λ j member. elim (cases_eq j i) [ inl same ↦ rw same (step (rw same at member)) | inr before ↦ stands.steps_cover j (omega (arith, member.0, before), member.1) ];
+          in_order = stands.in_order;
+          kept_within = λ x m. grind (arith, stands.kept_within x m);
           run_held = stands.run_held;
           kept_cover = λ j behind member. elim (cases_eq j i) [
-            | inl same ↦
-                let w = stands.kept_cover (i - 1) from last in
-                let x = w.1.0 in
-                let like : StandAlike over (entry_at all x.place) e = record { above = λ c. w.1.2.above c ∙ alike.above c; below = λ c. w.1.2.below c ∙ alike.below c } in
-                (w.0, (x, w.1.1, subst (λ k. StandAlike over (entry_at all x.place) (entry_at all k)) (sym same) like))
+            | inl same ↦ rw same (alike (omega (arith, behind, same)) (rw same at member))
             | inr before ↦ stands.kept_cover j behind (omega (arith, member.0, before), member.1)
           ];
         }
 
--- ---- a class goes on or begins, and one more is kept in it
+    -- as that of another level
+    pub stays : is_at over all n (entry_at all i) ≡ false → StandsFor over second third rule mark all class (i + 1) n kept
+    stays other = covered (λ member. absurd (both_ways (is_at over all n (entry_at all i)) other member.1)) (λ behind member. absurd (both_ways (is_at over all n (entry_at all i)) other member.1))
 
--- what is kept of a level as the class goes on, and nothing of another class
-pub record GoesOn (old : Level) (class : ℕ) (new : Level) : Type 0 where
-  pub stays : old.class ≡ class → (y : Item) → IsKept y old → IsKept y new
-  pub within : (y : Item) → IsKept y new → IsKept y old
-  pub run : (y : Item) → Among y new.run.items → Among y old.run.items
+    -- and one that is alike to a member before it, and level with it in all chains
+    pub alike_stays : (first : Entry → Entry → Bool) → IsChain second → IsChain third → 0 < i → class ≤ i - 1 → is_at over all n (entry_at all (i - 1)) ≡ true
+        → StandAlike over (entry_at all (i - 1)) (entry_at all i) → are_level_in first second third (entry_at all (i - 1)) (entry_at all i) ≡ true → StandsFor over second third rule mark all class (i + 1) n kept
+    alike_stays first second_is_chain third_is_chain some from at alike level =
+        let m = entry_at all (i - 1) in
+        let e = entry_at all i in
+        let last : IsMember over all i n (i - 1) = (omega (arith, some), at) in
+        let w = stands.steps_cover (i - 1) last in
+        let x = stands.kept_cover (i - 1) from last in
+        let c = step_at all kept.steps.items w.0 in
+        covered (λ _. (w.0, w.1, no_worse_then second second_is_chain c m e w.2 (grind (arith, level)), no_worse_then third third_is_chain c m e w.3 (grind (arith, level))))
+        (λ _ _. (x.0, (x.1.0, x.1.1, record { above = λ c. x.1.2.above c ∙ alike.above c; below = λ c. x.1.2.below c ∙ alike.below c })))
 
-pub class_goes_on : (old put new : Level) (class : ℕ) → (put.run ≡ old.run) × (put.fresh ≡ old.fresh) × (put.class ≡ old.class)
-    → (put.class ≡ class → (new.run ≡ put.run) × (new.fresh ≡ put.fresh)) → ((put.class ≡ class → ⊥) → (new.run.items ≡ []) × (new.fresh.items ≡ [])) → GoesOn old class new
-class_goes_on old put new class others same anew =
-    elim (cases_eq put.class class) [
-      | inl is ↦
-          let run : new.run.items ≡ old.run.items = ap (λ (v : Vec Item Global). v.items) ((same is).0 ∙ others.0) in
-          let fresh : new.fresh.items ≡ old.fresh.items = ap (λ (v : Vec Item Global). v.items) ((same is).1 ∙ others.1) in
-          record {
-            stays = λ _ y m. elim m [ inl there ↦ inl (subst (Among y) (sym run) there) | inr came ↦ inr (subst (Among y) (sym fresh) came) ];
-            within = λ y m. elim m [ inl there ↦ inl (subst (Among y) run there) | inr came ↦ inr (subst (Among y) fresh came) ];
-            run = λ y m. subst (Among y) run m;
-          }
-      | inr other ↦
-          let none = anew other in
-          record {
-            stays = λ is y m. absurd (other (others.2 ∙ is));
-            within = λ y m. elim m [ inl there ↦ absurd (subst (Among y) none.0 there) | inr came ↦ absurd (subst (Among y) none.1 came) ];
-            run = λ y m. absurd (subst (Among y) none.0 m);
-          }
-    ]
+-- ---- one more is kept in the class
 
 module _ (mark : ℕ → ℕ) (n : ℕ) (before : Level) (x : Item) (new : Level) where
   pub more_in_run : new.steps.items ≡ before.steps.items → new.class ≡ before.class → new.run.items ≡ before.run.items ++ x ∷ [] → new.fresh.items ≡ before.fresh.items → mark x.place ≡ suc n → IsOneMore mark n before x new
   more_in_run steps class run fresh at =
       let old = before.run.items in
-      let among : (y : Item) → Among y new.run.items → Among y old ⊎ (y ≡ x) = λ y m. elim (in_either old (x ∷ []) y (subst (Among y) run m)) [
-        | inl there ↦ inl there
-        | inr last ↦ elim last [ inl same ↦ inr same | inr none ↦ absurd none ]
-      ] in
       record {
         steps = steps;
         class = class;
-        within = λ y m. elim m [
-          | inl there ↦ elim (among y there) [ inl was ↦ inl (inl was) | inr same ↦ inr same ]
-          | inr came ↦ inl (inr (subst (Among y) fresh came))
-        ];
-        held = λ y m. elim (among y m) [ inl was ↦ inl was | inr same ↦ inr (subst (λ (z : Item). mark z.place ≡ suc n) (sym same) at) ];
-        here = inl (subst (Among x) (sym run) (in_right old (x ∷ []) x (inl refl)));
-        others = λ y m. elim m [ inl there ↦ inl (subst (Among y) (sym run) (in_left old (x ∷ []) y there)) | inr came ↦ inr (subst (Among y) (sym fresh) came) ];
+        within = λ y. rw (run, fresh) (grind (arith, in_either old (x ∷ []) y));
+        held = λ y. rw run (grind (arith, in_either old (x ∷ []) y));
+        here = inl (rw run (in_right old (x ∷ []) x (inl refl)));
+        others = λ y. rw (run, fresh) (grind (arith, in_left old (x ∷ []) y));
       }
 
   pub more_in_fresh : new.steps.items ≡ before.steps.items → new.class ≡ before.class → new.run.items ≡ before.run.items → new.fresh.items ≡ before.fresh.items ++ x ∷ [] → IsOneMore mark n before x new
@@ -182,17 +125,54 @@ module _ (mark : ℕ → ℕ) (n : ℕ) (before : Level) (x : Item) (new : Level
       record {
         steps = steps;
         class = class;
-        within = λ y m. elim m [
-          | inl there ↦ inl (inl (subst (Among y) run there))
-          | inr came ↦ elim (in_either old (x ∷ []) y (subst (Among y) fresh came)) [
-            | inl was ↦ inl (inr was)
-            | inr last ↦ elim last [ inl same ↦ inr same | inr none ↦ absurd none ]
-          ]
-        ];
-        held = λ y m. inl (subst (Among y) run m);
-        here = inr (subst (Among x) (sym fresh) (in_right old (x ∷ []) x (inl refl)));
-        others = λ y m. elim m [ inl there ↦ inl (subst (Among y) (sym run) there) | inr came ↦ inr (subst (Among y) (sym fresh) (in_left old (x ∷ []) y came)) ];
+        within = λ y. rw (run, fresh) (grind (arith, in_either old (x ∷ []) y));
+        held = λ y. rw run (grind (arith));
+        here = inr (rw fresh (in_right old (x ∷ []) x (inl refl)));
+        others = λ y. rw (run, fresh) (grind (arith, in_left old (x ∷ []) y));
       }
+
+-- ---- places of which one is put in the place of those from one on up to another
+
+module _ (xs : List ℕ) (from to x : ℕ) (ordered : from ≤ to) (within : to ≤ length xs) where
+  abbrev pub replaced : List ℕ
+  replaced = take from xs ++ x ∷ drop to xs
+
+  replaced_length : length replaced + to ≡ length xs + from + 1
+  replaced_length = omega (arith, length-append (take from xs) (x ∷ drop to xs), length-take from xs, length-drop to xs)
+
+  in_front : (k : ℕ) → k < from → get_or replaced k 0 ≡ get_or xs k 0
+  in_front k near = get_or_append_left (take from xs) (x ∷ drop to xs) 0 k (omega (arith, near, length-take from xs)) ∙ get_or-take from xs k 0 near
+
+  behind : (k l : ℕ) → l + to ≡ k + from + 1 → to ≤ k → get_or replaced l 0 ≡ get_or xs k 0
+  behind k l at past =
+      let far : l - from ≡ suc (k - to) = omega (arith, at, past) in
+      let there : to + (k - to) ≡ k = omega (arith, past) in
+      get_or-append_right (take from xs) (x ∷ drop to xs) from l 0 (omega (arith, length-take from xs)) (omega (arith, at, past))
+      ∙ (ap (λ m. get_or (x ∷ drop to xs) m 0) far ∙ (get_or-drop to xs (k - to) 0 ∙ ap (λ m. get_or xs m 0) there))
+
+  in_place : get_or replaced from 0 ≡ x
+  in_place =
+      let first : from - from ≡ 0 = omega arith in
+      get_or-append_right (take from xs) (x ∷ drop to xs) from from 0 (omega (arith, length-take from xs)) (omega arith) ∙ ap (λ m. get_or (x ∷ drop to xs) m 0) first
+
+  -- where each stood before
+  origin : (l : ℕ) → l < length replaced
+      → ((l < from) × (get_or replaced l 0 ≡ get_or xs l 0)) ⊎ (((l ≡ from) × (get_or replaced l 0 ≡ x)) ⊎ ((k : ℕ) × (to ≤ k) × (k < length xs) × (l + to ≡ k + from + 1) × (get_or replaced l 0 ≡ get_or xs k 0)))
+  origin l inside =
+      elim (cases_lt l from) [
+        | inl near ↦ inl (near, in_front l near)
+        | inr past ↦ elim (cases_eq l from) [
+          | inl same ↦ inr (inl (same, ap (λ m. get_or replaced m 0) same ∙ in_place))
+          | inr far ↦
+              let k = l + to - from - 1 in
+              inr (inr (k, omega (arith, past, far), omega (arith, past, far, inside, replaced_length), omega (arith, past, far), behind k l (omega (arith, past, far)) (omega (arith, past, far))))
+        ]
+      ]
+
+  -- they are in order where the one is in its place
+  in_order_anew : (le : ℕ → ℕ → Bool) → ((k l : ℕ) → k ≤ l → l < length xs → le (get_or xs k 0) (get_or xs l 0) ≡ true) → ((k : ℕ) → k < from → le (get_or xs k 0) x ≡ true) → le x x ≡ true
+      → ((k : ℕ) → to ≤ k → k < length xs → le x (get_or xs k 0) ≡ true) → (k l : ℕ) → k ≤ l → l < length replaced → le (get_or replaced k 0) (get_or replaced l 0) ≡ true
+  in_order_anew le before front itself back k l order inside = let near : k < length replaced = omega (arith, order, inside) in grind (arith, origin k near, origin l inside)
 
 -- ---- does an entry of the level dominate the next one?
 
@@ -231,10 +211,10 @@ module _ (over first second third : Entry → Entry → Bool) (all : List Entry)
     steps = kept.steps.items
 
     abbrev step : ℕ → Entry
-    step k = entry_at all (get_or steps k 0)
+    step k = step_at all steps k
 
     is_step : (k : ℕ) → k < length steps → IsMember over all i n (get_or steps k 0)
-    is_step k there = stands.steps_within (get_or steps k 0) (among_place steps k 0 there)
+    is_step k there = stands.steps_within k 0 there
 
     step_inside : (k : ℕ) → k < length steps → get_or steps k 0 < length all
     step_inside k there = omega (arith, (is_step k there).0, inside)
@@ -244,17 +224,10 @@ module _ (over first second third : Entry → Entry → Bool) (all : List Entry)
     in_first k there = no_worse_in_first (get_or steps k 0) i (omega (arith, (is_step k there).0)) inside
 
     in_second : (k l : ℕ) → k ≤ l → l < length steps → second (step l) (step k) ≡ false
-    in_second k l le there = grind (arith, in_order_at (λ p q. not (second (entry_at all q) (entry_at all p))) steps k l 0 stands.by_second, swept.led.second_is_chain.strict.irreflexive (step l))
+    in_second k l le there = grind (arith, stands.in_order k l le there)
 
     in_third : (k l : ℕ) → k ≤ l → l < length steps → third (step k) (step l) ≡ false
-    in_third k l le there = grind (arith, in_order_at (λ p q. not (third (entry_at all p) (entry_at all q))) steps k l 0 stands.by_third, swept.led.third_is_chain.strict.irreflexive (step l))
-
-    -- a step that is no worse than a member in the second and third chain
-    covering : (j : ℕ) → IsMember over all i n j → (k : ℕ) × (k < length steps) × (second (entry_at all j) (step k) ≡ false) × (third (entry_at all j) (step k) ≡ false)
-    covering j member =
-        let w = stands.steps_cover j member in
-        let q = place_of steps w.0 0 w.1 in
-        (q.0, q.1, ap (λ p. second (entry_at all j) (entry_at all p)) q.2 ∙ w.2, ap (λ p. third (entry_at all j) (entry_at all p)) q.2 ∙ w.3)
+    in_third k l le there = grind (arith, stands.in_order k l le there)
 
     -- where a member is ahead of the next entry, the last step that is no worse in the second chain is over it
     step_over : (j count : ℕ) → AreNoWorse second all steps next_one count → IsMember over all i n j → is_ahead first second third (entry_at all j) next_one ≡ true
@@ -264,7 +237,7 @@ module _ (over first second third : Entry → Entry → Bool) (all : List Entry)
         let led = swept.led in
         let no_worse_in_second = no_worse_then second led.second_is_chain in
         let no_worse_in_third = no_worse_then third led.third_is_chain in
-        let w = covering j member in
+        let w = stands.steps_cover j member in
         let k = w.0 in
         let step_in_second : second next_one (step k) ≡ false = no_worse_in_second (step k) m next_one w.2 (grind (arith, ahead)) in
         let step_in_third : third next_one (step k) ≡ false = no_worse_in_third (step k) m next_one w.3 (grind (arith, ahead)) in
@@ -374,10 +347,6 @@ module _ (over first second third : Entry → Entry → Bool) (all : List Entry)
       abbrev to : ℕ
       to = put.to
 
-      -- the steps with the new one
-      abbrev new_steps : List ℕ
-      new_steps = take from steps ++ i ∷ drop to steps
-
       better_in_second : (k : ℕ) → k < from → second (step k) next_one ≡ true
       better_in_second k near = grind (arith, swept.led.second_is_chain.between (step (from - 1)) (step k) next_one, in_second k (from - 1))
 
@@ -399,124 +368,78 @@ module _ (over first second third : Entry → Entry → Bool) (all : List Entry)
       no_worse_in_third : (k : ℕ) → to ≤ k → k < length steps → third next_one (step k) ≡ false
       no_worse_in_third k past there = grind (arith, put.taken_out.next (omega (arith, past, there)), in_third to k past there, swept.led.third_is_chain.strict.transitive (step to) next_one (step k))
 
-      -- which steps are left
-      left_in_front : (k : ℕ) → k < from → Among (get_or steps k 0) new_steps
-      left_in_front k near =
-          in_left (take from steps) (i ∷ drop to steps) (get_or steps k 0)
-          (subst (λ p. Among p (take from steps)) (get_or-take from steps k 0 near) (among_place (take from steps) k 0 (omega (arith, near, put.better.within, length-take from steps))))
+      -- the steps with the new one
+      abbrev new_steps : List ℕ
+      new_steps = replaced steps from to i put.taken_out.from_to put.taken_out.within
 
-      left_behind : (k : ℕ) → to ≤ k → k < length steps → Among (get_or steps k 0) new_steps
-      left_behind k past there =
-          let same : to + (k - to) ≡ k = omega (arith, past) in
-          in_right (take from steps) (i ∷ drop to steps) (get_or steps k 0)
-          (inr (subst (λ p. Among p (drop to steps)) (get_or-drop to steps (k - to) 0 ∙ ap (λ l. get_or steps l 0) same) (among_place (drop to steps) (k - to) 0 (omega (arith, past, there, length-drop to steps)))))
-
-      here : Among i new_steps
-      here = in_right (take from steps) (i ∷ drop to steps) i (inl refl)
-
-      in_front : (p : ℕ) → Among p (take from steps) → (k : ℕ) × (k < from) × (get_or steps k 0 ≡ p)
-      in_front p m =
-          let w = place_of (take from steps) p 0 m in
-          let near : w.0 < from = omega (arith, w.1, length-take from steps, put.better.within) in
-          (w.0, near, sym (get_or-take from steps w.0 0 near) ∙ w.2)
-
-      behind : (p : ℕ) → Among p (drop to steps) → (k : ℕ) × (to ≤ k) × (k < length steps) × (get_or steps k 0 ≡ p)
-      behind p m = let w = place_of (drop to steps) p 0 m in (to + w.0, omega arith, omega (arith, w.1, length-drop to steps, put.taken_out.within), sym (get_or-drop to steps w.0 0) ∙ w.2)
-
-      within_more : (p : ℕ) → Among p new_steps → IsMember over all (i + 1) n p
-      within_more p m =
-          let old : (k : ℕ) → k < length steps → get_or steps k 0 ≡ p → IsMember over all (i + 1) n p =
-          λ k there same. subst (IsMember over all (i + 1) n) same (omega (arith, (is_step k there).0), (is_step k there).1) in
-          elim (in_either (take from steps) (i ∷ drop to steps) p m) [
-            | inl front ↦ let w = in_front p front in old w.0 (omega (arith, w.1, put.better.within)) w.2
-            | inr rest ↦ elim rest [
-              | inl same ↦ subst (IsMember over all (i + 1) n) (sym same) (omega arith, at)
-              | inr back ↦ let w = behind p back in old w.0 w.2 w.3
-            ]
-          ]
+      within_more : (l : ℕ) (d : ℕ) → l < length new_steps → IsMember over all (i + 1) n (get_or new_steps l d)
+      within_more l d there = grind (arith, origin steps from to i put.taken_out.from_to put.taken_out.within l there, get_or_default new_steps l d 0 there, is_step)
 
       -- the new step stands for those that are taken out
-      covers_more : (j : ℕ) → IsMember over all (i + 1) n j → (p : ℕ) × Among p new_steps × (second (entry_at all j) (entry_at all p) ≡ false) × (third (entry_at all j) (entry_at all p) ≡ false)
+      covers_more : (j : ℕ) → IsMember over all (i + 1) n j → IsCovered second third all new_steps (entry_at all j)
       covers_more j member =
           let led = swept.led in
           let m = entry_at all j in
+          let long = replaced_length steps from to i put.taken_out.from_to put.taken_out.within in
+          let new_at = in_place steps from to i put.taken_out.from_to put.taken_out.within in
+          let there : from < length new_steps = omega (arith, long, put.taken_out.within) in
           elim (cases_eq j i) [
-            | inl same ↦ (
-              i,
-              here,
-              ap (λ l. second (entry_at all l) next_one) same ∙ led.second_is_chain.strict.irreflexive next_one,
-              ap (λ l. third (entry_at all l) next_one) same ∙ led.third_is_chain.strict.irreflexive next_one,
-            )
+            | inl same ↦ (from, there, grind (arith, led.second_is_chain.strict.irreflexive next_one), grind (arith, led.third_is_chain.strict.irreflexive next_one))
             | inr other ↦
-                let w = covering j (omega (arith, member.0, other), member.1) in
+                let w = stands.steps_cover j (omega (arith, member.0, other), member.1) in
                 let k = w.0 in
                 elim (cases_lt k from) [
-                  | inl near ↦ (get_or steps k 0, left_in_front k near, w.2, w.3)
+                  | inl near ↦
+                      let same = in_front steps from to i put.taken_out.from_to put.taken_out.within k near in
+                      (k, omega (arith, long, near, put.taken_out.within, put.taken_out.from_to), grind (arith, w.2), grind (arith, w.3))
                   | inr past ↦ elim (cases_lt k to) [
                     | inl taken ↦ (
-                      i,
-                      here,
-                      no_worse_then second led.second_is_chain next_one (step k) m (no_better_in_second k past w.1) w.2,
-                      no_worse_then third led.third_is_chain next_one (step k) m (put.taken_out.skipped k past taken) w.3,
+                      from,
+                      there,
+                      grind (arith, no_worse_then second led.second_is_chain next_one (step k) m (no_better_in_second k past w.1) w.2),
+                      grind (arith, no_worse_then third led.third_is_chain next_one (step k) m (put.taken_out.skipped k past taken) w.3),
                     )
-                    | inr far ↦ (get_or steps k 0, left_behind k far w.1, w.2, w.3)
+                    | inr far ↦
+                        let l = k + from + 1 - to in
+                        let same = behind steps from to i put.taken_out.from_to put.taken_out.within k l (omega (arith, far)) far in
+                        (l, omega (arith, long, far, w.1), grind (arith, w.2), grind (arith, w.3))
                   ]
                 ]
           ]
 
-      -- the new one stands in its place
-      in_order_anew : (le : ℕ → ℕ → Bool) → IsInOrder le steps → ((k : ℕ) → k < from → le (get_or steps k 0) i ≡ true) → ((k : ℕ) → to ≤ k → k < length steps → le i (get_or steps k 0) ≡ true)
-          → IsInOrder le new_steps
-      in_order_anew le ordered front back =
-          let first_part = in_order_front le (take from steps) (drop from steps) (subst (IsInOrder le) (sym (take-append-drop from steps)) ordered) in
-          let last_part = in_order_back le (take to steps) (drop to steps) (subst (IsInOrder le) (sym (take-append-drop to steps)) ordered) in
-          let across : (a b : ℕ) → Among a (take from steps) → Among b (drop to steps) → le a b ≡ true =
-          λ a b ma mb.
-          let x = in_front a ma in
-          let y = behind b mb in
-          ap (λ v. le v b) (sym x.2) ∙ (ap (le (get_or steps x.0 0)) (sym y.3) ∙ in_order_at le steps x.0 y.0 0 ordered (omega (arith, x.1, y.1, put.taken_out.from_to)) y.2) in
-          in_order_with le (take from steps) (drop to steps) i (in_order_joined le (take from steps) (drop to steps) first_part last_part across)
-          (λ a ma. let x = in_front a ma in ap (λ v. le v i) (sym x.2) ∙ front x.0 x.1) (λ b mb. let y = behind b mb in ap (le i) (sym y.3) ∙ back y.0 y.1 y.2)
+      in_order_more : (k l : ℕ) → k ≤ l → l < length new_steps → stands_before second third all (get_or new_steps k 0) (get_or new_steps l 0) ≡ true
+      in_order_more =
+          let led = swept.led in
+          in_order_anew steps from to i put.taken_out.from_to put.taken_out.within (stands_before second third all) stands.in_order
+          (λ k near. and_from _ _ (ap not (no_worse_in_second k near)) (ap not (no_better_in_third k near)))
+          (and_from _ _ (ap not (led.second_is_chain.strict.irreflexive next_one)) (ap not (led.third_is_chain.strict.irreflexive next_one)))
+          (λ k past there. and_from _ _ (ap not (no_better_in_second k (omega (arith, past, put.taken_out.from_to)) there)) (ap not (no_worse_in_third k past there)))
 
-      -- what is kept then: the class begins anew where it is another
-      module _ (new before : Level) (x : Item) (steps_are : new.steps.items ≡ put_steps) (class_is : new.class ≡ class) (more : IsOneMore mark n before x new)
-          (place_is : x.place ≡ i) (signed : x.signature ≡ rule next_one)
-          (goes_on : GoesOn kept class before) where
-        kept_within_more : (y : Item) → IsKept y new → IsMember over all (i + 1) n y.place × (y.signature ≡ rule (entry_at all y.place))
-        kept_within_more y m =
-            elim (more.within y m) [
-              | inl old ↦ let w = stands.kept_within y (goes_on.within y old) in ((omega (arith, w.0.0), w.0.1), w.1)
-              | inr last ↦ grind (arith)
-            ]
+      -- what is kept then: the class goes on or begins anew, with one more
+      module _ (stepped begun new : Level) (x : Item) (class_stays : (stepped.run ≡ kept.run) × (stepped.fresh ≡ kept.fresh) × (stepped.class ≡ kept.class)) (of_class : IsOfClass stepped class begun)
+          (more : IsOneMore mark n begun x new) (place_is : x.place ≡ i) (signed : x.signature ≡ rule next_one) (steps_are : stepped.steps.items ≡ put_steps) where
+        was_kept : (y : Item) → IsKept y begun → IsKept y kept
+        was_kept y m = elim (of_class.within y m) [ inl old ↦ inl (rw (sym class_stays.0) old) | inr came ↦ inr (rw (sym class_stays.1) came) ]
 
-        run_held_more : (y : Item) → Among y new.run.items → mark y.place ≡ suc n
-        run_held_more y m = elim (more.held y m) [ inl old ↦ stands.run_held y (goes_on.run y old) | inr last ↦ last ]
-
-        kept_cover_more : (j : ℕ) → class ≤ j → IsMember over all (i + 1) n j → (y : Item) × IsKept y new × StandAlike over (entry_at all y.place) (entry_at all j)
-        kept_cover_more j behind member =
-            elim (cases_eq j i) [
-              | inl same ↦
-                  let alike : StandAlike over (entry_at all j) (entry_at all j) = record { above = λ c. refl; below = λ c. refl } in
-                  (x, more.here, subst (λ (p : ℕ). StandAlike over (entry_at all p) (entry_at all j)) (same ∙ sym place_is) alike)
-              | inr other ↦
-                  let w = stands.kept_cover j behind (omega (arith, member.0, other), member.1) in
-                  let y = w.1.0 in
-                  (y, more.others y (goes_on.stays w.0 y w.1.1), w.1.2)
-            ]
+        still_kept : (y : Item) → kept.class ≡ class → IsKept y kept → IsKept y new
+        still_kept y same m = more.others y (of_class.stays (class_stays.2 ∙ same) y (elim m [ inl old ↦ inl (rw class_stays.0 old) | inr came ↦ inr (rw class_stays.1 came) ]))
 
         pub put_stands : StandsFor over second third rule mark all class (i + 1) n new
         put_stands =
-            let le_second : ℕ → ℕ → Bool = λ p q. not (second (entry_at all q) (entry_at all p)) in
-            let le_third : ℕ → ℕ → Bool = λ p q. not (third (entry_at all p) (entry_at all q)) in
-            let new_is : new.steps.items ≡ new_steps = steps_are ∙ put.is in
-            let by_second = in_order_anew le_second stands.by_second (λ k near. ap not (no_worse_in_second k near)) (λ k past there. ap not (no_better_in_second k (omega (arith, past, put.taken_out.from_to)) there)) in
-            let by_third = in_order_anew le_third stands.by_third (λ k near. ap not (no_better_in_third k near)) (λ k past there. ap not (no_worse_in_third k past there)) in
+            let is : new.steps.items ≡ new_steps = more.steps ∙ (of_class.steps ∙ (steps_are ∙ put.is)) in
             record {
-              steps_within = λ p m. within_more p (subst (Among p) new_is m);
-              steps_cover = λ j member. let w = covers_more j member in (w.0, subst (Among w.0) (sym new_is) w.1, w.2, w.3);
-              by_second = subst (IsInOrder le_second) (sym new_is) by_second;
-              by_third = subst (IsInOrder le_third) (sym new_is) by_third;
-              kept_within = kept_within_more;
-              run_held = run_held_more;
-              kept_cover = λ j behind member. (class_is, kept_cover_more j behind member);
+              steps_within = rw is within_more;
+              steps_cover = rw is covers_more;
+              in_order = rw is in_order_more;
+              kept_within = λ y m. elim (more.within y m) [ inl old ↦ grind (arith, stands.kept_within y (was_kept y old)) | inr last ↦ grind (arith) ];
+              run_held = λ y m. elim (more.held y m) [ inl old ↦ stands.run_held y (rw (sym class_stays.0) (of_class.run y old)) | inr last ↦ last ];
+              kept_cover = λ j behind member. (
+                more.class ∙ of_class.class_is,
+                elim (cases_eq j i) [
+                  | inl same ↦ (x, more.here, grind (arith))
+                  | inr other ↦
+                      let w = stands.kept_cover j behind (omega (arith, member.0, other), member.1) in
+                      (w.1.0, still_kept w.1.0 w.0 w.1.1, w.1.2)
+                ],
+              );
             }

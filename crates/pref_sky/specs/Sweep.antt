@@ -5,7 +5,8 @@ use Rattle.pref_term.specs.Order.{IsStrictOrder, StandAlike}
 use Rattle.pref_sky.specs.OwnOrders.{comes_after}
 use Rattle.pref_sky.specs.Items.{entry_at}
 use Rattle.pref_sky.specs.Members.{Among, SameMembers}
-use Rattle.pref_sky.specs.Chains.{IsChain, IsInOrder, are_level, comes_first}
+use Rattle.pref_sky.specs.Chains.{IsChain, are_level, comes_first}
+use Rattle.pref_sky.specs.Steps.{IsCovered, stands_before}
 use Rattle.pref_sky.specs.declared.entry.Entry.{Entry}
 use Rattle.pref_sky.specs.declared.item.Item.{Item}
 use Rattle.pref_sky.specs.declared.level.Level.{Level}
@@ -54,17 +55,20 @@ IsKept x kept = Among x kept.run.items ⊎ Among x kept.fresh.items
 abbrev pub IsAskedOf : ℕ → Item → Level → Type 0
 IsAskedOf mark x kept = Among x kept.fresh.items ⊎ ((mark ≡ 0) × Among x kept.run.items)
 
+-- an entry is alike to one that is kept in the class
+abbrev pub HasAlike : (Entry → Entry → Bool) → List Entry → Level → Entry → Type 0
+HasAlike over all kept e = (x : Item) × IsKept x kept × StandAlike over (entry_at all x.place) e
+
 -- what is kept stands for the entries before a place that have n levels above them.
 -- Steps: each of these is no better than one of the steps in the second and third chain; they stand from the best in the second to the best in the third.
 -- The class: of the entries from it on, each is alike to one that is kept in it. In the run are those alone that were held already, and of this level.
 pub record StandsFor (over second third : Entry → Entry → Bool) (rule : Entry → ℕ) (mark : ℕ → ℕ) (all : List Entry) (class i n : ℕ) (kept : Level) : Type 0 where
-  pub steps_within : (p : ℕ) → Among p kept.steps.items → IsMember over all i n p
-  pub steps_cover : (j : ℕ) → IsMember over all i n j → (p : ℕ) × Among p kept.steps.items × (second (entry_at all j) (entry_at all p) ≡ false) × (third (entry_at all j) (entry_at all p) ≡ false)
-  pub by_second : IsInOrder (λ p q. not (second (entry_at all q) (entry_at all p))) kept.steps.items
-  pub by_third : IsInOrder (λ p q. not (third (entry_at all p) (entry_at all q))) kept.steps.items
+  pub steps_within : All (IsMember over all i n) kept.steps.items
+  pub steps_cover : (j : ℕ) → IsMember over all i n j → IsCovered second third all kept.steps.items (entry_at all j)
+  pub in_order : (k l : ℕ) → k ≤ l → l < length kept.steps.items → stands_before second third all (get_or kept.steps.items k 0) (get_or kept.steps.items l 0) ≡ true
   pub kept_within : (x : Item) → IsKept x kept → IsMember over all i n x.place × (x.signature ≡ rule (entry_at all x.place))
   pub run_held : (x : Item) → Among x kept.run.items → mark x.place ≡ suc n
-  pub kept_cover : (j : ℕ) → class ≤ j → IsMember over all i n j → (kept.class ≡ class) × ((x : Item) × IsKept x kept × StandAlike over (entry_at all x.place) (entry_at all j))
+  pub kept_cover : (j : ℕ) → class ≤ j → IsMember over all i n j → (kept.class ≡ class) × HasAlike over all kept (entry_at all j)
 
 -- what is kept are places of entries
 pub record ArePlaces (all : List Entry) (kept : Level) : Type 0 where
@@ -78,6 +82,14 @@ pub record IsSameLevel (old new : Level) : Type 0 where
   pub class : new.class ≡ old.class
   pub run : SameMembers old.run.items new.run.items
   pub fresh : SameMembers old.fresh.items new.fresh.items
+
+-- as a class goes on or begins: the same where it goes on, and nothing of another class
+pub record IsOfClass (old : Level) (class : ℕ) (new : Level) : Type 0 where
+  pub steps : new.steps.items ≡ old.steps.items
+  pub class_is : new.class ≡ class
+  pub within : (x : Item) → IsKept x new → IsKept x old
+  pub run : (x : Item) → Among x new.run.items → Among x old.run.items
+  pub stays : old.class ≡ class → (x : Item) → IsKept x old → IsKept x new
 
 -- the same, with one more in its class: in the run where it was held already, and of this level
 pub record IsOneMore (mark : ℕ → ℕ) (n : ℕ) (before : Level) (x : Item) (new : Level) : Type 0 where

@@ -17,7 +17,7 @@ ghost use Rattle.pref_sky.specs.Items.{entry_at};
 ghost use Rattle.pref_sky.specs.Leads.{LeadsSweep, first_of, mark_of, rule_of, second_of, third_of};
 ghost use Rattle.pref_sky.specs.Members.{Among, SameMembers};
 ghost use Rattle.pref_sky.specs.Steps.{AreBetter, AreNoBetter, AreNoWorse, IsAsked, IsStepPut};
-ghost use Rattle.pref_sky.specs.Sweep.{ArePlaces, IsAskedOf, IsClass, IsKept, IsMember, IsOneMore, IsSameLevel, StandsFor, is_at};
+ghost use Rattle.pref_sky.specs.Sweep.{ArePlaces, IsAskedOf, IsClass, IsKept, IsMember, IsOfClass, IsOneMore, IsSameLevel, StandsFor, is_at};
 ghost use Rattle.pref_sky.specs.declared.entry.Entry.{Entry};
 ghost use Rattle.pref_sky.specs.declared.item.Item.{Item};
 
@@ -262,10 +262,7 @@ impl Level {
 
     /// Begins a class, unless it is this one already.
     fn begin_class(&mut self, class: usize)
-        ensures steps { self.new.steps ≡ self.old.steps }
-        ensures class { self.new.class ≡ class }
-        ensures same { self.old.class ≡ class → (self.new.run ≡ self.old.run) × (self.new.fresh ≡ self.old.fresh) }
-        ensures anew { (self.old.class ≡ class → ⊥) → (self.new.run.items ≡ []) × (self.new.fresh.items ≡ []) }
+        ensures { IsOfClass self.old class self.new }
     {
         if self.class != class {
             self.run.clear();
