@@ -1,21 +1,21 @@
 -- What an ask for at least k selects: k levels always hold enough.
-use Rattle.pref_sky.proofs.Common.{◌≡◌, ℕ, zero, suc, ◌≤◌, Bool, true, false, not, ◌&&◌, inl, inr, List, [], ◌∷◌, ◌++◌, map, length, ltb, refl, sym, ◌∙◌, ap, arith, filter, append-nil}
+use Rattle.pref_sky.proofs.Common.{◌≡◌, ℕ, zero, suc, ◌≤◌, Bool, true, false, not, ◌&&◌, inl, inr, List, [], ◌∷◌, ◌++◌, map, length, ltb, refl, ◌∙◌, ap, arith, filter, append-nil}
 use Rattle.pref_sky.proofs.Common.{cases_lt, nat_tests, count_by-le-length, false_from_ne_true, length-map, entry_of, and_parts, and_from, lt-ltb, le-ltb, length-filter, filter-append, IsStrictOrder}
-use Rattle.pref_sky.proofs.Common.{Row, Entry, Ranked, best, rest, in_order_of_id, at_level, levels, count_before, at_least, Among, length-filter_both, ◌<◌, ◌-◌, get_or, take, leb, IsNonDecreasingBy}
-use Rattle.pref_sky.proofs.Common.{IsPartitionPoint, IsPartitionedBy, get_or_append_left, get_or-append_right, get_or-map, length-append, count_by, filter_agree, in_same_group, IsPartitionedBy-ltb}
-use Rattle.pref_sky.proofs.ListLaws.{sum_by-ones, filter_agree_among, from_map, in_map, none_pass, one_passes, among_place, all_pass}
+use Rattle.pref_sky.proofs.Common.{Row, Entry, Ranked, best, rest, in_order_of_id, at_level, levels, count_before, at_least, Among, length-filter_both, ◌<◌, get_or}
+use Rattle.pref_sky.proofs.Common.{IsPartitionedBy, count_by}
+use Rattle.pref_sky.proofs.ListLaws.{sum_by-ones, filter_agree_among, from_map, in_map, none_pass, one_passes}
 use Rattle.pref_sky.proofs.ListLaws.{count_append, count_cons}
 use Rattle.pref_sky.proofs.Merges.{comes_after, comes_after_upto, unbeaten_over, best_of_rest_is, is_at, on_level, to_level}
 use Rattle.pref_sky.proofs.IdOrder.{among_in_order, from_in_order}
-use Rattle.pref_sky.proofs.Ranks.{one_level, from_upto, levels_upto_is}
-use Rattle.pref_sky.proofs.SortedLevels.{count_levels}
+use Rattle.pref_sky.proofs.Ranks.{count_levels, levels_upto}
 
 -- an entry is over entries of its own group alone
 abbrev pub StaysInGroups : (Entry → Entry → Bool) → (Row → Row → Bool) → Type 0
 StaysInGroups over same = (a b : Entry) → over a b ≡ true → same a.row b.row ≡ true
 
-pub levels_upto : (over : Entry → Entry → Bool) (all : List Entry) (n : ℕ) (r : Ranked) → Among r (levels over all n) → r.level ≤ n
-levels_upto over all n r m = grind (arith, from_upto, levels_upto_is over all n)
+-- one level, as it stands among the ranked entries
+abbrev one_level : ℕ → List Entry → List Ranked
+one_level n entries = map (at_level n) (in_order_of_id entries)
 
 -- below an entry that comes after n removals stand n entries of its group at least, one of each level
 enough_before : (over : Entry → Entry → Bool) → IsStrictOrder over → (same : Row → Row → Bool) → StaysInGroups over same → (all : List Entry) (n : ℕ) (e : Entry) → comes_after over all n e ≡ true → (j : ℕ) → j ≤ n → j ≤ count_before same (levels over all j) (at_level (suc n) e)

@@ -43,5 +43,5 @@ pub use denote.Param.Members.{Mut}
 pub use Rattle.pref_sky.specs.Chains.{IsChain, IsInOrder, are_level, better_in, by_row, comes_first, earlier_in, in_turn}
 pub use Rattle.pref_sky.specs.OwnOrders.{AreInOrder, AreLeveled, AreLowest, AreSorted, HoldsUpper, comes_after, comes_before, count_above, is_below, level_of, own_levels, own_order}
 pub use Rattle.pref_sky.specs.Items.{entry_at}
-pub use Rattle.pref_sky.specs.Partials.{KeepsAllBut, ranked_upto}
+pub use Rattle.pref_sky.specs.Partials.{KeepsAllBut}
 pub use Rattle.pref_sky.specs.declared.own_order.OwnOrder.{OwnOrder}

@@ -3,9 +3,10 @@ use Rattle.pref_sky.proofs.Common.{◌≡◌, ℕ, suc, ◌<◌, ◌≤◌, ◌-
 use Rattle.pref_sky.proofs.Common.{and_from, both_ways, cases_lt, false_from_ne_true, IsStrictOrder, Entry, Among, comes_after, count_above, entry_at, entry_of, level_of, own_levels, own_order, AreLeveled, AreLowest, HaveDifferentIds, Item, OwnOrder}
 use Rattle.pref_sky.proofs.Common.{length-map}
 use Rattle.pref_sky.proofs.OwnOrders.{own_is_strict}
-use Rattle.pref_sky.proofs.LeveledLaws.{HasChain, kept_are, level_is, levels_of_kept}
+use Rattle.pref_sky.proofs.LeveledLaws.{HasChain, level_is, levels_of_kept}
 use Rattle.pref_sky.proofs.ListLaws.{among_place, any_from, from_filter, in_filter}
 use Rattle.pref_sky.proofs.Merges.{comes_after_among_more, comes_after_upto, same_chains}
+use Rattle.pref_sky.proofs.Ranks.{kept_are}
 use Rattle.pref_sky.proofs.SweepLaws.{chain_of_count}
 use Rattle.pref_sky.specs.Held.{AreHeld, AreMarked, AreTakenOver, IsTakenOver, marked_entries, marked_levels}
 use Rattle.pref_sky.specs.declared.merging.Marked.{Marked}

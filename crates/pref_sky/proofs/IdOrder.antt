@@ -1,8 +1,8 @@
 -- Entries in order of id: one list for each set of entries with different ids.
 use Rattle.pref_sky.proofs.Common.{◌≡◌, ℕ, suc, ◌≤◌, ◌<◌, Bool, true, cond, inl, List, [], ◌∷◌, refl, sym, ◌∙◌, ap, arith, ltb, eqb, eq-eqb, count_by, IsNonDecreasingBy, IsPermutation, cond_both}
 use Rattle.pref_sky.proofs.Common.{sum_by-IsPermutation, Entry, HaveDifferentIds, put_by_id, in_order_of_id, Among, IsPermutation-cons, IsPermutation-middle, IsPermutation-trans}
-use Rattle.pref_sky.proofs.Common.{IsPermutation-refl, nat_tests, length, get_or, IsInOrder, false}
-use Rattle.pref_sky.proofs.ListLaws.{place_of, one_passes, same_if_permuted, SameMembers, count_cons}
+use Rattle.pref_sky.proofs.Common.{IsPermutation-refl, nat_tests, length, get_or, IsInOrder, false, ◌++◌, ◌+◌}
+use Rattle.pref_sky.proofs.ListLaws.{count_append, place_of, one_passes, same_if_permuted, SameMembers, count_cons}
 
 -- each id is below all later ones
 abbrev pub Rises : List Entry → Type 0
@@ -20,6 +20,9 @@ different_later number e others different x m same =
 pub different_tail : {E : Type 0} (number : E → ℕ) (e : E) (others : List E) → Differ number (e ∷ others) → Differ number others
 different_tail number e others different n = omega (arith, different n, count_cons (λ y. eqb (number y) n) e others)
 
+pub different_by_count : (xs ys zs : List Entry) → HaveDifferentIds (xs ++ ys) → ((p : Entry → Bool) → count_by p zs ≤ count_by p xs + count_by p ys) → HaveDifferentIds zs
+different_by_count xs ys zs different fewer = record { once = λ id. omega (arith, different.once id, fewer (λ (e : Entry). eqb e.id id), count_append (λ (e : Entry). eqb e.id id) xs ys) }
+
 put_moves : (e : Entry) (xs : List Entry) → IsPermutation (e ∷ xs) (put_by_id e xs)
 put_moves e [] = IsPermutation-refl (e ∷ [])
 put_moves e (f ∷ others) =
@@ -27,7 +30,7 @@ put_moves e (f ∷ others) =
     IsPermutation-trans _ _ _ (IsPermutation-middle (e ∷ []) f others) (IsPermutation-cons f (e ∷ others) (put_by_id e others) (put_moves e others)))
 
 -- a list in order of id has the same entries
-in_order_moves : (xs : List Entry) → IsPermutation xs (in_order_of_id xs)
+pub in_order_moves : (xs : List Entry) → IsPermutation xs (in_order_of_id xs)
 in_order_moves [] = IsPermutation-refl []
 in_order_moves (e ∷ others) = IsPermutation-trans _ _ _ (IsPermutation-cons e others (in_order_of_id others) (in_order_moves others)) (put_moves e (in_order_of_id others))
 

@@ -6,8 +6,10 @@ use Rattle.pref_sky.specs.Parts.{held_of_parts}
 use Rattle.pref_sky.specs.Twins.{IsFirstOfTwins}
 use Rattle.pref_term.specs.declared.ask.Mode.{Mode}
 use Rattle.pref_sky.proofs.ListLaws.{SameMembers, in_either, in_left, in_right, any_from, any_gives, count_and, count_within, from_filter, in_filter, count_append}
-use Rattle.pref_sky.proofs.Merges.{comes_after, different_best, entry_order_is_strict, entry_order_stays_in_groups, same_by_level}
-use Rattle.pref_sky.proofs.SortedLevels.{different_by_count, count_levels, merge}
+use Rattle.pref_sky.proofs.IdOrder.{different_by_count}
+use Rattle.pref_sky.proofs.Merges.{comes_after, entry_order_is_strict, entry_order_stays_in_groups}
+use Rattle.pref_sky.proofs.Ranks.{count_levels, same_levels}
+use Rattle.pref_sky.proofs.SortedLevels.{merge}
 use Rattle.pref_sky.proofs.AtLeastLaws.{StaysInGroups, enough}
 
 pub best_is_first : (order : RowOrder) (all : List Entry) (e : Entry) → Among e (best (entry_order order) all) → IsFirstOfTwins order all e
@@ -25,19 +27,24 @@ pub levels_of_none : (over : Entry → Entry → Bool) (n : ℕ) → [] ≡ leve
 levels_of_none over zero = refl
 levels_of_none over (suc n) = grind (arith, levels_of_none over n, rest_of_none over n)
 
-selected_of_same : (over : Entry → Entry → Bool) → IsStrictOrder over → (same : Row → Row → Bool) → StaysInGroups over same → (mode : Mode) (xs ys : List Entry) → ((n : ℕ) → levels over xs n ≡ levels over ys n) → selected over same mode xs ≡ selected over same mode ys
-selected_of_same over strict same within Best xs ys levels_same = levels_same 1
-selected_of_same over strict same within (TopLevel k) xs ys levels_same = levels_same k
-selected_of_same over strict same within (AtLeast k) xs ys levels_same = grind (arith, enough over strict same within xs k, enough over strict same within ys k)
+-- an answer is made of the levels up to the cut
+answer_by_cut : (over : Entry → Entry → Bool) → IsStrictOrder over → (same : Row → Row → Bool) → StaysInGroups over same → (mode : Mode) (xs ys : List Entry) → levels over xs (cut_of mode) ≡ levels over ys (cut_of mode) → selected over same mode xs ≡ selected over same mode ys
+answer_by_cut over strict same within Best xs ys levels_same = levels_same
+answer_by_cut over strict same within (TopLevel k) xs ys levels_same = levels_same
+answer_by_cut over strict same within (AtLeast k) xs ys levels_same = grind (arith, enough over strict same within xs k, enough over strict same within ys k)
+
+levels_differ : (over : Entry → Entry → Bool) (all : List Entry) (n : ℕ) → HaveDifferentIds all → HaveDifferentIds (map entry_of (levels over all n))
+levels_differ over all n different = record { once = λ id. omega (arith, different.once id, count_levels over (λ (e : Entry). e.id == id) all n, count_and (λ (e : Entry). e.id == id) (λ e. not (comes_after over all n e)) all) }
 
 -- the order in which the entries stand does not matter
 levels_of_same : (over : Entry → Entry → Bool) → IsStrictOrder over → (xs ys : List Entry) → HaveDifferentIds xs → HaveDifferentIds ys → SameMembers xs ys → (n : ℕ) → levels over xs n ≡ levels over ys n
-levels_of_same over strict xs ys dx dy same n = grind (arith, same_by_level over strict xs ys n, different_best)
+levels_of_same over strict xs ys dx dy same n = same_levels over strict xs ys n (record { within = same.there; kept = λ x m early. same.back x m }) (levels_differ over xs n dx) (levels_differ over ys n dy)
 
 pub answer_of_same : (ask : Question) (xs ys : List Entry) → HaveDifferentIds xs → HaveDifferentIds ys → SameMembers xs ys → answer_of ask xs ≡ answer_of ask ys
 answer_of_same ask xs ys dx dy same =
+    let over = entry_order (order_of ask) in
     let strict = entry_order_is_strict (order_of ask) (order_of_is_row_order ask) in
-    selected_of_same (entry_order (order_of ask)) strict (in_same_group ask.group) (entry_order_stays_in_groups ask) ask.mode xs ys (levels_of_same (entry_order (order_of ask)) strict xs ys dx dy same)
+    answer_by_cut over strict (in_same_group ask.group) (entry_order_stays_in_groups ask) ask.mode xs ys (levels_of_same over strict xs ys dx dy same (cut_of ask.mode))
 
 -- what is held of entries has different ids
 pub held_differ : (over : Entry → Entry → Bool) (before new : List Entry) (n : ℕ) → HaveDifferentIds (before ++ new) → HaveDifferentIds (map entry_of (levels over before n) ++ new)
@@ -118,12 +125,7 @@ levels_of_held over strict cut (part ∷ parts) different =
     ∙ (merge over strict cut others part (held_differ over others part cut last)
     ∙ levels_of_same over strict (others ++ part) (part ++ others) last different (same_turned others part) cut))))
 
--- and so is the answer, whose cut is enough
-answer_by_cut : (over : Entry → Entry → Bool) → IsStrictOrder over → (same : Row → Row → Bool) → StaysInGroups over same → (mode : Mode) (xs ys : List Entry) → levels over xs (cut_of mode) ≡ levels over ys (cut_of mode) → selected over same mode xs ≡ selected over same mode ys
-answer_by_cut over strict same within Best xs ys levels_same = levels_same
-answer_by_cut over strict same within (TopLevel k) xs ys levels_same = levels_same
-answer_by_cut over strict same within (AtLeast k) xs ys levels_same = grind (arith, enough over strict same within xs k, enough over strict same within ys k)
-
+-- and so is the answer
 pub answer_of_held : (ask : Question) (parts : List (List Entry)) → HaveDifferentIds (flat_map (λ part. part) parts) → answer_of ask (held_of_parts (entry_order (order_of ask)) (cut_of ask.mode) parts) ≡ answer_of ask (flat_map (λ part. part) parts)
 answer_of_held ask parts different =
     let over = entry_order (order_of ask) in

@@ -1,10 +1,10 @@
 -- What is among a list, what tests keep and count of it, where it is cut, and lists in an order.
 use Rattle.pref_sky.proofs.Common.{◌≡◌, ℕ, suc, zero, ◌<◌, Bool, true, false, cond, ◌⊎◌, inl, inr, List, [], ◌∷◌, ◌++◌, refl, sym, ◌∙◌, ap, subst, arith, filter, get_or, length, map, list_any, All}
 use Rattle.pref_sky.proofs.Common.{false≢true, ◌≤◌, ◌+◌, ◌&&◌, count_by, and_parts, length-filter, sum_by-cons, sum_by-le-sum_by}
-use Rattle.pref_sky.proofs.Common.{sum_by, count_by-le-length, Among, take, take_more, drop, take-append_seam, drop-append_seam, append-nil, get_or-drop, filter_more}
-use Rattle.pref_sky.proofs.Common.{IsPermutation-sym, Contains-permutation, IsPermutation, IsPartitionPoint, length-take, length-drop, get_or-take, take-append-drop, filter-append, get_or_default}
-use Rattle.pref_sky.proofs.Common.{IsNonDecreasingBy, sum_by-append, not, append_assoc, IsPartitionedBy, cases_lt, IsPermutation-cons, IsPermutation-middle, IsPermutation-to_front}
-use Rattle.pref_sky.proofs.Common.{IsPermutation-trans, IsChain, IsInOrder, Bor, Called, IsSortedBy, IsSortedByKeyClosure, Mut, always_returns_same, is_lt, nat_cmp, ordering_then}
+use Rattle.pref_sky.proofs.Common.{sum_by, count_by-le-length, Among, take, take_more, drop, append-nil, get_or-drop, filter_more}
+use Rattle.pref_sky.proofs.Common.{IsPermutation-sym, Contains-permutation, IsPermutation}
+use Rattle.pref_sky.proofs.Common.{sum_by-append, not, IsPartitionedBy, cases_lt}
+use Rattle.pref_sky.proofs.Common.{IsChain, IsInOrder, Bor, Called, IsSortedBy, IsSortedByKeyClosure, Mut, always_returns_same, is_lt, nat_cmp, ordering_then}
 use Rattle.std.proofs.lemmas.List.Folds.{fold-map, list_any_at, list_any_none}
 pub use Rattle.pref_sky.specs.Members.{Among, SameMembers}
 
@@ -113,10 +113,6 @@ same_if_permuted xs ys moved =
       there = λ x m. let w = Contains-permutation xs ys x moved (place_of xs x x m) in subst (λ y. Among y ys) w.2 (among_place ys w.0 x w.1);
       back = λ x m. let w = Contains-permutation ys xs x (IsPermutation-sym xs ys moved) (place_of ys x x m) in subst (λ y. Among y xs) w.2 (among_place xs w.0 x w.1);
     }
-
--- tests keep the same of two lists where what passes the one is in the other list and passes there
-pub same_kept : {E : Type 0} (p q : E → Bool) (xs ys : List E) → ((x : E) → Among x xs → p x ≡ true → Among x ys × (q x ≡ true)) → ((x : E) → Among x ys → q x ≡ true → Among x xs × (p x ≡ true)) → SameMembers (filter p xs) (filter q ys)
-same_kept p q xs ys there back = grind (arith, from_filter p xs, in_filter q ys, from_filter q ys, in_filter p xs)
 
 pub same_behind : {E : Type 0} (xs ys zs : List E) → SameMembers ys zs → SameMembers (xs ++ ys) (xs ++ zs)
 same_behind xs ys zs same = grind (arith, in_either xs ys, in_left xs zs, in_right xs zs, in_either xs zs, in_left xs ys, in_right xs ys)

@@ -1,40 +1,14 @@
 -- Lists with the same members have the same best, and entries that others are over change nothing of these. Lists with the same levels up to a cut, where the ids differ of what is of these: what is below may be left out, and may be there twice.
-use Rattle.pref_sky.proofs.Common.{◌≡◌, ◌≤◌, ◌+◌, Bool, true, not, inl, inr, List, ◌++◌, sym, ◌∙◌, ap, arith, eqb, count_by, IsStrictOrder, Entry, best}
-use Rattle.pref_sky.proofs.Common.{HaveDifferentIds, in_order_of_id, Among, false, filter}
-use Rattle.pref_sky.proofs.Common.{ℕ, zero, suc, ◌&&◌, ◌⊎◌, [], ◌∷◌, map, refl, subst, append_assoc, ◌==◌, OwnOrder, rest, is_below, own_levels, own_order, entry_of}
+use Rattle.pref_sky.proofs.Common.{◌≡◌, ◌≤◌, Bool, true, not, inl, inr, List, ◌++◌, sym, ◌∙◌, ap, arith, count_by, IsStrictOrder, Entry}
+use Rattle.pref_sky.proofs.Common.{HaveDifferentIds, Among, false}
+use Rattle.pref_sky.proofs.Common.{ℕ, ◌&&◌, ◌⊎◌, map, subst, append_assoc, ◌==◌, OwnOrder, is_below, own_levels, own_order, entry_of}
 use Rattle.pref_sky.proofs.Common.{levels, HoldsUpper}
 use Rattle.pref_sky.proofs.ListLaws.{in_either, in_left, in_right, count_append, count_and}
-use Rattle.pref_sky.proofs.ListLaws.{count_filtered, count_split, count_within, count_cons}
-use Rattle.pref_sky.proofs.IdOrder.{count_in_order}
-use Rattle.pref_sky.proofs.Merges.{comes_after, comes_after_less, comes_after_among_more, best_of_rest_is, early_stays, same_chains, HoldsLevels, held_all, held_more, held_within}
-use Rattle.pref_sky.proofs.Merges.{is_at, same_by_level}
+use Rattle.pref_sky.proofs.ListLaws.{count_within}
+use Rattle.pref_sky.proofs.IdOrder.{different_by_count}
+use Rattle.pref_sky.proofs.Merges.{HoldsLevels, comes_after, comes_after_among_more, same_chains}
 use Rattle.pref_sky.proofs.OwnOrders.{own_is_strict}
-
-pub different_by_count : (xs ys zs : List Entry) → HaveDifferentIds (xs ++ ys) → ((p : Entry → Bool) → count_by p zs ≤ count_by p xs + count_by p ys) → HaveDifferentIds zs
-different_by_count xs ys zs different fewer = record { once = λ id. omega (arith, different.once id, fewer (λ (e : Entry). eqb e.id id), count_append (λ (e : Entry). eqb e.id id) xs ys) }
-
-count_never : {E : Type 0} (p : E → Bool) (xs : List E) → count_by (λ x. p x && false) xs ≡ 0
-count_never p [] = refl
-count_never p (x ∷ xs) = grind (arith, count_never p xs, count_cons (λ y. p y && false) x xs)
-
--- the entries of the levels up to n are those that no chain of n stands over
-pub count_levels : (over : Entry → Entry → Bool) (p : Entry → Bool) (all : List Entry) (n : ℕ) → count_by p (map entry_of (levels over all n)) ≡ count_by (λ e. p e && not (comes_after over all n e)) all
-count_levels over p all zero = sym (count_never p all)
-count_levels over p all (suc n) =
-    let joined = count_append p (map entry_of (levels over all n)) (in_order_of_id (filter (is_at over all n) all)) in
-    let both = count_split (λ e. p e && not (comes_after over all n e)) (λ e. p e && is_at over all n e) (λ e. p e && not (comes_after over all (suc n) e)) all
-    (λ e. grind (arith, comes_after_less over all n e)) in
-    omega (arith, (ap (count_by p) (held_more over all n)), joined, (count_in_order p (filter (is_at over all n) all)), (count_filtered p (is_at over all n) all), both, count_levels over p all n)
-
--- the ids of one of the levels differ
-pub bests_differ : (over : Entry → Entry → Bool) (all : List Entry) (cut : ℕ) → HaveDifferentIds (map entry_of (levels over all cut)) → (n : ℕ) → suc n ≤ cut → HaveDifferentIds (best over (rest over all n))
-bests_differ over all cut different n le =
-    subst HaveDifferentIds (sym (best_of_rest_is over all n)) (record {
-      once = λ id.
-          let p : Entry → Bool = λ e. e.id == id in
-          let early = count_within (λ e. p e && is_at over all n e) (λ e. p e && not (comes_after over all cut e)) all (λ e h. grind (arith, h, early_stays over all (suc n) cut e le)) in
-          omega (arith, different.once id, count_levels over p all cut, count_filtered p (is_at over all n) all, early);
-    })
+use Rattle.pref_sky.proofs.Ranks.{count_levels, held_all, held_within, same_levels}
 
 -- a list that holds the levels of another, and nothing more often
 module _ (over : Entry → Entry → Bool) (strict : IsStrictOrder over) (some all : List Entry) (cut : ℕ) (holds : HoldsLevels over some all cut) (fewer : (p : Entry → Bool) → count_by p some ≤ count_by p all)
@@ -51,7 +25,7 @@ module _ (over : Entry → Entry → Bool) (strict : IsStrictOrder over) (some a
       }
 
   pub some_levels : levels over some cut ≡ levels over all cut
-  some_levels = same_by_level over strict some all cut (bests_differ over some cut some_differ) (bests_differ over all cut different) holds cut (omega arith)
+  some_levels = same_levels over strict some all cut holds some_differ different
 
 -- new entries come to those that are held, of which those of the levels count alone
 module _ (over : Entry → Entry → Bool) (strict : IsStrictOrder over) (cut : ℕ) (held entries : List Entry) (different : HaveDifferentIds (map entry_of (levels over held cut) ++ entries)) where

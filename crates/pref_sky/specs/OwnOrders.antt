@@ -1,6 +1,6 @@
 -- No public contract cites this.
 -- How many levels are above the entries of a list. A question's order of entries, and the one in which they are kept: their levels are found only when they are asked for.
-use Rattle.std.specs.Prelude.{◌≡◌, ◌<◌, Bool, true, not, ◌&&◌, cond, nat_lt, ℕ, zero, suc, List, [], ◌∷◌, length, map, All}
+use Rattle.std.specs.Prelude.{◌≡◌, ◌<◌, Bool, true, not, ◌&&◌, cond, nat_lt, ℕ, zero, suc, List, length, map, All}
 use Rattle.std.specs.List.{list_any}
 use Rattle.std.specs.List.Sorted.{IsPermutation}
 use Rattle.pref_term.specs.AskOrder.{order_of}

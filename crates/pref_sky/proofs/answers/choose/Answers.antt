@@ -1,4 +1,4 @@
-use Rattle.pref_sky.proofs.Common.{◌≡◌, ◌<◌, ◌+◌, ◌-◌, All, All-more, All-take, Bool, List, Ranked, ap, arith, cases_eq, cond, count_before, false, get_or, get_or-map, get_or-set_other, get_or-set_same, get_or_default, in_same_group, inl, inr, IsInOrder, not, subst, length, length-map, length-set, ltb, map, set, sym, take, take_all, ◌∙◌, ℕ}
+use Rattle.pref_sky.proofs.Common.{◌≡◌, ◌<◌, ◌+◌, ◌-◌, All, All-more, All-take, List, Ranked, ap, arith, cases_eq, cond, count_before, get_or, get_or-map, get_or-set_other, get_or-set_same, get_or_default, in_same_group, inl, inr, IsInOrder, not, subst, length, length-map, length-set, ltb, map, set, sym, take, take_all, ◌∙◌, ℕ}
 use Rattle.std.proofs.lemmas.List.{ext_get_or}
 use Rattle.pref_sky.proofs.GroupedLaws.{counted_in_group, read_at}
 use Rattle.pref_sky.proofs.ListLaws.{all_among, from_map}

@@ -1,4 +1,4 @@
-use Rattle.pref_sky.proofs.Common.{◌≡◌, ◌++◌, ◌∙◌, All-permutation, IfOk-weaker, IsChain, IsPermutation, IsPermutation-map, List, OwnOrder, AreSorted, ap, arith, comes_before, inl, inr, length, not, refl, rules, subst, sym}
+use Rattle.pref_sky.proofs.Common.{◌≡◌, ◌++◌, ◌∙◌, All-permutation, IfOk-weaker, IsChain, IsPermutation, IsPermutation-map, OwnOrder, AreSorted, ap, arith, comes_before, inl, inr, length, not, refl, rules, subst, sym}
 use Rattle.pref_sky.proofs.ChainLaws.{in_order_from_sort_by, mapped_in_order}
 use Rattle.pref_sky.proofs.HeldLaws.{taken_over}
 use Rattle.pref_sky.proofs.OwnOrders.{before_is_chain}
