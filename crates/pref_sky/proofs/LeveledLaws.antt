@@ -1,6 +1,6 @@
 -- The level of an entry, by how many entries stand over it. Entries that are held in some order: those that have a level have the same levels, and in order of level and id they are these.
-use Rattle.pref_sky.proofs.Common.{◌≡◌, ℕ, suc, zero, ◌<◌, ◌≤◌, Bool, true, false, not, inl, inr, List, sym, ◌∙◌, ap, subst, arith}
-use Rattle.pref_sky.proofs.Common.{cases_lt, cond-true, cond-false, Entry, count_above, map, filter, count_by}
+use Rattle.pref_sky.proofs.Common.{◌≡◌, ℕ, suc, zero, ◌<◌, ◌≤◌, Bool, true, false, not, inl, inr, List, ◌∙◌, arith}
+use Rattle.pref_sky.proofs.Common.{cases_lt, Entry, count_above, map, filter, count_by}
 use Rattle.pref_sky.proofs.Common.{IsPermutation, cond, sum_by-IsPermutation, OwnOrder, Ranked}
 use Rattle.pref_sky.proofs.Common.{own_levels, own_order, level_of, HaveDifferentIds, entry_of, comes_after}
 use Rattle.pref_sky.proofs.ListLaws.{count_filter, from_filter, in_filter, same_if_permuted}

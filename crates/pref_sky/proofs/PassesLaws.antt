@@ -1,6 +1,6 @@
 -- The steps of passes, and what they keep true: no entry is lost that none dominates, and what is early at the end of a pass is best.
-use Rattle.pref_sky.proofs.Common.{◌≡◌, ℕ, ◌<◌, ◌+◌, Bool, true, false, not, inl, inr, refl, List, [], ◌∷◌, ◌++◌, length, filter, sym, subst, ◌∙◌, ap, arith, cond, ◌⊎◌, nat_lt, length-append}
-use Rattle.pref_sky.proofs.Common.{append-nil, ltb-true, ltb-false, both_ways, cases_Bool, not-true, false_from_ne_true, nil_from_length, Among, Entry, IsClear, IsStrictOrder, IsThere, Passing, best, is_beaten}
+use Rattle.pref_sky.proofs.Common.{◌≡◌, ℕ, ◌<◌, ◌+◌, Bool, true, false, not, inl, inr, refl, List, [], ◌∷◌, ◌++◌, length, filter, ap, arith, ◌⊎◌, length-append, nat_tests}
+use Rattle.pref_sky.proofs.Common.{append-nil, nil_from_length, Among, Entry, IsClear, IsStrictOrder, IsThere, Passing, best, is_beaten}
 use Rattle.pref_sky.specs.Windows.{WindowState, joined, not_below, window_at_begin, window_entries, Offers}
 use Rattle.pref_sky.specs.declared.window.Offer.{Offer}
 use Rattle.pref_sky.specs.declared.window.Offer.TheVariants.{Dropped, Joined, Overflow}
@@ -9,14 +9,11 @@ use Rattle.pref_sky.proofs.Merges.{unbeaten_over}
 
 -- none of a list that does not beat an entry dominates it
 unbeaten_by : {E : Type 0} (over : E → E → Bool) (xs : List E) (e x : E) → is_beaten over xs e ≡ false → Among x xs → over x e ≡ false
-unbeaten_by over xs e x none m = false_from_ne_true (over x e) (λ h. both_ways (is_beaten over xs e) none (any_from (λ y. over y e) xs x m h))
+unbeaten_by over xs e x none m = grind (arith, any_from (λ y. over y e) xs x m)
 
 -- what is among a list with one more
 or_last : {E : Type 0} (xs : List E) (e x : E) → Among x (xs ++ e ∷ []) → Among x xs ⊎ (x ≡ e)
-or_last xs e x m = elim (in_either xs (e ∷ []) x m) [ inl old ↦ inl old | inr new ↦ elim new [ inl same ↦ inr same | inr none ↦ absurd none ] ]
-
-none_below : (n : ℕ) → nat_lt 0 n ≡ false → n ≡ 0
-none_below n h = omega (arith, ltb-false 0 n h)
+or_last xs e x m = grind (arith, in_either xs (e ∷ []) x m)
 
 is_last : {E : Type 0} (xs : List E) (e : E) → Among e (xs ++ e ∷ [])
 is_last xs e = in_right xs (e ∷ []) e (inl refl)
@@ -60,25 +57,7 @@ module _ {over : Entry → Entry → Bool} {all best : List Entry} {begun : ℕ}
       let shorter = filter_shorter test in
       let stays : (xs : List Entry) (x : Entry) → Among x xs → is_beaten over all x ≡ false → Among x (filter test xs) = λ xs x m none. in_filter test xs x m (ap not (unbeaten_by over all x e none offered_within)) in
       let was : (xs : List Entry) (x : Entry) → Among x (filter test xs) → Among x xs = λ xs x m. (from_filter test xs x m).0 in
-      record {
-        counts = λ q. omega (arith, p.counts q, count_filter q test window.early, count_filter q test window.late);
-        within = λ x there. p.within x (elim there [
-          | inl a ↦ inl a
-          | inr rest ↦ inr (elim rest [ inl a ↦ inl (was window.early x a) | inr rest ↦ inr (elim rest [ inl a ↦ inl (was window.late x a) | inr rest ↦ inr rest ]) ])
-        ]);
-        kept = λ x m none. elim (p.kept x m none) [
-          | inl a ↦ inl a
-          | inr rest ↦ inr (elim rest [ inl a ↦ inl (stays window.early x a none) | inr rest ↦ inr (elim rest [ inl a ↦ inl (stays window.late x a none) | inr rest ↦ inr rest ]) ])
-        ];
-        apart = grind (arith, was);
-        settled = grind (arith, was);
-        met = p.met;
-        overflowed = p.overflowed;
-        fresh = λ none. omega (arith, p.fresh none, shorter window.late);
-        room = p.room;
-        fits = omega (arith, p.fits, shorter window.early, shorter window.late);
-        falls = λ some. omega (arith, p.falls some, shorter window.late);
-      }
+      grind (arith, was, stays, shorter, count_filter)
 
   -- it joins the window, of which it is clear
   pass_joins : {early late : List Entry} → IsStrictOrder over → IsClear over window.early e → IsClear over window.late e → Joins window.early window.late overflow e early late
@@ -87,12 +66,9 @@ module _ {over : Entry → Entry → Bool} {all best : List Entry} {begun : ℕ}
       let IsHeld : Entry → Type 0 = λ x. Among x best ⊎ (Among x window.early ⊎ Among x window.late) in
       let was : (x : Entry) → Among x best ⊎ (Among x early ⊎ Among x late) → IsHeld x ⊎ (x ≡ e) = λ x m. grind (arith, or_last window.early e x, or_last window.late e x) in
       let clear : (x : Entry) → IsHeld x → (over x e ≡ false) × (over e x ≡ false) = λ x m.
-      elim m [ inl top ↦ let met = p.met x top e (inl refl) in (met.1, met.0) | inr held ↦ elim held [ inl early ↦ early_clear x early | inr late ↦ late_clear x late ] ] in
+      grind (arith, p.met x, early_clear x, late_clear x) in
       let apart : (x y : Entry) → Among x best ⊎ (Among x early ⊎ Among x late) → Among y best ⊎ (Among y early ⊎ Among y late) → over x y ≡ false = λ x y mx my.
-      elim (was x mx) [
-        | inl a ↦ elim (was y my) [ inl b ↦ p.apart x y a b | inr is ↦ ap (over x) is ∙ (clear x a).0 ]
-        | inr is ↦ ap (λ v. over v y) is ∙ elim (was y my) [ inl b ↦ (clear y b).1 | inr also ↦ ap (over e) also ∙ strict.irreflexive e ]
-      ] in
+      grind (arith, was x mx, was y my, clear x, clear y, p.apart x y, strict.irreflexive e) in
       grind (arith, apart, count_append, count_cons, length-append window.early (e ∷ []), length-append window.late (e ∷ []), or_last window.early e, joins_from best window.early window.late overflow left e early late joins, joins_to best window.early window.late overflow left e early late joins, nil_from_length overflow)
 
 module _ {over : Entry → Entry → Bool} {all best : List Entry} {begun : ℕ} {window : WindowState} {overflow left : List Entry} {e : Entry} (p : Passing over all best begun window overflow (e ∷ left)) (strict : IsStrictOrder over) where
@@ -102,49 +78,22 @@ module _ {over : Entry → Entry → Bool} {all best : List Entry} {begun : ℕ}
       let test : Entry → Bool = λ x. not (over e x) in
       let early : List Entry = filter test window.early in
       let late : List Entry = filter test window.late in
-      let apart : (x : Entry) → Among x (window_entries window) → over x e ≡ false = λ x m. unbeaten_by over (window_entries window) e x unbeaten m in
-      let early_clear : IsClear over early e = λ x m. let was = from_filter test window.early x m in (apart x (in_left window.early window.late x was.0), not-true (over e x) was.1) in
-      let late_clear : IsClear over late e = λ x m. let was = from_filter test window.late x m in (apart x (in_right window.early window.late x was.0), not-true (over e x) was.1) in
-      elim (cases_Bool window.overflowed) [
-        | inl late_now ↦ pass_joins (pass_sifted p) strict early_clear late_clear (inr (
-          ap (λ b. early ++ cond b [] (e ∷ [])) late_now ∙ append-nil early,
-          ap (λ b. late ++ cond b (e ∷ []) []) late_now,
-          ltb-true 0 (length overflow) (sym p.overflowed ∙ late_now),
-        ))
-        | inr early_now ↦ pass_joins (pass_sifted p) strict early_clear late_clear (inl (
-          ap (λ b. early ++ cond b [] (e ∷ [])) early_now,
-          ap (λ b. late ++ cond b (e ∷ []) []) early_now ∙ append-nil late,
-          none_below (length overflow) (sym p.overflowed ∙ early_now),
-        ))
-      ]
+      let clear : (xs : List Entry) → ((x : Entry) → Among x xs → Among x (window_entries window)) → IsClear over (filter test xs) e = λ xs within x m.
+      grind (arith, from_filter test xs x m, within x, unbeaten_by over (window_entries window) e x unbeaten) in
+      let joins : Joins early late overflow e (joined over window e).early (joined over window e).late = grind (arith, nat_tests, p.overflowed, append-nil early, append-nil late) in
+      pass_joins (pass_sifted p) strict (clear window.early (in_left window.early window.late)) (clear window.late (in_right window.early window.late)) joins
 
   -- the window drops the next entry, or takes it in
   pub pass_stays : {new : WindowState} (offer : Offer) → (offer ≡ Joined) ⊎ (offer ≡ Dropped) → Offers over window e offer new → Passing over all best begun new overflow left
-  pass_stays {new = new} offer is offered =
-      elim is [
-        | inl is ↦ let so = subst (λ o. Offers over window e o new) is offered in subst (λ w. Passing over all best begun w overflow left) (sym so.1) (pass_joined so.0)
-        | inr is ↦ let so = subst (λ o. Offers over window e o new) is offered in subst (λ w. Passing over all best begun w overflow left) (sym so.1) (pass_dropped p so.0)
-      ]
+  pass_stays offer is offered = grind (arith, pass_joined, pass_dropped p)
 
   -- or it overflows
   pub pass_more : {new : WindowState} (offer : Offer) → offer ≡ Overflow → Offers over window e offer new → Passing over all best begun new (overflow ++ e ∷ []) left
-  pass_more {new = new} offer is offered =
-      let so = subst (λ o. Offers over window e o new) is offered in
-      subst (λ w. Passing over all best begun w (overflow ++ e ∷ []) left) (sym so.3) (pass_overflows p so.0 so.1 so.2)
+  pass_more offer is offered = grind (arith, pass_overflows p)
 
 -- what is there at the end of a pass
 moves_on : (top early late overflow : List Entry) (x : Entry) → IsThere top early late overflow [] x → IsThere (top ++ early) late [] [] overflow x
-moves_on top early late overflow x there =
-    elim there [
-      | inl a ↦ inl (in_left top early x a)
-      | inr rest ↦ elim rest [
-        | inl a ↦ inl (in_right top early x a)
-        | inr rest ↦ inr (elim rest [
-          | inl a ↦ inl a
-          | inr rest ↦ inr (inr (inr (elim rest [ inl a ↦ a | inr none ↦ absurd none ])))
-        ])
-      ]
-    ]
+moves_on top early late overflow x there = grind (arith, in_left top early x, in_right top early x)
 
 -- a pass ends: what is early is best, and what overflowed comes next
 pub pass_ends : {over : Entry → Entry → Bool} {all top : List Entry} {begun : ℕ} {window : WindowState} {overflow : List Entry} → Passing over all top begun window overflow []
@@ -159,8 +108,5 @@ pass_falls p some = grind (arith)
 pub passes_end : {over : Entry → Entry → Bool} {all top : List Entry} {begun : ℕ} {window : WindowState} → IsStrictOrder over → length window.early ≡ 0 → length window.late ≡ 0 → Passing over all top begun window [] [] → SameMembers top (best over all)
 passes_end {over = over} {all = all} {top = top} {window = window} strict early_none late_none p =
     let found : (x : Entry) → Among x all → is_beaten over all x ≡ false → Among x top = λ x m none. grind (arith, p.kept x m none, nil_from_length window.early early_none, nil_from_length window.late late_none) in
-    let unbeaten : (x : Entry) → Among x top → is_beaten over all x ≡ false =
-    λ x m. false_from_ne_true (is_beaten over all x) (λ h.
-    let above = unbeaten_over over strict (λ _. true) all x h in
-    both_ways (over above.0 x) (p.apart above.0 x (inl (found above.0 above.1 above.4)) (inl m)) above.3) in
+    let unbeaten : (x : Entry) → Among x top → is_beaten over all x ≡ false = λ x m. grind (arith, unbeaten_over over strict (λ _. true) all x, found, p.apart) in
     grind (arith, in_filter, from_filter)

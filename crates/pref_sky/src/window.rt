@@ -1,9 +1,10 @@
 //! A window of bounded size, for block-nested-loops (Börzsönyi, Kossmann, Stocker 2001).
 
-ghost use Rattle.std.specs.Prelude.{◌≡◌};
+ghost use Rattle.std.specs.Prelude.{◌≡◌, ◌≤◌, vec_capacity, vec_len};
 ghost use Rattle.std.specs.List.{list_any};
 ghost use Rattle.pref_sky.specs.Best.{is_beaten};
 ghost use Rattle.pref_sky.specs.Levels.{entry_order};
+ghost use Rattle.pref_sky.specs.Windows.{not_below};
 
 use crate::entry::{Entry, is_over};
 use pref_term::Dominance;
@@ -56,6 +57,15 @@ fn is_beaten_by<D: Dominance>(dominance: &D, entries: &[Entry], entry: &Entry) -
     entries.iter().any(|other| is_over(dominance, other, entry))
 }
 
+/// Drops the entries that this one dominates.
+fn drop_dominated<D: Dominance>(dominance: &D, entries: &mut Vec<Entry>, entry: &Entry)
+    ensures items { entries.new.items ≡ not_below (entry_order (D.order dominance.now)) entry.now entries.old.items }
+    ensures fewer { vec_len entries.new ≤ vec_len entries.old }
+    ensures room { vec_capacity entries.new ≡ vec_capacity entries.old }
+{
+    entries.retain(|other| !is_over(dominance, entry, other));
+}
+
 impl Window {
     ghost use Rattle.std.specs.Prelude.{◌≡◌, ◌<◌, ◌≤◌, ◌++◌, ◌⊎◌, [], length, IfOk, OnOk};
     ghost use Rattle.pref_sky.specs.Levels.{entry_order};
@@ -91,9 +101,8 @@ impl Window {
         {
             return Offer::Dropped;
         }
-        self.early
-            .retain(|other| !is_over(dominance, &entry, other));
-        self.late.retain(|other| !is_over(dominance, &entry, other));
+        drop_dominated(dominance, &mut self.early, &entry);
+        drop_dominated(dominance, &mut self.late, &entry);
         if self.early.len() + self.late.len() == self.size {
             self.overflowed = true;
             return Offer::Overflow;

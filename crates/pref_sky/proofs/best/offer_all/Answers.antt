@@ -1,4 +1,4 @@
-use Rattle.pref_sky.proofs.Common.{◌≡◌, ◌∙◌, ◌+◌, ◌∷◌, suc, drop, sym, ap, subst, arith, add-one, drop_of_length-le, drop-cons, entry_order, Passing}
+use Rattle.pref_sky.proofs.Common.{◌≡◌, ◌+◌, ◌∷◌, drop, subst, arith, drop_of_length-le, drop-cons, entry_order, Passing}
 use Rattle.pref_sky.proofs.Merges.{entry_order_is_strict}
 use Rattle.pref_sky.proofs.PassesLaws.{pass_more, pass_stays}
 use Rattle.pref_sky.proofs.best.offer_all.Goals.{in-Overflow+in_ok-push-in-Overflow, in-Joined}
@@ -15,9 +15,6 @@ loop-entry-preserved g c all best begun p =
     let i = c.loop-entry.entry-index in
     let entries = c.args.entries.now in
     let entry = c.entry-item.result in
-    let next : drop i entries ≡ entry ∷ drop (i + 1) entries = drop-cons entries i entry c.loop-entry-test.true ∙ (ap (λ e. e ∷ drop (suc i) entries) (sym c.entry-item.is) ∙ ap (λ n. entry ∷ drop n entries) (sym (add-one i))) in
+    let next : drop i entries ≡ entry ∷ drop (i + 1) entries = grind (arith, drop-cons entries i entry) in
     let before : Passing over all best begun c.loop-entry.window c.loop-entry.overflow.items (entry ∷ drop (i + 1) entries) = subst (λ l. Passing over all best begun c.loop-entry.window c.loop-entry.overflow.items l) next (c.loop-entry.invariant all best begun p) in
-    elim c.match-offer.branch [
-      | in-Overflow+in_ok-push-in-Overflow w ↦ rw (w.overflow-is, w.in_ok-push-in-Overflow.ensures.items) (pass_more before strict c.offer.result w.in-Overflow.is c.offer.ensures.outcome)
-      | in-Joined w ↦ rw (w.overflow-is) (pass_stays before strict c.offer.result w.in-Joined.is c.offer.ensures.outcome)
-    ]
+    grind (arith, pass_more before strict {new = c.offer.new.self} c.offer.result, pass_stays before strict {new = c.offer.new.self} c.offer.result)
