@@ -38,13 +38,7 @@ stays o s t act reply sees steps = record {
   legal = sees.legal;
   same = sees.same;
   joins = inl (record { seen = refl; counted = sees.counted });
-  returned = λ system state there.
-      let is : step_by o s act system ≡ record { reply = reply; next = system } = somebody_steps o.limits system s.number act (member_of o s) there ∙ steps system state in
-      record {
-        reply_is = ap (λ (x : Step). x.reply) is;
-        state = ap (λ (x : Step). state_of x.next) is ∙ state;
-        member = ap (λ (x : Step). seat s.number x.next.members) is ∙ there ∙ (λ i. Some (record { calls = sym sees.counted i; query = option_map (open_of o) (sym sees.query i) }));
-      };
+  returned = λ system state there. grind (arith, somebody_steps, steps system state);
 }
 
 -- nothing was seen

@@ -1,8 +1,8 @@
 -- How many calls each client has made along a legal history.
-use Rattle.pref_share.proofs.Common.{◌≡◌, ℕ, zero, suc, ◌+◌, ◌*◌, ◌^◌, ◌<◌, ◌≤◌, false, ◌==◌, List, [], ◌∷◌, ◌++◌, length, Option, Some, None, refl, sym, ap, ◌∙◌, subst, arith, ⊎_elim, cases_eq}
-use Rattle.pref_share.proofs.Common.{same_Some, AllByRecursion, sum_by, ne_eqb, length-append, length-set, filter, filter-append, IsPrefix, All-from_recursion, Call, Op, State, Client, Snapshot, seat, with_seat}
+use Rattle.pref_share.proofs.Common.{◌≡◌, ℕ, zero, suc, ◌+◌, ◌*◌, ◌^◌, ◌<◌, ◌≤◌, false, ◌==◌, List, [], ◌∷◌, ◌++◌, length, Option, Some, None, refl, sym, ap, ◌∙◌, subst, arith}
+use Rattle.pref_share.proofs.Common.{AllByRecursion, sum_by, length-append, length-set, filter, filter-append, IsPrefix, All-from_recursion, Call, Op, State, Client, Snapshot, seat, with_seat}
 use Rattle.pref_share.proofs.Common.{counted, begun_after, after, calls_of, begun_of, idle_clients, IsLegalCall, IsLegalHistory, state_after, numbered_of}
-use Rattle.pref_share.proofs.Common.{seat-with_seat_same, seat-with_seat_other, count_by, eq-eqb, true, history_of}
+use Rattle.pref_share.proofs.Common.{seat-with_seat_same, seat-with_seat_other, count_by, true, history_of}
 use Rattle.std.proofs.lemmas.List.Sums.{sum_by-le}
 use Rattle.pref_core.proofs.BoundsLaws.{sum_by-set_suc, AllByRecursion-set}
 
@@ -47,11 +47,8 @@ calls_other n s client op apart = ap calls_in (seat_other n s client op.client o
 begun_other : (n : ℕ) (s : State) (client : ℕ) (op : Op) → (client ≡ op.client → ⊥) → begun_of (after n s op.client op.call) client ≡ begun_of s client
 begun_other n s client op apart = ap begun_in (seat_other n s client op.client op.call apart)
 
-own_number : (s : State) (op : Op) (client m : ℕ) → IsCaller s op → client ≡ op.client → calls_of s client ≡ Some m → op.number ≡ suc m
-own_number s op client m c e is = c.number ∙ ap suc (same_Some _ _ (sym (ap calls_in (ap (λ k. seat k s.clients) e ∙ c.at)) ∙ is))
-
 count_now : (n : ℕ) (s : State) (op : Op) (client m : ℕ) → IsCaller s op → client ≡ op.client → calls_of s client ≡ Some m → calls_of (after n s op.client op.call) client ≡ Some (suc m)
-count_now n s op client m c e is = ap (calls_of (after n s op.client op.call)) e ∙ calls_own n s op c ∙ ap Some (own_number s op client m c e is)
+count_now n s op client m c e is = grind (arith, calls_own)
 
 pub count_own : (client : ℕ) (op : Op) (ops : List Op) → (op.client == client) ≡ true → count_by client (op ∷ ops) ≡ suc (count_by client ops)
 count_own client op ops own = rw own refl
@@ -70,24 +67,14 @@ count_prefix client xs ys p =
 pub calls_counted : (n : ℕ) (s : State) (ops : List Op) (client m : ℕ) → IsLegalHistory n s (history_of ops) → calls_of s client ≡ Some m → calls_of (state_after n s (history_of ops)) client ≡ Some (m + count_by client ops)
 calls_counted n s [] client m legal is = is ∙ ap Some (omega arith)
 calls_counted n s (op ∷ ops) client m legal is =
-    ⊎_elim (λ (e : client ≡ op.client).
-    let one = count_own client op ops (eq-eqb op.client client (sym e)) in
-    calls_counted n (after n s op.client op.call) ops client (suc m) legal.1 (count_now n s op client m (caller n s op legal.0) e is) ∙ ap Some (omega (arith, one)))
-    (λ (apart : client ≡ op.client → ⊥).
-    let none = count_other client op ops (ne_eqb op.client client (λ e. apart (sym e))) in
-    calls_counted n (after n s op.client op.call) ops client m legal.1 (calls_other n s client op apart ∙ is) ∙ ap Some (omega (arith, none))) (cases_eq client op.client)
+    grind (arith, caller n s op legal.0, count_now, calls_other, calls_counted n (after n s op.client op.call) ops client)
 
 -- where a client's count stays, no call is its own, and its query stays
 pub none_own : (n : ℕ) (s : State) (ops : List Op) (client m : ℕ) → IsLegalHistory n s (history_of ops) → calls_of s client ≡ Some m → calls_of (state_after n s (history_of ops)) client ≡ Some m
     → AllByRecursion (λ op. (op.client == client) ≡ false) ops × (begun_of (state_after n s (history_of ops)) client ≡ begun_of s client)
 none_own n s [] client m legal is still = (tt, refl)
 none_own n s (op ∷ ops) client m legal is still =
-    ⊎_elim (λ (e : client ≡ op.client).
-    let all : m ≡ m + count_by client (op ∷ ops) = same_Some _ _ (sym still ∙ calls_counted n s (op ∷ ops) client m legal is) in
-    absurd (omega (arith, all, count_own client op ops (eq-eqb op.client client (sym e)))))
-    (λ (apart : client ≡ op.client → ⊥).
-    let rest = none_own n (after n s op.client op.call) ops client m legal.1 (calls_other n s client op apart ∙ is) still in
-    ((ne_eqb _ _ (λ (e : op.client ≡ client). apart (sym e)), rest.0), rest.1 ∙ begun_other n s client op apart)) (cases_eq client op.client)
+    grind (arith, caller n s op legal.0, calls_counted n s (op ∷ ops) client m legal is, calls_other, begun_other, none_own n (after n s op.client op.call) ops client m legal.1)
 
 -- all calls of all clients
 abbrev total : State → ℕ
@@ -107,11 +94,7 @@ with_seat_counts clients (suc k) new who at few same = record {
 }
 
 counts_one : (n : ℕ) (s : State) (op : Op) → IsCaller s op → CountsOne s.clients (after n s op.client op.call).clients
-counts_one n s op c = subst (CountsOne s.clients) (sym (after_clients n s op.client op.call)) (go (seat op.client s.clients) c.at)
-  where
-    go : (o : Option Client) → o ≡ Some c.who → CountsOne s.clients (elim o as (λ x. List Client) [ None ↦ s.clients | Some found ↦ with_seat op.client (one_more s op.call found) s.clients ])
-    go None e = absurd (cc)
-    go (Some found) e = let same : found ≡ c.who = cc in with_seat_counts s.clients op.client (one_more s op.call found) c.who c.at c.few (ap (λ (f : Client). suc f.calls) same)
+counts_one n s op c = subst (CountsOne s.clients) (sym (after_clients n s op.client op.call)) (rw (c.at, counted) (with_seat_counts s.clients op.client (one_more s op.call c.who) c.who c.at c.few refl))
 
 -- the clients stay
 pub length-after : (n : ℕ) (s : State) (ops : List Op) → IsLegalHistory n s (history_of ops) → length (state_after n s (history_of ops)).clients ≡ length s.clients
@@ -124,9 +107,7 @@ few_from n s [] legal few = grind (arith, sum_by-le, All-from_recursion)
 few_from n s (op ∷ ops) legal few =
     let one = counts_one n s op (caller n s op legal.0) in
     let rest = few_from n (after n s op.client op.call) ops legal.1 (one.few few) in
-    let all = one.all in
-    let long : length (after n s op.client op.call).clients * 2 ^ 56 ≡ length s.clients * 2 ^ 56 = ap (λ k. k * 2 ^ 56) one.long in
-    omega arith
+    omega (arith, one.all, ap (λ k. k * 2 ^ 56) one.long)
 
 idle_few : (n : ℕ) → AllByRecursion (λ who. who.calls ≤ 2 ^ 56) (idle_clients n)
 idle_few zero = tt

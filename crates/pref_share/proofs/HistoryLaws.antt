@@ -1,5 +1,5 @@
 -- Legal operations: how a list of them grows, and what its store stands for.
-use Rattle.pref_share.proofs.Common.{◌≡◌, ◌≤◌, List, [], ◌∷◌, ◌++◌, map, length, Some, Ok, Err, ℕ, refl, sym, ap, ◌∙◌, subst, IsPrefix, Call, Op, CoreFault, State, after, refusal, Contents, StandsFor}
+use Rattle.pref_share.proofs.Common.{arith, ◌≡◌, ◌≤◌, List, [], ◌∷◌, ◌++◌, map, length, Some, Ok, Err, ℕ, refl, sym, ap, ◌∙◌, subst, IsPrefix, Call, Op, CoreFault, State, after, refusal, Contents, StandsFor}
 use Rattle.pref_share.proofs.Common.{IsLegal, PlansIn, applied, ran, IsLegalHistory, state_after, numbered_of, AreLegalOps, Opening, IsLegalFrom, MayFollow, LegalIsHistory, first_contents}
 use Rattle.pref_share.proofs.Common.{first_state, history_of, contents_at, state_at, AreLetIn}
 use Rattle.pref_core.proofs.LegalLaws.{applied_stands, IsNext-from}
@@ -21,19 +21,13 @@ legal_beginning contents state (x ∷ xs) ys legal = (legal.0, legal_beginning (
 pub legal_append : (contents : Contents) (state : State) (xs ys : List Op) → StandsFor contents state → AreLegalOps state contents xs → AreLegalOps (reached contents state xs) (ran contents xs) ys → AreLegalOps state contents (xs ++ ys)
 legal_append contents state [] ys stands legal more = more
 legal_append contents state (x ∷ xs) ys stands legal more =
-    let next = after (length contents.slots) state x.client x.call in
-    let size = length-applied contents state x stands legal.0 in (
-      legal.0,
-      legal_append (applied contents x) next xs ys (applied_stands contents state x stands legal.0) legal.1
-          (subst (λ n. AreLegalOps (state_after n next (map numbered_of xs)) (ran (applied contents x) xs) ys) (sym size) more),
-    )
+    grind (arith, length-applied contents state x, applied_stands contents state x, legal_append (applied contents x) (after (length contents.slots) state x.client x.call) xs ys)
 
 -- what the test of each operation lets in is legal
 pub legal_from_let_in : (contents : Contents) (state : State) (ops : List Op) → StandsFor contents state → AreLetIn contents ops → AreLegalOps state contents ops
 legal_from_let_in contents state [] stands let_in = tt
 legal_from_let_in contents state (op ∷ ops) stands let_in =
-    let legal : IsLegal state contents op = record { next = IsNext-from contents state op stands let_in.0; fits = let_in.1 } in
-    (legal, legal_from_let_in (applied contents op) (after (length contents.slots) state op.client op.call) ops (applied_stands contents state op stands legal) let_in.2)
+    grind (arith, IsNext-from, applied_stands contents state op, legal_from_let_in (applied contents op) (after (length contents.slots) state op.client op.call) ops)
 
 -- the opening, over which all histories of a board stand
 pub opens : (o : Opening) → length o.rows ≤ o.limits.capacity → StandsFor (first_contents o) (first_state o) × (length (first_contents o).slots ≡ o.limits.capacity)

@@ -1,18 +1,14 @@
 -- The last operation of a history: whose call it is, and what the others' counts are before it.
-use Rattle.pref_share.proofs.Common.{◌≡◌, ℕ, ◌<◌, ◌≤◌, List, [], ◌∷◌, ◌++◌, length, Some, refl, ap, ◌∙◌, arith, inl, inr, ◌⊎◌}
-use Rattle.pref_share.proofs.Common.{slice_get_within, eq-eqb, count_by, IsPrefix, Op, Act, Reply, Client, seat, Opening, IsLegalFrom, first_state}
-use Rattle.pref_share.proofs.Common.{state_at, calls_at, Standing, newcomer, Looks, Adds, Runs, none, then}
+use Rattle.pref_share.proofs.Common.{◌≡◌, ℕ, ◌<◌, ◌≤◌, List, [], ◌∷◌, ◌++◌, length, Some, refl, sym, ap, ◌∙◌, arith, inl, inr, ◌⊎◌}
+use Rattle.pref_share.proofs.Common.{slice_get_within, eq-eqb, count_by, Op, Act, Reply, Client, seat, Opening, IsLegalFrom, first_state}
+use Rattle.pref_share.proofs.Common.{state_at, calls_at, Standing, newcomer, Runs, none, then}
 use Rattle.pref_share.proofs.HistoryLaws.{rest_history, legal_is_history, legal-prefix, state_at-append}
 use Rattle.pref_share.proofs.CallCounts.{IsCaller, caller, calls_in, calls_counted, count_last, count_own, count_prefix, idle_seat, length-after, length-idle, seat_other}
 
 -- a list is empty, or has a last element
 pub last_of : {A : Type 0} (xs : List A) → (xs ≡ []) ⊎ ((before : List A) × (x : A) × (before ++ x ∷ [] ≡ xs))
 last_of [] = inl refl
-last_of (x ∷ xs) = inr (go x xs)
-  where
-    go : {A : Type 0} (x : A) (xs : List A) → (before : List A) × (y : A) × (before ++ y ∷ [] ≡ x ∷ xs)
-    go x [] = ([], x, refl)
-    go x (y ∷ ys) = let rest = go y ys in (x ∷ rest.0, rest.1, ap (λ l. x ∷ l) rest.2)
+last_of (x ∷ xs) = elim (last_of xs) [ inl empty ↦ inr ([], x, ap (λ l. x ∷ l) (sym empty)) | inr last ↦ inr (x ∷ last.0, last.1, ap (λ l. x ∷ l) last.2) ]
 
 -- who made the last call
 pub last_caller : (o : Opening) (before : List Op) (op : Op) → IsLegalFrom o (before ++ op ∷ []) → IsCaller (state_at o before) op
@@ -30,12 +26,7 @@ abbrev pub IsOneOf : Opening → ℕ → Type 0
 IsOneOf o client = (0 < client) × (client ≤ o.limits.clients)
 
 pub last_one_of : (o : Opening) (before : List Op) (op : Op) → IsLegalFrom o (before ++ op ∷ []) → IsOneOf o op.client
-last_one_of o before op legal =
-    let c = last_caller o before op legal in
-    let within = seated (state_at o before).clients op.client c.who c.at in
-    let legal_before = legal_is_history o before (legal-prefix o before (before ++ op ∷ []) (op ∷ [], refl) legal) in
-    let all : length (state_at o before).clients ≡ o.limits.clients = length-after o.limits.capacity (first_state o) before legal_before ∙ length-idle o.limits.clients in
-    (within.0, omega (arith, within.1, all))
+last_one_of o before op legal = grind (arith, last_caller o before op legal, seated, legal_is_history, legal-prefix o before (before ++ op ∷ []) (op ∷ [], refl), length-after, length-idle)
 
 -- a legal history counts the calls that it holds of a client
 pub counted_at : (o : Opening) (ops : List Op) (number : ℕ) → IsLegalFrom o ops → IsOneOf o number → calls_at o ops number ≡ Some (count_by number ops)
@@ -46,18 +37,8 @@ pub record Counts (number : ℕ) (s : Standing) : Type 0 where
   pub same : s.number ≡ number
   pub grown : s.counter ≤ count_by number s.seen
 
-counts_looked : (number : ℕ) (s t : Standing) (at : List Op) → Counts number s → t.number ≡ s.number → IsPrefix s.seen at → Looks s t at → Counts number t
-counts_looked number s t at c same further looks = grind (arith, count_prefix number s.seen at further)
-
-counts_added : (o : Opening) (number : ℕ) (s t : Standing) (at : List Op) (act : Act) → Counts number s → t.number ≡ s.number → IsPrefix s.seen at → Adds o s act t at → Counts number t
-counts_added o number s t at act c same further adds = grind (arith, count_prefix number s.seen at further, count_last number at adds.op, count_own number adds.op [] (eq-eqb adds.op.client number (adds.by ∙ c.same)))
-
 -- after its acts a client's counts are right still
 pub counts : (o : Opening) (number : ℕ) (acts : List Act) (replies : List Reply) (stands : List Standing) (s : Standing) → Runs o (newcomer number) acts replies stands s → Counts number s
 counts o number _ _ _ _ none = record { same = refl; grown = omega arith }
 counts o number _ _ _ _ (then acts replies stands t act reply u runs step) =
-    let c = counts o number acts replies stands t runs in
-    elim step.joins as (λ x. Counts number u) [
-      | inl looks ↦ counts_looked number t u step.at c step.same step.further looks
-      | inr adds ↦ counts_added o number t u step.at act c step.same step.further adds
-    ]
+    grind (arith, counts o number acts replies stands t runs, count_prefix number t.seen step.at step.further, count_last, count_own, eq-eqb)

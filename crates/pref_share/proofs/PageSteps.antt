@@ -1,7 +1,7 @@
 -- Who has the pen of a page writes behind all that stands on it, whatever the book is.
 use Rattle.pref_share.proofs.Common.{◌≡◌, ◌≢◌, ℕ, suc, zero, ◌+◌, ◌<◌, ◌≤◌, ◌==◌, Bool, true, false, ◌⊎◌, List, [], ◌∷◌, ◌++◌, length, set, replicate, refl, ap, sym, ◌∙◌, subst, arith, inl, inr, Option, None, Some, ⊎_elim}
-use Rattle.pref_share.proofs.Common.{cases_eq, eqb-true, ne_eqb, eq-eqb, append-nil, append_assoc, length-append, length-set, same_Some, IsPrefix, Cell, cell, keeps, gives, adds, Nib, no_nib, may_write, Moves, Op}
-use Rattle.std.proofs.lemmas.List.{get_or-set_same, get_or-set_other, get_or_append_left}
+use Rattle.pref_share.proofs.Common.{eqb-true, eq-eqb, append-nil, append_assoc, length-append, length-set, same_Some, IsPrefix, Cell, cell, keeps, gives, adds, Nib, no_nib, may_write, Moves, Op}
+use Rattle.std.proofs.lemmas.List.{get_or-replicate, get_or-set_same, get_or-set_other, get_or_append_left, length-replicate}
 use prog.Atomic.{either}
 use Rattle.logbook.specs.Pages.{Goes, step}
 use Rattle.pref_share.proofs.CallCounts.{count_own, count_other, count_last, count_prefix}
@@ -24,11 +24,9 @@ set_home cs k j m h = grind (arith)
 abbrev pub used : ℕ → ℕ
 used n = either (n == 0) 1 n
 
-used_is : (n : ℕ) (b : Bool) → (n == 0) ≡ b → either b 1 n ≢ 0
-used_is n b is none = grind (arith)
-
 not_unused : (n : ℕ) → used n ≢ 0
-not_unused n = used_is n (n == 0) refl
+not_unused zero = grind (arith)
+not_unused (suc n) = grind (arith)
 
 -- the cells after a step on the word of a page
 abbrev pub begun : List Cell → ℕ → List Cell
@@ -69,17 +67,10 @@ key_own page key e own = rw (eq-eqb e.page page own) refl
 abbrev pub IsAll : ℕ → ℕ → List Entry → List Entry → Type 0
 IsAll page key log before = (ops_on page log ≡ ops_on page before) × (key_after page log ≡ Some key)
 
-quiet_next : (page key : ℕ) (log before : List Entry) (e : Entry) → key_after page before ≡ Some key → (key_after e.page before ≡ Some key → ⊥) → (key_after page (before ++ e ∷ []) ≡ Some key → IsAll page key log (before ++ e ∷ [])) → (b : Bool) → (e.page == page) ≡ b → IsAll page key log before
-quiet_next page key log before e at spent further true own = absurd (spent (ap (λ p. key_after p before) (eqb-true e.page page own) ∙ at))
-quiet_next page key log before e at spent further false other =
-    let r = further (key_after-last page before e ∙ key_other page (key_after page before) e other ∙ at) in
-    (r.0 ∙ ops_on-last page before e ∙ ap (λ l. ops_on page before ++ l) (noted_other page e other) ∙ append-nil (ops_on page before), r.1)
-
 quiet : (cs : List Cell) (log : List Entry) → IsKept cs log → (page key : ℕ) (before rest : List Entry) → before ++ rest ≡ log → key_after page before ≡ Some key → (cell cs key).1 ≡ false → IsAll page key log before
 quiet cs log kept page key before [] is at away = let same : log ≡ before = sym is ∙ append-nil before in (ap (ops_on page) same, ap (key_after page) same ∙ at)
 quiet cs log kept page key before (e ∷ rest) is at away =
-    quiet_next page key log before e at (λ spent. cc ((kept.spent before rest e key is spent).1, away))
-    (λ there. quiet cs log kept page key (before ++ e ∷ []) rest (append_assoc before (e ∷ []) rest ∙ is) there away) (e.page == page) refl
+    grind (arith, kept.spent before rest e key is, ops_on-last, key_after-last, append_assoc, append-nil, quiet cs log kept page key (before ++ e ∷ []) rest)
 
 -- an entry stands among the old ones, or is the one that was added
 split_last : (before later log : List Entry) (e x : Entry) → before ++ e ∷ later ≡ log ++ x ∷ [] → ((before ≡ log) × (e ≡ x)) ⊎ ((l : List Entry) × (before ++ e ∷ l ≡ log))
@@ -90,9 +81,7 @@ split_last (b ∷ before) later (y ∷ log) e x is = grind (arith, split_last be
 
 -- a page on which nothing stands, after an entry of another
 blank_more : (page : ℕ) (log : List Entry) (x : Entry) → page ≢ x.page → IsBlank page log → IsBlank page (log ++ x ∷ [])
-blank_more page log x other blank =
-    let off : (x.page == page) ≡ false = ne_eqb x.page page (λ e. other (sym e)) in
-    (key_after-last page log x ∙ key_other page (key_after page log) x off ∙ blank.0, ops_on-last page log x ∙ ap (λ l. ops_on page log ++ l) (noted_other page x off) ∙ append-nil (ops_on page log) ∙ blank.1)
+blank_more page log x other blank = grind (arith, key_after-last, ops_on-last, append-nil)
 
 -- the same entries, where what was home is home, ..
 kept_again : (cs ds : List Cell) (log : List Entry) → IsKept cs log → ((k : ℕ) → Home cs k → Home ds k) → ((page : ℕ) → page < pages → (cell ds page).0 ≡ 0 → (cell cs page).0 ≡ 0) → IsKept ds (log ++ [])
@@ -119,20 +108,14 @@ kept_more cs ds log x kept stay back here backed = record {
 
 -- a word that is 0 after a step on the word of a page is another's, and was 0
 still_unused : (cs : List Cell) (page other : ℕ) → page < length cs → (cell (begun cs page) other).0 ≡ 0 → (other ≢ page) × ((cell cs other).0 ≡ 0)
-still_unused cs page other lt none =
-    ⊎_elim (λ (same : other ≡ page).
-    absurd (not_unused (cell cs page).0 (sym (ap (λ (c : Cell). c.0) (get_or-set_same cs page (used (cell cs page).0, true) (0, false) lt)) ∙ (ap (λ k. (cell (begun cs page) k).0) (sym same) ∙ none))))
-    (λ (apart : other ≡ page → ⊥). (apart, ap (λ (c : Cell). c.0) (sym (get_or-set_other cs page other (used (cell cs page).0, true) (0, false) apart)) ∙ none)) (cases_eq other page)
+still_unused cs page other lt none = grind (arith, not_unused, get_or-set_same, get_or-set_other)
 
 -- the first entry of a page
 abbrev pub opening_entry : ℕ → ℕ → Entry
 opening_entry page key = record { page = page; key = key; op = None }
 
-noted_none : (page first key : ℕ) → noted page (opening_entry first key) ≡ []
-noted_none page first key = grind (arith)
-
 opened_same : (page : ℕ) (log : List Entry) (first key : ℕ) → ops_on page (log ++ opening_entry first key ∷ []) ≡ ops_on page log
-opened_same page log first key = ops_on-last page log (opening_entry first key) ∙ ap (λ l. ops_on page log ++ l) (noted_none page first key) ∙ append-nil (ops_on page log)
+opened_same page log first key = grind (arith, ops_on-last, append-nil)
 
 -- whatever the book is, there is a new pen, and no one else's is changed
 pub begins_moves : (v : List Entry) (ask : Entry) (page : ℕ) → page < pages → Moves IsKept shown moved page (v, (no_nib, None)) (λ n. either (n == 0) 1 n) (Begins (step page 0 1 ask) (v, (no_nib, None)))
@@ -246,9 +229,7 @@ adds_moves v before p ask page few is may begins at backs cs log kept pre away =
     )
 
 all_home : (n k : ℕ) → k < n → Home (replicate n (0, true)) k
-all_home zero k lt = absurd (omega arith)
-all_home (suc n) zero lt = (omega arith, refl)
-all_home (suc n) (suc k) lt = let r = all_home n k (omega arith) in (omega (arith, r.0), r.1)
+all_home n k lt = grind (arith, length-replicate, get_or-replicate)
 
 -- the book as it is opened
 pub starts : IsKept (replicate 9 (0, true)) []

@@ -6,11 +6,6 @@ use Rattle.pref_share.specs.declared.run.Job.{Job}
 use Rattle.pref_share.specs.TaskResults.{jobs_of}
 use Rattle.pref_share.proofs.PrefixLaws.{prefix_trans}
 
--- the first of these, if none stopped
-none_stopped : (first : Option ShareFault) (more : List (Option ShareFault)) → first_fault (first ∷ more) ≡ None → (first ≡ None) × (first_fault more ≡ None)
-none_stopped None more e = (refl, e)
-none_stopped (Some fault) more e = absurd (cc)
-
 module _ (o : Opening) (says : ℕ → ℕ → Bool → Type 0) (history : List Op) where
   abbrev DidWithin : Standing → List Act → Reported → Type 0
   DidWithin client list report = Did o says client list report × StandsWithin o history report.client
@@ -29,8 +24,7 @@ module _ (o : Opening) (says : ℕ → ℕ → Bool → Type 0) (history : List 
   -- the parts of all clients, where none stopped
   pub parts : (clients : List Standing) (acts : List (List Act)) (reports : List Reported) → Each DidWithin clients acts reports → first_fault (map (λ report. report.stopped) reports) ≡ None → Each (IsPart o history) clients acts (map (λ report. report.replies) reports)
   parts [] [] [] each none = tt
-  parts (client ∷ clients) (list ∷ acts) (report ∷ reports) (here, each) none =
-      let (went_on, others) = none_stopped report.stopped (map (λ report. report.stopped) reports) none in (part client list report here went_on, parts clients acts reports each others)
+  parts (client ∷ clients) (list ∷ acts) (report ∷ reports) (here, each) none = grind (arith, part client list report here, parts clients acts reports each)
   parts clients acts reports each none = absurd each
 
   -- Why the first of these clients stopped that did, as each client may stop: with these acts left, and held only where its gate may hold it.

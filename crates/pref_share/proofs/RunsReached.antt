@@ -6,7 +6,7 @@ use Rattle.pref_share.specs.Interleavings.{Answered, events_of, replies_of, acts
 use Rattle.pref_share.proofs.HistoryLaws.{legal-prefix}
 use Rattle.pref_share.proofs.SequenceLaws.{system_after, system_after-more, replies_from-more, step_leaves, opened_clients, opened_seat}
 use Rattle.pref_share.proofs.LastCalls.{last_of, last_one_of, IsOneOf, counts}
-use Rattle.pref_share.proofs.ClientActs.{Part, nothing_done, longer, IsPartAt, ArePartsAt, with_part, with_part-own, with_part-other, with_part-each, with_part-same, LooksNoMore, behind, idle, joined}
+use Rattle.pref_share.proofs.ClientActs.{Part, nothing_done, longer, IsPartAt, ArePartsAt, with_part, with_part-own, with_part-other, with_part-each, with_part-same, LooksNoMore}
 use Rattle.pref_share.proofs.ClientActs.{NoneLooks, LooksAt, without_looks, never_empty, made_last, last_at, parts_before}
 
 -- the system at the end of a run
@@ -94,9 +94,7 @@ reached_none o history parts empty idle_all = record {
 
 -- where no client's last act looked at the whole history, which is empty, no client has done anything
 was_idle : (o : Opening) (history : List Op) (number : ℕ) (p : Part) → history ≡ [] → LooksNoMore o history number p → p ≡ nothing_done number
-was_idle o history number p empty (behind l) = absurd (omega (arith, l, ap length empty))
-was_idle o history number p empty (idle same nothing) = same
-was_idle o history number p empty (joined last) = absurd (never_empty last.step.at last.adds.op (sym last.adds.seen ∙ last.whole ∙ empty))
+was_idle o history number p empty looks = grind (arith, never_empty)
 
 -- the runs of all shorter histories
 abbrev Shorter : Opening → List Op → Type 0

@@ -167,14 +167,7 @@ next_new o number counter seen now asking h p legal is =
 pub stands_scanned : (o : Opening) (number counter : ℕ) (seen now : List Op) (asking : Asking) (new : Scan) → Stands o number counter seen (Some asking) → IsPrefix seen now → IsLegalFrom o now → calls_at o now number ≡ Some counter → IsScanned asking.scan (contents_at o now).slots new
     → Stands o number counter now (Some (record { scan = new; at_begin = asking.at_begin }))
 stands_scanned o number counter seen now asking new h p legal is scanned =
-    let asks = moved_up o number counter seen now (Some asking) h p legal is in
-    stands_whole o number counter now (Some (record { scan = new; at_begin = asking.at_begin })) legal h.one_of is
-    (record {
-      at_begin = asks.at_begin;
-      found = asks.found;
-      stamp = scanned.stamp ∙ asks.stamp;
-      way = scanned_on_its_way (contents_at o now).slots asking.scan new (state_at o asking.at_begin).table (asks_shows o now number asking legal asks) asks.way scanned;
-    })
+    grind (arith, moved_up o number counter seen now (Some asking) h p legal is, asks_shows, scanned_on_its_way, stands_whole)
 
 open_alike : (o : Opening) (number : ℕ) (at : List Op) (query : Option Asking) → AsksOrNone o at number query → is_some (begun_of (state_at o at) number) ≡ is_some query
 open_alike o number at query h = grind (arith)
@@ -198,10 +191,7 @@ change_returned o old new call returned result e j q = grind (arith)
 
 change_succeeds : (lost : Option ℕ) (full adds : Bool) (size next_id : ℕ)
     → IfOk (outcome_or_refusal (elim lost as (λ _. Outcome) [ Some id ↦ NoRow id | None ↦ cond full (Full size) (cond adds (Added next_id) Done) ])) (λ done. (first : ℕ) × (done ≡ cond adds (Added first) Done))
-change_succeeds (Some id) full adds size next_id = tt
-change_succeeds None true adds size next_id = tt
-change_succeeds None false true size next_id = (next_id, refl)
-change_succeeds None false false size next_id = (next_id, refl)
+change_succeeds lost full adds size next_id = grind (arith)
 
 -- .. and that its outcome is that of one that succeeds, where it is no refusal
 pub success_returned : (o : Opening) (old new : Standing) (call : Call) (returned : Outcome) (result : Result Outcome ShareFault) → result ≡ outcome_or_refusal returned → Joins o old call returned new → is_change call ≡ true
