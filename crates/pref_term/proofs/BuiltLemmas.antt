@@ -8,24 +8,6 @@ use Rattle.pref_term.specs.declared.fault.AskFault.TheVariants.{NotSkyline, OutO
 use Rattle.std.proofs.lemmas.List.{at_drop_more, take_all}
 use Rattle.std.proofs.lemmas.Result.{MatchResult-weaker}
 
--- what a loop over a list has found of the elements so far is so of all
-pub all_of_them : {X : Type 0} (P : X → Type 0) (xs : List X) (i : ℕ) → length xs ≤ i → All P (take i xs) → All P xs
-all_of_them P xs i le h = rw (sym (take_all i xs le)) h
-
--- ---- the first fault
-
--- an element without one is passed over
-pub first_skips : {X : Type 0} (fault : X → Option AskFault) (xs : List X) (i : ℕ) (x : X) → i < length xs → x ≡ get_or xs i x → fault x ≡ None
-    → first_among fault (drop i xs) ≡ first_among fault (drop (i + 1) xs)
-first_skips fault xs i x lt at none =
-    at_drop_more (first_among fault) xs i x lt
-    ∙ ap (λ found. option_or found (first_among fault (drop (i + 1) xs))) (ap fault (sym at) ∙ none)
-
--- the same, where the element is read with another default
-pub first_skips_at : {X : Type 0} (fault : X → Option AskFault) (xs : List X) (i : ℕ) (d : X) → i < length xs → fault (get_or xs i d) ≡ None
-    → first_among fault (drop i xs) ≡ first_among fault (drop (i + 1) xs)
-first_skips_at fault xs i d lt none = at_drop_more (first_among fault) xs i d lt ∙ ap (λ found. option_or found (first_among fault (drop (i + 1) xs))) none
-
 -- refused for what was found
 pub refused_for : (q : Question) (f : AskFault) → first_fault q.preference q.group q.mode ≡ Some f → IsRefused q f
 refused_for q f h = subst (λ found. IsRefusedFor q found f) (sym h) refl
