@@ -43,8 +43,8 @@ preference_same (pareto p q) = both_true (preference_same p) (preference_same q)
 preference_same (prior p q) = both_true (preference_same p) (preference_same q)
 preference_same (reverse p) = preference_same p
 
-pub preference_eq-Decides : (p q : Preference) → Decides (preference_eq p q) (p ≡ q)
-preference_eq-Decides p q = (preference_sound p q, λ e. subst (λ r. preference_eq p r ≡ true) e (preference_same p))
+pub preferences_Decides : (p q : Preference) → Decides (preference_eq p q) (p ≡ q)
+preferences_Decides p q = (preference_sound p q, λ e. subst (λ r. preference_eq p r ≡ true) e (preference_same p))
 
 mode_sound : (a b : Mode) → mode_eq a b ≡ true → a ≡ b
 mode_sound a b h = grind (arith)
@@ -65,11 +65,11 @@ question_sound p q h =
     let m = and_parts _ _ l.0 in
     λ i. record { preference = preference_sound p.preference q.preference m.0 i; group = (group_eq-Decides p.group q.group).0 m.1 i; mode = mode_sound p.mode q.mode l.1 i; distinct = (booleans_Decides p.distinct q.distinct).0 k.1 i }
 
-pub question_eq-Decides : (p q : Question) → Decides (question_eq p q) (p ≡ q)
-question_eq-Decides p q = (question_sound p q, λ e. subst (λ r. question_eq p r ≡ true) e (question_same p))
+pub questions_Decides : (p q : Question) → Decides (question_eq p q) (p ≡ q)
+questions_Decides p q = (question_sound p q, λ e. subst (λ r. question_eq p r ≡ true) e (question_same p))
 
 pub terms_equal : IsEquivalence (on preference_of preference_eq)
-terms_equal = on_equiv preference_of (decided preference_eq preference_eq-Decides)
+terms_equal = on_equiv preference_of (decided preference_eq preferences_Decides)
 
 pub questions_equal : IsEquivalence question_eq
-questions_equal = decided question_eq question_eq-Decides
+questions_equal = decided question_eq questions_Decides

@@ -44,6 +44,7 @@ pub fn shown_is_read_again()
 {}
 
 /// `==` is true of terms, and of asks, exactly where contracts see the same of the two.
+#[tactic(auto, using(crate::specs::EqualLaws::preferences_Decides, crate::specs::EqualLaws::questions_Decides))]
 pub fn equal_where_the_same_is_seen()
     ensures terms { (p q : Preference) → Decides (preference_eq p q) (p ≡ q) }
     ensures asks { (p q : Question) → Decides (question_eq p q) (p ≡ q) }
@@ -57,6 +58,7 @@ pub fn worked_keys()
 
 /// The chain of the keys of an ask extends its order: what dominates is better by the chain, so no row dominates one that the
 /// chain puts before it. Rows that are the same by it are just those of one group that are the same.
+#[tactic(auto, using(crate::proofs::ExtensionLaws::ask_alike, crate::proofs::ExtensionLaws::ask_back, crate::proofs::ExtensionLaws::ask_extended, crate::proofs::ExtensionLaws::ask_in_row, crate::proofs::ExtensionLaws::ask_same, crate::proofs::ExtensionLaws::ask_twins))]
 pub fn ask_keys_extend_an_ask()
     ensures extended { (q : Question) (a b : List ℤ) → (order_of q).over a b ≡ true → is_better (by_chain (ask_keys q) a b) ≡ true }
     ensures worse { (q : Question) (a b : List ℤ) → (order_of q).over b a ≡ true → is_worse (by_chain (ask_keys q) a b) ≡ true }
