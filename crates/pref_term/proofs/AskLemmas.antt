@@ -8,11 +8,12 @@ use Rattle.pref_term.proofs.Common.{directed, begun, of_named, next, meant, Goes
 use Rattle.pref_term.proofs.Common.{WantsColumn, TakesColumn, ReadsPrior, Asks, TakesCount, FailsCount, ReadsSomeColumns, ReadsColumns, FailsColumns}
 use Rattle.pref_term.proofs.Common.{ReadsGrouping, FailsGrouping, TakesDirection, FailsDirection, ReadsDim, FailsDim, with_order, ReadsDims, ReadsClause, FailsClause, PassesOf}
 use Rattle.pref_term.proofs.Common.{Preference, scored, pareto, prior, reverse, ReadsBelow, IsWritable, Question, FitsWidth, IsAsk, IsSkyline, IsCount, cut_of, Mode, Best, TopLevel}
-use Rattle.pref_term.proofs.Common.{AtLeast, TermFault, with_next, dims_listed, group_listed, Result, Err, IsErrAnd, UnlessMemory, Gives, AsksClause, CountKind, levels, rows, count_word, count_head, count_due}
+use Rattle.pref_term.proofs.Common.{AtLeast, TermFault, with_next, dims_listed, group_listed, Result, Err, IfErr, IsErrAnd, CasedWord, NoMinOrMax, All-nil, word_ahead, Lexeme, taken, seen, ◌≢◌, FailsColumn, FailsPrior, FailsOf, false≢true, Gives, AsksClause, CountKind, levels, rows, count_word, count_head, count_due}
 use Rattle.std.proofs.lemmas.List.Sums.{fold-append}
 use Rattle.std.proofs.lemmas.Grind.{flat_map-append}
 use Rattle.pref_term.proofs.GrammarComplete.{dim_of, direction_next}
-use Rattle.pref_term.proofs.LedLemmas.{column_is, goes_then, goes_fails, passes_goes, column_good, unless_map, all_one, mapped_more, neither_fails, sign_behind}
+use Rattle.pref_term.proofs.DistinctLemmas.{product_is_clause}
+use Rattle.pref_term.proofs.LedLemmas.{at_place, column_is, goes_then, goes_fails, passes_goes, column_good, unless_map, all_one, mapped_more, neither_fails, sign_behind}
 
 -- the end, behind all
 ended : (names : Names) (ts us : List Placed) (s m : State) (a : AskText) → Goes names s ts m us → Passes finish us [] → next m finish ≡ Some (last, done a) → (p : ℕ) → run names ts p s ≡ Ok a
@@ -27,6 +28,12 @@ column_goes : (names : Names) (ts us : List Placed) (col : ℕ) (s : State) (beh
 column_goes names ts us col s behind w t = passes_goes names (word t.letters) ts us s (behind t.letters) (column_name t.letters) t.passes (w.takes t.letters) (column_good names t.letters col t.found.place)
 
 -- ---- the columns of a group
+
+pub columns_none : (names : Names) (ts : List Placed) → ReadsSomeColumns names ts [] ts
+columns_none names ts = record { some = []; meaning = refl; known = All-nil (IsKnown names); goes = λ head r p. (p, refl) }
+
+pub columns_fail : (names : Names) (ts us : List Placed) (columns : List ℕ) (f : TermFault) → ReadsSomeColumns names ts columns us → FailsColumn names us f → FailsColumns names ts f
+columns_fail names ts us columns f r n = record { fails = λ head p. goes_fails names _ _ ts us f (r.goes head p) (n.fails _ _ (wants_group head p r.some)) }
 
 -- one column more, and what is behind it
 module _ (names : Names) (ts us vs : List Placed) (columns : List ℕ) (col : ℕ) (r : ReadsSomeColumns names ts columns us) (t : TakesColumn names us col vs) where
@@ -48,46 +55,58 @@ module _ (names : Names) (ts us vs : List Placed) (columns : List ℕ) (col : �
         goes = λ head p. sign_behind names ts vs ws _ _ _ comma (columns_go head p) c (grind arith);
       }
 
-  pub columns_all : Passes finish vs [] → ReadsColumns names ts (columns ++ col ∷ [])
-  columns_all c =
+  pub columns_all : (at : ℕ) → vs ≡ at_place finish at ∷ [] → ReadsColumns names ts (columns ++ col ∷ [])
+  columns_all at e =
       record {
         some = r.some ++ t.letters ∷ [];
         meaning = columns_are;
         known = columns_known;
-        goes = λ head p. ended names ts vs _ _ _ (columns_go head p) c (grind arith);
+        goes = λ head p. ended names ts vs _ _ _ (columns_go head p) (at, e) (grind arith);
       }
 
-  pub columns_stuck : (f : TermFault) → NotNext finish vs → IsOther (sign comma) vs f → FailsColumns names ts f
-  columns_stuck f nf nc head p = goes_fails names _ _ ts vs f (columns_go head p) (neither_fails names (sign comma) finish vs f _ nc nf (λ u nc nf. grind (arith)))
+  pub columns_stuck : (f : TermFault) (t : Lexeme) → vs ≡ taken t → seen t.token ≢ finish → IsOther (sign comma) vs f → FailsColumns names ts f
+  columns_stuck f t e n nc =
+      let nf = subst (NotNext finish) (sym e) n in
+      record { fails = λ head p. goes_fails names _ _ ts vs f (columns_go head p) (neither_fails names (sign comma) finish vs f _ nc nf (λ u nc nf. grind (arith))) }
 
 -- ---- the group
 
 ranked_by_word : (head : HeadText) (r : PriorText) (letters : List ℕ) → keyword_of letters ≡ Some by_word → next (ranked (whole head) r) (word letters) ≡ Some (name by_word, group_due head r [])
 ranked_by_word head r letters e = grind (arith)
 
-pub grouping_fails : (names : Names) (letters : List ℕ) (ts us : List Placed) (f : TermFault) → Passes (word letters) ts us → keyword_of letters ≡ Some by_word → FailsColumns names us f → FailsGrouping names ts f
-grouping_fails names letters ts us f c e r ns na head p = grind (arith, goes_fails names _ _ ts us f (passes_goes names (word letters) ts us (ranked (whole head) p) (group_due head p []) (name by_word) c (ranked_by_word head p letters e) refl) (r head p), passes_goes names (word letters) ts us (ranked (whole head) p) (group_due head p []) (name by_word) c (ranked_by_word head p letters e) refl, ranked_by_word head p letters e)
+pub grouping_fails : {T : Type 0} (names : Names) (letters : List ℕ) (at : ℕ) (ts us : List Placed) (r : Result T TermFault) → ts ≡ word_ahead letters at us → keyword_of letters ≡ Some by_word → IfErr r (λ f. FailsColumns names us f) → IfErr r (λ f. FailsGrouping names ts f)
+grouping_fails names letters at ts us (Ok x) c e h = tt
+grouping_fails names letters at ts us (Err f) c e h =
+    record { fails = λ _ _ head p. goes_fails names _ _ ts us f (passes_goes names (word letters) ts us (ranked (whole head) p) (group_due head p []) (name by_word) (at, c) (ranked_by_word head p letters e) refl) (h.fails head p) }
 
 -- ---- what stands behind a head
 
 goes_asks : (names : Names) (distinct : Bool) (s m : State) (ts us : List Placed) (r : Result Question TermFault) → Goes names s ts m us → Asks names distinct m us r → Asks names distinct s ts r
-goes_asks names distinct s m ts us r h k p = let a = h p in subst (λ (x : Result AskText TermFault). Gives (meant names distinct x) r) (sym a.1) (k a.0)
+goes_asks names distinct s m ts us r h k = record { asks = λ p. let a = h p in subst (λ (x : Result AskText TermFault). Gives (meant names distinct x) r) (sym a.1) (k.asks a.0) }
+
+fails_asks : (names : Names) (distinct : Bool) (s : State) (ts : List Placed) (f : TermFault) → Fails names s ts f → Asks names distinct s ts (Err f)
+fails_asks names distinct s ts f h = record { asks = λ p. unless_map f (λ k. ap (meant names distinct) (k p)) h }
 
 -- what a `?` hands on
-pub fails_asks : (names : Names) (distinct : Bool) (s : State) (ts : List Placed) (f : TermFault) (r : Result Question TermFault) → IsErrAnd r (λ g. g ≡ f) → Fails names s ts f → Asks names distinct s ts r
-fails_asks names distinct s ts f (Ok q) e h p = absurd e
-fails_asks names distinct s ts f (Err g) e h p = subst (λ (x : TermFault). UnlessMemory x (meant names distinct (run names ts p s) ≡ Err x)) (sym e) (unless_map f (λ k. ap (meant names distinct) (k p)) h)
+pub asks_exit : {names : Names} {distinct : Bool} {s : State} {ts : List Placed} {f : TermFault} (r : Result Question TermFault) → IsErrAnd r (λ g. g ≡ f) → Asks names distinct s ts (Err f) → Asks names distinct s ts r
+asks_exit (Ok q) e h = absurd e
+asks_exit (Err g) e h = rw e h
 
 pub rated_read : (names : Names) (ts us : List Placed) (p : Preference) (group : List ℕ) (mode : Mode) → ReadsPrior names 0 ts p us → ReadsGrouping names us group → (head : HeadText) → mode_of head ≡ mode → Asks names false (operand (in_whole head)) ts (Ok (record { preference = p; group = group; mode = mode; distinct = false }))
 rated_read names ts us p group mode r g head e =
     goes_asks names false _ (ranked (whole head) r.products.tree) ts us (Ok (record { preference = p; group = group; mode = mode; distinct = false })) (r.products.goes (whole head) refl)
-    (λ k. ap (meant names false) (g.goes head r.products.tree k)
-    ∙ (ap (λ x. Ok (record { preference = x; group = map (column_at names) g.some; mode = mode_of head; distinct = false })) r.products.meaning
-    ∙ (ap (λ x. Ok (record { preference = p; group = x; mode = mode_of head; distinct = false })) g.meaning
-    ∙ ap (λ x. Ok (record { preference = p; group = group; mode = x; distinct = false })) e)))
+    (record {
+      asks = λ k. ap (meant names false) (g.goes head r.products.tree k)
+          ∙ (ap (λ x. Ok (record { preference = x; group = map (column_at names) g.some; mode = mode_of head; distinct = false })) r.products.meaning
+          ∙ (ap (λ x. Ok (record { preference = p; group = x; mode = mode_of head; distinct = false })) g.meaning
+          ∙ ap (λ x. Ok (record { preference = p; group = group; mode = x; distinct = false })) e));
+    })
 
-pub rated_group_fails : (names : Names) (ts us : List Placed) (p : Preference) (f : TermFault) → ReadsPrior names 0 ts p us → FailsGrouping names us f → (head : HeadText) → Fails names (operand (in_whole head)) ts f
-rated_group_fails names ts us p f r g head = goes_fails names _ _ ts us f (r.products.goes (whole head) refl) (g r.stops r.stops_too head r.products.tree)
+pub rated_fails : (names : Names) (ts : List Placed) (f : TermFault) → FailsPrior names 0 ts f → (head : HeadText) → Asks names false (operand (in_whole head)) ts (Err f)
+rated_fails names ts f r head = fails_asks names false _ ts f (r.fails (whole head) refl)
+
+pub rated_group_fails : (names : Names) (ts us : List Placed) (p : Preference) (f : TermFault) → ReadsPrior names 0 ts p us → FailsGrouping names us f → (head : HeadText) → Asks names false (operand (in_whole head)) ts (Err f)
+rated_group_fails names ts us p f r g head = fails_asks names false _ ts f (goes_fails names _ _ ts us f (r.products.goes (whole head) refl) (g.fails r.stops r.stops_too head r.products.tree))
 
 -- ---- dimensions
 
@@ -105,8 +124,11 @@ dim_read names ts us vs col d t g =
     }
 
 pub dim_direction_fails : (names : Names) (ts us : List Placed) (col : ℕ) (f : TermFault) → TakesColumn names ts col us → FailsDirection us f → FailsDim names ts f
-dim_direction_fails names ts us col f t h s o some =
-    goes_fails names _ _ ts us f (column_goes names ts us col _ _ (wants_dim s o some) t) (h names s o some t.letters)
+dim_direction_fails names ts us col f t h =
+    record { fails = λ s o some. goes_fails names _ _ ts us f (column_goes names ts us col _ _ (wants_dim s o some) t) (h.fails names s o some t.letters) }
+
+pub dim_column_fails : (names : Names) (ts : List Placed) (f : TermFault) → FailsColumn names ts f → FailsDim names ts f
+dim_column_fails names ts f h = record { fails = λ s o some. h.fails _ _ (wants_dim s o some) }
 
 -- ---- some dimensions
 
@@ -126,6 +148,12 @@ orders_more names dims dim product d col e f g = grind (arith, flat_map-append, 
 
 groups_more : (names : Names) (dims : List DimText) (dim : DimText) (group : List ℕ) (d : Direction) (col : ℕ) → groups_of names dims ≡ group → dim.direction ≡ d → column_at names dim.column ≡ col → groups_of names (dims ++ dim ∷ []) ≡ group ++ group_by d col
 groups_more names dims dim group d col e f g = grind (arith, flat_map-append)
+
+pub dims_none : (names : Names) (ts : List Placed) → ReadsDims names ts None [] ts
+dims_none names ts = record { dims = []; product_is = refl; group_is = refl; product_known = tt; group_known = All-nil (IsKnown names); goes = λ s o p. (p, refl) }
+
+pub dims_fail : (names : Names) (ts us : List Placed) (product : Option Preference) (group : List ℕ) (f : TermFault) → ReadsDims names ts product group us → FailsDim names us f → FailsClause names ts f
+dims_fail names ts us product group f r h = record { fails = λ s o. goes_fails names _ _ ts us f (r.goes s o) (h.fails s o r.dims) }
 
 -- one dimension more, and what is behind it
 module _ (names : Names) (ts us vs : List Placed) (product : Option Preference) (group : List ℕ) (col : ℕ) (d : Direction) (r : ReadsDims names ts product group us) (l : ReadsDim names us col d vs) where
@@ -149,34 +177,45 @@ module _ (names : Names) (ts us vs : List Placed) (product : Option Preference) 
         goes = λ s o. sign_behind names ts vs ws _ _ _ comma (dims_go s o) c (grind arith);
       }
 
-  pub dims_all : Passes finish vs [] → ReadsClause names ts (with_order product d col) (group ++ group_by d col)
-  dims_all c = go (product_known_more names product d col l.found.known r.product_known) (group_known_more names group d col l.found.known r.group_known) r.dims orders_are groups_are dims_go
+  pub dims_all : (at : ℕ) → vs ≡ at_place finish at ∷ [] → ReadsClause names ts (with_order product d col) (group ++ group_by d col)
+  dims_all at here = go (product_known_more names product d col l.found.known r.product_known) (group_known_more names group d col l.found.known r.group_known) r.dims orders_are groups_are dims_go
     where
       go : IfSome (with_order product d col) (IsTermOf names) → All (IsKnown names) (group ++ group_by d col) → (dims : List DimText) → product_of (orders_of names (dims ++ l.dim ∷ [])) ≡ with_order product d col → groups_of names (dims ++ l.dim ∷ []) ≡ group ++ group_by d col → ((s o : List ℕ) → Goes names (dim_due s o []) ts (with_next (dims_listed s o) dims l.dim) vs) → ReadsClause names ts (with_order product d col) (group ++ group_by d col)
-      go k m [] e f g = record { first = l.dim; others = []; product_is = e; group_is = f; product_known = k; group_known = m; goes = λ s o. ended names ts vs _ _ _ (g s o) c refl }
-      go k m (x ∷ xs) e f g = record { first = x; others = xs ++ l.dim ∷ []; product_is = e; group_is = f; product_known = k; group_known = m; goes = λ s o. ended names ts vs _ _ _ (g s o) c refl }
+      go k m [] e f g = record { first = l.dim; others = []; product_is = e; group_is = f; product_known = k; group_known = m; goes = λ s o. ended names ts vs _ _ _ (g s o) (at, here) refl }
+      go k m (x ∷ xs) e f g = record { first = x; others = xs ++ l.dim ∷ []; product_is = e; group_is = f; product_known = k; group_known = m; goes = λ s o. ended names ts vs _ _ _ (g s o) (at, here) refl }
 
-  pub dims_stuck : (f : TermFault) → NotNext finish vs → IsOther (sign comma) vs f → FailsClause names ts f
-  dims_stuck f nf nc s o = goes_fails names _ _ ts vs f (dims_go s o) (neither_fails names (sign comma) finish vs f _ nc nf (λ u nc nf. grind (arith)))
+  pub dims_stuck : (f : TermFault) (t : Lexeme) → vs ≡ taken t → seen t.token ≢ finish → IsOther (sign comma) vs f → FailsClause names ts f
+  dims_stuck f t e n nc =
+      let nf = subst (NotNext finish) (sym e) n in
+      record { fails = λ s o. goes_fails names _ _ ts vs f (dims_go s o) (neither_fails names (sign comma) finish vs f _ nc nf (λ u nc nf. grind (arith))) }
 
 -- ---- a skyline clause
 
-of_goes : (names : Names) (s : List ℕ) (ts us : List Placed) → (c : PassesOf ts us) → Goes names (skyline_named s) ts (dim_due s c.0 []) us
-of_goes names s ts us c = passes_goes names (word c.0) ts us (skyline_named s) (dim_due s c.0 []) (cased of_word c.0) c.2 (ap (of_named s c.0) c.1) refl
+pub clause_read : (names : Names) (distinct : Bool) (ts : List Placed) (p : Preference) (group : List ℕ) → ReadsClause names ts (Some p) group → AsksClause names distinct ts (Ok (record { preference = p; group = group; mode = Best; distinct = distinct }))
+clause_read names distinct ts p group r = record { asks = λ s o. record { asks = λ k. rw (r.goes s o k, r.product_is, r.group_is) refl } }
 
-pub clause_asks : (names : Names) (ts us : List Placed) (r : Result Question TermFault) → PassesOf ts us → AsksClause names false us r → (s : List ℕ) → Asks names false (skyline_named s) ts r
-clause_asks names ts us r c h s = goes_asks names false _ _ ts us r (of_goes names s ts us c) (h s c.0)
+pub clause_unordered : (names : Names) (distinct : Bool) (ts : List Placed) (group : List ℕ) → ReadsClause names ts None group → AsksClause names distinct ts (Err NoMinOrMax)
+clause_unordered names distinct ts group r = record { asks = λ s o. record { asks = λ k. rw (r.goes s o k, r.product_is) refl } }
+
+pub clause_fails : (names : Names) (distinct : Bool) (ts : List Placed) (f : TermFault) → FailsClause names ts f → AsksClause names distinct ts (Err f)
+clause_fails names distinct ts f h = record { asks = λ s o. fails_asks names distinct _ ts f (h.fails s o) }
 
 -- ---- the first word
 
-pub skyline_goes : (names : Names) (letters : List ℕ) (ts us : List Placed) → Passes (word letters) ts us → keyword_of letters ≡ None → cased_of letters ≡ Some skyline_word → Goes names start ts (skyline_named letters) us
-skyline_goes names letters ts us c e f = grind (arith)
+module _ (names : Names) (letters : List ℕ) (at : ℕ) (ts us : List Placed) (c : ts ≡ word_ahead letters at us) (e : keyword_of letters ≡ None) (f : cased_of letters ≡ Some skyline_word) where
+  skyline_goes : Goes names start ts (skyline_named letters) us
+  skyline_goes = passes_goes names (word letters) ts us start (skyline_named letters) (cased skyline_word letters) (at, c) (ap (λ k. begun letters k (cased_of letters)) e ∙ ap (begun letters None) f) refl
 
-pub skyline_asks : (names : Names) (letters : List ℕ) (ts us : List Placed) (r : Result Question TermFault) → Passes (word letters) ts us → keyword_of letters ≡ None → cased_of letters ≡ Some skyline_word → ((s : List ℕ) → Asks names false (skyline_named s) us r) → Asks names false start ts r
-skyline_asks names letters ts us r c e f h = goes_asks names false start (skyline_named letters) ts us r (skyline_goes names letters ts us c e f) (h letters)
+  pub skyline_asks : (vs : List Placed) (r : Result Question TermFault) → PassesOf us vs → AsksClause names false vs r → Asks names false start ts r
+  skyline_asks vs r p h =
+      goes_asks names false start _ ts vs r (goes_then names _ _ _ ts us vs skyline_goes (passes_goes names (word p.0) us vs (skyline_named letters) (dim_due letters p.0 []) (cased of_word p.0) p.2 (ap (of_named letters p.0) p.1) refl))
+      (h.asks letters p.0)
 
-pub best_asks : (names : Names) (letters : List ℕ) (ts us : List Placed) (r : Result Question TermFault) → Passes (word letters) ts us → keyword_of letters ≡ Some best_word → ((head : HeadText) → mode_of head ≡ Best → Asks names false (operand (in_whole head)) us r) → Asks names false start ts r
-best_asks names letters ts us r c e h = goes_asks names false start _ ts us r (passes_goes names (word letters) ts us start _ (name best_word) c (ap (λ k. begun letters k (cased_of letters)) e) refl) (h best_head refl)
+  pub skyline_fails : (g : TermFault) → FailsOf us g → Asks names false start ts (Err g)
+  skyline_fails g h = fails_asks names false start ts g (goes_fails names start _ ts us g skyline_goes (h.fails names letters))
+
+pub best_asks : (names : Names) (letters : List ℕ) (at : ℕ) (ts us : List Placed) (r : Result Question TermFault) → ts ≡ word_ahead letters at us → keyword_of letters ≡ Some best_word → ((head : HeadText) → mode_of head ≡ Best → Asks names false (operand (in_whole head)) us r) → Asks names false start ts r
+best_asks names letters at ts us r c e h = goes_asks names false start _ ts us r (passes_goes names (word letters) ts us start _ (name best_word) (at, c) (ap (λ k. begun letters k (cased_of letters)) e) refl) (h best_head refl)
 
 -- ---- a word and a count
 
@@ -184,19 +223,21 @@ abbrev pub count_mode : CountKind → ℕ → Mode
 count_mode levels k = TopLevel k
 count_mode rows k = AtLeast k
 
-count_word_goes : (names : Names) (k : CountKind) (letters : List ℕ) (ts us : List Placed) → Passes (word letters) ts us → keyword_of letters ≡ Some (count_word k) → Goes names start ts (count_due k) us
-count_word_goes names k letters ts us c e = grind (arith)
+count_begun : (letters : List ℕ) (k : CountKind) (c : Option CasedWord) → begun letters (Some (count_word k)) c ≡ Some (name (count_word k), count_due k)
+count_begun letters levels c = refl
+count_begun letters rows c = refl
 
-count_goes : (names : Names) (k : CountKind) (letters : List ℕ) (ts us vs : List Placed) (n : ℕ) → Passes (word letters) ts us → keyword_of letters ≡ Some (count_word k) → (t : TakesCount us n vs) → Goes names start ts (operand (in_whole (count_head k t.digits_are))) vs
-count_goes names k letters ts us vs n c e t =
-    goes_then names start (count_due k) _ ts us vs (count_word_goes names k letters ts us c e)
-    (passes_goes names (digits t.digits_are) us vs (count_due k) _ (count_digits t.digits_are) t.passes refl (ap (λ b. cond b None (Some bad_count)) t.good))
+module _ (names : Names) (k : CountKind) (letters : List ℕ) (at : ℕ) (ts us : List Placed) (c : ts ≡ word_ahead letters at us) (e : keyword_of letters ≡ Some (count_word k)) where
+  count_word_goes : Goes names start ts (count_due k) us
+  count_word_goes = passes_goes names (word letters) ts us start (count_due k) (name (count_word k)) (at, c) (ap (λ w. begun letters w (cased_of letters)) e ∙ count_begun letters k (cased_of letters)) refl
 
-pub count_asks : (names : Names) (k : CountKind) (letters : List ℕ) (ts us vs : List Placed) (n : ℕ) (r : Result Question TermFault) → Passes (word letters) ts us → keyword_of letters ≡ Some (count_word k) → TakesCount us n vs → ((head : HeadText) → mode_of head ≡ count_mode k n → Asks names false (operand (in_whole head)) vs r) → Asks names false start ts r
-count_asks names k letters ts us vs n r c e t h = goes_asks names false start _ ts vs r (count_goes names k letters ts us vs n c e t) (h (count_head k t.digits_are) (grind (arith, t.value)))
+  pub count_asks : (vs : List Placed) (n : ℕ) (r : Result Question TermFault) → TakesCount us n vs → ((head : HeadText) → mode_of head ≡ count_mode k n → Asks names false (operand (in_whole head)) vs r) → Asks names false start ts r
+  count_asks vs n r t h =
+      goes_asks names false start _ ts vs r (goes_then names start (count_due k) _ ts us vs count_word_goes
+      (passes_goes names (digits t.digits_are) us vs (count_due k) _ (count_digits t.digits_are) t.passes refl (ap (λ b. cond b None (Some bad_count)) t.good))) (h (count_head k t.digits_are) (grind (arith, t.value)))
 
-pub count_fails : (names : Names) (k : CountKind) (letters : List ℕ) (ts us : List Placed) (f : TermFault) → Passes (word letters) ts us → keyword_of letters ≡ Some (count_word k) → FailsCount us f → Fails names start ts f
-count_fails names k letters ts us f c e h = goes_fails names start (count_due k) ts us f (count_word_goes names k letters ts us c e) (h names k)
+  pub count_fails : (f : TermFault) → FailsCount us f → Asks names false start ts (Err f)
+  count_fails f h = fails_asks names false start ts f (goes_fails names start (count_due k) ts us f count_word_goes (h.fails names k))
 
 -- ---- what is so of each ask
 
@@ -207,8 +248,20 @@ term_is names (pareto p q) h = let l = term_is names p h.0 in let r = term_is na
 term_is names (prior p q) h = let l = term_is names p h.0 in let r = term_is names q h.1 in ((l.0, r.0), (l.1, r.1), (l.2, r.2))
 term_is names (reverse p) h = term_is names p h
 
-pub is_ask : (names : Names) (p : Preference) (group : List ℕ) (mode : Mode) → IsTermOf names p → All (IsKnown names) group → IsCount (cut_of mode) → (distinct : Bool) → (distinct ≡ true → IsSkyline (record { preference = p; group = group; mode = mode; distinct = distinct })) → IsAsk (record { preference = p; group = group; mode = mode; distinct = distinct })
+is_ask : (names : Names) (p : Preference) (group : List ℕ) (mode : Mode) → IsTermOf names p → All (IsKnown names) group → IsCount (cut_of mode) → (distinct : Bool) → (distinct ≡ true → IsSkyline (record { preference = p; group = group; mode = mode; distinct = distinct })) → IsAsk (record { preference = p; group = group; mode = mode; distinct = distinct })
 is_ask names p group mode h g k distinct clause = grind (arith, term_is)
 
-pub fits_width : (names : Names) (p : Preference) (group : List ℕ) (mode : Mode) → IsTermOf names p → All (IsKnown names) group → (distinct : Bool) → FitsWidth (length names) (record { preference = p; group = group; mode = mode; distinct = distinct })
+fits_width : (names : Names) (p : Preference) (group : List ℕ) (mode : Mode) → IsTermOf names p → All (IsKnown names) group → (distinct : Bool) → FitsWidth (length names) (record { preference = p; group = group; mode = mode; distinct = distinct })
 fits_width names p group mode h g distinct = let term = term_is names p h in record { preference = term.1; group = λ i d b. let a = g i d b in a.1 }
+
+pub rated_is_ask : (names : Names) (ts us : List Placed) (p : Preference) (group : List ℕ) (mode : Mode) → ReadsPrior names 0 ts p us → ReadsGrouping names us group → IsCount (cut_of mode) → IsAsk (record { preference = p; group = group; mode = mode; distinct = false })
+rated_is_ask names ts us p group mode r g k = is_ask names p group mode r.products.known g.known k false (λ h. absurd (false≢true h))
+
+pub rated_fits : (names : Names) (ts us : List Placed) (p : Preference) (group : List ℕ) (mode : Mode) → ReadsPrior names 0 ts p us → ReadsGrouping names us group → FitsWidth (length names) (record { preference = p; group = group; mode = mode; distinct = false })
+rated_fits names ts us p group mode r g = fits_width names p group mode r.products.known g.known false
+
+pub clause_is_ask : (names : Names) (ts : List Placed) (p : Preference) (group : List ℕ) (distinct : Bool) → ReadsClause names ts (Some p) group → IsAsk (record { preference = p; group = group; mode = Best; distinct = distinct })
+clause_is_ask names ts p group distinct r = is_ask names p group Best r.product_known r.group_known (omega arith, omega arith) distinct (λ _. record { mode = refl; preference = product_is_clause names (r.first ∷ r.others) p r.product_is })
+
+pub clause_fits : (names : Names) (ts : List Placed) (p : Preference) (group : List ℕ) (distinct : Bool) → ReadsClause names ts (Some p) group → FitsWidth (length names) (record { preference = p; group = group; mode = Best; distinct = distinct })
+clause_fits names ts p group distinct r = fits_width names p group Best r.product_known r.group_known distinct

@@ -40,8 +40,8 @@ pub use Rattle.pref_term.specs.Keys.{by_key, by_keys, from_zero, is_number, is_p
 pub use Rattle.pref_term.specs.Order.{is_better, is_same, is_worse}
 pub use Rattle.pref_term.specs.Preference.{Base, Preference, around, between, high, layered, low, one_of, pareto, preference_of, prior, reverse, scored}
 pub use Rattle.pref_term.specs.Question.{FitsWidth, IsAsk, IsClause, IsCount, IsDimension, IsSkyline, Question, alike, cut_of, is_count}
-pub use Rattle.pref_term.specs.ReaderResults.{Asks, AsksClause, AsksWhole, Fails, FailsBase, FailsClause, FailsColumn, FailsColumns, FailsCount}
-pub use Rattle.pref_term.specs.ReaderResults.{FailsDim, FailsDirection, FailsEnd, FailsGroup, FailsGrouping, FailsNumber, FailsNumbers, FailsOpened, FailsPrior, FailsProduct, FailsSets, FailsUnary}
+pub use Rattle.pref_term.specs.ReaderResults.{Asks, AsksClause, AsksWhole, Fails, FailsBase, FailsClause, FailsColumn, FailsColumns, FailsCount, FailsOf}
+pub use Rattle.pref_term.specs.ReaderResults.{FailsDim, FailsDirection, FailsGroup, FailsGrouping, FailsNumber, FailsNumbers, FailsOpened, FailsPrior, FailsProduct, FailsSets, FailsUnary}
 pub use Rattle.pref_term.specs.ReaderResults.{Goes, IsBehindDistinct, IsColumn, IsKnown, IsNoWord, IsOther, IsTermOf, NotNext, Passes, PassesOf, ReadsBase, ReadsClause, ReadsColumns}
 pub use Rattle.pref_term.specs.ReaderResults.{ReadsDim, ReadsDims, ReadsFactors, ReadsGroup, ReadsGrouping, ReadsNumber, ReadsNumbers, ReadsOpened, ReadsPrior, ReadsProduct, ReadsProducts}
 pub use Rattle.pref_term.specs.ReaderResults.{ReadsSets, ReadsSome, ReadsSomeColumns, ReadsSomeSets, ReadsUnary, TakesColumn, TakesCount, TakesDirection, WantsColumn}

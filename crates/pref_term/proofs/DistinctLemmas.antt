@@ -5,7 +5,7 @@ use Rattle.pref_term.proofs.Common.{cased_letters, cased, IsWritten, DimText, He
 use Rattle.pref_term.proofs.Common.{ask_leaves, IsText, is_distinct_ahead, says_distinct, without_third, plain, is_word, Names, orders_of}
 use Rattle.pref_term.proofs.Common.{product_of, tokens_in, tokens_on, IsGood, Spells, question, meant, start, dim_due, run, word_ahead}
 use Rattle.pref_term.proofs.Common.{IsBehindDistinct, Preference, scored, pareto, Question, IsClause, IsDimension, TermFault}
-use Rattle.pref_term.proofs.Common.{and_from, Bor, Lexeme, Word, ahead, taken, Result, subst, sym, Gives, AsksWhole, AsksClause}
+use Rattle.pref_term.proofs.Common.{and_from, Bor, Lexeme, Word, ahead, taken, Result, subst, sym, Gives, Asks, AsksWhole, AsksClause}
 use Rattle.pref_term.proofs.GrammarComplete.{cased_found, no_keyword}
 use Rattle.pref_term.proofs.LedLemmas.{at_place, run_step}
 use Rattle.pref_term.specs.declared.front.Token as code
@@ -51,7 +51,11 @@ not_word k h = grind arith
 
 pub whole_clause : (names : Names) (ts us : List Placed) (r : Result Question TermFault) → IsBehindDistinct ts us → AsksClause names true us r → AsksWhole names ts r
 whole_clause names ts us r b h =
-    subst (λ (x : Result Question TermFault). Gives x r) (sym (ap (λ d. meant names d (run names (plain ts) 0 start)) b.said ∙ ap (meant names true) (b.leads names))) (h b.skyline_is b.of_is b.place)
+    let clause = h.asks b.skyline_is b.of_is in
+    subst (λ (x : Result Question TermFault). Gives x r) (sym (ap (λ d. meant names d (run names (plain ts) 0 start)) b.said ∙ ap (meant names true) (b.leads names))) (clause.asks b.place)
+
+pub whole_plain : (names : Names) (ts : List Placed) (r : Result Question TermFault) → says_distinct ts ≡ false → Asks names false start ts r → AsksWhole names ts r
+whole_plain names ts r e h = rw e (h.asks 0)
 
 -- ---- a clause
 

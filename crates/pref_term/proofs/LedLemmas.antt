@@ -3,11 +3,11 @@ use Rattle.pref_term.proofs.Common.{◌≡◌, arith, ℕ, ℤ, Bor, List, [], �
 use Rattle.pref_term.proofs.Common.{comma, minus, Token, digits, sign, Placed, based, NumberText, low_text, high_text, around_text, pos_text, Leaf, mark, column_name, number_digits}
 use Rattle.pref_term.proofs.Common.{between_text, Names, UnlessMemory, own_fault, signed_value, number_value, column_at, number_range, below, empty_range, reported, OwnFault, BaseKind}
 use Rattle.pref_term.proofs.Common.{low_kind, high_kind, around_kind, pos_kind, centre_of, named, opened, columned, number_due, centred, listed, filled}
-use Rattle.pref_term.proofs.Common.{NumberHole, UnaryHole, State, reading, completed, run, next, between_kind, start_of, end_of, least_of, ranged, range_ended, NumberList, in_pos}
+use Rattle.pref_term.proofs.Common.{NumberHole, UnaryHole, State, reading, completed, run, next, between_kind, start_of, end_of, least_of, ranged, NumberList, in_pos}
 use Rattle.pref_term.proofs.Common.{closing, list_closed, stepped, seen, ahead, taken, behind_token, Cursor, Lexeme, Digits, Goes, Fails, IsOther, NotNext, Passes, WantsColumn, TakesColumn}
 use Rattle.pref_term.proofs.Common.{ReadsOpened, FailsColumn, FailsOpened, ReadsNumber, ReadsSome, ReadsNumbers, ReadsBase, FailsNumber, FailsNumbers, FailsBase}
-use Rattle.pref_term.proofs.Common.{FailsEnd, first_place, word_ahead, TermFault, EmptyRange, NumberRange, All, FitsSigned, ◌≢◌, IsErrAnd, IfErr, MatchResult, unwrap_or, int_lt, Option, scored, low}
-use Rattle.pref_term.proofs.Common.{high, around, one_of, between, all_ascii_digits, map-append, All-append, All-cons, All-nil, next_of}
+use Rattle.pref_term.proofs.Common.{first_place, word_ahead, behind_column, TermFault, EmptyRange, NumberRange, All, FitsSigned, ◌≢◌, IsErrAnd, IfErr, MatchResult, unwrap_or, int_lt, Option, scored, low}
+use Rattle.pref_term.proofs.Common.{high, around, one_of, between, all_ascii_digits, to_z, of_z, to_z-of_z, map-append, All-append, All-cons, All-nil, next_of}
 use Rattle.pref_table.specs.Columns.{column_of}
 use Rattle.pref_term.proofs.GrammarComplete.{list_ends}
 use Rattle.pref_term.proofs.TokenLemmas.{digits_taken}
@@ -27,8 +27,8 @@ pub column_good : (names : Names) (letters : List ℕ) (col : ℕ) → column_of
 column_good names letters col h = rw h
 
 -- a word that names no column of the table
-pub column_unknown : (names : Names) (letters : List ℕ) (at : ℕ) (us : List Placed) → column_of names letters ≡ None → FailsColumn names (word_ahead letters at us) (UnknownColumn at)
-column_unknown names letters at us h s behind wants p = rw (wants.takes letters, h) refl
+pub column_unknown : (names : Names) (letters : List ℕ) (at : ℕ) (ts us : List Placed) → ts ≡ word_ahead letters at us → column_of names letters ≡ None → FailsColumn names ts (UnknownColumn at)
+column_unknown names letters at ts us e h = record { fails = λ s behind wants p. rw (e, wants.takes letters, h) refl }
 
 number_own : (names : Names) (least : Option NumberText) (negative : Bool) (ds : List ℕ) → fits_cell (signed_value negative ds) ≡ true → own_fault names (number_digits least negative ds) ≡ below least (signed_value negative ds)
 number_own names least negative ds h = ap (λ b. cond b (below least (signed_value negative ds)) (Some number_range)) h
@@ -66,10 +66,14 @@ wants_opened : (h : UnaryHole) (k : BaseKind) → WantsColumn (reading h (opened
 wants_opened h k = record { takes = λ letters. refl; only = λ t n. grind arith }
 
 pub opened_fails : (names : Names) (behind : Sign) (ts us : List Placed) (f : TermFault) → Passes (sign left) ts us → FailsColumn names us f → FailsOpened names behind ts f
-opened_fails names behind ts us f c r h k e = grind (arith, goes_fails, passes_goes names (sign left) ts us (reading h (named k)) (reading h (opened k)) (mark left) c refl refl, wants_opened h k)
+opened_fails names behind ts us f c r =
+    record { fails = λ h k e. goes_fails names _ _ ts us f (passes_goes names (sign left) ts us (reading h (named k)) (reading h (opened k)) (mark left) c refl refl) (r.fails _ _ (wants_opened h k)) }
+
+column_end_stuck : (names : Names) (behind : Sign) (ts us vs : List Placed) (col : ℕ) (f : TermFault) → Passes (sign left) ts us → TakesColumn names us col vs → IsOther (sign behind) vs f → (h : UnaryHole) (k : BaseKind) → behind_column k ≡ behind → Fails names (reading h (named k)) ts f
+column_end_stuck names behind ts us vs col f c t o h k e = grind (arith)
 
 pub column_end_fails : (names : Names) (behind : Sign) (ts us vs : List Placed) (col : ℕ) (f : TermFault) → Passes (sign left) ts us → TakesColumn names us col vs → IsOther (sign behind) vs f → FailsOpened names behind ts f
-column_end_fails names behind ts us vs col f c t o h k e = grind (arith)
+column_end_fails names behind ts us vs col f c t o = record { fails = λ h k e. column_end_stuck names behind ts us vs col f c t o h k e }
 
 -- what was taken, where the token is known
 pub taken_is : (ts : List Placed) (t : Lexeme) (k : code.Token) → ts ≡ taken t → t.token ≡ k → ts ≡ at_place (seen k) t.at ∷ behind_token k (ahead t.next)
@@ -106,18 +110,15 @@ number_read negative ts us ds value c fits v held =
       refused = λ names h hole under. number_refused negative ts us ds c names h hole empty_range (number_own names (least_of hole) negative ds fits ∙ under);
     }
 
+number_unfit : (negative : Bool) (ts us : List Placed) (ds : List ℕ) → NumberAhead negative ts ds us → fits_cell (signed_value negative ds) ≡ false → (names : Names) (h : UnaryHole) (hole : NumberHole) → Fails names (reading h (number_due hole)) ts (NumberRange (first_place ts))
+number_unfit negative ts us ds c fits names h hole = grind (arith)
+
 pub number_out_of_range : (negative : Bool) (ts us : List Placed) (ds : List ℕ) → NumberAhead negative ts ds us → fits_cell (signed_value negative ds) ≡ false → FailsNumber ts (NumberRange (first_place ts))
-number_out_of_range negative ts us ds c fits names h hole = grind (arith)
+number_out_of_range negative ts us ds c fits = record { fails = λ names h hole. number_unfit negative ts us ds c fits names h hole }
 
 -- the right end of a range
-below_of : (l : NumberText) (value least : ℤ) (test : Bool) → number_value l ≡ least → int_lt value least ≡ test → below (Some l) value ≡ cond test (Some empty_range) None
-below_of l value least test e f = ap (λ x. cond (int_lt value x) (Some empty_range) None) e ∙ ap (λ b. cond b (Some empty_range) None) f
-
-end_goes : (names : Names) (ts us : List Placed) (least value : ℤ) (n : ReadsNumber ts value us) → int_lt value least ≡ false → (h : UnaryHole) (column : List ℕ) (lower : NumberText) → number_value lower ≡ least → Goes names (reading h (number_due (end_of column lower))) ts (reading h (range_ended column lower n.number)) us
-end_goes names ts us least value n above h column l e = n.goes names h (end_of column l) (ap (below (Some l)) n.value_is ∙ below_of l value least false e above)
-
-pub end_refused : (ts us : List Placed) (least value : ℤ) → ReadsNumber ts value us → int_lt value least ≡ true → FailsEnd least ts (EmptyRange (first_place ts))
-end_refused ts us least value n under names h column l e = n.refused names h (end_of column l) (ap (below (Some l)) n.value_is ∙ below_of l value least true e under)
+below_of : (l r : NumberText) (least value : ℤ) (test : Bool) → number_value l ≡ least → number_value r ≡ value → int_lt value least ≡ test → below (Some l) (number_value r) ≡ cond test (Some empty_range) None
+below_of l r least value test e f k = ap (below (Some l)) f ∙ (ap (λ x. cond (int_lt value x) (Some empty_range) None) e ∙ ap (λ b. cond b (Some empty_range) None) k)
 
 -- what a `?` hands on
 pub err_exit : {T : Type 0} {f : TermFault} (r : Result T TermFault) (P : TermFault → Type 0) → IsErrAnd r (λ g. g ≡ f) → P f → IfErr r P
@@ -127,6 +128,10 @@ pub fault_exit : {T : Type 0} {f : TermFault} (r : Result T TermFault) (Q : T �
 fault_exit r Q P h k = grind (arith)
 
 -- ---- the numbers of a list
+
+-- a number as the code keeps it
+abbrev pub kept : ℤ → ℤ
+kept v = to_z w64 (of_z w64 v)
 
 pub all_one : {X : Type 0} (P : X → Type 0) (x : X) → P x → All P (x ∷ [])
 all_one P x h = All-cons P x [] h (All-nil P)
@@ -144,34 +149,40 @@ some_none close ts = record { some = []; fits = All-nil (FitsSigned w64); values
 pub mapped_more : {A B : Type 0} (f : A → B) (some : List A) (x : A) (values : List B) (v : B) → map f some ≡ values → f x ≡ v → map f (some ++ x ∷ []) ≡ values ++ v ∷ []
 mapped_more f some x values v e k = map-append f some (x ∷ []) ∙ (ap (λ ys. ys ++ f x ∷ []) e ∙ ap (λ y. values ++ y ∷ []) k)
 
+pub some_value_fails : (close : Sign) (ts us : List Placed) (values : List ℤ) (f : TermFault) → ReadsSome close ts values us → FailsNumber us f → FailsNumbers close ts f
+some_value_fails close ts us values f r n = record { fails = λ names h l e. goes_fails names _ _ ts us f (r.goes names h l e) (n.fails names h (next_of l r.some)) }
+
 -- one number more, and the sign behind it
 module _ (close : Sign) (ts us vs : List Placed) (values : List ℤ) (v : ℤ) (r : ReadsSome close ts values us) (n : ReadsNumber us v vs) where
-  all_fit : All (FitsSigned w64) (values ++ v ∷ [])
-  all_fit = All-append (FitsSigned w64) values (v ∷ []) r.fits (all_one (FitsSigned w64) v n.fits)
+  same : v ≡ kept v
+  same = sym (to_z-of_z w64 v n.fits)
+
+  all_fit : All (FitsSigned w64) (values ++ kept v ∷ [])
+  all_fit = All-append (FitsSigned w64) values (kept v ∷ []) r.fits (all_one (FitsSigned w64) (kept v) (subst (FitsSigned w64) same n.fits))
 
   all_goes : (names : Names) (h : UnaryHole) (l : NumberList) → closing l ≡ close → Goes names (reading h (number_due (next_of l []))) ts (reading h (filled (next_of l r.some) n.number)) vs
   all_goes names h l e = goes_then names _ _ _ ts us vs (r.goes names h l e) (n.goes names h (next_of l r.some) refl)
 
-  pub some_more : (ws : List Placed) → Passes (sign comma) vs ws → ReadsSome close ts (values ++ v ∷ []) ws
+  pub some_more : (ws : List Placed) → Passes (sign comma) vs ws → ReadsSome close ts (values ++ kept v ∷ []) ws
   some_more ws c =
       record {
         some = r.some ++ n.number ∷ [];
         fits = all_fit;
-        values_are = mapped_more number_value r.some n.number values v r.values_are n.value_is;
+        values_are = mapped_more number_value r.some n.number values (kept v) r.values_are (n.value_is ∙ same);
         goes = λ names h l e. sign_behind names ts vs ws _ _ _ comma (all_goes names h l e) c (grind arith);
       }
 
-  pub some_all : (ws : List Placed) → Passes (sign close) vs ws → ReadsNumbers close ts (values ++ v ∷ []) ws
+  pub some_all : (at : ℕ) (ws : List Placed) → vs ≡ at_place (sign close) at ∷ ws → ReadsNumbers close ts (values ++ kept v ∷ []) ws
   unfolding all_goes
-  some_all ws c = go r.some (mapped_more number_value r.some n.number values v r.values_are n.value_is) all_goes
+  some_all at ws e = go r.some (mapped_more number_value r.some n.number values (kept v) r.values_are (n.value_is ∙ same)) all_goes
     where
-      go : (some : List NumberText) → map number_value (some ++ n.number ∷ []) ≡ values ++ v ∷ []
-          → ((names : Names) (h : UnaryHole) (l : NumberList) → closing l ≡ close → Goes names (reading h (number_due (next_of l []))) ts (reading h (filled (next_of l some) n.number)) vs) → ReadsNumbers close ts (values ++ v ∷ []) ws
-      go [] e goes = record { first = n.number; others = []; fits = all_fit; values_are = e; goes = λ names h l k. sign_behind names ts vs ws _ _ _ close (goes names h l k) c (list_closes h l n.number [] close k) }
-      go (f ∷ os) e goes = record { first = f; others = os ++ n.number ∷ []; fits = all_fit; values_are = e; goes = λ names h l k. sign_behind names ts vs ws _ _ _ close (goes names h l k) c (list_closes h l f (os ++ n.number ∷ []) close k) }
+      go : (some : List NumberText) → map number_value (some ++ n.number ∷ []) ≡ values ++ kept v ∷ []
+          → ((names : Names) (h : UnaryHole) (l : NumberList) → closing l ≡ close → Goes names (reading h (number_due (next_of l []))) ts (reading h (filled (next_of l some) n.number)) vs) → ReadsNumbers close ts (values ++ kept v ∷ []) ws
+      go [] m goes = record { first = n.number; others = []; fits = all_fit; values_are = m; goes = λ names h l k. sign_behind names ts vs ws _ _ _ close (goes names h l k) (at, e) (list_closes h l n.number [] close k) }
+      go (f ∷ os) m goes = record { first = f; others = os ++ n.number ∷ []; fits = all_fit; values_are = m; goes = λ names h l k. sign_behind names ts vs ws _ _ _ close (goes names h l k) (at, e) (list_closes h l f (os ++ n.number ∷ []) close k) }
 
-  pub some_stuck : (f : TermFault) → NotNext (sign close) vs → IsOther (sign comma) vs f → FailsNumbers close ts f
-  some_stuck f nr nc names h l e = goes_fails names _ _ ts vs f (all_goes names h l e) (neither_fails names (sign comma) (sign close) vs f _ nc nr (λ u nc nr. grind (arith)))
+  pub some_stuck : (f : TermFault) (t : Lexeme) → vs ≡ taken t → seen t.token ≢ sign close → IsOther (sign comma) vs f → FailsNumbers close ts f
+  some_stuck f t e n nc = let nr = subst (NotNext (sign close)) (sym e) n in record { fails = λ names h l e. goes_fails names _ _ ts vs f (all_goes names h l e) (neither_fails names (sign comma) (sign close) vs f _ nc nr (λ u nc nr. grind (arith))) }
 
 -- ---- base terms
 
@@ -196,16 +207,22 @@ high_read names ts us col r =
       goes = λ h. r.goes h high_kind _ refl;
     }
 
+kept_is : {us vs : List Placed} {v : ℤ} → ReadsNumber us v vs → v ≡ kept v
+kept_is {us} {vs} {v} n = sym (to_z-of_z w64 v n.fits)
+
+kept_fits : {us vs : List Placed} {v : ℤ} → ReadsNumber us v vs → FitsSigned w64 (kept v)
+kept_fits n = subst (FitsSigned w64) (kept_is n) n.fits
+
 -- up to a centre
 centre_goes : (names : Names) (ts us vs : List Placed) (col : ℕ) (centre : ℤ) (r : ReadsOpened names comma ts col us) (n : ReadsNumber us centre vs) (h : UnaryHole) → Goes names (reading h (named around_kind)) ts (reading h (centred r.letters n.number)) vs
 centre_goes names ts us vs col centre r n h = goes_then names _ _ _ ts us vs (r.goes h around_kind _ refl) (n.goes names h (centre_of r.letters) refl)
 
-pub around_read : (names : Names) (ts us vs ws : List Placed) (col : ℕ) (centre : ℤ) → ReadsOpened names comma ts col us → ReadsNumber us centre vs → Passes (sign right) vs ws → ReadsBase names around_kind ts (scored (around col centre)) ws
+pub around_read : (names : Names) (ts us vs ws : List Placed) (col : ℕ) (centre : ℤ) → ReadsOpened names comma ts col us → ReadsNumber us centre vs → Passes (sign right) vs ws → ReadsBase names around_kind ts (scored (around col (kept centre))) ws
 around_read names ts us vs ws col centre r n d =
     record {
       tree = around_text r.letters n.number;
-      meaning = ap (λ i. scored (around i (number_value n.number))) (column_is names r.letters col r.found.place) ∙ ap (λ v. scored (around col v)) n.value_is;
-      known = (r.found.known, n.fits);
+      meaning = ap (λ i. scored (around i (number_value n.number))) (column_is names r.letters col r.found.place) ∙ ap (λ v. scored (around col v)) (n.value_is ∙ kept_is n);
+      known = (r.found.known, kept_fits n);
       goes = λ h. sign_behind names ts vs ws _ _ (completed h (based (around_text r.letters n.number))) right (centre_goes names ts us vs col centre r n h) d refl;
     }
 
@@ -216,15 +233,17 @@ start_goes names ts us vs col l r n h = goes_then names _ _ _ ts us vs (r.goes h
 range_goes : (names : Names) (ts us vs ws : List Placed) (col : ℕ) (l : ℤ) (r : ReadsOpened names comma ts col us) (n : ReadsNumber us l vs) → Passes (sign comma) vs ws → (h : UnaryHole) → Goes names (reading h (named between_kind)) ts (reading h (number_due (end_of r.letters n.number))) ws
 range_goes names ts us vs ws col l r n d h = sign_behind names ts vs ws _ _ (reading h (number_due (end_of r.letters n.number))) comma (start_goes names ts us vs col l r n h) d refl
 
-pub between_read : (names : Names) (ts us vs ws xs ys : List Placed) (col : ℕ) (l r : ℤ) → ReadsOpened names comma ts col us → ReadsNumber us l vs → Passes (sign comma) vs ws → ReadsNumber ws r xs → int_lt r l ≡ false → Passes (sign right) xs ys → ReadsBase names between_kind ts (scored (between col l r)) ys
+pub between_read : (names : Names) (ts us vs ws xs ys : List Placed) (col : ℕ) (l r : ℤ) → ReadsOpened names comma ts col us → ReadsNumber us l vs → Passes (sign comma) vs ws → ReadsNumber ws r xs → int_lt (kept r) (kept l) ≡ false → Passes (sign right) xs ys → ReadsBase names between_kind ts (scored (between col (kept l) (kept r))) ys
 between_read names ts us vs ws xs ys col l r o n d m above e =
+    let left_is = n.value_is ∙ kept_is n in
+    let right_is = m.value_is ∙ kept_is m in
     record {
       tree = between_text o.letters n.number m.number;
       meaning = ap (λ i. scored (between i (number_value n.number) (number_value m.number))) (column_is names o.letters col o.found.place)
-          ∙ (ap (λ v. scored (between col v (number_value m.number))) n.value_is ∙ ap (λ v. scored (between col l v)) m.value_is);
-      known = (o.found.known, (n.fits, m.fits, above));
+          ∙ (ap (λ v. scored (between col v (number_value m.number))) left_is ∙ ap (λ v. scored (between col (kept l) v)) right_is);
+      known = (o.found.known, (kept_fits n, kept_fits m, above));
       goes = λ h. sign_behind names ts xs ys _ _ (completed h (based (between_text o.letters n.number m.number))) right
-          (goes_then names _ _ _ ts ws xs (range_goes names ts us vs ws col l o n d h) (end_goes names ws xs l r m above h o.letters n.number n.value_is)) e refl;
+          (goes_then names _ _ _ ts ws xs (range_goes names ts us vs ws col l o n d h) (m.goes names h (end_of o.letters n.number) (below_of n.number m.number (kept l) (kept r) false left_is right_is above))) e refl;
     }
 
 pub pos_read : (names : Names) (ts us vs : List Placed) (col : ℕ) (set : List ℤ) → ReadsOpened names comma ts col us → ReadsNumbers right us set vs → ReadsBase names pos_kind ts (scored (one_of col set)) vs
@@ -237,17 +256,43 @@ pos_read names ts us vs col set r n =
     }
 
 -- and their faults
+pub opened_base_fails : (names : Names) (k : BaseKind) (ts : List Placed) (f : TermFault) → FailsOpened names (behind_column k) ts f → FailsBase names k ts f
+opened_base_fails names k ts f o = record { fails = λ h. o.fails h k refl }
+
+pub centre_fails : (names : Names) (ts us : List Placed) (col : ℕ) (f : TermFault) → ReadsOpened names comma ts col us → FailsNumber us f → FailsBase names around_kind ts f
+centre_fails names ts us col f r n = record { fails = λ h. goes_fails names _ _ ts us f (r.goes h around_kind _ refl) (n.fails names h (centre_of r.letters)) }
+
 pub around_end_fails : (names : Names) (ts us vs : List Placed) (col : ℕ) (centre : ℤ) (f : TermFault) → ReadsOpened names comma ts col us → ReadsNumber us centre vs → IsOther (sign right) vs f → FailsBase names around_kind ts f
-around_end_fails names ts us vs col centre f r n o h = goes_fails names _ _ ts vs f (centre_goes names ts us vs col centre r n h) (other_fails names (sign right) vs f _ o (λ u ne. grind arith))
+around_end_fails names ts us vs col centre f r n o = record { fails = λ h. goes_fails names _ _ ts vs f (centre_goes names ts us vs col centre r n h) (other_fails names (sign right) vs f _ o (λ u ne. grind arith)) }
+
+pub start_fails : (names : Names) (ts us : List Placed) (col : ℕ) (f : TermFault) → ReadsOpened names comma ts col us → FailsNumber us f → FailsBase names between_kind ts f
+start_fails names ts us col f r n = record { fails = λ h. goes_fails names _ _ ts us f (r.goes h between_kind _ refl) (n.fails names h (start_of r.letters)) }
 
 pub between_comma_fails : (names : Names) (ts us vs : List Placed) (col : ℕ) (l : ℤ) (f : TermFault) → ReadsOpened names comma ts col us → ReadsNumber us l vs → IsOther (sign comma) vs f → FailsBase names between_kind ts f
-between_comma_fails names ts us vs col l f r n o h = goes_fails names _ _ ts vs f (start_goes names ts us vs col l r n h) (other_fails names (sign comma) vs f _ o (λ u ne. grind arith))
+between_comma_fails names ts us vs col l f r n o = record { fails = λ h. goes_fails names _ _ ts vs f (start_goes names ts us vs col l r n h) (other_fails names (sign comma) vs f _ o (λ u ne. grind arith)) }
 
-pub between_right_fails : (names : Names) (ts us vs ws : List Placed) (col : ℕ) (l : ℤ) (f : TermFault) → ReadsOpened names comma ts col us → ReadsNumber us l vs → Passes (sign comma) vs ws → FailsEnd l ws f → FailsBase names between_kind ts f
-between_right_fails names ts us vs ws col l f r n d m h =
-    goes_fails names _ _ ts ws f (range_goes names ts us vs ws col l r n d h) (m names h r.letters n.number n.value_is)
+pub end_fails : (names : Names) (ts us vs ws : List Placed) (col : ℕ) (l : ℤ) (f : TermFault) → ReadsOpened names comma ts col us → ReadsNumber us l vs → Passes (sign comma) vs ws → FailsNumber ws f → FailsBase names between_kind ts f
+end_fails names ts us vs ws col l f r n d m = record { fails = λ h. goes_fails names _ _ ts ws f (range_goes names ts us vs ws col l r n d h) (m.fails names h (end_of r.letters n.number)) }
 
-pub between_end_fails : (names : Names) (ts us vs ws xs : List Placed) (col : ℕ) (l r : ℤ) (f : TermFault) → ReadsOpened names comma ts col us → ReadsNumber us l vs → Passes (sign comma) vs ws → ReadsNumber ws r xs → int_lt r l ≡ false → IsOther (sign right) xs f → FailsBase names between_kind ts f
-between_end_fails names ts us vs ws xs col l r f o n d m above e h =
-    goes_fails names _ _ ts xs f (goes_then names _ _ _ ts ws xs (range_goes names ts us vs ws col l o n d h) (end_goes names ws xs l r m above h o.letters n.number n.value_is))
-    (other_fails names (sign right) xs f _ e (λ u ne. grind arith))
+pub range_empty : (names : Names) (ts us vs ws xs : List Placed) (col : ℕ) (l r : ℤ) (t : Lexeme) → ReadsOpened names comma ts col us → ReadsNumber us l vs → Passes (sign comma) vs ws → ReadsNumber ws r xs → int_lt (kept r) (kept l) ≡ true → ws ≡ taken t → FailsBase names between_kind ts (EmptyRange t.at)
+range_empty names ts us vs ws xs col l r t o n d m under e =
+    record {
+      fails = λ h. goes_fails names _ _ ts ws (EmptyRange t.at) (range_goes names ts us vs ws col l o n d h)
+          (subst (λ at. Fails names (reading h (number_due (end_of o.letters n.number))) ws (EmptyRange at)) (ap first_place e) (m.refused names h (end_of o.letters n.number) (below_of n.number m.number (kept l) (kept r) true (n.value_is ∙ kept_is n) (m.value_is ∙ kept_is m) under)));
+    }
+
+pub between_end_fails : (names : Names) (ts us vs ws xs : List Placed) (col : ℕ) (l r : ℤ) (f : TermFault) → ReadsOpened names comma ts col us → ReadsNumber us l vs → Passes (sign comma) vs ws → ReadsNumber ws r xs → int_lt (kept r) (kept l) ≡ false → IsOther (sign right) xs f → FailsBase names between_kind ts f
+between_end_fails names ts us vs ws xs col l r f o n d m above e =
+    record {
+      fails = λ h. goes_fails names _ _ ts xs f
+          (goes_then names _ _ _ ts ws xs (range_goes names ts us vs ws col l o n d h) (m.goes names h (end_of o.letters n.number) (below_of n.number m.number (kept l) (kept r) false (n.value_is ∙ kept_is n) (m.value_is ∙ kept_is m) above)))
+          (other_fails names (sign right) xs f _ e (λ u ne. grind arith));
+    }
+
+pub pos_fails : (names : Names) (ts us : List Placed) (col : ℕ) (f : TermFault) → ReadsOpened names comma ts col us → FailsNumbers right us f → FailsBase names pos_kind ts f
+pos_fails names ts us col f r n = record { fails = λ h. goes_fails names _ _ ts us f (r.goes h pos_kind _ refl) (n.fails names h (in_pos r.letters) refl) }
+
+-- what the readers of `around` and of `between` need
+pub ruleset reads_around = (opened_base_fails, centre_fails, around_read, around_end_fails)
+
+pub ruleset reads_between = (between_read, opened_base_fails, start_fails, between_comma_fails, end_fails, range_empty, between_end_fails)

@@ -7,7 +7,7 @@ use Rattle.pref_table.specs.Columns.{column_of}
 use Rattle.pref_term.specs.Token.{left, right, comma, star, ampersand, Token, word, digits, sign, Placed, Sign}
 use Rattle.pref_term.specs.Grammar.{mark, based, grouped, reversed, NumberText, BaseText, UnaryText, ProductText, PriorText, HeadText, DimText, Direction, minimal, maximal, different, direction_word, cased_of, of_word, rated, skyline, column_name, layered_text, SetText}
 use Rattle.pref_term.specs.Spells.{Names, UnlessMemory, number_value, column_at, base_meaning, unary_meaning, product_meaning, prior_meaning, product_of, orders_of, groups_of, below, empty_range, set_value}
-use Rattle.pref_term.specs.Reading.{BaseKind, low_kind, high_kind, BaseStep, after_column, named, NumberHole, next_of, number_due, filled, UnaryHole, ProductHole, PriorHole, whole, first_factor, first_product, unary_depth, product_depth, prior_depth, State, start, operand, reverse_named, reading, after, group_due, skyline_named, dim_due, dim_named, completed, ranked, next, run, least_of, end_of, stepped, NumberList, closing, list_closed, set_due, with_next, dims_listed, CountKind, count_due}
+use Rattle.pref_term.specs.Reading.{BaseKind, low_kind, high_kind, BaseStep, after_column, named, NumberHole, next_of, number_due, filled, UnaryHole, ProductHole, PriorHole, whole, first_factor, first_product, unary_depth, product_depth, prior_depth, State, start, operand, reverse_named, reading, after, group_due, skyline_named, dim_due, dim_named, completed, ranked, next, run, least_of, stepped, NumberList, closing, list_closed, set_due, with_next, dims_listed, CountKind, count_due}
 use Rattle.pref_term.specs.Asked.{meant}
 use Rattle.pref_term.specs.Distinct.{plain, says_distinct}
 use Rattle.pref_term.specs.Ahead.{ahead}
@@ -86,8 +86,8 @@ pub record TakesColumn (names : Names) (ts : List Placed) (col : ℕ) (us : List
   pub found : IsColumn names letters col
   pub passes : Passes (word letters) ts us
 
-abbrev pub FailsColumn : Names → List Placed → TermFault → Type 0
-FailsColumn names ts f = (s : State) (behind : List ℕ → State) → WantsColumn s behind → Fails names s ts f
+pub record FailsColumn (names : Names) (ts : List Placed) (f : TermFault) : Type 0 where
+  pub fails : (s : State) (behind : List ℕ → State) → WantsColumn s behind → Fails names s ts f
 
 -- the sign behind the column of a base term
 abbrev pub behind_column : BaseKind → Sign
@@ -113,10 +113,6 @@ pub record ReadsNumber (ts : List Placed) (value : ℤ) (us : List Placed) : Typ
   pub goes : (names : Names) (h : UnaryHole) (hole : NumberHole) → below (least_of hole) (number_value number) ≡ None → Goes names (reading h (number_due hole)) ts (reading h (filled hole number)) us
   pub refused : (names : Names) (h : UnaryHole) (hole : NumberHole) → below (least_of hole) (number_value number) ≡ Some empty_range → Fails names (reading h (number_due hole)) ts (EmptyRange (first_place ts))
 
--- the right end of a range
-abbrev pub FailsEnd : ℤ → List Placed → TermFault → Type 0
-FailsEnd least ts f = (names : Names) (h : UnaryHole) (column : List ℕ) (lower : NumberText) → number_value lower ≡ least → Fails names (reading h (number_due (end_of column lower))) ts f
-
 -- some numbers of a list, behind which one more is due
 pub record ReadsSome (close : Sign) (ts : List Placed) (values : List ℤ) (us : List Placed) : Type 0 where
   pub some : List NumberText
@@ -132,14 +128,14 @@ pub record ReadsNumbers (close : Sign) (ts : List Placed) (values : List ℤ) (u
   pub values_are : number_value first ∷ map number_value others ≡ values
   pub goes : (names : Names) (h : UnaryHole) (l : NumberList) → closing l ≡ close → Goes names (reading h (number_due (next_of l []))) ts (stepped h (list_closed l first others)) us
 
-abbrev pub FailsOpened : Names → Sign → List Placed → TermFault → Type 0
-FailsOpened names behind ts f = (h : UnaryHole) (k : BaseKind) → behind_column k ≡ behind → Fails names (reading h (named k)) ts f
+pub record FailsOpened (names : Names) (behind : Sign) (ts : List Placed) (f : TermFault) : Type 0 where
+  pub fails : (h : UnaryHole) (k : BaseKind) → behind_column k ≡ behind → Fails names (reading h (named k)) ts f
 
-abbrev pub FailsNumber : List Placed → TermFault → Type 0
-FailsNumber ts f = (names : Names) (h : UnaryHole) (hole : NumberHole) → Fails names (reading h (number_due hole)) ts f
+pub record FailsNumber (ts : List Placed) (f : TermFault) : Type 0 where
+  pub fails : (names : Names) (h : UnaryHole) (hole : NumberHole) → Fails names (reading h (number_due hole)) ts f
 
-abbrev pub FailsNumbers : (close : Sign) → List Placed → TermFault → Type 0
-FailsNumbers close ts f = (names : Names) (h : UnaryHole) (l : NumberList) → closing l ≡ close → Fails names (reading h (number_due (next_of l []))) ts f
+pub record FailsNumbers (close : Sign) (ts : List Placed) (f : TermFault) : Type 0 where
+  pub fails : (names : Names) (h : UnaryHole) (l : NumberList) → closing l ≡ close → Fails names (reading h (number_due (next_of l []))) ts f
 
 -- some sets of `layered`, behind which one more is due
 pub record ReadsSomeSets (ts : List Placed) (sets : List (List ℤ)) (us : List Placed) : Type 0 where
@@ -156,8 +152,8 @@ pub record ReadsSets (ts : List Placed) (sets : List (List ℤ)) (us : List Plac
   pub values_are : set_value first ∷ map set_value others ≡ sets
   pub goes : (names : Names) (h : UnaryHole) (column : List ℕ) → Goes names (reading h (set_due column [])) ts (completed h (based (layered_text column first others))) us
 
-abbrev pub FailsSets : List Placed → TermFault → Type 0
-FailsSets ts f = (names : Names) (h : UnaryHole) (column : List ℕ) → Fails names (reading h (set_due column [])) ts f
+pub record FailsSets (ts : List Placed) (f : TermFault) : Type 0 where
+  pub fails : (names : Names) (h : UnaryHole) (column : List ℕ) → Fails names (reading h (set_due column [])) ts f
 
 -- a term that is read so in front, or the fault
 abbrev pub Parses : (Preference → List Placed → Type 0) → (TermFault → Type 0) → Result (Term × Cursor) TermFault → Type 0
@@ -208,22 +204,22 @@ pub record ReadsGroup (names : Names) (depth : ℕ) (ts : List Placed) (p : Pref
   pub goes : (h : UnaryHole) → unary_depth h ≡ depth → Goes names (operand h) ts (completed h (grouped tree)) us
   pub goes_reversed : (h : UnaryHole) → unary_depth h ≡ depth → Goes names (reverse_named h) ts (completed h (reversed tree)) us
 
-abbrev pub FailsBase : Names → BaseKind → List Placed → TermFault → Type 0
-FailsBase names k ts f = (h : UnaryHole) → Fails names (reading h (named k)) ts f
+pub record FailsBase (names : Names) (k : BaseKind) (ts : List Placed) (f : TermFault) : Type 0 where
+  pub fails : (h : UnaryHole) → Fails names (reading h (named k)) ts f
 
-abbrev pub FailsUnary : Names → ℕ → List Placed → TermFault → Type 0
-FailsUnary names depth ts f = (h : UnaryHole) → unary_depth h ≡ depth → Fails names (operand h) ts f
+pub record FailsUnary (names : Names) (depth : ℕ) (ts : List Placed) (f : TermFault) : Type 0 where
+  pub fails : (h : UnaryHole) → unary_depth h ≡ depth → Fails names (operand h) ts f
 
 -- its fault; alone it begins with a parenthesis
 pub record FailsGroup (names : Names) (depth : ℕ) (ts : List Placed) (f : TermFault) : Type 0 where
   pub alone : (us : List Placed) → Passes (sign left) ts us → (h : UnaryHole) → unary_depth h ≡ depth → Fails names (operand h) ts f
   pub reversed : (h : UnaryHole) → unary_depth h ≡ depth → Fails names (reverse_named h) ts f
 
-abbrev pub FailsProduct : Names → ℕ → List Placed → TermFault → Type 0
-FailsProduct names depth ts f = (h : ProductHole) → product_depth h ≡ depth → Fails names (operand (first_factor h)) ts f
+pub record FailsProduct (names : Names) (depth : ℕ) (ts : List Placed) (f : TermFault) : Type 0 where
+  pub fails : (h : ProductHole) → product_depth h ≡ depth → Fails names (operand (first_factor h)) ts f
 
-abbrev pub FailsPrior : Names → ℕ → List Placed → TermFault → Type 0
-FailsPrior names depth ts f = (h : PriorHole) → prior_depth h ≡ depth → Fails names (operand (first_factor (first_product h))) ts f
+pub record FailsPrior (names : Names) (depth : ℕ) (ts : List Placed) (f : TermFault) : Type 0 where
+  pub fails : (h : PriorHole) → prior_depth h ≡ depth → Fails names (operand (first_factor (first_product h))) ts f
 
 -- ---- whole questions
 
@@ -232,8 +228,8 @@ abbrev pub Gives : Result Question TermFault → Result Question TermFault → T
 Gives x r = MatchResult r (λ q. x ≡ Ok q) (λ f. UnlessMemory f (x ≡ Err f))
 
 -- reading from the state asks this, or reports this
-abbrev pub Asks : Names → (distinct : Bool) → State → List Placed → Result Question TermFault → Type 0
-Asks names distinct s ts r = (p : ℕ) → Gives (meant names distinct (run names ts p s)) r
+pub record Asks (names : Names) (distinct : Bool) (s : State) (ts : List Placed) (r : Result Question TermFault) : Type 0 where
+  pub asks : (p : ℕ) → Gives (meant names distinct (run names ts p s)) r
 
 -- a count in front
 pub record TakesCount (ts : List Placed) (k : ℕ) (us : List Placed) : Type 0 where
@@ -242,8 +238,8 @@ pub record TakesCount (ts : List Placed) (k : ℕ) (us : List Placed) : Type 0 w
   pub good : is_count (digits_value 10 digits_are) ≡ true
   pub passes : Passes (digits digits_are) ts us
 
-abbrev pub FailsCount : List Placed → TermFault → Type 0
-FailsCount ts f = (names : Names) (k : CountKind) → Fails names (count_due k) ts f
+pub record FailsCount (ts : List Placed) (f : TermFault) : Type 0 where
+  pub fails : (names : Names) (k : CountKind) → Fails names (count_due k) ts f
 
 -- some columns of a group, behind which one more is due
 pub record ReadsSomeColumns (names : Names) (ts : List Placed) (columns : List ℕ) (us : List Placed) : Type 0 where
@@ -259,8 +255,8 @@ pub record ReadsColumns (names : Names) (ts : List Placed) (columns : List ℕ) 
   pub known : All (IsKnown names) columns
   pub goes : (head : HeadText) (r : PriorText) (p : ℕ) → run names ts p (group_due head r []) ≡ Ok (rated head r some)
 
-abbrev pub FailsColumns : Names → List Placed → TermFault → Type 0
-FailsColumns names ts f = (head : HeadText) (r : PriorText) → Fails names (group_due head r []) ts f
+pub record FailsColumns (names : Names) (ts : List Placed) (f : TermFault) : Type 0 where
+  pub fails : (head : HeadText) (r : PriorText) → Fails names (group_due head r []) ts f
 
 -- the group of a question, which may have no column, and the end
 pub record ReadsGrouping (names : Names) (ts : List Placed) (columns : List ℕ) : Type 0 where
@@ -269,8 +265,8 @@ pub record ReadsGrouping (names : Names) (ts : List Placed) (columns : List ℕ)
   pub known : All (IsKnown names) columns
   pub goes : (head : HeadText) (r : PriorText) (p : ℕ) → run names ts p (ranked (whole head) r) ≡ Ok (rated head r some)
 
-abbrev pub FailsGrouping : Names → List Placed → TermFault → Type 0
-FailsGrouping names ts f = NotNext (sign star) ts → NotNext (sign ampersand) ts → (head : HeadText) (r : PriorText) → Fails names (ranked (whole head) r) ts f
+pub record FailsGrouping (names : Names) (ts : List Placed) (f : TermFault) : Type 0 where
+  pub fails : NotNext (sign star) ts → NotNext (sign ampersand) ts → (head : HeadText) (r : PriorText) → Fails names (ranked (whole head) r) ts f
 
 -- what a skyline clause says of a column
 pub record TakesDirection (ts : List Placed) (direction : Direction) (us : List Placed) : Type 0 where
@@ -278,8 +274,8 @@ pub record TakesDirection (ts : List Placed) (direction : Direction) (us : List 
   pub found : cased_of letters ≡ Some (direction_word direction)
   pub passes : Passes (word letters) ts us
 
-abbrev pub FailsDirection : List Placed → TermFault → Type 0
-FailsDirection ts f = (names : Names) (s o : List ℕ) (dims : List DimText) (column : List ℕ) → Fails names (dim_named s o dims column) ts f
+pub record FailsDirection (ts : List Placed) (f : TermFault) : Type 0 where
+  pub fails : (names : Names) (s o : List ℕ) (dims : List DimText) (column : List ℕ) → Fails names (dim_named s o dims column) ts f
 
 -- a dimension of a skyline clause
 pub record ReadsDim (names : Names) (ts : List Placed) (col : ℕ) (direction : Direction) (us : List Placed) : Type 0 where
@@ -288,8 +284,8 @@ pub record ReadsDim (names : Names) (ts : List Placed) (col : ℕ) (direction : 
   pub found : IsColumn names dim.column col
   pub goes : (s o : List ℕ) (some : List DimText) → Goes names (dim_due s o some) ts (with_next (dims_listed s o) some dim) us
 
-abbrev pub FailsDim : Names → List Placed → TermFault → Type 0
-FailsDim names ts f = (s o : List ℕ) (some : List DimText) → Fails names (dim_due s o some) ts f
+pub record FailsDim (names : Names) (ts : List Placed) (f : TermFault) : Type 0 where
+  pub fails : (s o : List ℕ) (some : List DimText) → Fails names (dim_due s o some) ts f
 
 -- one more order of a product, which has none at first
 abbrev pub joined : Option Preference → Preference → Preference
@@ -320,15 +316,15 @@ pub record ReadsClause (names : Names) (ts : List Placed) (product : Option Pref
   pub group_known : All (IsKnown names) group
   pub goes : (s o : List ℕ) (p : ℕ) → run names ts p (dim_due s o []) ≡ Ok (skyline s o first others)
 
-abbrev pub FailsClause : Names → List Placed → TermFault → Type 0
-FailsClause names ts f = (s o : List ℕ) → Fails names (dim_due s o []) ts f
+pub record FailsClause (names : Names) (ts : List Placed) (f : TermFault) : Type 0 where
+  pub fails : (s o : List ℕ) → Fails names (dim_due s o []) ts f
 
 -- the word `of`
 abbrev pub PassesOf : List Placed → List Placed → Type 0
 PassesOf ts us = (letters : List ℕ) × (cased_of letters ≡ Some of_word) × Passes (word letters) ts us
 
-abbrev pub FailsOf : List Placed → TermFault → Type 0
-FailsOf ts f = (names : Names) (s : List ℕ) → Fails names (skyline_named s) ts f
+pub record FailsOf (ts : List Placed) (f : TermFault) : Type 0 where
+  pub fails : (names : Names) (s : List ℕ) → Fails names (skyline_named s) ts f
 
 -- ---- with the word `distinct`, or without it
 
@@ -345,5 +341,5 @@ pub record IsBehindDistinct (ts us : List Placed) : Type 0 where
   pub leads : (names : Names) → run names (plain ts) 0 start ≡ run names us place (dim_due skyline_is of_is [])
 
 -- a clause from its first column on, with the word or without it
-abbrev pub AsksClause : Names → (distinct : Bool) → List Placed → Result Question TermFault → Type 0
-AsksClause names distinct ts r = (s o : List ℕ) → Asks names distinct (dim_due s o []) ts r
+pub record AsksClause (names : Names) (distinct : Bool) (ts : List Placed) (r : Result Question TermFault) : Type 0 where
+  pub asks : (s o : List ℕ) → Asks names distinct (dim_due s o []) ts r

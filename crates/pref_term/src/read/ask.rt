@@ -37,6 +37,7 @@ fn count<'a>(cursor: Cursor<'a>) -> Parsed<'a, u32>
 }
 
 /// Takes the columns of a group and the end behind them.
+#[tactic(auto, using(crate::proofs::AskLemmas::columns_none, crate::proofs::AskLemmas::columns_more))]
 fn group_columns(
     alloc: Global,
     schema: &Schema,
@@ -73,6 +74,7 @@ fn grouping(alloc: Global, schema: &Schema, cursor: Cursor<'_>) -> Result<Vec<us
 }
 
 /// Takes what follows the words that say how many are wanted.
+#[tactic(auto, using(crate::proofs::AskLemmas::rated_read, crate::proofs::AskLemmas::rated_fails))]
 fn read_rated_term(
     alloc: Global,
     schema: &Schema,
@@ -124,7 +126,7 @@ struct Dimension {
 }
 
 /// Takes a dimension.
-#[tactic(auto, using(crate::proofs::AskLemmas::dim_read))]
+#[tactic(auto, using(crate::proofs::AskLemmas::dim_read, crate::proofs::AskLemmas::dim_column_fails, crate::proofs::AskLemmas::dim_direction_fails))]
 fn take_dimension<'a>(schema: &Schema, cursor: Cursor<'a>) -> Parsed<'a, Dimension>
     ensures ok { IfOk result (λ x. led.ReadsDim schema.now (ahead cursor.entry) x.0.col x.0.direction (ahead x.1)) }
     ensures shorter { IfOk result (λ x. length (ahead x.1) < length (ahead cursor.entry)) }
@@ -172,6 +174,7 @@ fn with_dimension(alloc: Global, clause: Clause, dimension: Dimension) -> Result
 }
 
 /// Takes the dimensions of a skyline clause and the end behind them.
+#[tactic(auto, using(crate::proofs::AskLemmas::dims_none, crate::proofs::AskLemmas::dims_more))]
 fn dimensions(alloc: Global, schema: &Schema, cursor: Cursor<'_>) -> Result<Clause, TermFault>
     ensures ok { IfOk result (λ clause. led.ReadsClause schema.now (ahead cursor.entry) (option_map preference_of clause.product) clause.group.items) }
     ensures err { IfErr result (λ f. led.FailsClause schema.now (ahead cursor.entry) f) }
@@ -192,6 +195,7 @@ fn dimensions(alloc: Global, schema: &Schema, cursor: Cursor<'_>) -> Result<Clau
 }
 
 /// Takes the dimensions of a clause.
+#[tactic(auto, using(crate::proofs::AskLemmas::clause_read, crate::proofs::AskLemmas::clause_unordered, crate::proofs::AskLemmas::clause_fails))]
 fn clause_ask(
     alloc: Global,
     schema: &Schema,
@@ -274,6 +278,7 @@ fn distinct_clause<'a>(cursor: Cursor<'a>) -> Option<Cursor<'a>>
 }
 
 /// Takes a whole question. Whether a word `distinct` behind `skyline of` is one of the clause or a column is chosen first.
+#[tactic(auto, using(crate::proofs::DistinctLemmas::whole_clause, crate::proofs::DistinctLemmas::whole_plain))]
 pub(super) fn question(alloc: Global, schema: &Schema, cursor: Cursor<'_>) -> Result<Ask, TermFault>
     ensures asked { led.AsksWhole schema.now (ahead cursor.entry) result }
     ensures known { IfOk result (λ a. FitsWidth (length schema.now) a) }

@@ -47,6 +47,7 @@ pub(super) fn take_word<'a>(cursor: Cursor<'a>) -> Result<(&'a [u8], Lexeme<'a>)
 }
 
 /// Takes a column.
+#[tactic(auto, using(crate::proofs::LedLemmas::column_unknown))]
 pub(super) fn column<'a>(schema: &Schema, cursor: Cursor<'a>) -> Parsed<'a, usize>
     ensures ok { IfOk result (λ x. led.TakesColumn schema.now (ahead cursor.entry) x.0 (ahead x.1)) }
     ensures shorter { IfOk result (λ x. length (ahead x.1) < length (ahead cursor.entry)) }
@@ -60,7 +61,7 @@ pub(super) fn column<'a>(schema: &Schema, cursor: Cursor<'a>) -> Parsed<'a, usiz
 }
 
 /// Takes a parenthesis, a column and the sign behind it.
-#[tactic(auto, using(crate::proofs::LedLemmas::opened_read, crate::proofs::LedLemmas::column_end_fails))]
+#[tactic(auto, using(crate::proofs::LedLemmas::opened_read, crate::proofs::LedLemmas::opened_fails, crate::proofs::LedLemmas::column_end_fails))]
 fn opened_column<'a>(schema: &Schema, cursor: Cursor<'a>, behind: Sign) -> Parsed<'a, usize>
     ensures ok { IfOk result (λ x. led.ReadsOpened schema.now behind (ahead cursor.entry) x.0 (ahead x.1)) }
     ensures shorter { IfOk result (λ x. length (ahead x.1) < length (ahead cursor.entry)) }
@@ -91,6 +92,7 @@ fn number<'a>(cursor: Cursor<'a>) -> Parsed<'a, i64>
 }
 
 /// Takes the numbers of a list and the sign that closes it.
+#[tactic(auto, using(crate::proofs::LedLemmas::some_none, crate::proofs::LedLemmas::some_more))]
 fn numbers<'a>(alloc: Global, cursor: Cursor<'a>, close: Sign) -> Parsed<'a, Vec<i64>>
     ensures ok { IfOk result (λ x. led.ReadsNumbers close (ahead cursor.entry) x.0.items (ahead x.1)) }
     ensures shorter { IfOk result (λ x. length (ahead x.1) < length (ahead cursor.entry)) }
@@ -110,6 +112,7 @@ fn numbers<'a>(alloc: Global, cursor: Cursor<'a>, close: Sign) -> Parsed<'a, Vec
 }
 
 /// Takes what follows `around`.
+#[tactic(auto, using(crate::proofs::LedLemmas::reads_around))]
 fn around<'a>(schema: &Schema, cursor: Cursor<'a>) -> Parsed<'a, Term>
     ensures parsed { led.Parses (led.ReadsBase schema.now reading.around_kind (ahead cursor.entry)) (led.FailsBase schema.now reading.around_kind (ahead cursor.entry)) result }
     ensures shorter { IfOk result (λ x. length (ahead x.1) < length (ahead cursor.entry)) }
@@ -121,6 +124,7 @@ fn around<'a>(schema: &Schema, cursor: Cursor<'a>) -> Parsed<'a, Term>
 }
 
 /// Takes what follows `between`. The right end of a range is no less than its left end.
+#[tactic(auto, using(crate::proofs::LedLemmas::reads_between))]
 fn between<'a>(schema: &Schema, cursor: Cursor<'a>) -> Parsed<'a, Term>
     ensures parsed { led.Parses (led.ReadsBase schema.now reading.between_kind (ahead cursor.entry)) (led.FailsBase schema.now reading.between_kind (ahead cursor.entry)) result }
     ensures shorter { IfOk result (λ x. length (ahead x.1) < length (ahead cursor.entry)) }
@@ -138,6 +142,7 @@ fn between<'a>(schema: &Schema, cursor: Cursor<'a>) -> Parsed<'a, Term>
 }
 
 /// Takes what follows `pos`.
+#[tactic(auto, using(crate::proofs::LedLemmas::pos_read, crate::proofs::LedLemmas::opened_base_fails, crate::proofs::LedLemmas::pos_fails))]
 fn pos<'a>(alloc: Global, schema: &Schema, cursor: Cursor<'a>) -> Parsed<'a, Term>
     ensures parsed { led.Parses (led.ReadsBase schema.now reading.pos_kind (ahead cursor.entry)) (led.FailsBase schema.now reading.pos_kind (ahead cursor.entry)) result }
     ensures shorter { IfOk result (λ x. length (ahead x.1) < length (ahead cursor.entry)) }
@@ -149,6 +154,7 @@ fn pos<'a>(alloc: Global, schema: &Schema, cursor: Cursor<'a>) -> Parsed<'a, Ter
 }
 
 /// Takes the sets of `layered` and the parenthesis behind them.
+#[tactic(auto, using(crate::proofs::SetLemmas::some_sets_none, crate::proofs::SetLemmas::some_sets_more))]
 fn sets<'a>(alloc: Global, cursor: Cursor<'a>) -> Parsed<'a, Vec<Numbers>>
     ensures ok { IfOk result (λ x. led.ReadsSets (ahead cursor.entry) x.0.items (ahead x.1)) }
     ensures shorter { IfOk result (λ x. length (ahead x.1) < length (ahead cursor.entry)) }
@@ -169,6 +175,7 @@ fn sets<'a>(alloc: Global, cursor: Cursor<'a>) -> Parsed<'a, Vec<Numbers>>
 }
 
 /// Takes what follows `layered`.
+#[tactic(auto, using(crate::proofs::SetLemmas::layered_read, crate::proofs::LedLemmas::opened_base_fails, crate::proofs::SetLemmas::layered_fails))]
 fn layered<'a>(alloc: Global, schema: &Schema, cursor: Cursor<'a>) -> Parsed<'a, Term>
     ensures parsed { led.Parses (led.ReadsBase schema.now reading.layered_kind (ahead cursor.entry)) (led.FailsBase schema.now reading.layered_kind (ahead cursor.entry)) result }
     ensures shorter { IfOk result (λ x. length (ahead x.1) < length (ahead cursor.entry)) }
@@ -180,7 +187,7 @@ fn layered<'a>(alloc: Global, schema: &Schema, cursor: Cursor<'a>) -> Parsed<'a,
 }
 
 /// Takes a base term, whose word was taken. It is not `reverse`.
-#[tactic(auto, using(crate::proofs::CycleLemmas::taken_base))]
+#[tactic(auto, using(crate::proofs::CycleLemmas::reads_base))]
 pub(super) fn base_term<'a>(
     alloc: Global,
     schema: &Schema,

@@ -31,6 +31,7 @@ fn deeper(depth: usize, at: u64) -> Result<usize, TermFault>
 }
 
 /// Takes a factor, where this many nestings are open.
+#[tactic(auto, using(crate::proofs::CycleLemmas::reads_unary))]
 #[cycle(term)]
 fn unary<'a>(alloc: Global, schema: &Schema, depth: usize, cursor: Cursor<'a>) -> Parsed<'a, Term>
     requires { depth ≤ 64 }
@@ -59,6 +60,7 @@ fn unary<'a>(alloc: Global, schema: &Schema, depth: usize, cursor: Cursor<'a>) -
 }
 
 /// Takes a prior in its parentheses, where this many nestings are open.
+#[tactic(auto, using(crate::proofs::CycleLemmas::reads_group))]
 #[cycle(term)]
 fn group<'a>(alloc: Global, schema: &Schema, depth: usize, cursor: Cursor<'a>) -> Parsed<'a, Term>
     requires { depth ≤ 64 }
@@ -76,6 +78,7 @@ fn group<'a>(alloc: Global, schema: &Schema, depth: usize, cursor: Cursor<'a>) -
 }
 
 /// Takes a product, where this many nestings are open.
+#[tactic(auto, using(crate::proofs::CycleLemmas::one_factor_read))]
 #[cycle(term)]
 fn product<'a>(alloc: Global, schema: &Schema, depth: usize, cursor: Cursor<'a>) -> Parsed<'a, Term>
     requires { depth ≤ 64 }
@@ -95,6 +98,7 @@ fn product<'a>(alloc: Global, schema: &Schema, depth: usize, cursor: Cursor<'a>)
 }
 
 /// Takes a prior, where this many nestings are open.
+#[tactic(auto, using(crate::proofs::CycleLemmas::one_product_read))]
 #[cycle(term)]
 pub(super) fn prior<'a>(
     alloc: Global,
