@@ -1,6 +1,6 @@
 -- Entries that were held already, when others come: as many levels are above them as before, or more, and none that was of a level is over one that was of it or of one above.
-use Rattle.pref_sky.proofs.Common.{◌≡◌, ℕ, suc, ◌<◌, ◌≤◌, ◌-◌, Bool, true, false, not, ◌&&◌, inl, inr, List, [], ◌∷◌, refl, sym, ◌∙◌, ap, subst, arith, length, get_or, get_or-map, map, filter, nat_lt, All}
-use Rattle.pref_sky.proofs.Common.{and_from, both_ways, cases_lt, false_from_ne_true, IsStrictOrder, Entry, Among, comes_after, count_above, entry_at, entry_of, level_of, own_levels, own_order, AreLeveled, AreLowest, HaveDifferentIds, Item, OwnOrder}
+use Rattle.pref_sky.proofs.Common.{◌≡◌, ℕ, suc, ◌<◌, ◌≤◌, ◌-◌, Bool, true, not, ◌&&◌, List, [], ◌∷◌, sym, ◌∙◌, ap, subst, arith, length, get_or, get_or-map, map, filter, nat_lt, All}
+use Rattle.pref_sky.proofs.Common.{and_from, both_ways, false_from_ne_true, IsStrictOrder, Entry, Among, comes_after, count_above, entry_at, entry_of, level_of, own_levels, own_order, AreLeveled, AreLowest, HaveDifferentIds, Item, OwnOrder}
 use Rattle.pref_sky.proofs.Common.{length-map}
 use Rattle.pref_sky.proofs.OwnOrders.{own_is_strict}
 use Rattle.pref_sky.proofs.LeveledLaws.{HasChain, level_is, levels_of_kept}
@@ -27,26 +27,9 @@ pub held_among : (over : Entry → Entry → Bool) (cut : ℕ) (held all : List 
     → ((x : Entry) → Among x held → Among x all) → AreHeld over cut (λ p. get_or found p 0) all
 held_among over cut held all levels found are taken within =
     record {
-      within = λ p inside. elim (taken p inside) [
-        | inl new ↦ omega (arith, new)
-        | inr old ↦ omega (arith, are.within old.0 old.1, old.3)
-      ];
-      after = λ p inside. elim (taken p inside) [
-        | inl new ↦ let none : 0 ≡ get_or found p 0 - 1 = omega (arith, new) in subst (λ n. comes_after over all n (entry_at all p) ≡ true) none refl
-        | inr old ↦
-            let n = get_or levels old.0 0 - 1 in
-            let there : comes_after over all n (entry_at held old.0) ≡ true = comes_after_among_more over held all within n (entry_at held old.0) (are.after old.0 old.1) in
-            subst (λ k. comes_after over all (k - 1) (entry_at all p) ≡ true) old.3 (subst (λ e. comes_after over all n e ≡ true) old.2 there)
-      ];
-      apart = λ p q p_inside q_inside some near. elim (taken p p_inside) [
-        | inl new ↦ absurd (omega (arith, new, some))
-        | inr a ↦ elim (taken q q_inside) [
-          | inl new ↦ absurd (omega (arith, new, some, near))
-          | inr b ↦
-              let were : over (entry_at held b.0) (entry_at held a.0) ≡ false = are.apart a.0 b.0 a.1 b.1 (omega (arith, some, a.3)) (omega (arith, near, a.3, b.3)) in
-              subst (λ e. over (entry_at all q) e ≡ false) a.2 (subst (λ e. over e (entry_at held a.0) ≡ false) b.2 were)
-        ]
-      ];
+      within = λ p inside. grind (arith, taken p inside, are.within);
+      after = λ p inside. grind (arith, taken p inside, are.after, comes_after_among_more over held all within);
+      apart = λ p q p_inside q_inside some near. grind (arith, taken p p_inside, taken q q_inside, are.apart);
     }
 
 -- ---- those that have a level
@@ -72,13 +55,7 @@ module _ (over : Entry → Entry → Bool) (strict : IsStrictOrder over) (all : 
       let chain = chain_of_count over cut all e in
       record {
         there = w.0;
-        early = elim (cases_lt (number e) cut) [
-          | inl less ↦ less
-          | inr past ↦
-              let last : number e ≡ cut = omega (arith, past, chain.within) in
-              let late : comes_after over all cut e ≡ true = subst (λ n. comes_after over all n e ≡ true) last chain.after in
-              absurd (both_ways (is_upper e) (ap not late) w.1)
-        ];
+        early = grind (arith, w.1, chain.within, chain.after);
         chain = chain;
       }
 

@@ -163,25 +163,6 @@ pub in_order_joined : {E : Type 0} (le : E → E → Bool) (xs ys : List E) → 
 in_order_joined le [] ys first second across = second
 in_order_joined le (x ∷ xs) ys first second across = grind (arith, in_either xs ys, in_order_joined le xs ys first.1 second)
 
--- one entry more in its place
-pub in_order_with : {E : Type 0} (le : E → E → Bool) (xs ys : List E) (e : E) → IsInOrder le (xs ++ ys) → ((a : E) → Among a xs → le a e ≡ true) → ((b : E) → Among b ys → le e b ≡ true) → IsInOrder le (xs ++ e ∷ ys)
-in_order_with le [] ys e h to from = (from, h)
-in_order_with le (x ∷ xs) ys e h to from = (
-  λ z m. elim (in_either xs (e ∷ ys) z m) [
-    | inl near ↦ h.0 z (in_left xs ys z near)
-    | inr far ↦ elim far [ inl same ↦ ap (le x) same ∙ to x (inl refl) | inr behind ↦ h.0 z (in_right xs ys z behind) ]
-  ],
-  in_order_with le xs ys e h.1 (λ a m. to a (inr m)) from,
-)
-
-pub in_order_front : {E : Type 0} (le : E → E → Bool) (xs ys : List E) → IsInOrder le (xs ++ ys) → IsInOrder le xs
-in_order_front le [] ys h = tt
-in_order_front le (x ∷ xs) ys h = ((λ z m. h.0 z (in_left xs ys z m)), in_order_front le xs ys h.1)
-
-pub in_order_back : {E : Type 0} (le : E → E → Bool) (xs ys : List E) → IsInOrder le (xs ++ ys) → IsInOrder le ys
-in_order_back le [] ys h = h
-in_order_back le (x ∷ xs) ys h = in_order_back le xs ys h.1
-
 pub in_order_at : {E : Type 0} (le : E → E → Bool) (xs : List E) (i j : ℕ) (d : E) → IsInOrder le xs → i < j → j < length xs → le (get_or xs i d) (get_or xs j d) ≡ true
 in_order_at le [] i j d h before inside = absurd (omega (arith, inside))
 in_order_at le (x ∷ xs) i zero d h before inside = absurd (omega (arith, before))

@@ -241,11 +241,7 @@ module _ (over first second third : Entry → Entry → Bool) (all : List Entry)
         let k = w.0 in
         let step_in_second : second next_one (step k) ≡ false = no_worse_in_second (step k) m next_one w.2 (grind (arith, ahead)) in
         let step_in_third : third next_one (step k) ≡ false = no_worse_in_third (step k) m next_one w.3 (grind (arith, ahead)) in
-        let near : k < count =
-        elim (cases_lt k count) [
-          | inl less ↦ less
-          | inr past ↦ absurd (both_ways (second next_one (step count)) (no_worse_in_second (step count) (step k) next_one (in_second count k past w.1) step_in_second) (cut.next (omega (arith, past, w.1))))
-        ] in
+        let near : k < count = grind (arith, no_worse_in_second (step count) (step k) next_one, in_second count k, step_in_second, w.1, cut.next) in
         let some : 0 < count = omega (arith, near) in
         let there : count - 1 < length steps = omega (arith, cut.within, some) in
         let c = step (count - 1) in
@@ -279,11 +275,9 @@ module _ (over first second third : Entry → Entry → Bool) (all : List Entry)
           let e = entry_at all x in
           let m = entry_at all j in
           let led = swept.led in
+          let over_m = ahead_of_level first second third led.first_is_chain led.second_is_chain led.third_is_chain m next_one e level in
           elim (or_cases (is_ahead first second third e next_one) (are_level_in first second third e next_one) (led.decided e next_one (among x x_inside) (among i inside) above)) [
-            | inl ahead ↦
-                let over_m : over e m ≡ true =
-                led.ahead e m (among x x_inside) (among j j_inside) (ahead_of_level first second third led.first_is_chain led.second_is_chain led.third_is_chain m next_one e level ahead) in
-                absurd (both_ways (over e m) (alike.below m ∙ swept.strict.irreflexive m) over_m)
+            | inl ahead ↦ absurd (both_ways (over e m) (alike.below m ∙ swept.strict.irreflexive m) (ahead_is_over x j x_inside j_inside (over_m ahead)))
             | inr here ↦ here
           ]
 
@@ -291,7 +285,7 @@ module _ (over first second third : Entry → Entry → Bool) (all : List Entry)
       one_over : (j : ℕ) → IsMember over all i n j → over (entry_at all j) next_one ≡ true → are_level_in first second third (entry_at all j) next_one ≡ true
           → (kept.class ≡ class) × ((x : Item) × IsKept x kept × (is_over x ≡ true))
       one_over j member above level =
-          let from : class ≤ j = elim (cases_lt j class) [ inl before ↦ absurd (both_ways (are_level_in first second third (entry_at all j) next_one) (of_class.apart j before) level) | inr behind ↦ behind ] in
+          let from : class ≤ j = grind (arith, of_class.apart j, level) in
           let w = stands.kept_cover j from member in
           let x = w.1.0 in
           let over_it : over (entry_at all x.place) next_one ≡ true = w.1.2.below next_one ∙ above in
@@ -302,24 +296,17 @@ module _ (over first second third : Entry → Entry → Bool) (all : List Entry)
           ap (λ (signature : ℕ). is_within signature (rule next_one)) of_all.1 ∙ signed (entry_at all x.place) next_one (among x.place x_inside) (among i inside) level_x over_it in
           (w.0, (x, w.1.1, and_from (is_within x.signature (rule next_one)) (over (entry_at all x.place) next_one) within over_it))
 
-      -- of those that were of this level none is over one that was held too, of this level or of one above
-      held_apart : {cut : ℕ} → AreHeld over cut mark all → mark i ≤ suc n → (x : Item) → Among x kept.run.items → (mark i ≡ 0) ⊎ (is_over x ≡ false)
-      held_apart held near x m =
-          elim (cases_eq (mark i) 0) [
-            | inl new ↦ inl new
-            | inr old ↦
-                let at = stands.run_held x m in
-                let w = stands.kept_within x (inl m) in
-                let apart = held.apart i x.place inside (omega (arith, w.0.0, inside)) (omega (arith, old)) (omega (arith, near, at)) in
-                inr (and_right (is_within x.signature (rule next_one)) (over (entry_at all x.place) next_one) apart)
-          ]
-
-      -- so those that it is not compared with are not over it
+      -- those that it is not compared with are not over it: of those that were of this level none is over one that was held too, of this level or of one above
       pub none_kept : {cut : ℕ} → AreHeld over cut mark all → mark i ≤ suc n → ((x : Item) → IsAskedOf (mark i) x kept → is_over x ≡ false) → (x : Item) → IsKept x kept → is_over x ≡ false
       none_kept held near none x m =
           elim m [
             | inr came ↦ none x (inl came)
-            | inl old ↦ elim (held_apart held near x old) [ inl new ↦ none x (inr (new, old)) | inr apart ↦ apart ]
+            | inl old ↦ elim (cases_eq (mark i) 0) [
+              | inl new ↦ none x (inr (new, old))
+              | inr was ↦
+                  let x_inside : x.place < length all = omega (arith, (stands.kept_within x (inl old)).0.0, inside) in
+                  and_right (is_within x.signature (rule next_one)) (over (entry_at all x.place) next_one) (held.apart i x.place inside x_inside (omega (arith, was)) (omega (arith, near, stands.run_held x old)))
+            ]
           ]
 
       -- where neither the last step that is no worse nor one that is kept in the class is over it, none is

@@ -42,11 +42,15 @@ rule_of lead = signature_by lead.scales
 abbrev pub mark_of : Lead → ℕ → ℕ
 mark_of lead place = get_or lead.held.items place 0
 
--- these chains lead the order of these entries, which are in order, and see no difference that the question's keys do not; of two that are level in these chains the one that dominates has no bit in its signature that the other lacks; and some were held already
+-- of two that are level in these chains the one that dominates has no bit in its signature that the other lacks
+abbrev pub AreSigned : OwnOrder → Lead → List Entry → Type 0
+AreSigned order lead all = (a b : Entry) → Among a all → Among b all → are_level_in (first_of order lead) (second_of order lead) (third_of order lead) a b ≡ true → own_order order a b ≡ true
+    → is_within (rule_of lead a) (rule_of lead b) ≡ true
+
+-- these chains lead the order of these entries, which are in order, and see no difference that the question's keys do not; and some were held already
 pub record LeadsSweep (order : OwnOrder) (lead : Lead) (all : List Entry) : Type 0 where
   pub swept : AreSwept (own_order order) (first_of order lead) (second_of order lead) (third_of order lead) all
-  pub signed : (a b : Entry) → Among a all → Among b all → are_level_in (first_of order lead) (second_of order lead) (third_of order lead) a b ≡ true → own_order order a b ≡ true
-      → is_within (rule_of lead a) (rule_of lead b) ≡ true
+  pub signed : AreSigned order lead all
   pub keyed : (a b : Entry) → Among a all → Among b all → is_same (by_chain (ask_keys order.ask) a.row b.row) ≡ true
       → are_level_in (first_of order lead) (second_of order lead) (third_of order lead) a b ≡ true
   pub held : AreHeld (own_order order) order.cut (mark_of lead) all
