@@ -28,11 +28,14 @@ chain_at lead n = get_or (chains_of lead) n []
 abbrev pub first_of : OwnOrder → Lead → Entry → Entry → Bool
 first_of order lead = by_row (in_turn (earlier_in order.ask.group) (better_in (chain_at lead 0)))
 
+abbrev pub behind_first : OwnOrder → Lead → ℕ → Entry → Entry → Bool
+behind_first order lead n = by_row (in_turn (λ a b. earlier_in order.ask.group b a) (better_in (chain_at lead n)))
+
 abbrev pub second_of : OwnOrder → Lead → Entry → Entry → Bool
-second_of order lead = by_row (in_turn (λ a b. earlier_in order.ask.group b a) (better_in (chain_at lead 1)))
+second_of order lead = behind_first order lead 1
 
 abbrev pub third_of : OwnOrder → Lead → Entry → Entry → Bool
-third_of order lead = by_row (in_turn (λ a b. earlier_in order.ask.group b a) (better_in (chain_at lead 2)))
+third_of order lead = behind_first order lead 2
 
 -- the signature of an entry
 abbrev pub rule_of : Lead → Entry → ℕ

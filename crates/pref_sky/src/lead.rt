@@ -26,6 +26,12 @@ use std::cmp::Ordering;
 /// The most chains that lead a sweep, as many as pref_term puts a chain before: of each level then a list of steps is kept, of which one is asked.
 const MAX_CHAINS: usize = 3;
 
+/// The second of them, by which the steps of a level are in order ..
+pub(crate) const SECOND: usize = 1;
+
+/// .. and the third, by which they are so the other way round.
+pub(crate) const THIRD: usize = 2;
+
 /// What leads the order of entries in a sweep.
 #[derive(Drop)]
 pub(crate) struct Lead<'a> {
@@ -105,7 +111,7 @@ fn all_chains<'a>(alloc: Global, chains: &'a [Chain]) -> Result<Vec<&'a Chain>, 
 
 impl<'a> Lead<'a> {
     // Here, since what the file names at its top may not name the struct.
-    ghost use Rattle.pref_sky.specs.Leads.{LeadsSweep, chain_at, first_of, mark_of, rule_of, second_of, third_of};
+    ghost use Rattle.pref_sky.specs.Leads.{LeadsSweep, behind_first, chain_at, first_of, mark_of, rule_of, second_of, third_of};
 
     /// What leads these entries, which are in order, and of which some were held already, of these levels.
     ///
@@ -147,32 +153,16 @@ impl<'a> Lead<'a> {
         }
     }
 
-    /// Whether a row of another group, or of the same, is better in the n-th chain behind the groups, of which the later one is better.
+    /// Whether the first entry is better in the n-th chain, of those behind the first one: there the rows of the later group are better.
     #[inline(always)]
-    fn is_better_in(&self, order: &OwnOrder, n: usize, a: &Entry, b: &Entry) -> bool
-        ensures { result ≡ in_turn (λ x y. earlier_in order.now.ask.group y x) (better_in (chain_at self.now n)) a.now.row b.now.row }
+    pub(crate) fn is_better_in(&self, order: &OwnOrder, n: usize, a: &Entry, b: &Entry) -> bool
+        ensures { result ≡ behind_first order.now self.now n a.now b.now }
     {
         match compare_groups(order.ask.group(), &b.row, &a.row) {
             Ordering::Less => true,
             Ordering::Equal => self.compare(n, &a.row, &b.row).is_better(),
             Ordering::Greater => false,
         }
-    }
-
-    /// Whether the first entry is better in the second chain.
-    #[inline(always)]
-    pub(crate) fn is_better_in_second(&self, order: &OwnOrder, a: &Entry, b: &Entry) -> bool
-        ensures { result ≡ second_of order.now self.now a.now b.now }
-    {
-        self.is_better_in(order, 1, a, b)
-    }
-
-    /// Whether the first entry is better in the third chain.
-    #[inline(always)]
-    pub(crate) fn is_better_in_third(&self, order: &OwnOrder, a: &Entry, b: &Entry) -> bool
-        ensures { result ≡ third_of order.now self.now a.now b.now }
-    {
-        self.is_better_in(order, 2, a, b)
     }
 
     /// Whether two rows are the same in all chains.

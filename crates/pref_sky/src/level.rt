@@ -23,7 +23,7 @@ ghost use Rattle.pref_sky.specs.declared.item.Item.{Item};
 
 use crate::entry::Entry;
 use crate::item::Item;
-use crate::lead::Lead;
+use crate::lead::{Lead, SECOND, THIRD};
 use crate::own_order::OwnOrder;
 use pref_term::engine::is_within;
 use std::alloc::{AllocError, Global};
@@ -59,7 +59,7 @@ fn count_better(
     let mut high = steps.len();
     'halves: while low < high {
         let middle = low + (high - low) / 2;
-        if lead.is_better_in_second(order, &entries[steps[middle]], entry) {
+        if lead.is_better_in(order, SECOND, &entries[steps[middle]], entry) {
             low = middle + 1;
         } else {
             high = middle;
@@ -82,7 +82,7 @@ fn end_of_no_better(
     ensures { AreNoBetter (third_of order.now lead.now) entries.now steps.now entry.now from result }
 {
     for (skipped, step) in steps[from..].iter().enumerate() {
-        if lead.is_better_in_third(order, &entries[*step], entry) {
+        if lead.is_better_in(order, THIRD, &entries[*step], entry) {
             return from + skipped;
         }
     }
@@ -161,7 +161,7 @@ impl Level {
         let mut high = self.steps.len();
         'halves: while low < high {
             let middle = low + (high - low) / 2;
-            if lead.is_better_in_second(order, entry, &entries[self.steps[middle]]) {
+            if lead.is_better_in(order, SECOND, entry, &entries[self.steps[middle]]) {
                 high = middle;
             } else {
                 low = middle + 1;
