@@ -23,9 +23,6 @@ level_below f chain a b c level = grind (arith, level, chain.between a c b, chai
 
 -- ---- chains
 
-no_chain : {E : Type 0} → IsChain {E = E} (λ a b. false)
-no_chain = record { strict = record { irreflexive = λ a. refl; transitive = λ a b c h k. h }; between = λ a b c h k. h }
-
 numbers_chain : {E : Type 0} (number : E → ℤ) → IsChain (λ a b. int_lt (number a) (number b))
 numbers_chain number = grind (arith)
 
@@ -40,13 +37,13 @@ by_first : (x y : ℤ) (r : Relation) → is_better (in_priority (by_scores x y)
 by_first x y r = grind arith
 
 pub keys_chain : (keys : List Key) → IsChain (better_in keys)
-keys_chain [] = no_chain
+keys_chain [] = grind (arith)
 keys_chain (key ∷ keys) =
     subst IsChain (sym (λ i a b. by_first (keyed key a) (keyed key b) (by_chain keys a b) i))
     (chain_in_turn (λ a b. int_lt (keyed key a) (keyed key b)) (better_in keys) (numbers_chain (keyed key)) (keys_chain keys))
 
 pub earlier_chain : (columns : List ℕ) → IsChain (earlier_in columns)
-earlier_chain [] = no_chain
+earlier_chain [] = grind (arith)
 earlier_chain (col ∷ columns) = chain_in_turn (λ a b. int_lt (cell a col) (cell b col)) (earlier_in columns) (numbers_chain (λ a. cell a col)) (earlier_chain columns)
 
 cells_equal : (x y : ℤ) → int_eq x y ≡ (not (int_lt x y) && not (int_lt y x))

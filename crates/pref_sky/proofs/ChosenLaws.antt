@@ -40,15 +40,6 @@ joined_without (x ∷ front) back chain a b h =
     chain-append x (joined (front ++ back)) a b
     ∙ (ap (in_priority (by_chain x a b)) (joined_without front back chain a b h) ∙ sym (chain-append x (joined (front ++ chain ∷ back)) a b))
 
--- a chain that tells no entries apart can be left out
-without_one : (entries : List Entry) (all front back : List (List Key)) (chain : List Key) → tells_none_apart chain entries → SayTheSame entries all (front ++ chain ∷ back)
-    → SayTheSame entries all (front ++ back)
-without_one entries all front back chain none same =
-    record {
-      in_product = λ a b m n. product_without front back chain a.row b.row (same_among chain entries none a b m n) ∙ same.in_product a b m n;
-      in_turn = λ a b m n. joined_without front back chain a.row b.row (same_among chain entries none a b m n) ∙ same.in_turn a b m n;
-    }
-
 -- the chains from a place on
 next_chain : (all : List (List Key)) (i : ℕ) (chain : List Key) → i < length all → chain ≡ get_or all i chain → drop i all ≡ chain ∷ drop (i + 1) all
 next_chain all i chain inside is = drop-cons all i chain inside ∙ (λ j. sym is j ∷ drop (sym (add-one i) j) all)
@@ -62,7 +53,11 @@ one_told entries all told i chain inside is same =
 pub one_left_out : (entries : List Entry) (all told : List (List Key)) (i : ℕ) (chain : List Key) → i < length all → chain ≡ get_or all i chain → tells_none_apart chain entries
     → SayTheSame entries all (told ++ drop i all) → SayTheSame entries all (told ++ drop (i + 1) all)
 one_left_out entries all told i chain inside is none same =
-    without_one entries all told (drop (i + 1) all) chain none (subst (λ l. SayTheSame entries all (told ++ l)) (next_chain all i chain inside is) same)
+    let whole : SayTheSame entries all (told ++ chain ∷ drop (i + 1) all) = subst (λ l. SayTheSame entries all (told ++ l)) (next_chain all i chain inside is) same in
+    record {
+      in_product = λ a b m n. product_without told (drop (i + 1) all) chain a.row b.row (same_among chain entries none a b m n) ∙ whole.in_product a b m n;
+      in_turn = λ a b m n. joined_without told (drop (i + 1) all) chain a.row b.row (same_among chain entries none a b m n) ∙ whole.in_turn a b m n;
+    }
 
 pub all_told : (entries : List Entry) (all told : List (List Key)) (i : ℕ) → length all ≤ i → SayTheSame entries all (told ++ drop i all) → SayTheSame entries all told
 all_told entries all told i past same = subst (SayTheSame entries all) (ap (λ l. told ++ l) (drop_of_length-le all past) ∙ append-nil told) same

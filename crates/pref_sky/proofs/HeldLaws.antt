@@ -1,5 +1,5 @@
 -- Entries that were held already, when others come: as many levels are above them as before, or more, and none that was of a level is over one that was of it or of one above.
-use Rattle.pref_sky.proofs.Common.{◌≡◌, ℕ, suc, ◌<◌, ◌≤◌, ◌-◌, Bool, true, not, ◌&&◌, List, [], ◌∷◌, sym, ◌∙◌, ap, subst, arith, length, get_or, get_or-map, map, filter, nat_lt, All}
+use Rattle.pref_sky.proofs.Common.{◌≡◌, ℕ, suc, ◌<◌, ◌≤◌, Bool, true, not, ◌&&◌, List, [], ◌∷◌, sym, ◌∙◌, ap, subst, arith, length, get_or, get_or-map, map, filter, nat_lt, All}
 use Rattle.pref_sky.proofs.Common.{and_from, both_ways, false_from_ne_true, IsStrictOrder, Entry, Among, comes_after, count_above, entry_at, entry_of, level_of, own_levels, own_order, AreLeveled, AreLowest, HaveDifferentIds, Item, OwnOrder}
 use Rattle.pref_sky.proofs.Common.{length-map}
 use Rattle.pref_sky.proofs.OwnOrders.{own_is_strict}
@@ -73,11 +73,7 @@ module _ (over : Entry → Entry → Bool) (strict : IsStrictOrder over) (all : 
       let is : (p : ℕ) → p < length upper → mark p ≡ suc (number (entry_at upper p)) = λ p inside. are p inside ∙ level_at p inside in
       record {
         within = λ p inside. omega (arith, is p inside, (upper_at p inside).early);
-        after = λ p inside.
-            let e = entry_at upper p in
-            let w = upper_at p inside in
-            let same : number e ≡ mark p - 1 = omega (arith, is p inside) in
-            subst (λ n. comes_after over upper n e ≡ true) same (upper_chains (number e) e w.chain.within ∙ w.chain.after);
+        after = λ p inside. let w = upper_at p inside in grind (arith, is p inside, upper_chains (number (entry_at upper p)) (entry_at upper p) w.chain.within, w.chain.after);
         apart = λ p q p_inside q_inside some near.
             let a = entry_at upper p in
             let b = entry_at upper q in

@@ -52,11 +52,8 @@ alike_at : {E : Type 0} (over : E → E → Bool) (all : List E) (a b : E) → S
 alike_at over all a b alike n = grind (arith, alike_after over all a b alike n, alike_after over all a b alike (suc n))
 
 -- the level that it is of
-chain_at : {E : Type 0} (over : E → E → Bool) (cut : ℕ) (all : List E) (e : E) (n : ℕ) → n < cut → is_at over all n e ≡ true → HasChain over cut all e n
-chain_at over cut all e n early at = grind (arith)
-
 level_is : {E : Type 0} (over : E → E → Bool) (cut : ℕ) (all : List E) (e : E) (n : ℕ) → n < cut → is_at over all n e ≡ true → count_above over all cut e ≡ n
-level_is over cut all e n early at = count_is over cut all e n (chain_at over cut all e n early at)
+level_is over cut all e n early at = let chain : HasChain over cut all e n = grind (arith) in count_is over cut all e n chain
 
 pub at_level_of : {E : Type 0} (over : E → E → Bool) (cut : ℕ) (all : List E) (e : E) (n : ℕ) → n < cut → n ≡ count_above over all cut e → is_at over all n e ≡ true
 at_level_of over cut all e n early is =
