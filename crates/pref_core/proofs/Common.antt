@@ -24,7 +24,7 @@ pub use Rattle.pref_core.specs.Bounds.{IsBounded}
 pub use Rattle.pref_core.specs.Changes.{added_by, begins_any, begun_by, commit_of, ended_by, is_change_count, is_commit, names_again, twice, twice_from}
 pub use Rattle.pref_core.specs.ContentsInvariant.{AreFresh, FindsFreed, FitAtOnce, FitsNext, IsFreed, IsKept, IsTracked, KeepSlots, are_free, frees_at, is_open, replaced, row_in, uses_of}
 pub use Rattle.pref_core.specs.ContentsInvariant.{with_slots}
-pub use Rattle.pref_core.specs.IdChains.{AreIds, AreLinked, AreLinks, IsBefore, IsNode, IsOnWay, LeadsTo, home_of, id_at, ids_of, is_above, opening_ids, opening_link, rank, shown}
+pub use Rattle.pref_core.specs.IdChains.{AreIds, AreLinked, AreLinks, AreOpening, IsBefore, IsNode, IsOnWay, LeadsTo, home_of, id_at, ids_of, is_above, opening_link, rank, shown}
 pub use Rattle.pref_core.specs.Indexes.{IsIndexOf, IsPlaceOf, Points, PointsAll, adds, given, is_row, placed_rows, row_at, slot_of}
 pub use Rattle.pref_core.specs.Laws.{BlocksAreTheSlots, EndsNeedNoMore, NeededFits, NeededFitsSlots, first_blocks}
 pub use Rattle.pref_core.specs.LentCalls.{change_of}

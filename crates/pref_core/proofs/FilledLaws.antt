@@ -2,7 +2,7 @@
 use Rattle.pref_core.proofs.Common.{◌≡◌, ℕ, zero, suc, ◌^◌, Bool, true, false, ◌||◌, eqb, List, [], ◌∷◌, map, set, Option, Some, None, slice_get, refl, sym, ap, ap₂, ◌∙◌, arith, ⊎_elim}
 use Rattle.pref_core.proofs.Common.{AllByRecursion, option_map, map-set, slice_get-map, and_parts, eqb-true, eq-eqb, cases_eq, true≢false, Version, Caller, SlotUse, Live, is_visible, IsWithin, EndsBy}
 use Rattle.pref_core.proofs.Common.{close, close_at, use_of, is_row, row_at, IsPlaceOf, ids_of, id_at, AreIds, AreLinks, ◌+◌, subst, length_permutation, Call, Entry, State, changes_of, ended, begun}
-use Rattle.pref_core.proofs.Common.{added, missing, is_formed, Contents, StandsFor, visible, new_version, IsBounded, shown, IsTracked, AreFresh, ◌<◌, ◌≤◌, not, ◌&&◌, cond, nat_eq, ◌++◌, length, drop}
+use Rattle.pref_core.proofs.Common.{added, missing, is_formed, Contents, StandsFor, visible, new_version, IsBounded, shown, IsTracked, AreFresh, ◌<◌, ◌≤◌, not, ◌&&◌, cond, nat_eq, ◌++◌, length, drop, length-set}
 use Rattle.pref_core.proofs.Common.{is_some, get_or, unwrap_or, drop_all, length-map, map-set_same, slice_get_within, slice_get-get_or, le-leb, ne_eqb, cases_lt, or_parts, Free, among, has, Op}
 use Rattle.pref_core.proofs.Common.{Outcome, begins_row, success_outcome, is_change, succeeds, begins, stamps, grown, is_free, filled, outcome_at, is_next, slots_after, used, is_free_use, free_at}
 use Rattle.pref_core.proofs.Common.{with_slots, are_free, same_Some}
@@ -89,9 +89,9 @@ ids_closed ids made slots known = record {
     was p x at = row_shown made x slots p (row_back ids made x slots p (shows_row made x (map (close ids made) slots) p at))
 
 -- An ended version shows no id.
-pub links_ended : (made place : ℕ) (slots : List (Option Version)) (version : Version) (links : List ℕ) → EndsBy made version.death → AreLinks (set (ids_of made slots) place None) links
-    → AreLinks (ids_of made (set slots place (Some (record version { death = close_at made true version.death })))) links
-links_ended made place slots version links ends h = grind (arith, map-set)
+pub links_ended : (made place : ℕ) (slots : List (Option Version)) (version : Version) (links : List ℕ) → EndsBy made version.death → AreLinks (length slots) (set (ids_of made slots) place None) links
+    → AreLinks (length (set slots place (Some (record version { death = close_at made true version.death })))) (ids_of made (set slots place (Some (record version { death = close_at made true version.death })))) links
+links_ended made place slots version links ends h = grind (arith, map-set, length-set)
 
 -- One slot_use is written.
 pub closed_uses : (callers : List Caller) (slots : List (Option Version)) (uses new : List SlotUse) (place : ℕ) (slot : Option Version) (slot_use : SlotUse) → uses ≡ map (use_of callers) slots → slot_use ≡ use_of callers slot → new ≡ set uses place slot_use → new ≡ map (use_of callers) (set slots place slot)
@@ -127,7 +127,7 @@ tracked_next contents uses links more h = record {
   within = within-more contents.next_id (contents.next_id + more) (suc contents.stamp) contents.slots (omega arith)
       (subst (AllByRecursion (IsWithin contents.next_id (suc contents.stamp))) (close_none (suc contents.stamp) contents.slots) (within-close [] contents.next_id contents.stamp contents.slots h.within));
   listed = h.listed;
-  linked = subst (λ ids. AreLinks ids links) (sym (ids_next contents.next_id contents.stamp contents.slots h.within)) h.linked;
+  linked = subst (λ ids. AreLinks (length contents.slots) ids links) (sym (ids_next contents.next_id contents.stamp contents.slots h.within)) h.linked;
   ids = subst (λ ids. AreIds (2 ^ 64) (id_at ids)) (sym (ids_next contents.next_id contents.stamp contents.slots h.within)) h.ids;
 }
 
@@ -141,8 +141,9 @@ fresh_begun contents state call formed stands none =
     (formed_apart call formed)
 
 -- A row that begins adds its id.
-pub links_born : (made place : ℕ) (fresh : Entry) (new : Option Version) (slots : List (Option Version)) (links : List ℕ) → new ≡ new_version made fresh → AreLinks (set (ids_of made slots) place (Some fresh.id)) links → AreLinks (ids_of made (set slots place new)) links
-links_born made place fresh new slots links is h = grind (arith, map-set)
+pub links_born : (made place : ℕ) (fresh : Entry) (new : Option Version) (slots : List (Option Version)) (links : List ℕ) → new ≡ new_version made fresh → AreLinks (length slots) (set (ids_of made slots) place (Some fresh.id)) links
+    → AreLinks (length (set slots place new)) (ids_of made (set slots place new)) links
+links_born made place fresh new slots links is h = grind (arith, map-set, length-set)
 
 -- Slots fit rows where there are as many, each is free, and none comes twice.
 fills_where : (made : ℕ) (ns earlier : List ℕ) (before : List Entry) (slots now : List (Option Version)) (places : List ℕ) (begun : List Entry) → filled (made ∷ ns) made earlier before slots ≡ Some now → length places ≡ length begun
@@ -300,13 +301,13 @@ module _ (contents : Contents) (uses : List SlotUse) (links : List ℕ) (id plac
   pub end_slots : set contents.slots place last ≡ map (close (id ∷ []) contents.stamp) contents.slots
   end_slots = ap (set contents.slots place) (sym closes) ∙ sym (one_closed contents.next_id contents.stamp id contents.slots h.within place version h.ids row at)
 
-  pub end_tracked : (slot_use : SlotUse) (uses_new : List SlotUse) (links_new : List ℕ) → slot_use ≡ use_of contents.callers last → uses_new ≡ set uses place slot_use → AreLinks (set (ids_of contents.stamp contents.slots) place None) links_new
+  pub end_tracked : (slot_use : SlotUse) (uses_new : List SlotUse) (links_new : List ℕ) → slot_use ≡ use_of contents.callers last → uses_new ≡ set uses place slot_use → AreLinks (length contents.slots) (set (ids_of contents.stamp contents.slots) place None) links_new
       → IsTracked (with_slots (set contents.slots place last) contents) uses_new links_new
   end_tracked slot_use uses_new links_new is returned linked = record {
     seats = h.seats;
     within = subst (AllByRecursion (IsWithin contents.next_id contents.stamp)) (sym end_slots) (within_closed (id ∷ []) contents.next_id contents.stamp contents.slots h.within);
     listed = closed_uses contents.callers contents.slots uses uses_new place last slot_use h.listed is returned;
-    linked = subst (λ s. AreLinks (ids_of contents.stamp (set contents.slots place s)) links_new) closes (links_ended contents.stamp place contents.slots version links_new within_here.2 linked);
+    linked = subst (λ s. AreLinks (length (set contents.slots place s)) (ids_of contents.stamp (set contents.slots place s)) links_new) closes (links_ended contents.stamp place contents.slots version links_new within_here.2 linked);
     ids = subst (λ l. AreIds (2 ^ 64) (id_at (ids_of contents.stamp l))) (sym end_slots) (ids_closed (id ∷ []) contents.stamp contents.slots h.ids);
   }
 
@@ -332,13 +333,13 @@ module _ (contents : Contents) (uses : List SlotUse) (links : List ℕ) (id plac
         seats = h.seats;
         within = subst (λ r. AllByRecursion (IsWithin contents.next_id contents.stamp) (set contents.slots place r)) (sym is) (AllByRecursion-set (IsWithin contents.next_id contents.stamp) contents.slots place (new_version contents.stamp entry) (low, omega arith, tt) h.within);
         listed = h.listed ∙ sym (map-set_same (use_of contents.callers) contents.slots place new new slot_use);
-        linked = subst (λ ids. AreLinks ids links) (sym ids_same) h.linked;
+        linked = subst (λ n. AreLinks n (ids_of contents.stamp (set contents.slots place new)) links) (sym (length-set contents.slots place new)) (subst (λ ids. AreLinks (length contents.slots) ids links) (sym ids_same) h.linked);
         ids = subst (λ ids. AreIds (2 ^ 64) (id_at ids)) (sym ids_same) h.ids;
       }
 
 -- .. or begins.
 pub begin_tracked : (contents : Contents) (uses : List SlotUse) (links : List ℕ) (entry : Entry) (place : ℕ) (row : Option Version) (uses_new : List SlotUse) (links_new : List ℕ) → IsTracked contents uses links → is_free (stamps contents) contents.slots place ≡ true
-    → has (visible contents.stamp contents.slots) entry.id ≡ false → entry.id < contents.next_id → entry.id < 2 ^ 64 → row ≡ new_version contents.stamp entry → uses_new ≡ set uses place Live → AreLinks (set (ids_of contents.stamp contents.slots) place (Some entry.id)) links_new
+    → has (visible contents.stamp contents.slots) entry.id ≡ false → entry.id < contents.next_id → entry.id < 2 ^ 64 → row ≡ new_version contents.stamp entry → uses_new ≡ set uses place Live → AreLinks (length contents.slots) (set (ids_of contents.stamp contents.slots) place (Some entry.id)) links_new
     → IsTracked (with_slots (set contents.slots place row) contents) uses_new links_new
 begin_tracked contents uses links entry place row uses_new links_new h free absent low small is returned linked = record {
   seats = h.seats;

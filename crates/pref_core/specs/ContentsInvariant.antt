@@ -33,7 +33,7 @@ pub record IsTracked (contents : Contents) (uses : List SlotUse) (links : List �
   pub seats : length contents.callers ≤ 8
   pub within : AllByRecursion (IsWithin contents.next_id contents.stamp) contents.slots
   pub listed : uses ≡ uses_of contents
-  pub linked : AreLinks (ids_of contents.stamp contents.slots) links
+  pub linked : AreLinks (length contents.slots) (ids_of contents.stamp contents.slots) links
   pub ids : AreIds (2 ^ 64) (id_at (ids_of contents.stamp contents.slots))
 
 -- the contents with these slots

@@ -15,9 +15,9 @@
 //! and so passes the link that leads to a row: this one alone is written where the row is taken out, and links in
 //! one direction are enough. As ids fall along a chain, a search stops at the first smaller one.
 
-ghost use Rattle.std.specs.Prelude.{◌≡◌, ◌<◌, ◌≤◌, ◌^◌, length, IfOk, IfSome, IfNone, Some, None, slice_set};
+ghost use Rattle.std.specs.Prelude.{ℕ, List, Option, ◌≡◌, ◌<◌, ◌≤◌, ◌^◌, length, false, IfOk, IfSome, IfNone, Some, None, slice_set, slice_index};
 ghost use Rattle.pref_core.specs.Indexes.{IsPlaceOf};
-ghost use Rattle.pref_core.specs.IdChains.{home_of, ids_of, id_at, AreIds, AreLinks, IsBefore, opening_ids};
+ghost use Rattle.pref_core.specs.IdChains.{home_of, ids_of, id_at, AreIds, AreLinks, AreOpening, IsBefore};
 
 use crate::store::stamped_slots::StampedSlots;
 use std::alloc::{AllocError, Global};
@@ -43,14 +43,14 @@ impl IdChains {
     pub(crate) fn new(alloc: Global, capacity: u32, rows: u32) -> Result<IdChains, AllocError>
         requires few { capacity ≤ 65536 }
         requires rows { rows ≤ capacity }
-        ensures { IfOk result (λ links. AreLinks (opening_ids capacity rows) links) }
+        ensures { IfOk result (λ links. (ids : List (Option ℕ)) → AreOpening capacity rows ids → AreLinks capacity ids links) }
     {
         let mut next = Vec::with_capacity(alloc, 2 * capacity as usize)?;
         next.resize(capacity as usize, capacity)?;
-        for home in 0..capacity {
-            let link = if home < rows { home } else { capacity };
-            next.push(link)?;
+        for home in 0..rows {
+            next.push(home)?;
         }
+        next.resize(2 * capacity as usize, capacity)?;
         Ok(IdChains { next })
     }
 
@@ -64,9 +64,9 @@ impl IdChains {
 
     /// The place of the row of this id in the table.
     #[inline(always)]
-    #[tactic(auto, using(std::proofs::lemmas::Grind::common_steps, std::proofs::lemmas::Grind::get_or_default_zero, crate::proofs::LinksOfSlots::long_at, crate::proofs::LinksOfSlots::nowhere))]
+    #[tactic(auto, using(std::proofs::lemmas::Grind::common_steps, std::proofs::lemmas::Grind::get_or_default_zero, crate::proofs::LinksOfSlots::nowhere))]
     pub(crate) fn find(&self, slots: &StampedSlots, id: u64) -> Option<u32>
-        requires { AreLinks (ids_of slots.now.stamp slots.now.slots) self.now }
+        requires { AreLinks (length slots.now.slots) (ids_of slots.now.stamp slots.now.slots) self.now }
         ensures { IsPlaceOf slots.now.stamp id slots.now.slots result }
     {
         let node = before(&self.next, slots, id);
@@ -80,12 +80,12 @@ impl IdChains {
 
     /// A row of this id is about to begin at this place.
     pub(crate) fn add(&mut self, slots: &StampedSlots, id: u64, place: u32)
-        requires links { AreLinks (ids_of slots.now.stamp slots.now.slots) self.old }
+        requires links { AreLinks (length slots.now.slots) (ids_of slots.now.stamp slots.now.slots) self.old }
         requires ids { AreIds (2 ^ 64) (id_at (ids_of slots.now.stamp slots.now.slots)) }
         requires place { place < length slots.now.slots }
         requires empty { id_at (ids_of slots.now.stamp slots.now.slots) place ≡ None }
         requires absent { IsPlaceOf slots.now.stamp id slots.now.slots None }
-        ensures { AreLinks (slice_set (ids_of slots.now.stamp slots.now.slots) place (Some id)) self.new }
+        ensures { AreLinks (length slots.now.slots) (slice_set (ids_of slots.now.stamp slots.now.slots) place (Some id)) self.new }
     {
         let node = before(&self.next, slots, id);
         self.next[place as usize] = self.next[node as usize];
@@ -93,12 +93,12 @@ impl IdChains {
     }
 
     /// The row of this id is about to end: takes it out of its chain, and returns its place.
-    #[tactic(auto, using(std::proofs::lemmas::Grind::common_steps, std::proofs::lemmas::Grind::get_or_default_zero, crate::proofs::LinksOfSlots::long_at, crate::proofs::LinksOfSlots::nowhere))]
+    #[tactic(auto, using(std::proofs::lemmas::Grind::common_steps, std::proofs::lemmas::Grind::get_or_default_zero, crate::proofs::LinksOfSlots::nowhere))]
     pub(crate) fn take(&mut self, slots: &StampedSlots, id: u64) -> Option<u32>
-        requires links { AreLinks (ids_of slots.now.stamp slots.now.slots) self.old }
+        requires links { AreLinks (length slots.now.slots) (ids_of slots.now.stamp slots.now.slots) self.old }
         requires ids { AreIds (2 ^ 64) (id_at (ids_of slots.now.stamp slots.now.slots)) }
         ensures place { IsPlaceOf slots.now.stamp id slots.now.slots result }
-        ensures some { IfSome result (λ place. AreLinks (slice_set (ids_of slots.now.stamp slots.now.slots) place None) self.new) }
+        ensures some { IfSome result (λ place. AreLinks (length slots.now.slots) (slice_set (ids_of slots.now.stamp slots.now.slots) place None) self.new) }
         ensures none { IfNone result (self.new ≡ self.old) }
     {
         let node = before(&self.next, slots, id);
@@ -114,8 +114,8 @@ impl IdChains {
 /// The last home or place before this id on the chain of its home.
 #[inline(always)]
 fn before(next: &[u32], slots: &StampedSlots, id: u64) -> u32
-    requires { AreLinks (ids_of slots.now.stamp slots.now.slots) next.now }
-    ensures before { IsBefore (2 ^ 64) (length slots.now.slots) (home_of (length slots.now.slots)) (id_at (ids_of slots.now.stamp slots.now.slots)) id result }
+    requires { AreLinks (length slots.now.slots) (ids_of slots.now.stamp slots.now.slots) next.now }
+    ensures before { IsBefore (2 ^ 64) (length slots.now.slots) (home_of (length slots.now.slots)) (id_at (ids_of slots.now.stamp slots.now.slots)) (slice_index next.now) id result }
     ensures inside { result < length next.now }
 {
     let mut node = slots.capacity() + slots.home_of(id);
