@@ -1,6 +1,6 @@
 -- The test of an op at slots is legality in the state that they stand for.
-use Rattle.pref_core.proofs.Common.{◌≡◌, ℕ, Bool, true, false, cond, List, length, Option, Some, None, Ok, Err, Result, is_some, refl, sym, ap, ◌∙◌, Version, Call, CoreFault, Op, State, after}
-use Rattle.pref_core.proofs.Common.{Contents, StandsFor, IsNext, IsLegal, is_next, slots_after, stepped, applied, Plans, PlansIn, AppliesIn, arith}
+use Rattle.pref_core.proofs.Common.{◌≡◌, ℕ, Bool, true, false, cond, List, length, Option, Some, None, Ok, Err, Result, is_some, refl, sym, ◌∙◌, Version, Call, CoreFault, Op, State, after}
+use Rattle.pref_core.proofs.Common.{Contents, StandsFor, IsNext, IsLegal, is_next, slots_after, stepped, applied, Plans, PlansIn, AppliesIn, arith, ◌&&◌, and_parts, false_from_ne_true}
 use Rattle.pref_core.proofs.OutcomeLaws.{same_calls, same_refusal, same_outcome_at}
 use Rattle.pref_core.proofs.AppliedLaws.{IsAllowed-from, stepped_stands}
 
@@ -20,14 +20,17 @@ applied_stands contents state op h legal = go (slots_after contents op) refl leg
     go None e s = absurd (cc)
     go (Some slots) e s = rw (next, e) (stepped_stands contents state op slots h next e)
 
-pub applied_not : (contents : Contents) (state : State) (op : Op) → StandsFor contents state → ¬ IsLegal state contents op → applied contents op ≡ contents
-applied_not contents state op h illegal = go (is_next contents op) refl (slots_after contents op) refl
+-- an op whose test fails changes nothing
+pub applied_nothing : (contents : Contents) (op : Op) → (is_next contents op && is_some (slots_after contents op)) ≡ false → applied contents op ≡ contents
+applied_nothing contents op illegal = go (is_next contents op) (slots_after contents op) illegal
   where
-    go : (b : Bool) → is_next contents op ≡ b → (o : Option (List (Option Version))) → slots_after contents op ≡ o
-        → cond b (elim o as (λ x. Contents) [ None ↦ contents | Some slots ↦ stepped contents op slots ]) contents ≡ contents
-    go false n o e = refl
-    go true n None e = refl
-    go true n (Some slots) e = absurd (illegal (record { next = IsNext-from contents state op h n; fits = ap is_some e }))
+    go : (next : Bool) (fits : Option (List (Option Version))) → (next && is_some fits) ≡ false → cond next (elim fits as (λ x. Contents) [ None ↦ contents | Some slots ↦ stepped contents op slots ]) contents ≡ contents
+    go next fits e = grind (arith)
+
+applied_not : (contents : Contents) (state : State) (op : Op) → StandsFor contents state → ¬ IsLegal state contents op → applied contents op ≡ contents
+applied_not contents state op h illegal = applied_nothing contents op (false_from_ne_true _ (λ e.
+    let parts = and_parts (is_next contents op) (is_some (slots_after contents op)) e in
+    illegal (record { next = IsNext-from contents state op h parts.0; fits = parts.1 })))
 
 pub applies_in : (contents : Contents) (state : State) (op : Op) → StandsFor contents state → AppliesIn state contents op (applied contents op)
 applies_in contents state op h = (applied_stands contents state op h, applied_not contents state op h)

@@ -182,16 +182,10 @@ impl Store {
         ensures exact { Plans self.now client call result }
         ensures state { (state : State) → StandsFor self.now state → PlansIn state self.now client call result }
     {
-        self.op_by(None, client, &call)
-    }
-
-    /// Plans a call by an index of this store, as [`Store::plan`] does without one. Constant in the slots.
-    pub fn plan_at(&self, index: &Index, client: u8, call: Call) -> Result<Op, CoreFault>
-        requires { IsIndexOf self.now index.now }
-        ensures exact { Plans self.now client call result }
-        ensures state { (state : State) → StandsFor self.now state → PlansIn state self.now client call result }
-    {
-        self.op_by(Some(index), client, &call)
+        match self.contents.plan(None, client, &call.lend()) {
+            Ok(planned) => Ok(planned.op()),
+            Err(fault) => Err(fault),
+        }
     }
 
     /// Plans a lent call by an index of this store, as [`Store::plan`] does without one. The plan borrows the call: it
@@ -207,7 +201,7 @@ impl Store {
         ensures exact { Plans self.now client call.now (op_or_fault result) }
         ensures state { (state : State) → StandsFor self.now state → PlansIn state self.now client call.now (op_or_fault result) }
     {
-        self.plan_by(Some(index), client, call)
+        self.contents.plan(Some(index), client, call)
     }
 
     /// Does a planned call. One that is not legal here changes nothing: so an operation is done once, and in its
@@ -228,7 +222,7 @@ impl Store {
         ensures exact { self.new ≡ applied self.old (op_of op.now) }
         ensures state { (state : State) → StandsFor self.old state → AppliesIn state self.old (op_of op.now) self.new }
     {
-        if self.is_legal(op) {
+        if self.contents.is_legal(op) {
             self.perform(op);
         }
     }

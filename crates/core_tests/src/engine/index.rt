@@ -61,8 +61,13 @@ fn goes_along(
     done(alloc, store, index, 1, &Call::Update(2, added))?;
     assert_same(rt, "moved", index.slot(2) != Some(1), true);
     for id in [2, 9] {
-        let by_index = store.plan_at(index, 1, Call::Delete(id));
-        let by_store = store.plan(1, Call::Delete(id));
+        let delete = Call::Delete(id);
+        let lent = delete.lend();
+        let by_index = match store.look_up(index, 1, &lent) {
+            Ok(op) => Ok(op.op()),
+            Err(fault) => Err(fault),
+        };
+        let by_store = store.plan(1, delete);
         assert_same(rt, ("plan", id), &by_index, &by_store);
     }
     done(alloc, store, index, 1, &Call::Delete(2))?;

@@ -1,35 +1,31 @@
 //! Whether a planned call is legal here.
 
 ghost use Rattle.std.specs.Prelude.{map, true, is_some, [], ◌∷◌, ◌≡◌, suc, ◌&&◌};
-ghost use Rattle.pref_core.specs.ContentsInvariant.{IsFreed, FindsFreed, are_free};
+ghost use Rattle.pref_core.specs.ContentsInvariant.{IsKept, IsFreed, FindsFreed, are_free};
 ghost use Rattle.pref_core.specs.Operations.{close, is_next, slots_after, outcome_at};
 ghost use Rattle.pref_core.specs.Planned.{op_of};
 ghost use Rattle.pref_core.specs.Slots.{begins};
 ghost use Rattle.pref_core.specs.State.{ended, is_formed};
 
 use crate::call::{Outcome, Planned, QueryState, SlotList};
-use crate::store::Store;
 use crate::store::caller::caller_of;
 use crate::store::contents::Contents;
 use crate::store::planning::success_outcome;
 
-impl Store {
+impl Contents {
     /// Whether an op is legal next: its call, number and outcome, and its slots.
     #[inline(always)]
     pub(crate) fn is_legal(&self, op: &Planned<'_>) -> bool
+        requires { IsKept self.now }
         ensures { result ≡ (is_next self.now (op_of op.now) && is_some (slots_after self.now (op_of op.now))) }
     {
-        if self.contents.fit_at_once(None, op.call, &op.slots) {
-            let outcome = success_outcome(self.contents.next_id, op.call);
-            return self.contents.is_next(outcome, op);
+        if self.fit_at_once(None, op.call, &op.slots) {
+            return self.is_next(success_outcome(self.next_id, op.call), op);
         }
         let freed = self.freed_places(None, op.call);
-        let outcome = self.contents.outcome(&freed, op.call);
-        self.contents.is_next(outcome, op) && self.contents.fits(&freed, op)
+        self.is_next(self.outcome(&freed, op.call), op) && self.fits(&freed, op)
     }
-}
 
-impl Contents {
     /// Whether the call, its number and its outcome are legal next, by what becomes of the call here.
     #[inline(always)]
     fn is_next(&self, outcome: Outcome, op: &Planned<'_>) -> bool

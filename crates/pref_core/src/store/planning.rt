@@ -5,54 +5,36 @@ ghost use Rattle.pref_core.specs.Indexes.{IsIndexOf};
 ghost use Rattle.pref_core.specs.ContentsInvariant.{IsKept, IsFreed, FindsFreed, FitAtOnce, FitsNext, is_open, uses_of};
 ghost use Rattle.pref_core.specs.IdChains.{home_of};
 ghost use Rattle.pref_core.specs.LentCalls.{change_of};
-ghost use Rattle.pref_core.specs.Operations.{outcome_at, placed, used, grown, Plans, PlansIn};
+ghost use Rattle.pref_core.specs.Operations.{outcome_at, placed, used, grown, Plans};
 ghost use Rattle.pref_core.specs.Planned.{op_or_fault};
 ghost use Rattle.pref_core.specs.SlotSets.{free_at};
-ghost use Rattle.pref_core.specs.Slots.{StandsFor};
-ghost use Rattle.pref_core.specs.State.{State, ended, is_change, is_formed, succeeds, success_outcome};
+ghost use Rattle.pref_core.specs.State.{ended, is_change, is_formed, succeeds, success_outcome};
 ghost use Rattle.pref_core.specs.Table.{among};
 
 use crate::call::slot_list::is_listed;
-use crate::call::{Call, LentCall, Op, Outcome, Planned, QueryState, SlotList};
+use crate::call::{LentCall, Outcome, Planned, QueryState, SlotList};
 use crate::changes::LentChange;
 use crate::fault::CoreFault;
 use crate::index::Index;
-use crate::store::Store;
 use crate::store::caller::caller_of;
 use crate::store::contents::Contents;
 use crate::store::slot_sets::any_but;
 
-impl Store {
-    /// Plans a call, whose rows are found by an index where there is one.
-    pub(crate) fn op_by(
-        &self,
-        index: Option<&Index>,
-        client: u8,
-        call: &Call,
-    ) -> Result<Op, CoreFault>
-        requires { IfSome index (λ index. IsIndexOf self.now index.now) }
-        ensures exact { Plans self.now client call.now result }
-        ensures state { (state : State) → StandsFor self.now state → PlansIn state self.now client call.now result }
-    {
-        match self.plan_by(index, client, &call.lend()) {
-            Ok(planned) => Ok(planned.op()),
-            Err(fault) => Err(fault),
-        }
-    }
-
+impl Contents {
     /// The plan of a call, whose rows are found by an index where there is one: its outcome, and where its new rows go;
     /// or why it gets no number.
     #[inline(always)]
-    pub(crate) fn plan_by<'a>(
+    pub(crate) fn plan<'a>(
         &self,
         index: Option<&Index>,
         client: u8,
         call: &'a LentCall<'a>,
     ) -> Result<Planned<'a>, CoreFault>
-        requires { IfSome index (λ index. IsIndexOf self.now index.now) }
+        requires kept { IsKept self.now }
+        requires index { IfSome index (λ index. IsIndexOf self.now index.now) }
         ensures { Plans self.now client call.now (op_or_fault result) }
     {
-        let Some(caller) = caller_of(&self.contents.callers, client) else {
+        let Some(caller) = caller_of(&self.callers, client) else {
             return Err(CoreFault::NoSuchClient);
         };
         if let Some(fault) = call.refusal(caller.calls, QueryState::of(&caller.at_begin)) {
@@ -71,16 +53,17 @@ impl Store {
     /// The slots of a call's new rows and its outcome: at once where that can be, as where no open query needs what
     /// ends.
     fn slots_and_outcome(&self, index: Option<&Index>, call: &LentCall<'_>) -> (SlotList, Outcome)
-        requires { IfSome index (λ index. IsIndexOf self.now index.now) }
+        requires kept { IsKept self.now }
+        requires index { IfSome index (λ index. IsIndexOf self.now index.now) }
         ensures outcome { result.1 ≡ outcome_at self.now call.now }
         ensures placed { is_some (placed self.now call.now result.0 result.1) ≡ true }
         ensures formed { is_formed call.now ≡ true }
     {
-        if let Some(slots) = self.contents.slots_at_once(index, call) {
-            return (slots, success_outcome(self.contents.next_id, call));
+        if let Some(slots) = self.slots_at_once(index, call) {
+            return (slots, success_outcome(self.next_id, call));
         }
         let freed = self.freed_places(index, call);
-        let outcome = self.contents.outcome(&freed, call);
+        let outcome = self.outcome(&freed, call);
         (self.slots_for(&freed, call, outcome), outcome)
     }
 
@@ -91,17 +74,18 @@ impl Store {
         index: Option<&Index>,
         call: &LentCall<'_>,
     ) -> Result<SlotList, u64>
-        requires { IfSome index (λ index. IsIndexOf self.now index.now) }
+        requires kept { IsKept self.now }
+        requires index { IfSome index (λ index. IsIndexOf self.now index.now) }
         ensures found { FindsFreed self.now (ended call.now) result }
         ensures formed { is_formed call.now ≡ true }
     {
         let mut freed = SlotList::NONE;
         for at in 0..call.count() {
             if let Some(id) = call.change(at).ended() {
-                let Some(place) = self.contents.place_of(index, id) else {
+                let Some(place) = self.place_of(index, id) else {
                     return Err(id);
                 };
-                if self.contents.frees(place) {
+                if self.frees(place) {
                     freed.push(place);
                 }
             }
@@ -116,6 +100,7 @@ impl Store {
         call: &LentCall<'_>,
         outcome: Outcome,
     ) -> SlotList
+        requires kept { IsKept self.now }
         requires freed { FindsFreed self.now (ended call.now) freed.now }
         requires returned { outcome ≡ outcome_at self.now call.now }
         ensures { is_some (placed self.now call.now result outcome) ≡ true }
@@ -129,17 +114,18 @@ impl Store {
     /// Slots for the rows that a call begins.
     #[tactic(auto, using(std::proofs::lemmas::Grind::common_steps, crate::proofs::BoundsLaws::bounds, crate::proofs::ChangesLaws::added_one, crate::proofs::ChosenSlots::none_chosen))]
     fn places_for(&self, freed: &SlotList, call: &LentCall<'_>) -> SlotList
+        requires kept { IsKept self.now }
         requires freed { IsFreed self.now (ended call.now) freed.now }
         requires change { is_change call.now ≡ true }
         requires succeeds { succeeds (outcome_at self.now call.now) ≡ true }
         ensures { is_some (placed self.now call.now result (outcome_at self.now call.now)) ≡ true }
     {
         let mut chosen = SlotList::NONE;
-        let mut next_id = self.contents.next_id;
+        let mut next_id = self.next_id;
         for at in 0..call.count() {
             let change = call.change(at);
             if let Some((id, _)) = change.begun(next_id) {
-                match self.contents.choose(freed, &chosen, id) {
+                match self.choose(freed, &chosen, id) {
                     Some(place) => chosen.push(place),
                     None => unreachable!(),
                 }
@@ -148,9 +134,7 @@ impl Store {
         }
         chosen
     }
-}
 
-impl Contents {
     /// The slots of a call whose rows can all have their homes at once, or which begins no row. A row that is added alone
     /// may have any free slot.
     #[tactic(auto, using(std::proofs::lemmas::Grind::common_steps, crate::proofs::BoundsLaws::bounds, crate::proofs::ChangesLaws::added_one))]

@@ -1,6 +1,6 @@
 use Rattle.pref_core.proofs.Common.{◌+◌, ◌≤◌, drop, begun_by, changes_of}
 use Rattle.pref_core.proofs.ChosenSlots.{ChosenUpTo}
-use Rattle.pref_core.proofs.store.Store.places_for.Given as goal
+use Rattle.pref_core.proofs.store.contents.Contents.places_for.Given as goal
 
 abbrev pub invariant-loop-at : goal.invariant-loop-at
 invariant-loop-at l = record {

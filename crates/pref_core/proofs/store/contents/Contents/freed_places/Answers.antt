@@ -1,17 +1,17 @@
-use Rattle.pref_core.proofs.Common.{[], take_all, ◌≡◌, ◌+◌, ◌++◌, ℕ, suc, ◌∷◌, Bool, true, false, cond, take, drop, sym, ap, ◌∙◌, subst, arith, option_to_list, append-nil, ended_by, IsPlaceOf, IsFreed, frees_at}
-use Rattle.pref_core.proofs.Common.{Contents, begins, visible, changes_of, ended, missing, change_of, row_at}
+use Rattle.pref_core.proofs.Common.{[], take_all, ◌≡◌, ◌+◌, ◌++◌, ℕ, suc, ◌∷◌, Bool, true, false, cond, take, drop, sym, ap, ◌∙◌, subst, arith, option_to_list, append-nil, ended_by, IsPlaceOf, frees_at}
+use Rattle.pref_core.proofs.Common.{begins, changes_of, ended, change_of, row_at}
 use Rattle.pref_core.proofs.ChangesLaws.{among_inside, ended_so_far, formed_apart}
 use Rattle.pref_core.proofs.ChangeCounts.{ended_first, ended_next}
 use Rattle.pref_core.proofs.FreedLaws.{FreesUpTo, frees_none, frees_one, frees_missing, freed_all, named_once}
-use Rattle.pref_core.proofs.store.Store.freed_places.Goals.{in-Some+in-Some-place_of+then-frees, in-Some+in-Some-place_of+else-frees, in_default}
-use Rattle.pref_core.proofs.store.Store.freed_places.Goals as goal
+use Rattle.pref_core.proofs.store.contents.Contents.freed_places.Goals.{in-Some+in-Some-place_of+then-frees, in-Some+in-Some-place_of+else-frees, in_default}
+use Rattle.pref_core.proofs.store.contents.Contents.freed_places.Goals as goal
 
 pub loop-at-init : goal.loop-at-init
-loop-at-init c = frees_none c.self.inside.contents
+loop-at-init c = frees_none c.args.self.now
 
 pub loop-at-preserved : goal.loop-at-preserved
 loop-at-preserved c =
-    let now = c.self.inside.contents in
+    let now = c.args.self.now in
     let changes = changes_of c.args.call.now in
     let freed = c.loop-at.freed in
     let done = ended_by (take c.loop-at.at changes) in
@@ -21,7 +21,7 @@ loop-at-preserved c =
     = λ id place b named row frees.
     let next : suc now.stamp ≡ now.stamp + 1 = omega arith in
     subst (λ l. FreesUpTo now l (cond b (freed ++ place ∷ []) freed)) (sym (more ∙ ap (λ l. done ++ l) named))
-    (frees_one now c.self.invariant.state c.self.invariant.bounded c.self.invariant.stands done freed id place b
+    (frees_one now c.requires.kept.state c.requires.kept.bounded c.requires.kept.stands done freed id place b
     (named_once changes c.loop-at.at (change_of c.change.result) id c.change.ensures (sym c.ended.ensures ∙ named) (formed_apart c.args.call.now c.count-at-end.ensures.formed)) row c.loop-at.invariant
     (ap (λ m. frees_at (begins now.callers) (done ++ id ∷ []) m now.slots place) next ∙ sym frees)) in
     elim c.match-ended.branch [
@@ -38,18 +38,15 @@ loop-at-preserved c =
 
 pub returns-clause-found : goal.returns-clause-found
 returns-clause-found c =
-    let now = c.self.inside.contents in
+    let now = c.args.self.now in
     let call = c.args.call.now in
-    subst (λ s. IsFreed s (ended call) c.loop-at.freed) c.self.view_is
-    (freed_all now c.self.invariant.state c.self.invariant.bounded c.self.invariant.stands (ended call) c.loop-at.freed
-    (subst (λ l. FreesUpTo now (ended_by l) c.loop-at.freed) (take_all c.loop-at.at (changes_of call) (omega arith)) c.loop-at.invariant))
+    freed_all now c.requires.kept.state c.requires.kept.bounded c.requires.kept.stands (ended call) c.loop-at.freed (subst (λ l. FreesUpTo now (ended_by l) c.loop-at.freed) (take_all c.loop-at.at (changes_of call) (omega arith)) c.loop-at.invariant)
 
 pub returns-in_default-place_of-clause-found : goal.returns-in_default-place_of-clause-found
 returns-in_default-place_of-clause-found c =
-    let now = c.self.inside.contents in
+    let now = c.args.self.now in
     let changes = changes_of c.args.call.now in
-    ap (λ (s : Contents). missing (ended_by changes) (visible s.stamp s.slots)) (sym c.self.view_is)
-    ∙ frees_missing now (ended_by changes) (ended_by (take c.loop-at.at changes)) (ended_by (drop (c.loop-at.at + 1) changes)) c.loop-at.freed c.in-Some.id
+    frees_missing now (ended_by changes) (ended_by (take c.loop-at.at changes)) (ended_by (drop (c.loop-at.at + 1) changes)) c.loop-at.freed c.in-Some.id
     (ended_next changes c.loop-at.at (change_of c.change.result) c.in-Some.id c.change.ensures (sym c.in-Some.ensures)) c.loop-at.invariant
     (subst (IsPlaceOf now.stamp c.in-Some.id now.slots) c.in_default-place_of.is c.place_of.ensures)
 

@@ -1,8 +1,8 @@
-use Rattle.pref_core.proofs.Common.{[], ◌+◌, ◌++◌, ◌∷◌, drop, sym, ap, ◌∙◌, subst, arith, begun_by, added_by, is_open, uses_of, changes_of, change_of}
+use Rattle.pref_core.proofs.Common.{[], ◌+◌, ◌++◌, ◌∷◌, drop, sym, ap, ◌∙◌, subst, arith, begun_by, added_by, changes_of, change_of}
 use Rattle.pref_core.proofs.ChangesLaws.{begun_at, added_one}
 use Rattle.pref_core.proofs.ChosenSlots.{ChosenUpTo, chosen_few, choose_one, one_left}
-use Rattle.pref_core.proofs.store.Store.places_for.Goals.{in-Some+in-Some-choose, in_default}
-use Rattle.pref_core.proofs.store.Store.places_for.Goals as goal
+use Rattle.pref_core.proofs.store.contents.Contents.places_for.Goals.{in-Some+in-Some-choose, in_default}
+use Rattle.pref_core.proofs.store.contents.Contents.places_for.Goals as goal
 
 pub push-requires : goal.push-requires
 push-requires c =
@@ -15,7 +15,7 @@ unreachable-requires c =
     let rest = begun_by (c.loop-at.next_id + added_by ((change_of c.change-change.result) ∷ [])) (drop (c.loop-at.at + 1) (changes_of c.args.call.now)) in
     let is = begun_at c.loop-at.next_id (changes_of c.args.call.now) c.loop-at.at (change_of c.change-change.result) c.change-change.ensures ∙ ap (λ l. l ++ rest) c.in-Some.ensures.some in
     one_left c.args.self.now c.args.call.now (record { id = c.in-Some.id; row = c.in-Some.field-0-1.now }) rest c.loop-at.chosen c.args.freed.now c.requires.freed c.requires.change c.requires.succeeds
-    (λ place opens. c.in-None.ensures.none place (ap (λ s. is_open (uses_of s) c.args.freed.now place) c.self.view_is ∙ opens)) (subst (λ l. ChosenUpTo c.args.self.now c.args.call.now l c.loop-at.chosen) is c.loop-at.invariant.chosen)
+    c.in-None.ensures.none (subst (λ l. ChosenUpTo c.args.self.now c.args.call.now l c.loop-at.chosen) is c.loop-at.invariant.chosen)
 
 pub loop-at-preserved : goal.loop-at-preserved
 loop-at-preserved c =
@@ -28,7 +28,7 @@ loop-at-preserved c =
         | in-Some+in-Some-choose w ↦
             let is = begun_at c.loop-at.next_id (changes_of call) c.loop-at.at (change_of c.change-change.result) c.change-change.ensures ∙ ap (λ l. l ++ rest) w.in-Some.ensures.some in
             subst (ChosenUpTo now call rest) (sym (w.chosen-is ∙ w.push.ensures))
-            (choose_one now call (record { id = w.in-Some.id; row = w.in-Some.field-0-1.now }) rest c.loop-at.chosen w.in-Some-choose.place c.args.freed.now c.requires.freed (ap (λ s. is_open (uses_of s) c.args.freed.now w.in-Some-choose.place) (sym c.self.view_is) ∙ w.in-Some-choose.ensures.found.0) w.in-Some-choose.ensures.found.1
+            (choose_one now call (record { id = w.in-Some.id; row = w.in-Some.field-0-1.now }) rest c.loop-at.chosen w.in-Some-choose.place c.args.freed.now c.requires.freed w.in-Some-choose.ensures.found.0 w.in-Some-choose.ensures.found.1
             (subst (λ l. ChosenUpTo now call l c.loop-at.chosen) is c.loop-at.invariant.chosen))
         | in_default w ↦
             let is = begun_at c.loop-at.next_id (changes_of call) c.loop-at.at (change_of c.change-change.result) c.change-change.ensures ∙ ap (λ l. l ++ rest) w.in_default.ensures.none in
