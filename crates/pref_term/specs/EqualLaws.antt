@@ -1,6 +1,6 @@
 -- No public contract cites this.
 -- The tests of equality are true exactly where preferences, modes and questions are the same. (this project)
-use Rattle.std.proofs.Common.{◌≡◌, ◌==◌, ℕ, List, true, ap, arith, refl, subst, ℤ}
+use Rattle.std.proofs.Common.{◌≡◌, ◌==◌, ℕ, List, true, arith, refl, ℤ}
 use Rattle.std.proofs.lemmas.Bool.{and_parts}
 use Rattle.std.proofs.lemmas.Cmp.{on_equiv}
 use Rattle.std.proofs.lemmas.Int.{ints}
@@ -20,53 +20,33 @@ use Rattle.pref_term.specs.declared.ask.Mode.{Mode}
 pub set_lists : (s t : List (List ℤ)) → Decides (pointwise (pointwise int_eq) s t) (s ≡ t)
 set_lists s t = slice_eq-Decides signed_items s t _ refl
 
--- where a test is true, the two are the same
-base_sound : (a b : Base) → base_eq a b ≡ true → a ≡ b
-base_sound (layered a s) (layered b t) h = let k = and_parts _ _ h in λ i. layered ((unsigned_Decides a b).0 k.0 i) ((set_lists s t).0 k.1 i)
-base_sound a b h = grind (arith, ints, and_parts, unsigned_Decides, signed_Decides, signed_items)
-
--- and the test of one with itself is true
-base_same : (b : Base) → base_eq b b ≡ true
-base_same (layered a s) = both_true ((unsigned_Decides a a).1 refl) ((set_lists s s).1 refl)
-base_same b = grind (arith, ints, unsigned_Decides, signed_Decides, signed_items)
-
-preference_sound : (p q : Preference) → preference_eq p q ≡ true → p ≡ q
-preference_sound (scored b) (scored c) h = ap scored (base_sound b c h)
-preference_sound (pareto p q) (pareto r s) h = grind (arith, preference_sound p r, preference_sound q s)
-preference_sound (prior p q) (prior r s) h = grind (arith, preference_sound p r, preference_sound q s)
-preference_sound (reverse p) (reverse r) h = ap reverse (preference_sound p r h)
-preference_sound _ _ h = cc
-
-preference_same : (p : Preference) → preference_eq p p ≡ true
-preference_same (scored b) = base_same b
-preference_same (pareto p q) = both_true (preference_same p) (preference_same q)
-preference_same (prior p q) = both_true (preference_same p) (preference_same q)
-preference_same (reverse p) = preference_same p
+bases_Decides : (a b : Base) → Decides (base_eq a b) (a ≡ b)
+bases_Decides (layered a s) (layered b t) = grind (arith, both_true, and_parts, unsigned_Decides a b, set_lists s t)
+bases_Decides a b = grind (arith, ints, both_true, and_parts, unsigned_Decides, signed_Decides, signed_items)
 
 pub preferences_Decides : (p q : Preference) → Decides (preference_eq p q) (p ≡ q)
-preferences_Decides p q = (preference_sound p q, λ e. subst (λ r. preference_eq p r ≡ true) e (preference_same p))
+preferences_Decides (scored b) (scored c) = grind (arith, bases_Decides b c)
+preferences_Decides (pareto p q) (pareto r s) = grind (arith, preferences_Decides p r, preferences_Decides q s)
+preferences_Decides (prior p q) (prior r s) = grind (arith, preferences_Decides p r, preferences_Decides q s)
+preferences_Decides (reverse p) (reverse r) = grind (arith, preferences_Decides p r)
+preferences_Decides _ _ = (λ h. cc, λ e. cc)
 
-mode_sound : (a b : Mode) → mode_eq a b ≡ true → a ≡ b
-mode_sound a b h = grind (arith)
+modes_Decides : (a b : Mode) → Decides (mode_eq a b) (a ≡ b)
+modes_Decides a b = grind (arith)
 
-mode_same : (m : Mode) → mode_eq m m ≡ true
-mode_same m = grind (arith)
+groups_Decides : (a b : List ℕ) → Decides (pointwise ◌==◌ a b) (a ≡ b)
+groups_Decides a b = slice_eq-Decides unsigned_Decides a b _ refl
 
-group_eq-Decides : (a b : List ℕ) → Decides (pointwise ◌==◌ a b) (a ≡ b)
-group_eq-Decides a b = slice_eq-Decides unsigned_Decides a b _ refl
-
-question_same : (q : Question) → question_eq q q ≡ true
-question_same q = grind (arith, preference_same, group_eq-Decides q.group q.group, mode_same)
-
-question_sound : (p q : Question) → question_eq p q ≡ true → p ≡ q
-question_sound p q h =
+-- the tests of the parts are the test of the whole
+parts_decide : (p q : Question) → question_eq p q ≡ true → p ≡ q
+parts_decide p q h =
     let k = and_parts _ _ h in
     let l = and_parts _ _ k.0 in
     let m = and_parts _ _ l.0 in
-    λ i. record { preference = preference_sound p.preference q.preference m.0 i; group = (group_eq-Decides p.group q.group).0 m.1 i; mode = mode_sound p.mode q.mode l.1 i; distinct = (booleans_Decides p.distinct q.distinct).0 k.1 i }
+    λ i. record { preference = (preferences_Decides p.preference q.preference).0 m.0 i; group = (groups_Decides p.group q.group).0 m.1 i; mode = (modes_Decides p.mode q.mode).0 l.1 i; distinct = (booleans_Decides p.distinct q.distinct).0 k.1 i }
 
 pub questions_Decides : (p q : Question) → Decides (question_eq p q) (p ≡ q)
-questions_Decides p q = (question_sound p q, λ e. subst (λ r. question_eq p r ≡ true) e (question_same p))
+questions_Decides p q = (parts_decide p q, λ e. grind (arith, e, preferences_Decides p.preference q.preference, groups_Decides p.group q.group, modes_Decides p.mode q.mode, booleans_Decides p.distinct q.distinct))
 
 pub terms_equal : IsEquivalence (on preference_of preference_eq)
 terms_equal = on_equiv preference_of (decided preference_eq preferences_Decides)
