@@ -1,11 +1,10 @@
 -- What building a question finds of its parts.
-use Rattle.pref_term.proofs.Common.{ℕ, Bool, true, List, ◌≡◌, ◌<◌, ◌≤◌, ◌+◌, arith, refl, subst, sym, length, take, All, get_or, Result, MatchResult, IsErrAnd}
+use Rattle.pref_term.proofs.Common.{ℕ, Bool, true, List, ◌≡◌, arith, refl, subst, sym, Result, MatchResult, IsErrAnd}
 use Rattle.pref_term.proofs.Common.{Preference, Question, IsAsk, IsClause, Mode, inl, inr}
-use Rattle.pref_term.proofs.Common.{◌∙◌, ap, drop, Option, Some, None, option_or}
-use Rattle.pref_term.specs.Built.{IsRefused, IsRefusedFor, first_among, first_fault}
+use Rattle.pref_term.proofs.Common.{Some, None}
+use Rattle.pref_term.specs.Built.{IsRefused, IsRefusedFor, first_fault}
 use Rattle.pref_term.specs.declared.fault.AskFault.{AskFault}
 use Rattle.pref_term.specs.declared.fault.AskFault.TheVariants.{NotSkyline, OutOfMemory}
-use Rattle.std.proofs.lemmas.List.{at_drop_more, take_all}
 use Rattle.std.proofs.lemmas.Result.{MatchResult-weaker}
 
 -- refused for what was found

@@ -1,8 +1,8 @@
 -- Where the product of the chains that lead a preference sees a difference, it decides; and these chains, one after the other, lead the chain of all keys.
-use Rattle.pref_term.proofs.Common.{◌≡◌, arith, ◌<◌, ℤ, Bool, true, false, not, List, [], ◌∷◌, ◌++◌, refl, sym, ap, ◌∙◌, ◌⊎◌, length, length-append, and_from, and_parts, false≢true}
-use Rattle.pref_term.proofs.Common.{All, All-append, All-cons, All-contains, All-nil, All-head, All-tail, AreInRow, ReadsBelow, by_chain, is_chain, is_better, is_same, is_worse}
-use Rattle.pref_term.proofs.Common.{Preference, scored, pareto, prior, reverse, Question, IsAsk, in_priority, in_product, Key, Relation, Same}
-use Rattle.std.proofs.lemmas.List.Elements.{All-pop, All-push, All-weaker}
+use Rattle.pref_term.proofs.Common.{◌≡◌, arith, ◌<◌, ℕ, zero, suc, get_or, ℤ, Bool, true, false, not, List, [], ◌∷◌, ◌++◌, refl, sym, ap, ◌∙◌, ◌⊎◌, length, length-append, and_from, and_parts, false≢true}
+use Rattle.pref_term.proofs.Common.{All, All-append, All-cons, All-nil, All-head, All-tail, AreInRow, ReadsBelow, by_chain, is_chain, is_better, is_same, is_worse}
+use Rattle.pref_term.proofs.Common.{Preference, scored, pareto, prior, reverse, Question, IsAsk, in_priority, in_product, Key, Relation}
+use Rattle.std.proofs.lemmas.List.Elements.{All-pop, All-push}
 use Rattle.std.specs.Prelude.{Contains, Some}
 use Rattle.pref_term.specs.Extension.{all_keys}
 use Rattle.pref_term.specs.Keys.{IsNoGreater, leading}
@@ -88,20 +88,16 @@ joined-append : (xs ys : List (List Key)) (a b : List ℤ) → by_chain (joined 
 joined-append [] ys a b = refl
 joined-append (x ∷ xs) ys a b = grind (arith, chain-append x (joined (xs ++ ys)) a b, joined-append xs ys a b, priority-assoc, chain-append x (joined xs) a b)
 
--- a chain that is one of the factors adds nothing
-each_again : (chains : List (List Key)) (a b : List ℤ) → All (λ chain. in_product (by_product chains a b) (by_chain chain a b) ≡ by_product chains a b) chains
-each_again [] a b = All-nil (λ chain. by_chain chain a b ≡ Same)
-each_again (x ∷ xs) a b =
-    All-cons (λ chain. in_product (by_product (x ∷ xs) a b) (by_chain chain a b) ≡ by_product (x ∷ xs) a b) x xs (factor_again (by_chain x a b) (by_product xs a b))
-    (All-weaker (λ chain. in_product (by_product xs a b) (by_chain chain a b) ≡ by_product xs a b) (λ chain. in_product (by_product (x ∷ xs) a b) (by_chain chain a b) ≡ by_product (x ∷ xs) a b)
-    (λ chain e. product-assoc (by_chain x a b) (by_product xs a b) (by_chain chain a b) ∙ ap (in_product (by_chain x a b)) e) xs (each_again xs a b))
+-- a chain that is one of the factors adds nothing, wherever it stands
+factor_held : (chains : List (List Key)) (chain : List Key) (i : ℕ) (a b : List ℤ) → i < length chains → get_or chains i chain ≡ chain → in_product (by_product chains a b) (by_chain chain a b) ≡ by_product chains a b
+factor_held [] chain i a b lt e = absurd (omega arith)
+factor_held (x ∷ xs) chain zero a b lt e = grind (arith, e, factor_again)
+factor_held (x ∷ xs) chain (suc i) a b lt e = grind (arith, product-assoc, factor_held xs chain i a b)
 
-each_again_joined : (chains : List (List Key)) (a b : List ℤ) → All (λ chain. in_priority (by_chain (joined chains) a b) (by_chain chain a b) ≡ by_chain (joined chains) a b) chains
-each_again_joined [] a b = All-nil (λ chain. by_chain chain a b ≡ Same)
-each_again_joined (x ∷ xs) a b =
-    All-cons (λ chain. in_priority (by_chain (joined (x ∷ xs)) a b) (by_chain chain a b) ≡ by_chain (joined (x ∷ xs)) a b) x xs (grind (arith, chain-append x (joined xs) a b, priority_again))
-    (All-weaker (λ chain. in_priority (by_chain (joined xs) a b) (by_chain chain a b) ≡ by_chain (joined xs) a b) (λ chain. in_priority (by_chain (joined (x ∷ xs)) a b) (by_chain chain a b) ≡ by_chain (joined (x ∷ xs)) a b)
-    (λ chain e. grind (arith, chain-append x (joined xs) a b, priority-assoc, e)) xs (each_again_joined xs a b))
+chain_held : (chains : List (List Key)) (chain : List Key) (i : ℕ) (a b : List ℤ) → i < length chains → get_or chains i chain ≡ chain → in_priority (by_chain (joined chains) a b) (by_chain chain a b) ≡ by_chain (joined chains) a b
+chain_held [] chain i a b lt e = absurd (omega arith)
+chain_held (x ∷ xs) chain zero a b lt e = grind (arith, e, chain-append x (joined xs) a b, priority_again)
+chain_held (x ∷ xs) chain (suc i) a b lt e = grind (arith, chain-append x (joined xs) a b, priority-assoc, chain_held xs chain i a b)
 
 pub one_added : (xs ys all : List (List Key)) (y : List Key) → AreBoth xs ys all → AreBoth xs (ys ++ y ∷ []) (all ++ y ∷ [])
 one_added xs ys all y h = record {
@@ -116,11 +112,9 @@ one_held xs ys all y h stands =
     record {
       in_row = λ k l. h.in_row k (All-pop AreInRow (ys ++ y ∷ []) ys (Some y) refl l).0;
       product = λ a b.
-          sym (product-append all (y ∷ []) a b ∙ (ap (in_product (by_product all a b)) (product_same (by_chain y a b))
-          ∙ All-contains (λ chain. in_product (by_product all a b) (by_chain chain a b) ≡ by_product all a b) all y (each_again all a b) stands)) ∙ more.product a b;
+          sym (product-append all (y ∷ []) a b ∙ (ap (in_product (by_product all a b)) (product_same (by_chain y a b)) ∙ factor_held all y stands.0 a b stands.1 stands.2)) ∙ more.product a b;
       in_order = λ a b.
-          sym (joined-append all (y ∷ []) a b ∙ (ap (in_priority (by_chain (joined all) a b)) (one_joined y a b)
-          ∙ All-contains (λ chain. in_priority (by_chain (joined all) a b) (by_chain chain a b) ≡ by_chain (joined all) a b) all y (each_again_joined all a b) stands)) ∙ more.in_order a b;
+          sym (joined-append all (y ∷ []) a b ∙ (ap (in_priority (by_chain (joined all) a b)) (one_joined y a b) ∙ chain_held all y stands.0 a b stands.1 stands.2)) ∙ more.in_order a b;
     }
   where
     one_joined : (chain : List Key) (a b : List ℤ) → by_chain (joined (chain ∷ [])) a b ≡ by_chain chain a b
