@@ -248,20 +248,15 @@ term_is names (pareto p q) h = let l = term_is names p h.0 in let r = term_is na
 term_is names (prior p q) h = let l = term_is names p h.0 in let r = term_is names q h.1 in ((l.0, r.0), (l.1, r.1), (l.2, r.2))
 term_is names (reverse p) h = term_is names p h
 
-is_ask : (names : Names) (p : Preference) (group : List ℕ) (mode : Mode) → IsTermOf names p → All (IsKnown names) group → IsCount (cut_of mode) → (distinct : Bool) → (distinct ≡ true → IsSkyline (record { preference = p; group = group; mode = mode; distinct = distinct })) → IsAsk (record { preference = p; group = group; mode = mode; distinct = distinct })
-is_ask names p group mode h g k distinct clause = grind (arith, term_is)
+-- an ask over the columns of the table
+abbrev pub IsKnownAsk : Names → Question → Type 0
+IsKnownAsk names q = IsAsk q × FitsWidth (length names) q
 
-fits_width : (names : Names) (p : Preference) (group : List ℕ) (mode : Mode) → IsTermOf names p → All (IsKnown names) group → (distinct : Bool) → FitsWidth (length names) (record { preference = p; group = group; mode = mode; distinct = distinct })
-fits_width names p group mode h g distinct = let term = term_is names p h in record { preference = term.1; group = λ i d b. let a = g i d b in a.1 }
+known_ask : (names : Names) (p : Preference) (group : List ℕ) (mode : Mode) → IsTermOf names p → All (IsKnown names) group → IsCount (cut_of mode) → (distinct : Bool) → (distinct ≡ true → IsSkyline (record { preference = p; group = group; mode = mode; distinct = distinct })) → IsKnownAsk names (record { preference = p; group = group; mode = mode; distinct = distinct })
+known_ask names p group mode h g k distinct clause = let term = term_is names p h in (grind (arith, term_is), record { preference = term.1; group = λ i d b. let a = g i d b in a.1 })
 
-pub rated_is_ask : (names : Names) (ts us : List Placed) (p : Preference) (group : List ℕ) (mode : Mode) → ReadsPrior names 0 ts p us → ReadsGrouping names us group → IsCount (cut_of mode) → IsAsk (record { preference = p; group = group; mode = mode; distinct = false })
-rated_is_ask names ts us p group mode r g k = is_ask names p group mode r.products.known g.known k false (λ h. absurd (false≢true h))
+pub rated_known : (names : Names) (ts us : List Placed) (p : Preference) (group : List ℕ) (mode : Mode) → ReadsPrior names 0 ts p us → ReadsGrouping names us group → IsCount (cut_of mode) → IsKnownAsk names (record { preference = p; group = group; mode = mode; distinct = false })
+rated_known names ts us p group mode r g k = known_ask names p group mode r.products.known g.known k false (λ h. absurd (false≢true h))
 
-pub rated_fits : (names : Names) (ts us : List Placed) (p : Preference) (group : List ℕ) (mode : Mode) → ReadsPrior names 0 ts p us → ReadsGrouping names us group → FitsWidth (length names) (record { preference = p; group = group; mode = mode; distinct = false })
-rated_fits names ts us p group mode r g = fits_width names p group mode r.products.known g.known false
-
-pub clause_is_ask : (names : Names) (ts : List Placed) (p : Preference) (group : List ℕ) (distinct : Bool) → ReadsClause names ts (Some p) group → IsAsk (record { preference = p; group = group; mode = Best; distinct = distinct })
-clause_is_ask names ts p group distinct r = is_ask names p group Best r.product_known r.group_known (omega arith, omega arith) distinct (λ _. record { mode = refl; preference = product_is_clause names (r.first ∷ r.others) p r.product_is })
-
-pub clause_fits : (names : Names) (ts : List Placed) (p : Preference) (group : List ℕ) (distinct : Bool) → ReadsClause names ts (Some p) group → FitsWidth (length names) (record { preference = p; group = group; mode = Best; distinct = distinct })
-clause_fits names ts p group distinct r = fits_width names p group Best r.product_known r.group_known distinct
+pub clause_known : (names : Names) (ts : List Placed) (p : Preference) (group : List ℕ) (distinct : Bool) → ReadsClause names ts (Some p) group → IsKnownAsk names (record { preference = p; group = group; mode = Best; distinct = distinct })
+clause_known names ts p group distinct r = known_ask names p group Best r.product_known r.group_known (omega arith, omega arith) distinct (λ _. record { mode = refl; preference = product_is_clause names (r.first ∷ r.others) p r.product_is })

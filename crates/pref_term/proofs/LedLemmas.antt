@@ -8,6 +8,7 @@ use Rattle.pref_term.proofs.Common.{closing, list_closed, stepped, seen, ahead, 
 use Rattle.pref_term.proofs.Common.{ReadsOpened, FailsColumn, FailsOpened, ReadsNumber, ReadsSome, ReadsNumbers, ReadsBase, FailsNumber, FailsNumbers, FailsBase}
 use Rattle.pref_term.proofs.Common.{first_place, word_ahead, behind_column, TermFault, EmptyRange, NumberRange, All, FitsSigned, ◌≢◌, IsErrAnd, IfErr, MatchResult, unwrap_or, int_lt, Option, scored, low}
 use Rattle.pref_term.proofs.Common.{high, around, one_of, between, all_ascii_digits, to_z, of_z, to_z-of_z, map-append, All-append, All-cons, All-nil, next_of}
+use Rattle.pref_term.proofs.Common.{FailsSets, IsWritableSet, ReadsSets, ReadsSomeSets, SetText, in_set, layered, layered_kind, layered_text, left_brace, right_brace, set_due, set_value, sets_listed, with_next}
 use Rattle.pref_table.specs.Columns.{column_of}
 use Rattle.pref_term.proofs.GrammarComplete.{list_ends}
 use Rattle.pref_term.proofs.TokenLemmas.{digits_taken}
@@ -69,11 +70,8 @@ pub opened_fails : (names : Names) (behind : Sign) (ts us : List Placed) (f : Te
 opened_fails names behind ts us f c r =
     record { fails = λ h k e. goes_fails names _ _ ts us f (passes_goes names (sign left) ts us (reading h (named k)) (reading h (opened k)) (mark left) c refl refl) (r.fails _ _ (wants_opened h k)) }
 
-column_end_stuck : (names : Names) (behind : Sign) (ts us vs : List Placed) (col : ℕ) (f : TermFault) → Passes (sign left) ts us → TakesColumn names us col vs → IsOther (sign behind) vs f → (h : UnaryHole) (k : BaseKind) → behind_column k ≡ behind → Fails names (reading h (named k)) ts f
-column_end_stuck names behind ts us vs col f c t o h k e = grind (arith)
-
 pub column_end_fails : (names : Names) (behind : Sign) (ts us vs : List Placed) (col : ℕ) (f : TermFault) → Passes (sign left) ts us → TakesColumn names us col vs → IsOther (sign behind) vs f → FailsOpened names behind ts f
-column_end_fails names behind ts us vs col f c t o = record { fails = λ h k e. column_end_stuck names behind ts us vs col f c t o h k e }
+column_end_fails names behind ts us vs col f c t o = record { fails = λ h k e. grind (arith) }
 
 -- what was taken, where the token is known
 pub taken_is : (ts : List Placed) (t : Lexeme) (k : code.Token) → ts ≡ taken t → t.token ≡ k → ts ≡ at_place (seen k) t.at ∷ behind_token k (ahead t.next)
@@ -110,11 +108,8 @@ number_read negative ts us ds value c fits v held =
       refused = λ names h hole under. number_refused negative ts us ds c names h hole empty_range (number_own names (least_of hole) negative ds fits ∙ under);
     }
 
-number_unfit : (negative : Bool) (ts us : List Placed) (ds : List ℕ) → NumberAhead negative ts ds us → fits_cell (signed_value negative ds) ≡ false → (names : Names) (h : UnaryHole) (hole : NumberHole) → Fails names (reading h (number_due hole)) ts (NumberRange (first_place ts))
-number_unfit negative ts us ds c fits names h hole = grind (arith)
-
 pub number_out_of_range : (negative : Bool) (ts us : List Placed) (ds : List ℕ) → NumberAhead negative ts ds us → fits_cell (signed_value negative ds) ≡ false → FailsNumber ts (NumberRange (first_place ts))
-number_out_of_range negative ts us ds c fits = record { fails = λ names h hole. number_unfit negative ts us ds c fits names h hole }
+number_out_of_range negative ts us ds c fits = record { fails = λ names h hole. grind (arith) }
 
 -- the right end of a range
 below_of : (l r : NumberText) (least value : ℤ) (test : Bool) → number_value l ≡ least → number_value r ≡ value → int_lt value least ≡ test → below (Some l) (number_value r) ≡ cond test (Some empty_range) None
@@ -291,6 +286,73 @@ between_end_fails names ts us vs ws xs col l r f o n d m above e =
 
 pub pos_fails : (names : Names) (ts us : List Placed) (col : ℕ) (f : TermFault) → ReadsOpened names comma ts col us → FailsNumbers right us f → FailsBase names pos_kind ts f
 pos_fails names ts us col f r n = record { fails = λ h. goes_fails names _ _ ts us f (r.goes h pos_kind _ refl) (n.fails names h (in_pos r.letters) refl) }
+
+-- ---- the sets of `layered`
+
+-- the first set is due
+pub some_sets_none : (ts : List Placed) → ReadsSomeSets ts [] ts
+some_sets_none ts = record { some = []; fits = All-nil IsWritableSet; values_are = refl; goes = λ names h column p. (p, refl) }
+
+pub some_sets_fails : (ts us : List Placed) (sets : List (List ℤ)) (f : TermFault) → ReadsSomeSets ts sets us → IsOther (sign left_brace) us f → FailsSets ts f
+some_sets_fails ts us sets f r o = record { fails = λ names h column. goes_fails names _ _ ts us f (r.goes names h column) (other_fails names (sign left_brace) us f _ o (λ u ne. grind arith)) }
+
+-- one set more
+module _ (ts us vs : List Placed) (sets : List (List ℤ)) (r : ReadsSomeSets ts sets us) (c : Passes (sign left_brace) us vs) where
+  open_goes : (names : Names) (h : UnaryHole) (column : List ℕ) → Goes names (reading h (set_due column [])) ts (reading h (number_due (next_of (in_set column r.some) []))) vs
+  open_goes names h column = sign_behind names ts us vs _ _ _ left_brace (r.goes names h column) c refl
+
+  pub some_numbers_fails : (f : TermFault) → FailsNumbers right_brace vs f → FailsSets ts f
+  some_numbers_fails f n = record { fails = λ names h column. goes_fails names _ _ ts vs f (open_goes names h column) (n.fails names h (in_set column r.some) refl) }
+
+  -- and the sign behind it
+  module _ (ws : List Placed) (set : List ℤ) (n : ReadsNumbers right_brace vs set ws) where
+    text : SetText
+    text = record { first = n.first; others = n.others }
+
+    sets_fit : All IsWritableSet (sets ++ set ∷ [])
+    sets_fit = All-append IsWritableSet sets (set ∷ []) r.fits (all_one IsWritableSet set (subst (λ (values : List ℤ). values ≢ []) n.values_are cons_not_none, n.fits))
+
+    sets_go : (names : Names) (h : UnaryHole) (column : List ℕ) → Goes names (reading h (set_due column [])) ts (reading h (with_next (sets_listed column) r.some text)) ws
+    unfolding text
+    sets_go names h column = goes_then names _ _ _ ts vs ws (open_goes names h column) (n.goes names h (in_set column r.some) refl)
+
+    sets_are : map set_value (r.some ++ text ∷ []) ≡ sets ++ set ∷ []
+    unfolding text
+    sets_are = mapped_more set_value r.some text sets set r.values_are n.values_are
+
+    pub some_sets_more : (xs : List Placed) → Passes (sign comma) ws xs → ReadsSomeSets ts (sets ++ set ∷ []) xs
+    some_sets_more xs d =
+        record {
+          some = r.some ++ text ∷ [];
+          fits = sets_fit;
+          values_are = sets_are;
+          goes = λ names h column. sign_behind names ts ws xs _ _ _ comma (sets_go names h column) d (grind arith);
+        }
+
+    pub some_sets_all : (at : ℕ) (xs : List Placed) → ws ≡ at_place (sign right) at ∷ xs → ReadsSets ts (sets ++ set ∷ []) xs
+    some_sets_all at xs e = go r.some sets_are sets_go
+      where
+        go : (some : List SetText) → map set_value (some ++ text ∷ []) ≡ sets ++ set ∷ []
+            → ((names : Names) (h : UnaryHole) (column : List ℕ) → Goes names (reading h (set_due column [])) ts (reading h (with_next (sets_listed column) some text)) ws) → ReadsSets ts (sets ++ set ∷ []) xs
+        go [] m goes = record { first = text; others = []; fits = sets_fit; values_are = m; goes = λ names h column. sign_behind names ts ws xs _ _ _ right (goes names h column) (at, e) refl }
+        go (f ∷ os) m goes = record { first = f; others = os ++ text ∷ []; fits = sets_fit; values_are = m; goes = λ names h column. sign_behind names ts ws xs _ _ _ right (goes names h column) (at, e) refl }
+
+    pub some_sets_stuck : (f : TermFault) (t : Lexeme) → ws ≡ taken t → seen t.token ≢ sign right → IsOther (sign comma) ws f → FailsSets ts f
+    some_sets_stuck f t e n nc =
+        let nr = subst (NotNext (sign right)) (sym e) n in
+        record { fails = λ names h column. goes_fails names _ _ ts ws f (sets_go names h column) (neither_fails names (sign comma) (sign right) ws f _ nc nr (λ u nc nr. grind (arith))) }
+
+pub layered_read : (names : Names) (ts us vs : List Placed) (col : ℕ) (sets : List (List ℤ)) → ReadsOpened names comma ts col us → ReadsSets us sets vs → ReadsBase names layered_kind ts (scored (layered col sets)) vs
+layered_read names ts us vs col sets r n =
+    record {
+      tree = layered_text r.letters n.first n.others;
+      meaning = ap (λ i. scored (layered i (set_value n.first ∷ map set_value n.others))) (column_is names r.letters col r.found.place) ∙ ap (λ v. scored (layered col v)) n.values_are;
+      known = (r.found.known, (subst (λ (sets : List (List ℤ)). sets ≢ []) n.values_are cons_not_none, n.fits));
+      goes = λ h. goes_then names _ _ _ ts us vs (r.goes h layered_kind _ refl) (n.goes names h r.letters);
+    }
+
+pub layered_fails : (names : Names) (ts us : List Placed) (col : ℕ) (f : TermFault) → ReadsOpened names comma ts col us → FailsSets us f → FailsBase names layered_kind ts f
+layered_fails names ts us col f r n = record { fails = λ h. goes_fails names _ _ ts us f (r.goes h layered_kind _ refl) (n.fails names h r.letters) }
 
 -- what the readers of `around` and of `between` need
 pub ruleset reads_around = (opened_base_fails, centre_fails, around_read, around_end_fails)

@@ -15,7 +15,6 @@ pub mod TokenLemmas
 pub mod GrammarComplete
 pub mod SpellsLaws
 pub mod LedLemmas
-pub mod SetLemmas
 pub mod CycleLemmas
 pub mod AskedLemmas
 pub mod AskLemmas

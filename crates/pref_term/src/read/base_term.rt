@@ -154,7 +154,7 @@ fn pos<'a>(alloc: Global, schema: &Schema, cursor: Cursor<'a>) -> Parsed<'a, Ter
 }
 
 /// Takes the sets of `layered` and the parenthesis behind them.
-#[tactic(auto, using(crate::proofs::SetLemmas::some_sets_none, crate::proofs::SetLemmas::some_sets_more))]
+#[tactic(auto, using(crate::proofs::LedLemmas::some_sets_none, crate::proofs::LedLemmas::some_sets_more))]
 fn sets<'a>(alloc: Global, cursor: Cursor<'a>) -> Parsed<'a, Vec<Numbers>>
     ensures ok { IfOk result (λ x. led.ReadsSets (ahead cursor.entry) x.0.items (ahead x.1)) }
     ensures shorter { IfOk result (λ x. length (ahead x.1) < length (ahead cursor.entry)) }
@@ -175,7 +175,7 @@ fn sets<'a>(alloc: Global, cursor: Cursor<'a>) -> Parsed<'a, Vec<Numbers>>
 }
 
 /// Takes what follows `layered`.
-#[tactic(auto, using(crate::proofs::SetLemmas::layered_read, crate::proofs::LedLemmas::opened_base_fails, crate::proofs::SetLemmas::layered_fails))]
+#[tactic(auto, using(crate::proofs::LedLemmas::layered_read, crate::proofs::LedLemmas::opened_base_fails, crate::proofs::LedLemmas::layered_fails))]
 fn layered<'a>(alloc: Global, schema: &Schema, cursor: Cursor<'a>) -> Parsed<'a, Term>
     ensures parsed { led.Parses (led.ReadsBase schema.now reading.layered_kind (ahead cursor.entry)) (led.FailsBase schema.now reading.layered_kind (ahead cursor.entry)) result }
     ensures shorter { IfOk result (λ x. length (ahead x.1) < length (ahead cursor.entry)) }

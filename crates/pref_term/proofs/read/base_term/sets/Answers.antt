@@ -1,6 +1,5 @@
 use Rattle.pref_term.proofs.Common.{◌∙◌}
-use Rattle.pref_term.proofs.LedLemmas.{err_exit}
-use Rattle.pref_term.proofs.SetLemmas.{some_sets_fails, some_numbers_fails, some_sets_all, some_sets_stuck}
+use Rattle.pref_term.proofs.LedLemmas.{err_exit, some_sets_fails, some_numbers_fails, some_sets_all, some_sets_stuck}
 use Rattle.pref_term.proofs.read.base_term.sets.Goals as goal
 
 pub returns-in_err-inside-clause-err : goal.returns-in_err-inside-clause-err
