@@ -1,7 +1,7 @@
 -- One pass over entries in order: the class of the next entry, how many levels are above it, and what is known behind it.
 use Rattle.pref_sky.proofs.Common.{◌≡◌, ℕ, suc, zero, ◌<◌, ◌≤◌, ◌+◌, ◌-◌, Bool, true, false, not, inl, inr, List, [], ◌∷◌, ◌++◌, refl, sym, ◌∙◌, ap, subst, arith, length, get_or, set}
 use Rattle.pref_sky.proofs.Common.{both_ways, and_from, cases_Bool, cases_eq, cases_lt, false_from_ne_true, get_or-set_same, get_or-set_other, length-set, length_push}
-use Rattle.pref_sky.proofs.Common.{get_or_push, get_or_append_left, add-one, comes_after, Entry, entry_at, count_above, Among, IsChain, StandAlike, are_level, comes_first, in_turn}
+use Rattle.pref_sky.proofs.Common.{get_or_push, get_or_append_left, comes_after, Entry, entry_at, count_above, Among, IsChain, StandAlike, are_level, comes_first, in_turn}
 use Rattle.pref_sky.proofs.ChainLaws.{chain_in_turn, level_above, level_below}
 use Rattle.pref_sky.proofs.LeveledLaws.{HasChain, count_is}
 use Rattle.pref_sky.proofs.ListLaws.{among_place, place_of}
@@ -59,28 +59,6 @@ pub at_level_of : {E : Type 0} (over : E → E → Bool) (cut : ℕ) (all : List
 at_level_of over cut all e n early is =
     let chain : HasChain over cut all e n = subst (HasChain over cut all e) (sym is) (chain_of_count over cut all e) in
     and_from (comes_after over all n e) (not (comes_after over all (suc n) e)) chain.after (ap not (chain.no_more early))
-
--- a search by halves for how many levels are above an entry
-pub record IsSought {E L : Type 0} (over : E → E → Bool) (all : List E) (e : E) (levels : List L) (low high : ℕ) : Type 0 where
-  pub ordered : low ≤ high
-  pub within : high ≤ length levels
-  pub above : comes_after over all low e ≡ true
-  pub next : high < length levels → comes_after over all (suc high) e ≡ false
-
-module _ {E L : Type 0} (over : E → E → Bool) (all : List E) (e : E) (levels : List L) where
-  module _ (low high middle : ℕ) (asked : L) (sought : IsSought over all e levels low high) where
-    pub sought_below : middle < high → comes_after over all (suc middle) e ≡ true → IsSought over all e (set levels middle asked) (middle + 1) high
-    sought_below inside stands =
-        let long = length-set levels middle asked in
-        record {
-          ordered = omega (arith, inside);
-          within = omega (arith, sought.within, long);
-          above = subst (λ n. comes_after over all n e ≡ true) (sym (add-one middle)) stands;
-          next = λ less. sought.next (omega (arith, less, long));
-        }
-
-    pub sought_above : low ≤ middle → middle < high → comes_after over all (suc middle) e ≡ false → IsSought over all e (set levels middle asked) low middle
-    sought_above from inside stands = record { ordered = from; within = omega (arith, inside, sought.within, length-set levels middle asked); above = sought.above; next = λ _. stands }
 
 -- ---- classes: entries that are level in three chains
 
@@ -236,22 +214,22 @@ module _ {over first second third : Entry → Entry → Bool} {all : List Entry}
         | inr within ↦ within
       ]
 
-  -- one that was held is sought from its level on
-  pub sought_held : AreHeld over cut mark all → (class : ℕ) (levels : List Level) → Swept i class levels → (low high : ℕ) → low ≡ mark i - 1 → high ≡ length levels → IsSought over all e levels low high
-  sought_held held class levels so_far low high low_is high_is =
-      let after : comes_after over all low e ≡ true = subst (λ n. comes_after over all n e ≡ true) (sym low_is) (held.after i inside) in
-      let known = all_known class levels so_far low (omega (arith, low_is, held.within i inside)) after in
-      record { ordered = omega (arith, known, high_is); within = omega (arith, high_is); above = after; next = λ less. absurd (omega (arith, less, high_is)) }
+  -- one that was held is of its level or of one below, which is known
+  pub held_after : AreHeld over cut mark all → (class : ℕ) (levels : List Level) → Swept i class levels → (low : ℕ) → low ≡ mark i - 1 → (low ≤ length levels) × (comes_after over all low e ≡ true)
+  held_after held class levels so_far low is =
+      let after : comes_after over all low e ≡ true = subst (λ n. comes_after over all n e ≡ true) (sym is) (held.after i inside) in
+      (all_known class levels so_far low (omega (arith, is, held.within i inside)) after, after)
 
   -- as many levels are above it as a search among those so far finds
-  pub count_found : (class : ℕ) (levels : List Level) (low high : ℕ) → Swept i class levels → IsSought over all e levels low high → high ≤ low → low ≡ count e
-  count_found class levels low high so_far sought met =
-      let same : low ≡ high = omega (arith, sought.ordered, met) in
+  pub count_found : (class : ℕ) (levels : List Level) (low high : ℕ) → Swept i class levels → low ≤ high → high ≤ length levels → comes_after over all low e ≡ true
+      → (high < length levels → comes_after over all (suc high) e ≡ false) → high ≤ low → low ≡ count e
+  count_found class levels low high so_far ordered within above next met =
+      let same : low ≡ high = omega (arith, ordered, met) in
       sym (count_is over cut all e low (record {
-        within = omega (arith, same, sought.within, so_far.within);
-        after = sought.above;
+        within = omega (arith, same, within, so_far.within);
+        after = above;
         no_more = λ early. elim (cases_lt low (length levels)) [
-          | inl known ↦ subst (λ n. comes_after over all (suc n) e ≡ false) (sym same) (sought.next (omega (arith, known, same)))
+          | inl known ↦ subst (λ n. comes_after over all (suc n) e ≡ false) (sym same) (next (omega (arith, known, same)))
           | inr all_known ↦ false_from_ne_true (comes_after over all (suc low) e) (λ h. let w = level_over swept i inside low h in absurd (omega (arith, all_known, so_far.known w.0 low early w.1)))
         ];
       }))

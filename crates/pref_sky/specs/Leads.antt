@@ -11,9 +11,10 @@ use Rattle.pref_sky.specs.Items.{signature_by}
 use Rattle.pref_sky.specs.Members.{Among}
 use Rattle.pref_sky.specs.Held.{AreHeld}
 use Rattle.pref_sky.specs.OwnOrders.{own_order}
-use Rattle.pref_sky.specs.Sweep.{AreSwept, are_level_in}
+use Rattle.pref_sky.specs.Sweep.{AreSwept, HasSwept, IsClass, StandsFor, are_level_in}
 use Rattle.pref_sky.specs.declared.entry.Entry.{Entry}
 use Rattle.pref_sky.specs.declared.lead.Lead.{Lead}
+use Rattle.pref_sky.specs.declared.level.Level.{Level}
 use Rattle.pref_sky.specs.declared.own_order.OwnOrder.{OwnOrder}
 
 -- the chains
@@ -57,3 +58,13 @@ pub record LeadsSweep (order : OwnOrder) (lead : Lead) (all : List Entry) : Type
   pub keyed : (a b : Entry) → Among a all → Among b all → is_same (by_chain (ask_keys order.ask) a.row b.row) ≡ true
       → are_level_in (first_of order lead) (second_of order lead) (third_of order lead) a b ≡ true
   pub held : AreHeld (own_order order) order.cut (mark_of lead) all
+
+-- classes, what is kept of a level, and what is known of all levels, in a sweep that these lead
+abbrev pub IsClassBy : OwnOrder → Lead → List Entry → (class i : ℕ) → Type 0
+IsClassBy order lead = IsClass (first_of order lead) (second_of order lead) (third_of order lead)
+
+abbrev pub StandsBy : OwnOrder → Lead → List Entry → (class i n : ℕ) → Level → Type 0
+StandsBy order lead = StandsFor (own_order order) (second_of order lead) (third_of order lead) (rule_of lead) (mark_of lead)
+
+abbrev pub HasSweptBy : OwnOrder → Lead → List Entry → (i class : ℕ) → List Level → Type 0
+HasSweptBy order lead = HasSwept (own_order order) (second_of order lead) (third_of order lead) (rule_of lead) (mark_of lead) order.cut

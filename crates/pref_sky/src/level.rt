@@ -14,10 +14,10 @@ ghost use Rattle.std.specs.Prelude.{◌≡◌, ◌<◌, ◌≤◌, ◌+◌, ◌&
 ghost use Rattle.pref_term.specs.Signatures.{is_within};
 ghost use Rattle.pref_sky.specs.OwnOrders.{comes_after, own_order};
 ghost use Rattle.pref_sky.specs.Items.{entry_at};
-ghost use Rattle.pref_sky.specs.Leads.{LeadsSweep, first_of, mark_of, rule_of, second_of, third_of};
+ghost use Rattle.pref_sky.specs.Leads.{IsClassBy, LeadsSweep, StandsBy, mark_of, rule_of, second_of, third_of};
 ghost use Rattle.pref_sky.specs.Members.{Among, SameMembers};
 ghost use Rattle.pref_sky.specs.Steps.{AreBetter, AreNoBetter, AreNoWorse, IsAsked, IsStepPut};
-ghost use Rattle.pref_sky.specs.Sweep.{ArePlaces, IsAskedOf, IsClass, IsKept, IsMember, IsOfClass, IsOneMore, IsSameLevel, StandsFor, is_at};
+ghost use Rattle.pref_sky.specs.Sweep.{ArePlaces, IsAskedOf, IsKept, IsMember, IsOfClass, IsOneMore, IsSameLevel, StandsFor, is_at};
 ghost use Rattle.pref_sky.specs.declared.entry.Entry.{Entry};
 ghost use Rattle.pref_sky.specs.declared.item.Item.{Item};
 
@@ -225,8 +225,8 @@ impl Level {
         requires signature { signature ≡ rule_of lead.now (entry_at entries.now place) }
         ensures same { IsSameLevel self.old self.new }
         ensures dominated { let over = own_order order.now in
-            LeadsSweep order.now lead.now entries.now → IsClass (first_of order.now lead.now) (second_of order.now lead.now) (third_of order.now lead.now) entries.now class place
-            → (n : ℕ) → StandsFor over (second_of order.now lead.now) (third_of order.now lead.now) (rule_of lead.now) (mark_of lead.now) entries.now class place n self.old
+            LeadsSweep order.now lead.now entries.now → IsClassBy order.now lead.now entries.now class place
+            → (n : ℕ) → StandsBy order.now lead.now entries.now class place n self.old
             → mark_of lead.now place ≤ suc n → result ≡ comes_after over entries.now (suc n) (entry_at entries.now place) }
     {
         let entry = &entries[place];
@@ -298,10 +298,10 @@ impl Level {
         requires places { ArePlaces entries.now self.old }
         requires signature { signature ≡ rule_of lead.now (entry_at entries.now place) }
         ensures { let over = own_order order.now in
-            LeadsSweep order.now lead.now entries.now → IsClass (first_of order.now lead.now) (second_of order.now lead.now) (third_of order.now lead.now) entries.now class place
-            → StandsFor over (second_of order.now lead.now) (third_of order.now lead.now) (rule_of lead.now) (mark_of lead.now) entries.now class place above self.old
+            LeadsSweep order.now lead.now entries.now → IsClassBy order.now lead.now entries.now class place
+            → StandsBy order.now lead.now entries.now class place above self.old
             → is_at over entries.now above (entry_at entries.now place) ≡ true
-            → OnOk result (StandsFor over (second_of order.now lead.now) (third_of order.now lead.now) (rule_of lead.now) (mark_of lead.now) entries.now class (place + 1) above self.new) }
+            → OnOk result (StandsBy order.now lead.now entries.now class (place + 1) above self.new) }
     {
         self.put_step(order, lead, entries, place)?;
         self.begin_class(class);

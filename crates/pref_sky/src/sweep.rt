@@ -4,9 +4,9 @@ ghost use Rattle.std.specs.Prelude.{◌≡◌, ◌<◌, ◌≤◌, ◌+◌, ◌-
 ghost use Rattle.pref_term.specs.Order.{StandAlike};
 ghost use Rattle.pref_sky.specs.OwnOrders.{count_above, level_of, own_order};
 ghost use Rattle.pref_sky.specs.Items.{entry_at};
-ghost use Rattle.pref_sky.specs.Leads.{LeadsSweep, first_of, mark_of, rule_of, second_of, third_of};
+ghost use Rattle.pref_sky.specs.Leads.{HasSweptBy, IsClassBy, LeadsSweep, first_of, rule_of, second_of, third_of};
 ghost use Rattle.pref_sky.specs.declared.entry.Entry.{Entry};
-ghost use Rattle.pref_sky.specs.Sweep.{HasSwept, IsClass, are_level_in};
+ghost use Rattle.pref_sky.specs.Sweep.{HasSwept, are_level_in};
 
 use crate::entry::Entry;
 use crate::lead::Lead;
@@ -49,11 +49,11 @@ impl Sweep {
         requires inside { place < length entries.now }
         requires swept { LeadsSweep order.now lead.now entries.now }
         requires signature { signature ≡ rule_of lead.now (entry_at entries.now place) }
-        requires so_far { HasSwept (own_order order.now) (second_of order.now lead.now) (third_of order.now lead.now) (rule_of lead.now) (mark_of lead.now) order.now.cut entries.now place self.old.class self.old.levels.items }
-        requires class { IsClass (first_of order.now lead.now) (second_of order.now lead.now) (third_of order.now lead.now) entries.now self.old.class place }
+        requires so_far { HasSweptBy order.now lead.now entries.now place self.old.class self.old.levels.items }
+        requires class { IsClassBy order.now lead.now entries.now self.old.class place }
         ensures above { result ≡ count_above (own_order order.now) entries.now order.now.cut (entry_at entries.now place) }
-        ensures so_far { HasSwept (own_order order.now) (second_of order.now lead.now) (third_of order.now lead.now) (rule_of lead.now) (mark_of lead.now) order.now.cut entries.now place self.new.class self.new.levels.items }
-        ensures class { IsClass (first_of order.now lead.now) (second_of order.now lead.now) (third_of order.now lead.now) entries.now self.new.class place }
+        ensures so_far { HasSweptBy order.now lead.now entries.now place self.new.class self.new.levels.items }
+        ensures class { IsClassBy order.now lead.now entries.now self.new.class place }
     {
         let held = lead.held_level(place);
         let mut low = held.saturating_sub(1) as usize;
@@ -97,10 +97,10 @@ impl Sweep {
         requires inside { place < length entries.now }
         requires swept { LeadsSweep order.now lead.now entries.now }
         requires signature { signature ≡ rule_of lead.now (entry_at entries.now place) }
-        requires so_far { HasSwept (own_order order.now) (second_of order.now lead.now) (third_of order.now lead.now) (rule_of lead.now) (mark_of lead.now) order.now.cut entries.now place self.old.class self.old.levels.items }
-        requires class { IsClass (first_of order.now lead.now) (second_of order.now lead.now) (third_of order.now lead.now) entries.now self.old.class place }
+        requires so_far { HasSweptBy order.now lead.now entries.now place self.old.class self.old.levels.items }
+        requires class { IsClassBy order.now lead.now entries.now self.old.class place }
         requires above { self.old.above ≡ count_above (own_order order.now) entries.now order.now.cut (entry_at entries.now place) }
-        ensures so_far { OnOk result (HasSwept (own_order order.now) (second_of order.now lead.now) (third_of order.now lead.now) (rule_of lead.now) (mark_of lead.now) order.now.cut entries.now (place + 1) self.new.class self.new.levels.items) }
+        ensures so_far { OnOk result (HasSweptBy order.now lead.now entries.now (place + 1) self.new.class self.new.levels.items) }
         ensures same { (self.new.class ≡ self.old.class) × (self.new.above ≡ self.old.above) }
     {
         if self.above >= order.cut as usize {
@@ -123,11 +123,11 @@ impl Sweep {
     ) -> Result<(), AllocError>
         requires inside { place < length entries.now }
         requires swept { LeadsSweep order.now lead.now entries.now }
-        requires so_far { HasSwept (own_order order.now) (second_of order.now lead.now) (third_of order.now lead.now) (rule_of lead.now) (mark_of lead.now) order.now.cut entries.now place self.old.class self.old.levels.items }
-        requires class { 0 < place → IsClass (first_of order.now lead.now) (second_of order.now lead.now) (third_of order.now lead.now) entries.now self.old.class (place - 1) }
+        requires so_far { HasSweptBy order.now lead.now entries.now place self.old.class self.old.levels.items }
+        requires class { 0 < place → IsClassBy order.now lead.now entries.now self.old.class (place - 1) }
         requires above { 0 < place → self.old.above ≡ count_above (own_order order.now) entries.now order.now.cut (entry_at entries.now (place - 1)) }
-        ensures so_far { OnOk result (HasSwept (own_order order.now) (second_of order.now lead.now) (third_of order.now lead.now) (rule_of lead.now) (mark_of lead.now) order.now.cut entries.now (place + 1) self.new.class self.new.levels.items) }
-        ensures class { OnOk result (IsClass (first_of order.now lead.now) (second_of order.now lead.now) (third_of order.now lead.now) entries.now self.new.class place) }
+        ensures so_far { OnOk result (HasSweptBy order.now lead.now entries.now (place + 1) self.new.class self.new.levels.items) }
+        ensures class { OnOk result (IsClassBy order.now lead.now entries.now self.new.class place) }
         ensures above { OnOk result (self.new.above ≡ count_above (own_order order.now) entries.now order.now.cut (entry_at entries.now place)) }
     {
         match standing_at(order, lead, entries, place) {

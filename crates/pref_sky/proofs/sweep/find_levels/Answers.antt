@@ -2,8 +2,7 @@ use Rattle.pref_sky.proofs.Common.{◌≡◌, ◌+◌, ◌-◌, arith, count_abo
 use Rattle.pref_sky.proofs.LeveledLaws.{HasChain, level_is, level_of_lower}
 use Rattle.pref_sky.proofs.ListLaws.{front_more}
 use Rattle.pref_sky.proofs.SweepLaws.{chain_of_count}
-use Rattle.pref_sky.specs.Leads.{first_of, second_of, third_of}
-use Rattle.pref_sky.specs.Sweep.{IsClass}
+use Rattle.pref_sky.specs.Leads.{IsClassBy}
 use Rattle.pref_sky.proofs.sweep.find_levels.Goals as goal
 
 pub loop-place-preserved : goal.loop-place-preserved
@@ -24,7 +23,7 @@ loop-place-preserved c =
     ] in
     record {
       swept = swept.so_far;
-      class = λ _. subst (IsClass (first_of c.args.order.now c.args.lead.now) (second_of c.args.order.now c.args.lead.now) (third_of c.args.order.now c.args.lead.now) all c.step.new.self.class) last swept.class;
+      class = λ _. subst (IsClassBy c.args.order.now c.args.lead.now all c.step.new.self.class) last swept.class;
       above = λ _. swept.above ∙ ap (λ k. count_above over all cut (entry_at all k)) last;
       found = (c.in_ok-push.ensures {u = tt}).items
           ∙ (ap (λ l. l ++ c.level.result ∷ []) c.loop-place.invariant.found

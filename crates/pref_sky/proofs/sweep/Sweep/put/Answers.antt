@@ -1,7 +1,6 @@
 use Rattle.pref_sky.proofs.Common.{◌∙◌, arith, subst, sym}
 use Rattle.pref_sky.proofs.SweepLaws.{above_within, are_places, at_level_of, stands_there, swept_below, swept_put}
-use Rattle.pref_sky.specs.Leads.{first_of, second_of, third_of}
-use Rattle.pref_sky.specs.Sweep.{IsClass}
+use Rattle.pref_sky.specs.Leads.{IsClassBy}
 use Rattle.std.proofs.lemmas.Result.{on_ok_weaker}
 use Rattle.pref_sky.proofs.sweep.Sweep.put.Goals as goal
 
@@ -39,4 +38,4 @@ returns-clause-so_far c =
     let stands = stands_there _ _ _ swept c.args.place inside next.class next.levels.items next.above c.index_mut.result.now begun.0 begun.1 c.index_mut.ensures.value in
     let at = at_level_of _ c.args.order.now.cut _ _ next.above (omega (arith, begun.1, begun.0.within)) above in
     on_ok_weaker c.put.result (λ put. swept_put _ _ _ swept c.args.place inside next.class next.levels.items next.above _ begun.0 above begun.1 put)
-    (c.put.ensures c.requires.swept (subst (λ class. IsClass (first_of c.args.order.now c.args.lead.now) (second_of c.args.order.now c.args.lead.now) (third_of c.args.order.now c.args.lead.now) c.args.entries.now class c.args.place) (sym c.begin_level.ensures.same.0) c.requires.class) stands at)
+    (c.put.ensures c.requires.swept (subst (λ class. IsClassBy c.args.order.now c.args.lead.now c.args.entries.now class c.args.place) (sym c.begin_level.ensures.same.0) c.requires.class) stands at)

@@ -1,7 +1,6 @@
 use Rattle.pref_sky.proofs.Common.{◌∙◌, subst, sym}
 use Rattle.pref_sky.proofs.SweepLaws.{class_begins, class_goes_on, count_alike, swept_alike, swept_anew}
-use Rattle.pref_sky.specs.Leads.{first_of, second_of, third_of}
-use Rattle.pref_sky.specs.Sweep.{IsClass}
+use Rattle.pref_sky.specs.Leads.{IsClassBy}
 use Rattle.std.proofs.lemmas.Result.{on_ok_weaker}
 use Rattle.pref_sky.proofs.sweep.Sweep.step.Goals.{in-Apart, in-InClass}
 use Rattle.pref_sky.proofs.sweep.Sweep.step.Goals as goal
@@ -44,7 +43,7 @@ count_above-self-requires-clause-class c =
 
 pub returns-clause-class : goal.returns-clause-class
 returns-clause-class c =
-    on_ok_weaker c.put.result (λ _. subst (λ class. IsClass (first_of c.args.order.now c.args.lead.now) (second_of c.args.order.now c.args.lead.now) (third_of c.args.order.now c.args.lead.now) c.args.entries.now class c.args.place) (sym c.put.ensures.same.0) c.count_above-self.ensures.class) c.put.ensures.so_far
+    on_ok_weaker c.put.result (λ _. subst (λ class. IsClassBy c.args.order.now c.args.lead.now c.args.entries.now class c.args.place) (sym c.put.ensures.same.0) c.count_above-self.ensures.class) c.put.ensures.so_far
 
 pub returns-clause-above : goal.returns-clause-above
 returns-clause-above c = on_ok_weaker c.put.result (λ _. c.put.ensures.same.1 ∙ c.count_above-self.ensures.above) c.put.ensures.so_far
