@@ -106,30 +106,30 @@ module _ (over second third : Entry → Entry → Bool) (rule : Entry → ℕ) (
 
 -- ---- one more is kept in the class
 
-module _ (mark : ℕ → ℕ) (n : ℕ) (before : Level) (x : Item) (new : Level) where
-  pub more_in_run : new.steps.items ≡ before.steps.items → new.class ≡ before.class → new.run.items ≡ before.run.items ++ x ∷ [] → new.fresh.items ≡ before.fresh.items → mark x.place ≡ suc n → IsOneMore mark n before x new
-  more_in_run steps class run fresh at =
-      let old = before.run.items in
-      record {
-        steps = steps;
-        class = class;
-        within = λ y. rw (run, fresh) (grind (arith, in_either old (x ∷ []) y));
-        held = λ y. rw run (grind (arith, in_either old (x ∷ []) y));
-        here = inl (rw run (in_right old (x ∷ []) x (inl refl)));
-        others = λ y. rw (run, fresh) (grind (arith, in_left old (x ∷ []) y));
-      }
+module _ (mark : ℕ → ℕ) (n : ℕ) (before : Level) (x : Item) (new : Level) (more : IsOneMore mark n before x new) where
+  was_there : (y : Item) → IsKept y new → IsKept y before ⊎ (y ≡ x)
+  was_there y =
+      elim more.pushed [
+        | inl run ↦ rw (run.0, run.1) (grind (arith, in_either before.run.items (x ∷ []) y))
+        | inr fresh ↦ rw (fresh.0, fresh.1) (grind (arith, in_either before.fresh.items (x ∷ []) y))
+      ]
 
-  pub more_in_fresh : new.steps.items ≡ before.steps.items → new.class ≡ before.class → new.run.items ≡ before.run.items → new.fresh.items ≡ before.fresh.items ++ x ∷ [] → IsOneMore mark n before x new
-  more_in_fresh steps class run fresh =
-      let old = before.fresh.items in
-      record {
-        steps = steps;
-        class = class;
-        within = λ y. rw (run, fresh) (grind (arith, in_either old (x ∷ []) y));
-        held = λ y. rw run (grind (arith));
-        here = inr (rw fresh (in_right old (x ∷ []) x (inl refl)));
-        others = λ y. rw (run, fresh) (grind (arith, in_left old (x ∷ []) y));
-      }
+  was_held : (y : Item) → Among y new.run.items → Among y before.run.items ⊎ (mark y.place ≡ suc n)
+  was_held y = elim more.pushed [ inl run ↦ rw run.0 (grind (arith, run.2, in_either before.run.items (x ∷ []) y)) | inr fresh ↦ rw fresh.0 (grind arith) ]
+
+  is_there : IsKept x new
+  is_there =
+      elim more.pushed [
+        | inl run ↦ inl (rw run.0 (in_right before.run.items (x ∷ []) x (inl refl)))
+        | inr fresh ↦ inr (rw fresh.1 (in_right before.fresh.items (x ∷ []) x (inl refl)))
+      ]
+
+  still_there : (y : Item) → IsKept y before → IsKept y new
+  still_there y =
+      elim more.pushed [
+        | inl run ↦ rw (run.0, run.1) (grind (arith, in_left before.run.items (x ∷ []) y))
+        | inr fresh ↦ rw (fresh.0, fresh.1) (grind (arith, in_left before.fresh.items (x ∷ []) y))
+      ]
 
 -- ---- places of which one is put in the place of those from one on up to another
 
@@ -409,7 +409,7 @@ module _ (over first second third : Entry → Entry → Bool) (all : List Entry)
         was_kept y m = elim (of_class.within y m) [ inl old ↦ inl (rw (sym class_stays.0) old) | inr came ↦ inr (rw (sym class_stays.1) came) ]
 
         still_kept : (y : Item) → kept.class ≡ class → IsKept y kept → IsKept y new
-        still_kept y same m = more.others y (of_class.stays (class_stays.2 ∙ same) y (elim m [ inl old ↦ inl (rw class_stays.0 old) | inr came ↦ inr (rw class_stays.1 came) ]))
+        still_kept y same m = still_there mark n begun x new more y (of_class.stays (class_stays.2 ∙ same) y (elim m [ inl old ↦ inl (rw class_stays.0 old) | inr came ↦ inr (rw class_stays.1 came) ]))
 
         pub put_stands : StandsFor over second third rule mark all class (i + 1) n new
         put_stands =
@@ -418,12 +418,12 @@ module _ (over first second third : Entry → Entry → Bool) (all : List Entry)
               steps_within = rw is within_more;
               steps_cover = rw is covers_more;
               in_order = rw is in_order_more;
-              kept_within = λ y m. elim (more.within y m) [ inl old ↦ grind (arith, stands.kept_within y (was_kept y old)) | inr last ↦ grind (arith) ];
-              run_held = λ y m. elim (more.held y m) [ inl old ↦ stands.run_held y (rw (sym class_stays.0) (of_class.run y old)) | inr last ↦ last ];
+              kept_within = λ y m. elim (was_there mark n begun x new more y m) [ inl old ↦ grind (arith, stands.kept_within y (was_kept y old)) | inr last ↦ grind (arith) ];
+              run_held = λ y m. elim (was_held mark n begun x new more y m) [ inl old ↦ stands.run_held y (rw (sym class_stays.0) (of_class.run y old)) | inr last ↦ last ];
               kept_cover = λ j behind member. (
                 more.class ∙ of_class.class_is,
                 elim (cases_eq j i) [
-                  | inl same ↦ (x, more.here, grind (arith))
+                  | inl same ↦ (x, is_there mark n begun x new more, grind (arith))
                   | inr other ↦
                       let w = stands.kept_cover j behind (omega (arith, member.0, other), member.1) in
                       (w.1.0, still_kept w.1.0 w.0 w.1.1, w.1.2)

@@ -7,7 +7,6 @@ use Rattle.pref_sky.proofs.LeveledLaws.{HasChain, count_is}
 use Rattle.pref_sky.proofs.ListLaws.{among_place, place_of}
 use Rattle.pref_sky.proofs.Merges.{comes_after_upto, unbeaten_over}
 use Rattle.pref_sky.proofs.StepLaws.{alike_stays, new_class, same_level, stays}
-use Rattle.pref_sky.specs.Held.{AreHeld}
 use Rattle.pref_sky.specs.Sweep.{ArePlaces, AreSwept, HasSwept, IsClass, IsMember, IsSameLevel, StandsFor, are_level_in, is_at}
 use Rattle.pref_sky.specs.declared.level.Level.{Level}
 
@@ -204,7 +203,7 @@ module _ {over first second third : Entry → Entry → Bool} {all : List Entry}
       }
 
   -- where more levels were above it than are known, one would have an entry before it
-  all_known : (class : ℕ) (levels : List Level) → Swept i class levels → (n : ℕ) → n ≤ cut → comes_after over all n e ≡ true → n ≤ length levels
+  pub all_known : (class : ℕ) (levels : List Level) → Swept i class levels → (n : ℕ) → n ≤ cut → comes_after over all n e ≡ true → n ≤ length levels
   all_known class levels so_far n early chain =
       let known = length levels in
       elim (cases_lt known n) [
@@ -213,12 +212,6 @@ module _ {over first second third : Entry → Entry → Bool} {all : List Entry}
             absurd (omega (arith, so_far.known w.0 known (omega (arith, past, early)) w.1))
         | inr within ↦ within
       ]
-
-  -- one that was held is of its level or of one below, which is known
-  pub held_after : AreHeld over cut mark all → (class : ℕ) (levels : List Level) → Swept i class levels → (low : ℕ) → low ≡ mark i - 1 → (low ≤ length levels) × (comes_after over all low e ≡ true)
-  held_after held class levels so_far low is =
-      let after : comes_after over all low e ≡ true = subst (λ n. comes_after over all n e ≡ true) (sym is) (held.after i inside) in
-      (all_known class levels so_far low (omega (arith, is, held.within i inside)) after, after)
 
   -- as many levels are above it as a search among those so far finds
   pub count_found : (class : ℕ) (levels : List Level) (low high : ℕ) → Swept i class levels → low ≤ high → high ≤ length levels → comes_after over all low e ≡ true

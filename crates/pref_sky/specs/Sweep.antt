@@ -1,6 +1,6 @@
 -- No public contract cites this.
 -- One pass over entries in order: three chains that lead their order, and what is kept of each level so far, as far as later entries are compared with it.
-use Rattle.std.specs.Prelude.{◌≡◌, ◌<◌, ◌≤◌, get_or, Bool, true, false, not, ◌&&◌, ◌||◌, ℕ, suc, List, All, ◌⊎◌, length}
+use Rattle.std.specs.Prelude.{◌≡◌, ◌<◌, ◌≤◌, get_or, Bool, true, false, not, ◌&&◌, ◌||◌, ℕ, suc, List, All, ◌⊎◌, length, ◌++◌, ◌∷◌, []}
 use Rattle.pref_term.specs.Order.{IsStrictOrder, StandAlike}
 use Rattle.pref_sky.specs.OwnOrders.{comes_after}
 use Rattle.pref_sky.specs.Items.{entry_at}
@@ -95,10 +95,7 @@ pub record IsOfClass (old : Level) (class : ℕ) (new : Level) : Type 0 where
 pub record IsOneMore (mark : ℕ → ℕ) (n : ℕ) (before : Level) (x : Item) (new : Level) : Type 0 where
   pub steps : new.steps.items ≡ before.steps.items
   pub class : new.class ≡ before.class
-  pub within : (y : Item) → IsKept y new → IsKept y before ⊎ (y ≡ x)
-  pub held : (y : Item) → Among y new.run.items → Among y before.run.items ⊎ (mark y.place ≡ suc n)
-  pub here : IsKept x new
-  pub others : (y : Item) → IsKept y before → IsKept y new
+  pub pushed : ((new.run.items ≡ before.run.items ++ x ∷ []) × (new.fresh.items ≡ before.fresh.items) × (mark x.place ≡ suc n)) ⊎ ((new.run.items ≡ before.run.items) × (new.fresh.items ≡ before.fresh.items ++ x ∷ []))
 
 -- what is known before the i-th entry, of this class, in a sweep that goes up to a cut: what is kept stands for each level so far, and none is left out
 pub record HasSwept (over second third : Entry → Entry → Bool) (rule : Entry → ℕ) (mark : ℕ → ℕ) (cut : ℕ) (all : List Entry) (i class : ℕ) (levels : List Level) : Type 0 where

@@ -1,15 +1,19 @@
-use Rattle.pref_sky.proofs.Common.{◌<◌, sym, ◌∙◌, add-one, arith, length, length-set}
-use Rattle.pref_sky.proofs.SweepLaws.{are_places, count_found, held_after, stands_there, swept_asked}
+use Rattle.pref_sky.proofs.Common.{◌-◌, ◌<◌, sym, ◌∙◌, add-one, arith, length, length-set}
+use Rattle.pref_sky.proofs.SweepLaws.{all_known, are_places, count_found, stands_there, swept_asked}
+use Rattle.pref_sky.specs.Leads.{mark_of}
 use Rattle.pref_sky.proofs.sweep.Sweep.count_above.Goals as goal
 
 pub halves-init : goal.halves-init
 halves-init c =
     let old = c.args.self.now in
-    let from = held_after _ _ _ c.requires.swept.swept c.args.place c.requires.inside c.requires.swept.held old.class old.levels.items c.requires.so_far _ (omega arith) in
+    let held = c.requires.swept.held in
+    let after = held.after c.args.place c.requires.inside in
+    let known = all_known _ _ _ c.requires.swept.swept c.args.place c.requires.inside old.class old.levels.items c.requires.so_far (mark_of c.args.lead.now c.args.place - 1)
+    (omega (arith, held.within c.args.place c.requires.inside)) after in
     record {
-      ordered = omega (arith, from.0);
+      ordered = omega (arith, known);
       within = omega arith;
-      above = from.1;
+      above = grind (arith, after);
       next = λ less. absurd (omega (arith, less));
       so_far = c.requires.so_far;
       class = c.requires.class;
