@@ -89,27 +89,6 @@ fn end_of_no_better(
     steps.len()
 }
 
-/// The place among these of the first that dominates an entry.
-fn first_over(
-    order: &OwnOrder,
-    entries: &[Entry],
-    items: &[Item],
-    entry: &Entry,
-    signature: u64,
-) -> Option<usize>
-    requires { All (λ (x : Item). x.place < length entries.now) items.now }
-    ensures { MatchOption result
-        (All (λ (x : Item). (is_within x.signature signature && own_order order.now (entry_at entries.now x.place) entry.now) ≡ false) items.now)
-        (λ at. (at < length items.now) × ((d : Item) → own_order order.now (entry_at entries.now (get_or items.now at d).place) entry.now ≡ true)) }
-{
-    for (at, item) in items.iter().enumerate() {
-        if is_within(item.signature, signature) && order.is_over(&entries[item.place], entry) {
-            return Some(at);
-        }
-    }
-    None
-}
-
 /// Whether one of these dominates an entry. The one that does is met sooner the next time.
 fn has_one_over(
     order: &OwnOrder,
@@ -123,13 +102,13 @@ fn has_one_over(
     ensures found { result ≡ true → (x : Item) × Among x items.old.items × (own_order order.now (entry_at entries.now x.place) entry.now ≡ true) }
     ensures none { result ≡ false → (x : Item) → Among x items.old.items → (is_within x.signature signature && own_order order.now (entry_at entries.now x.place) entry.now) ≡ false }
 {
-    match first_over(order, entries, items, entry, signature) {
-        Some(at) => {
+    for (at, item) in items.iter().enumerate() {
+        if is_within(item.signature, signature) && order.is_over(&entries[item.place], entry) {
             items.swap(at / 2, at);
-            true
+            return true;
         }
-        None => false,
     }
+    false
 }
 
 impl Level {
