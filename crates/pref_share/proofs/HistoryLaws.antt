@@ -73,20 +73,11 @@ rest_history o xs ys legal = history_rest o.limits.capacity (first_state o) xs y
 
 -- .. and the beginning is one
 pub legal-prefix : (o : Opening) (xs ys : List Op) → IsPrefix xs ys → IsLegalFrom o ys → IsLegalFrom o xs
-legal-prefix o xs ys p legal = record {
-  allowed = legal.allowed;
-  fits = legal.fits;
-  each = legal_beginning (first_contents o) (first_state o) xs p.0 (subst (AreLegalOps (first_state o) (first_contents o)) (sym p.1) legal.each);
-}
+legal-prefix o xs ys p legal = grind (arith, legal_beginning (first_contents o) (first_state o) xs p.0, p.1)
 
 -- one more operation
 pub legal-more : (o : Opening) (xs : List Op) (op : Op) → IsLegalFrom o xs → MayFollow o xs op → IsLegalFrom o (xs ++ op ∷ [])
-legal-more o xs op legal may = record {
-  allowed = legal.allowed;
-  fits = legal.fits;
-  each = legal_append (first_contents o) (first_state o) xs (op ∷ []) (opens o legal.fits).0 legal.each
-      (subst (λ s. AreLegalOps s (contents_at o xs) (op ∷ [])) (sym (state_at_is o xs legal.fits)) (may, tt));
-}
+legal-more o xs op legal may = grind (arith, legal_append (first_contents o) (first_state o) xs (op ∷ []), opens, state_at_is)
 
 state_after-append : (n : _) (state : State) (xs ys : List Op) → state_after n state (map numbered_of (xs ++ ys)) ≡ state_after n (state_after n state (map numbered_of xs)) (map numbered_of ys)
 state_after-append n state [] ys = refl

@@ -179,23 +179,10 @@ abbrev pub Backs : ℕ → List Entry → List Entry → Entry → Type 0
 Backs page before seen ask = page ≡ 0 → (client : ℕ) → 0 < client → count_by client (ops_on 0 before ++ noted 0 ask) ≤ length (ops_on client seen)
 
 backed_more : (cs : List Cell) (log before seen : List Entry) (page key : ℕ) (ask : Entry) → IsKept cs log → ask.page ≡ page → IsPrefix before log → IsPrefix seen log → key_after page before ≡ Some key → (cell cs key).1 ≡ false → Backs page before seen ask → AreBacked (log ++ ask ∷ [])
-backed_more cs log before seen page key ask kept is pre seen_pre at away backs client some = go (page == 0) refl
-  where
-    grown : length (ops_on client log) ≤ length (ops_on client (log ++ ask ∷ []))
-    grown = length_prefix (ops_on client log) (ops_on client (log ++ ask ∷ [])) (ops_prefix client log (log ++ ask ∷ []) (ask ∷ [], refl))
-
-    go : (b : Bool) → (page == 0) ≡ b → count_by client (ops_on 0 (log ++ ask ∷ [])) ≤ length (ops_on client (log ++ ask ∷ []))
-    go true history =
-        let none : page ≡ 0 = eqb-true page 0 history in
-        let whole : ops_on 0 log ≡ ops_on 0 before = (quiet cs log kept 0 key before pre.0 pre.1 (ap (λ p. key_after p before) (sym none) ∙ at) away).0 in
-        let counted = backs none client some in
-        let all : count_by client (ops_on 0 (log ++ ask ∷ [])) ≡ count_by client (ops_on 0 before ++ noted 0 ask) = ap (count_by client) (ops_on-last 0 log ask ∙ ap (λ l. l ++ noted 0 ask) whole) in
-        let more = length_prefix (ops_on client seen) (ops_on client log) (ops_prefix client seen log seen_pre) in
-        omega (arith, counted, all, more, grown)
-    go false other =
-        let off : (ask.page == 0) ≡ false = ap (λ p. p == 0) is ∙ other in
-        let all : count_by client (ops_on 0 (log ++ ask ∷ [])) ≡ count_by client (ops_on 0 log) = ap (count_by client) (ops_on-last 0 log ask ∙ ap (λ l. ops_on 0 log ++ l) (noted_other 0 ask off) ∙ append-nil (ops_on 0 log)) in
-        omega (arith, kept.backed client some, all, grown)
+backed_more cs log before seen page key ask kept is pre seen_pre at away backs client some =
+    let more = length_prefix (ops_on client seen) (ops_on client log) (ops_prefix client seen log seen_pre) in
+    let grown = length_prefix (ops_on client log) (ops_on client (log ++ ask ∷ [])) (ops_prefix client log (log ++ ask ∷ []) (ask ∷ [], refl)) in
+    grind (arith, quiet cs log kept page key before pre.0 pre.1 at away, kept.backed client some, ops_on-last 0 log ask, append-nil, more, grown)
 
 -- whatever the book is, the entry is added to what the pen comes after
 pub adds_moves : (v before : List Entry) (p : Nib) (ask : Entry) (page : ℕ) → page < pages → ask.page ≡ page → p.right ≡ may_write → IsPrefix before v → key_after page before ≡ Some p.key → Backs page before v ask
@@ -243,20 +230,8 @@ starts = record {
 -- An operation may join the history where its client's page has one more than the history. What was learned is at least what stood on both pages.
 pub backs : (page own : ℕ) (before other learned v : List Entry) (ask : Entry) (op : Op) → AreBacked learned → IsPrefix before learned → IsPrefix other learned → IsPrefix learned v → ask.page ≡ page → ask.op ≡ Some op
     → (page ≡ 0 → (own ≡ op.client) × (0 < op.client) × (count_by op.client (ops_on page before) < length (ops_on own other))) → Backs page before v ask
-backs page own before other learned v ask op backed before_pre other_pre pre is noted_op turn none client some = go (op.client == client) refl
-  where
-    all : count_by client (ops_on 0 before ++ noted 0 ask) ≡ count_by client (ops_on 0 before) + count_by client (op ∷ [])
-    all = rw (eq-eqb ask.page 0 (is ∙ none), noted_op) (count_last client (ops_on 0 before) op)
-
-    more : length (ops_on client learned) ≤ length (ops_on client v)
-    more = length_prefix (ops_on client learned) (ops_on client v) (ops_prefix client learned v pre)
-
-    go : (b : Bool) → (op.client == client) ≡ b → count_by client (ops_on 0 before ++ noted 0 ask) ≤ length (ops_on client v)
-    go true mine =
-        let t = turn none in
-        let same : op.client ≡ client = eqb-true op.client client mine in
-        let few : count_by client (ops_on 0 before) < length (ops_on client other) =
-        subst (λ k. count_by k (ops_on 0 before) < length (ops_on k other)) same (subst (λ k. count_by op.client (ops_on 0 before) < length (ops_on k other)) t.0 (subst (λ k. count_by op.client (ops_on k before) < length (ops_on own other)) none t.2)) in
-        omega (arith, all, count_own client op [] mine, few, length_prefix (ops_on client other) (ops_on client learned) (ops_prefix client other learned other_pre), more)
-    go false others =
-        omega (arith, all, count_other client op [] others, backed client some, count_prefix client (ops_on 0 before) (ops_on 0 learned) (ops_prefix 0 before learned before_pre), more)
+backs page own before other learned v ask op backed before_pre other_pre pre is noted_op turn none client some =
+    let there = length_prefix (ops_on client other) (ops_on client learned) (ops_prefix client other learned other_pre) in
+    let more = length_prefix (ops_on client learned) (ops_on client v) (ops_prefix client learned v pre) in
+    let counted = count_prefix client (ops_on 0 before) (ops_on 0 learned) (ops_prefix 0 before learned before_pre) in
+    grind (arith, turn none, count_last client (ops_on 0 before) op, count_own, count_other, backed client some, there, more, counted)

@@ -1,7 +1,7 @@
 -- Runs of acts, one act longer, and what stands at a place of two lists.
 use Rattle.pref_share.proofs.Common.{length-map, ◌≡◌, ℕ, ◌<◌, Bool, true, false, List, [], ◌∷◌, ◌++◌, ◌+◌, length, map, get_or, Some, refl, sym, ap, ◌∙◌, subst, arith}
 use Rattle.pref_share.proofs.Common.{append_assoc, get_or-map, length-append, All, Act, Reply, ShareFault}
-use Rattle.pref_share.proofs.Common.{Held, Sees, IsLegalFrom, Opening, Standing, StepsTo, Runs, none, then, RunsTo, StopsAt, nobody, Did, Ends, WasLetIn}
+use Rattle.pref_share.proofs.Common.{Held, Sees, IsLegalFrom, Opening, Standing, StepsTo, Runs, none, then, RunsTo, StopsAt, nobody, Did, Ends}
 use Rattle.std.specs.List.{zip}
 use Rattle.std.proofs.lemmas.Simd.{map-map}
 use Rattle.std.proofs.lemmas.Slice.Zip.{seconds-zip}
@@ -16,17 +16,6 @@ same_number o s t acts replies run = go acts replies run.stands t run.runs
     go : (acts : List Act) (replies : List Reply) (stands : List Standing) (u : Standing) → Runs o s acts replies stands u → u.number ≡ s.number
     go _ _ _ _ none = refl
     go _ _ _ _ (then acts replies stands t act reply u runs step) = step.same ∙ go acts replies stands t runs
-
--- the gate let in one act more
-let_in_more : (said : ℕ → Bool → Type 0) (acts : List Act) (act : Act) → ((turn : ℕ) → turn < length acts → said turn true) → said (length acts) true → (turn : ℕ) → turn < length (acts ++ act ∷ []) → said turn true
-let_in_more said acts act before now turn lt = grind (arith, length-append)
-
--- why a client stops before an act it does with more acts behind it, and with a gate
-stops_before : (held : ℕ → Type 0) (s : Standing) (act : Act) (more : List Act) (fault : ShareFault) → StopsAt nobody s (act ∷ []) fault → StopsAt held s (act ∷ more) fault
-stops_before held s act more fault h = grind (arith)
-
-was_let_in : (said : Bool → Type 0) (rest : List Act) (fault : ShareFault) → said true → WasLetIn said rest fault
-was_let_in said rest fault h = grind (arith)
 
 -- Where a client stands in its task, at the turn of the next act: it has done the first of the acts, and the task took the replies.
 pub record Goes {T : Type 0} (o : Opening) (says : ℕ → ℕ → Bool → Type 0) (left : T → List Act) (took : T → List Reply → Type 0) (s : Standing) (acts : List Act) (client : Standing) (task : T) (turn : ℕ) : Type 0 where
@@ -66,7 +55,7 @@ module _ {T : Type 0} (o : Opening) (says : ℕ → ℕ → Bool → Type 0) (le
     legal = step.legal;
     taken = takes now.replies (kept now.replies now.taken);
     turns = ap (λ n. n + 1) now.turns ∙ sym (length-append now.done (act ∷ []));
-    let_in = let_in_more (says s.number) now.done act now.let_in (subst (λ n. says s.number n true) now.turns said);
+    let_in = λ turn lt. grind (arith, now.let_in, length-append, now.turns, said);
   }
 
   -- it stopped before the next act, and has seen no less since
@@ -86,8 +75,7 @@ module _ {T : Type 0} (o : Opening) (says : ℕ → ℕ → Bool → Type 0) (le
   goes_no_further client stopped old came turn act fault now comes kept said (sees, stopping) =
       let number : s.number ≡ stopped.number = sym (same_number o s client now.done now.replies now.runs) ∙ sym sees.same in
       let said_here : says stopped.number (length now.done) true = subst (λ n. says n (length now.done) true) number (subst (λ n. says s.number n true) now.turns said) in
-      stops client stopped old came turn act fault now comes kept sees
-      (stops_before (λ client. says client (length now.done) false) stopped act (left came) fault stopping, was_let_in (says stopped.number (length now.done)) (act ∷ left came) fault said_here)
+      stops client stopped old came turn act fault now comes kept sees (grind (arith, said_here))
 
 -- what holds of all images holds so of what has them
 pub all_mapped : {A B : Type 0} (f : A → B) (P : B → Type 0) (xs : List A) (ys : List B) → map f xs ≡ ys → All P ys → All (λ x. P (f x)) xs

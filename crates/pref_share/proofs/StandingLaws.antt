@@ -20,7 +20,7 @@ use Rattle.pref_share.proofs.PrefixLaws.{prefix_self, prefix_trans}
 use Rattle.pref_share.proofs.HistoryLaws.{legal-more, legal-prefix, legal_stands, legal_capacity, ran-append, state_at-append, rest_history}
 use Rattle.pref_share.proofs.CallCounts.{calls_in, begun_in, calls_own, begun_own, count_prefix, none_own, idle_seat}
 use Rattle.pref_share.proofs.LastCalls.{counted_at, last_caller}
-use Rattle.pref_share.proofs.Common.{⊎_elim, same_Some, OutOfMemory, IsTurn, JoinsBehind, RefusesToJoin, count_by}
+use Rattle.pref_share.proofs.Common.{⊎_elim, OutOfMemory, IsTurn, JoinsBehind, RefusesToJoin}
 use Rattle.pref_share.specs.declared.client.calls.Joined.{Joined}
 use Rattle.pref_share.proofs.Common.{rules, Bool, cond, nat_lt, added, begins_row, ended, missing, success_outcome, Added, Done, Full, NoRow}
 use Rattle.pref_core.specs.State.{needed_after, outcome}
@@ -67,10 +67,7 @@ stands_whole o number counter seen query legal one_of count follows = record { l
 pub even : (o : Opening) (number counter made : ℕ) (seen whole : List Op) (query : Option Asking) → Stands o number counter seen query → made ≡ counter → IsTurn o number made seen whole → calls_at o whole number ≡ Some counter
 even o number counter made seen whole query h same turn =
     let at = prefix_trans h.at seen whole h.before turn.further in
-    let mine : counter ≡ count_by number h.at = same_Some _ _ (sym h.count ∙ counted_at o h.at number (legal-prefix o h.at whole at turn.legal) h.one_of) in
-    let more = count_prefix number h.at whole at in
-    let few : count_by number whole ≤ made = turn.few in
-    counted_at o whole number turn.legal h.one_of ∙ ap Some (omega arith)
+    grind (arith, legal-prefix o h.at whole at turn.legal, counted_at, count_prefix number h.at whole at)
 
 change_ends_none : (call : Call) → is_change call ≡ true → is_end call ≡ false
 change_ends_none call h = grind (arith)

@@ -1,5 +1,5 @@
 -- The steps of the writer and of the readers keep the rule.
-use Rattle.pref_share.proofs.Common.{◌≡◌, ◌≢◌, ℕ, List, [], ◌∷◌, ◌++◌, length, set, true, is_some, Some, refl, ap, sym, subst, ◌∙◌, ⊎_elim, Book, Op, Contents, applied, ran, is_next, slots_after}
+use Rattle.pref_share.proofs.Common.{arith, ◌≡◌, ◌≢◌, ℕ, List, [], ◌∷◌, ◌++◌, length, set, true, is_some, Some, refl, ap, sym, subst, ◌∙◌, ⊎_elim, Book, Op, Contents, applied, ran, is_next, slots_after}
 use Rattle.pref_share.proofs.Common.{Opening, IsLegalFrom, MayFollow, first_contents, contents_at, state_at, Published, stamped, HoldsHistory, Fits, Kept, Knows, Opens, Stays, Reads, AreLetIn}
 use mathlib.Core.Option.{some}
 use lib.ListN.{get_elem?}
@@ -53,27 +53,13 @@ opens seat v x y same views k at =
 pub stays : (seat : ℕ) (v : View) (x y : Published) (opening : Contents) (book : Book) → Knows opening book v → HoldsHistory opening book y → TurnsAt Kept seat v x y Stays
 stays seat v x y opening book knows stands views k at =
     let f = k.each seat v at in
-    let o : opening ≡ k.opening = sym knows.has_opening ∙ f.has_opening knows.at knows.known in
-    let b : book ≡ k.book = sym knows.has_book ∙ f.has_book knows.at knows.known in
-    let stands' : HoldsHistory k.opening k.book y = subst (λ (s : Contents). HoldsHistory s k.book y) o (subst (λ (t : Book). HoldsHistory opening t y) b stands) in (
-      v,
-      record { opening = k.opening; book = k.book; stands = stands'; each = set_fits k.opening k.book views seat v f k.each },
-      refl,
-    )
+    let still : HoldsHistory k.opening k.book y = grind (arith, f.has_opening knows.at, f.has_book knows.at) in
+    (v, record { opening = k.opening; book = k.book; stands = still; each = set_fits k.opening k.book views seat v f k.each }, refl)
 
 pub reads : (seat : ℕ) (v : View) (x : Published) → TurnsAt Kept seat v x x Reads
 reads seat v x views k at =
-    let f = k.each seat v at in (
-      v,
-      reviewed x views seat v k f,
-      (
-        refl,
-        (λ opening book knows.
-            let o : k.opening ≡ opening = sym (f.has_opening knows.at knows.known) ∙ knows.has_opening in
-            let b : k.book ≡ book = sym (f.has_book knows.at knows.known) ∙ knows.has_book in
-            subst (λ (s : Contents). HoldsHistory s book x) o (subst (λ (t : Book). HoldsHistory k.opening t x) b k.stands)),
-      ),
-    )
+    let f = k.each seat v at in
+    (v, reviewed x views seat v k f, (refl, λ opening book knows. grind (arith, f.has_opening knows.at, f.has_book knows.at)))
 
 pub tells : (seat : ℕ) (v : View) → Forks Kept seat v v v
 tells seat v x views k at =

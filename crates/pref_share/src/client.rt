@@ -131,6 +131,7 @@ impl<J: BoardBrand> Model for Client<J> {
 }
 
 impl<J: BoardBrand> Client<J> {
+    #[tactic(auto, using(crate::proofs::StandingLaws::stands_new))]
     pub(crate) fn new(
         number: u8,
         setup: Setup,

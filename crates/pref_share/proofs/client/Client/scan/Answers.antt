@@ -79,9 +79,6 @@ returns-clause-refused g c =
     rw (← same)
     ((c.left.result, record { asking = _; is_open = r.query; left_is = c.left.ensures; some = search rules }), sees g.J.BoardBrand.opening _ _ r.further r.legal refl refl ((λ i. Some (record { scan = kept i; at_begin = c.asking.inside.at_begin })) ∙ sym r.query))
 
-pub invariant_of-self : goal.invariant_of-self
-invariant_of-self g c = c.self.invariant
-
 pub returns-in_default-clause-refused : goal.returns-in_default-clause-refused
 returns-in_default-clause-refused g c = rw (← c.self.view_is) (c.in_default.is, refl)
 
@@ -95,12 +92,6 @@ returns-then-left-eq0-clause-refused g c =
     let s = c.self.inside in
     let query : s.asking ≡ Some (record { scan = c.asking.inside.query; at_begin = c.asking.inside.at_begin }) = c.in-Some.is ∙ ap Some (sym c.asking.view_is) in
     rw (← c.self.view_is) (record { asking = _; is_open = query; done = sym c.left.ensures ∙ c.if-left-eq0.true }, λ i. record { number = s.number; counter = s.counter; seen = s.seen; query = sym c.in-Some.is i })
-
-pub read-found-requires-clause-knows : goal.read-found-requires-clause-knows
-read-found-requires-clause-knows g c = c.self.invariant.0
-
-pub read-found-requires-clause-legal : goal.read-found-requires-clause-legal
-read-found-requires-clause-legal g c = c.self.invariant.2.legal
 
 pub invariant_of-self-in_default-found : goal.invariant_of-self-in_default-found
 invariant_of-self-in_default-found g c =

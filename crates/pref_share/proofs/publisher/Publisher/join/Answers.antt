@@ -12,7 +12,7 @@ use Rattle.pref_share.proofs.HistoryLaws.{legal-more, legal_is_history, ran-appe
 use Rattle.pref_share.proofs.ViewsLaws.{published_left, published_next}
 use Rattle.std.proofs.lemmas.Result.{IfOk-from_err, err_from_is_err_and}
 use Rattle.pref_share.proofs.publisher.Publisher.join.Given.{Over}
-use Rattle.pref_share.proofs.publisher.Publisher.join.Goals.{After-published_store-store, In-Ok}
+use Rattle.pref_share.proofs.publisher.Publisher.join.Goals.{After-entries, After-published_store-store, In-Ok}
 use Rattle.pref_share.proofs.publisher.Publisher.join.Goals as goal
 
 -- the published store is what the history leaves
@@ -72,33 +72,41 @@ returns-clause-page g c =
     let by = (plan g (goal.at.returns-clause-page g c).In-Ok (store_left g (goal.at.returns-clause-page g c).After-published_store-store)).0 in
     rw (← by, ← c.self.invariant.1) c.add.ensures.page
 
-pub replace_with-requires : goal.replace_with-requires
-replace_with-requires g c =
-    let o = g.J.BoardBrand.opening in
-    let x = (manually_drop_value c.self.inside.writer).desk.shown.value in
+-- the stamp of the call
+abbrev stamp_of : (g : Over) → After-entries g → Stamp
+stamp_of g c = record {
+  op = record { client = c.in-Ok.op.client; number = c.in-Ok.op.number; call = c.args.call; slots = c.in-Ok.op.slots; outcome = c.in-Ok.op.outcome };
+  len = c.published.result.now.len + 1;
+  seen = c.entries.result;
+}
+
+-- it shows the history with the call, and leaves the published store as what that history leaves
+stamps : (g : Over) (c : After-entries g) → c.in-Ok.op.call.now ≡ c.args.call → MayFollow g.J.BoardBrand.opening c.self.inside.page.ops (op_of c.in-Ok.op)
+    → (ops_of c.entries.result.log ≡ c.add.new.self.ops) × HoldsHistory (first_contents g.J.BoardBrand.opening) g.J.BoardBrand.book (stamped (manually_drop_value c.self.inside.writer).desk.shown.value (stamp_of g c))
+stamps g c what may =
     let op = c.in-Ok.op in
-    let stamp : Stamp = record { op = record { client = op.client; number = op.number; call = c.args.call; slots = op.slots; outcome = op.outcome }; len = c.published.result.now.len + 1; seen = c.entries.result } in
-    let plan = plan g (goal.at.replace_with-requires g c).In-Ok (store_left g (goal.at.replace_with-requires g c).After-published_store-store) in
-    let boxed : op_of op ≡ boxed_op stamp.op = λ i. record { client = op.client; number = op.number; call = plan.1 i; slots = op.slots; outcome = op.outcome } in
+    let stamp = stamp_of g c in
+    let boxed : op_of op ≡ boxed_op stamp.op = λ i. record { client = op.client; number = op.number; call = what i; slots = op.slots; outcome = op.outcome } in
     let log : ops_of stamp.seen.log ≡ c.add.new.self.ops = ap (λ n. ops_on n c.entries.result.log) (sym (c.add.ensures.same.0 ∙ c.self.invariant.0)) ∙ c.entries.ensures.all in
     let len : stamp.len ≡ length (ops_of stamp.seen.log) = omega (arith, ap (λ (p : Published). p.len) (c.published.ensures ∙ ap (λ w. w.desk.shown.value) c.deref-2.ensures), c.self.invariant.5.len, ap length c.self.invariant.4, ap length log, ap length c.add.ensures.added, length-append c.self.inside.page.ops (op_of op ∷ [])) in
-    let stands : HoldsHistory (first_contents o) g.J.BoardBrand.book (stamped x stamp) =
-    published_next o g.J.BoardBrand.book x stamp (op_of op) c.self.inside.page.ops boxed c.self.invariant.2 c.self.invariant.4 c.self.invariant.5 plan.2 (log ∙ c.add.ensures.added) len (c.entries.ensures.book ∙ c.add.ensures.same.1 ∙ c.self.invariant.1) in
-    rw (c.deref_mut-2.ensures.value, c.append.ensures.desk, c.append.ensures.pending, c.deref_mut.ensures.value, c.self.invariant.7) (c.self.invariant.6, stands)
+    (log, published_next g.J.BoardBrand.opening g.J.BoardBrand.book _ stamp (op_of op) c.self.inside.page.ops boxed c.self.invariant.2 c.self.invariant.4 c.self.invariant.5 may (log ∙ c.add.ensures.added) len (c.entries.ensures.book ∙ c.add.ensures.same.1 ∙ c.self.invariant.1))
+
+pub replace_with-requires : goal.replace_with-requires
+replace_with-requires g c =
+    let at = goal.at.replace_with-requires g c in
+    let plan = plan g at.In-Ok (store_left g at.After-published_store-store) in
+    rw (c.deref_mut-2.ensures.value, c.append.ensures.desk, c.append.ensures.pending, c.deref_mut.ensures.value, c.self.invariant.7) (c.self.invariant.6, (stamps g at.After-entries plan.1 plan.2).1)
 
 pub invariant_of-self-2 : goal.invariant_of-self-2
 invariant_of-self-2 g c =
     let o = g.J.BoardBrand.opening in
-    let left = store_left g (goal.at.invariant_of-self-2 g c).After-published_store-store in
+    let at = goal.at.invariant_of-self-2 g c in
+    let left = store_left g at.After-published_store-store in
     let x = (manually_drop_value c.self.inside.writer).desk.shown.value in
     let op = c.in-Ok.op in
-    let stamp : Stamp = record { op = record { client = op.client; number = op.number; call = c.args.call; slots = op.slots; outcome = op.outcome }; len = c.published.result.now.len + 1; seen = c.entries.result } in
-    let plan = plan g (goal.at.invariant_of-self-2 g c).In-Ok left in
-    let boxed : op_of op ≡ boxed_op stamp.op = λ i. record { client = op.client; number = op.number; call = plan.1 i; slots = op.slots; outcome = op.outcome } in
-    let log : ops_of stamp.seen.log ≡ c.add.new.self.ops = ap (λ n. ops_on n c.entries.result.log) (sym (c.add.ensures.same.0 ∙ c.self.invariant.0)) ∙ c.entries.ensures.all in
-    let len : stamp.len ≡ length (ops_of stamp.seen.log) = omega (arith, ap (λ (p : Published). p.len) (c.published.ensures ∙ ap (λ w. w.desk.shown.value) c.deref-2.ensures), c.self.invariant.5.len, ap length c.self.invariant.4, ap length log, ap length c.add.ensures.added, length-append c.self.inside.page.ops (op_of op ∷ [])) in
-    let stands : HoldsHistory (first_contents o) g.J.BoardBrand.book (stamped x stamp) =
-    published_next o g.J.BoardBrand.book x stamp (op_of op) c.self.inside.page.ops boxed c.self.invariant.2 c.self.invariant.4 c.self.invariant.5 plan.2 (log ∙ c.add.ensures.added) len (c.entries.ensures.book ∙ c.add.ensures.same.1 ∙ c.self.invariant.1) in
+    let stamp = stamp_of g at.After-entries in
+    let plan = plan g at.In-Ok left in
+    let (log, stands) = stamps g at.After-entries plan.1 plan.2 in
     let folded : fold stamped c.deref_mut-2.result.now.desk.shown.value (drop c.deref_mut-2.result.now.behind c.deref_mut-2.result.now.log.items) ≡ stamped x stamp =
     rw (c.deref_mut-2.ensures.value, c.append.ensures.desk, c.append.ensures.pending, c.deref_mut.ensures.value, c.self.invariant.7) refl in
     let shown : c.replace_with.new.dest.desk.shown.value ≡ stamped x stamp = c.replace_with.ensures.1 ∙ folded in
