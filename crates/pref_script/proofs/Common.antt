@@ -23,7 +23,7 @@ pub use Rattle.pref_core.specs.declared.event.Act.{Act}
 pub use Rattle.pref_core.specs.declared.event.Event.{Event}
 pub use Rattle.pref_core.specs.declared.fault.CoreFault.{CoreFault}
 pub use Rattle.pref_script.proofs.ExitLaws.{exits}
-pub use Rattle.pref_script.specs.ClientParts.{AcceptsLeft, AllAccepted, AllGiven, AreParts, ArePartsUpTo, HasReplied, IsAccepted, IsGiven, IsPart, NamesNone, acts_in, acts_left}
+pub use Rattle.pref_script.specs.ClientParts.{AcceptsLeft, AllAccepted, AllGiven, AreParts, ArePartsUpTo, HasReplied, IsAccepted, IsGiven, IsPart, NamesNone, PartsFrom, acts_in, acts_left}
 pub use Rattle.pref_script.specs.Commands.{Command, command_of, commands_in, event_of, of_changes, piece_change, refused, runs}
 pub use Rattle.pref_script.specs.Forms.{Said, said_by_client}
 pub use Rattle.pref_script.specs.HeardScript.{HeardScript, Hears, HearsNone, IsBlock, LacksBlock, OpensLive, ReadsBlock}

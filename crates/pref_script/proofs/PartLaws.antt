@@ -1,16 +1,13 @@
 -- A client's part of a script, one command at a time.
-use Rattle.pref_script.proofs.Common.{◌≡◌, ◌≢◌, ◌∙◌, ℕ, zero, suc, ◌+◌, ◌<◌, ◌≤◌, ◌^◌, true, false, List, [], ◌∷◌, ◌++◌, length, map, slice_get, Result, Some, None, Ok, Err, refl, sym}
-use Rattle.pref_script.proofs.Common.{ap, arith, append_assoc, inl, inr, string_bytes, list_all, All, Vec, append-nil, length-append, Event, AcceptsLeft, AllAccepted, AreParts, ArePartsUpTo}
+use Rattle.pref_script.proofs.Common.{◌≡◌, ◌≢◌, ◌∙◌, ℕ, zero, suc, ◌+◌, ◌<◌, ◌≤◌, ◌^◌, true, false, List, [], ◌∷◌, ◌++◌, length, map, Result, Some, None, Ok, Err, refl, sym}
+use Rattle.pref_script.proofs.Common.{ap, arith, subst, append_assoc, inl, inr, string_bytes, list_all, All, append-nil, Event, AcceptsLeft, AllAccepted, PartsFrom, AreParts}
 use Rattle.pref_script.proofs.Common.{HasReplied, IsAccepted, IsGiven, AllGiven, IsPart, acts_in, acts_left, accepted_events, act_of, commands_in, commands_of, Refusal}
 use Rattle.pref_script.proofs.Common.{is_blank, prefix_len, event_of, client_named, said_in, word_of, raw_lines, without_line_end, reply_lines, texts, clients_lines, unowned_lines, Part}
-use Rattle.pref_script.proofs.Common.{◌==◌, NamesNone, cases_lt, cond, drop, drop_all, drop_more, eq-eqb, eqb-false, eqb-true, get_or, get_or_append_left, length-set, map-append, range_with_len, set, vec_len, Act}
+use Rattle.pref_script.proofs.Common.{cond, drop, drop_all, drop_more, eq-eqb, get_or, map-append, range_with_len, set, vec_len, Act}
 use Rattle.std.proofs.lemmas.List.Sums.{count_by-le-length, length-filter}
 use Rattle.std.proofs.lemmas.List.Elements.{filter-append}
-use Rattle.std.proofs.lemmas.Bool.{cases_Bool}
 use Rattle.std.proofs.Common.{Bor}
-use Rattle.std.proofs.lemmas.Grind.{get_or-set_at}
-use Rattle.std.proofs.lemmas.List.{get_or-map, get_or-set_other, get_or_push, length-map, same_lists}
-use Rattle.std.proofs.lemmas.Option.{get_or_from_slice_get, slice_get-get_or, slice_get_read, slice_get_within}
+use Rattle.std.proofs.lemmas.List.{length-map}
 use Rattle.pref_core.specs.declared.event.Reply.{Reply}
 use Rattle.pref_share.specs.Interleavings.{acts_of}
 use Rattle.pref_share.specs.Runs.{Each}
@@ -110,12 +107,10 @@ unfolding texts
 returned-more first old new replies reply returned client schema left refused wrote = grind (arith, append_assoc, append-nil, texts-append)
 
 -- the parts of clients before they have commands, and one part more
-pub are-more : (names raws : List (List ℕ)) (parts : List Part) (part : Part) → ArePartsUpTo names raws raws parts → part.schema.now ≡ names → part.client ≡ suc (length parts) → commands_left part ≡ [] → part.read ≡ 0
-    → string_bytes part.text ≡ [] → ArePartsUpTo names raws raws (parts ++ part ∷ [])
-are-more names raws parts part are schema client commands read returned index other here = elim (cases_lt index (length parts)) [
-  | inl inside ↦ are index other (slice_get_read parts (length parts) index other refl inside (grind (arith, get_or_from_slice_get (parts ++ part ∷ []) index other other here, get_or_append_left parts (part ∷ []) other index inside)))
-  | inr past ↦ grind (arith, past, slice_get_within (parts ++ part ∷ []) index other here, length-append parts (part ∷ []), get_or_push parts part part index, get_or_from_slice_get (parts ++ part ∷ []) index other part here)
-]
+pub are-more : (names raws : List (List ℕ)) (client : ℕ) (parts : List Part) (part : Part) → PartsFrom names raws raws client parts → part.schema.now ≡ names → part.client ≡ client + length parts → commands_left part ≡ [] → part.read ≡ 0
+    → string_bytes part.text ≡ [] → PartsFrom names raws raws client (parts ++ part ∷ [])
+are-more names raws client [] part are schema number commands read returned = grind (arith)
+are-more names raws client (first ∷ more) part are schema number commands read returned = (are.0, are-more names raws (client + 1) more part are.1 schema (omega arith) commands read returned)
 
 -- a line that does not name the client is nothing to its part
 part-next : (names raws left : List (List ℕ)) (raw : List ℕ) (client : ℕ) (part : Part) → IsPart names raws (raw ∷ left) client part → client_named (without_line_end raw) ≢ Some client → IsPart names raws left client part
@@ -123,8 +118,13 @@ part-next names raws left raw client part is other =
     let accepts : AllAccepted names client left → AllAccepted names client (raw ∷ left) = λ all. (λ named. absurd (other named), all) in
     grind (arith, acts-line names client raw left, first-unnamed names client (without_line_end raw) other)
 
-pub given-nobody : (names raws left : List (List ℕ)) (raw : List ℕ) (parts : List Part) → NamesNone (length parts) (without_line_end raw) → ArePartsUpTo names raws (raw ∷ left) parts → ArePartsUpTo names raws left parts
-given-nobody names raws left raw parts nobody are index part here = part-next names raws left raw (suc index) part (are index part here) (nobody index (slice_get_within parts index part here))
+pub given-nobody : (names raws left : List (List ℕ)) (raw : List ℕ) (client : ℕ) (parts : List Part) → ((index : ℕ) → index < length parts → client_named (without_line_end raw) ≢ Some (client + index))
+    → PartsFrom names raws (raw ∷ left) client parts → PartsFrom names raws left client parts
+given-nobody names raws left raw client [] nobody are = tt
+given-nobody names raws left raw client (part ∷ more) nobody (is, are) = (
+  part-next names raws left raw client part is (λ named. nobody 0 (omega arith) (grind (arith, named))),
+  given-nobody names raws left raw (client + 1) more (λ index inside named. nobody (suc index) (omega arith) (grind (arith, named))) are,
+)
 
 -- the command of a line that names the client is given to its part
 commands-push : (old new : Part) (command : Bor (List ℕ)) → old.read ≡ 0 → new.read ≡ old.read → new.commands.items ≡ old.commands.items ++ command ∷ [] → commands_left new ≡ commands_left old ++ command.now ∷ []
@@ -143,69 +143,53 @@ part-given names raws left raw command client old new was of schema number comma
   returned = text ∙ was.returned;
 }
 
-pub given-here : (names raws left : List (List ℕ)) (raw : List ℕ) (command : Bor (List ℕ)) (parts : List Part) (index : ℕ) (old new : Part) → index < length parts → old ≡ get_or parts index old
-    → IsCommandOf (suc index) (without_line_end raw) command.now → new.schema.now ≡ old.schema.now → new.client ≡ old.client → new.commands.items ≡ old.commands.items ++ command ∷ [] → new.read ≡ old.read
-    → string_bytes new.text ≡ string_bytes old.text → ArePartsUpTo names raws (raw ∷ left) parts → ArePartsUpTo names raws left (set parts index new)
-given-here names raws left raw command parts index old new inside held of schema client pushed read text are spot part here = elim (cases_Bool (spot == index)) [
-  | inl e ↦ grind (arith, eqb-true spot index e, get_or-set_at parts index spot new new, get_or_from_slice_get (set parts index new) spot part new here, given)
-  | inr e ↦
-      let stays : part ≡ get_or parts spot part = grind (arith, get_or_from_slice_get (set parts index new) spot part part here, get_or-set_other parts index spot new part (eqb-false spot index e)) in
-      part-next names raws left raw (suc spot) part (are spot part (slice_get_read parts (length parts) spot part refl within stays)) (λ its. grind (arith, eqb-false spot index e, of.named, its))
-]
-  where
-    within : spot < length parts
-    within = omega (arith, slice_get_within (set parts index new) spot part here, length-set parts index new)
-
-    was : IsPart names raws (raw ∷ left) (suc index) old
-    was = are index old (slice_get_read parts (length parts) index old refl inside held)
-
-    given : IsPart names raws left (suc index) new
-    given = part-given names raws left raw command.now (suc index) old new was of schema client (commands-push old new command was.unread read pushed) read text
+pub given-here : (names raws left : List (List ℕ)) (raw : List ℕ) (command : Bor (List ℕ)) (client : ℕ) (parts : List Part) (index owner : ℕ) (old new : Part) → index < length parts → old ≡ get_or parts index old → owner ≡ client + index
+    → IsCommandOf owner (without_line_end raw) command.now → new.schema.now ≡ old.schema.now → new.client ≡ old.client → new.commands.items ≡ old.commands.items ++ command ∷ [] → new.read ≡ old.read
+    → string_bytes new.text ≡ string_bytes old.text → PartsFrom names raws (raw ∷ left) client parts → PartsFrom names raws left client (set parts index new)
+given-here names raws left raw command client [] index owner old new inside held spot of schema number pushed read text are = absurd (omega (arith, inside))
+given-here names raws left raw command client (part ∷ more) zero owner old new inside held spot of schema number pushed read text (is, are) =
+    let was = subst (IsPart names raws (raw ∷ left) client) (sym held) is in
+    let here : owner ≡ client = omega arith in (
+      part-given names raws left raw command.now client old new was (rw here at of) schema number (commands-push old new command was.unread read pushed) read text,
+      given-nobody names raws left raw (client + 1) more (λ index inside named. grind (arith, of.named, named, here)) are,
+    )
+given-here names raws left raw command client (part ∷ more) (suc index) owner old new inside held spot of schema number pushed read text (is, are) = (
+  part-next names raws left raw client part is (λ named. grind (arith, of.named, named, spot)),
+  given-here names raws left raw command (client + 1) more index owner old new (omega arith) held (omega arith) of schema number pushed read text are,
+)
 
 -- all lines were given to the parts: these are the acts of each
 pub part-acts : (names raws : List (List ℕ)) (client : ℕ) (part : Part) → IsPart names raws [] client part → acts_left part ≡ acts_in names client raws
 unfolding commands_of accepted_events
 part-acts names raws client part is = sym (append-nil (acts_left part)) ∙ is.acts
 
-pub parts-few : (names : List (List ℕ)) (text : List ℕ) (parts : List Part) → length text < 2 ^ 63 → AreParts names (raw_lines text) parts → All (λ part. length (acts_left part) < 2 ^ 63) parts
-parts-few names text parts short are i d within = grind (arith, part-acts names (raw_lines text) (suc i) (get_or parts i d) (are i (get_or parts i d) (slice_get-get_or parts i d within)), acts-short names (suc i) text)
-
--- all lines were given to these parts, of which the first is this client's
-abbrev pub PartsFrom : List (List ℕ) → List (List ℕ) → ℕ → List Part → Type 0
-PartsFrom names raws client [] = Unit {0}
-PartsFrom names raws client (part ∷ more) = IsPart names raws [] client part × PartsFrom names raws (client + 1) more
-
-parts-from : (names raws : List (List ℕ)) (client : ℕ) (parts : List Part) → ((index number : ℕ) (part : Part) → slice_get parts index ≡ Some part → number ≡ client + index → IsPart names raws [] number part) → PartsFrom names raws client parts
-parts-from names raws client [] each = tt
-parts-from names raws client (part ∷ more) each = (each 0 client part refl (omega arith), parts-from names raws (client + 1) more (λ index number p at same. each (suc index) number p at (omega arith)))
-
-pub parts-all : (names raws : List (List ℕ)) (parts : List Part) → AreParts names raws parts → PartsFrom names raws 1 parts
-parts-all names raws parts are = parts-from names raws 1 parts (λ index number part at same. let next : suc index ≡ number = omega arith in rw (← next) (are index part at))
+pub parts-few : (names : List (List ℕ)) (text : List ℕ) (client : ℕ) (parts : List Part) → length text < 2 ^ 63 → PartsFrom names (raw_lines text) [] client parts → All (λ part. length (acts_left part) < 2 ^ 63) parts
+parts-few names text client (part ∷ more) short (is, are) zero d within = grind (arith, part-acts names (raw_lines text) client part is, acts-short names client text)
+parts-few names text client (part ∷ more) short (is, are) (suc i) d within = parts-few names text (client + 1) more short are i d (omega arith)
+parts-few names text client [] short are i d within = absurd (omega (arith, within))
 
 -- their acts
-acts-from : (names : List (List ℕ)) (text : List ℕ) (first client : ℕ) (parts : List Part) → PartsFrom names (raw_lines text) client parts
+acts-from : (names : List (List ℕ)) (text : List ℕ) (first client : ℕ) (parts : List Part) → PartsFrom names (raw_lines text) [] client parts
     → map (λ client. acts_of client (accepted_events (commands_of names first (raw_lines text)))) (range_with_len client (length parts)) ≡ map acts_left parts
 acts-from names text first client [] are = refl
 acts-from names text first client (part ∷ more) (is, are) = λ i. (ap (acts_of client) (events-any_number names first 0 (raw_lines text)) ∙ sym (part-acts names (raw_lines text) client part is)) i ∷ acts-from names text first (client + 1) more are i
 
 pub acts-listed : (names : List (List ℕ)) (text : List ℕ) (clients first : ℕ) (parts : List Part) → length parts ≡ clients → AreParts names (raw_lines text) parts → acts_of_clients clients (commands_of names first (raw_lines text)) ≡ map acts_left parts
-acts-listed names text clients first parts many are = rw (← many) (acts-from names text first 1 parts (parts-all names (raw_lines text) parts are))
+acts-listed names text clients first parts many are = rw (← many) (acts-from names text first 1 parts are)
 
 -- the texts of done parts, one after the other, are the lines of the replies that they took
-pub parts-shown : (names raws : List (List ℕ)) (client : ℕ) (parts done : List Part) (replies : List (List Reply)) → PartsFrom names raws client parts → Each HasReplied parts done replies → texts (λ part. string_bytes part.text) done ≡ clients_lines (length names) client replies
+pub parts-shown : (names raws : List (List ℕ)) (client : ℕ) (parts done : List Part) (replies : List (List Reply)) → PartsFrom names raws [] client parts → Each HasReplied parts done replies → texts (λ part. string_bytes part.text) done ≡ clients_lines (length names) client replies
 unfolding texts clients_lines
 parts-shown names raws client [] [] [] are taken = refl
 parts-shown names raws client (part ∷ parts) (new ∷ done) (list ∷ replies) (is, are) (has, taken) = grind (arith, is, has, parts-shown names raws (client + 1) parts done replies are taken)
 parts-shown names raws client parts done replies are taken = absurd taken
 
 -- no line that names a client whose part is whole was refused
-whole-accepts : (names raws : List (List ℕ)) (client : ℕ) (parts done : List Part) (replies : List (List Reply)) → PartsFrom names raws client parts → Each HasReplied parts done replies → All IsWhole done
+whole-accepts : (names raws : List (List ℕ)) (client : ℕ) (parts done : List Part) (replies : List (List Reply)) → PartsFrom names raws [] client parts → Each HasReplied parts done replies → All IsWhole done
     → (index number : ℕ) → number ≡ client + index → index < length done → AllAccepted names number raws
 whole-accepts names raws client [] [] [] are taken whole index number same inside = absurd (omega arith)
 whole-accepts names raws client (part ∷ parts) (new ∷ done) (list ∷ replies) (is, are) (has, taken) whole zero number same inside =
-    let here = whole 0 new (omega arith) in
-    let own : client ≡ number = omega arith in
-    rw (← own) (is.accepted (has.accepted here.accepted (rw (commands-none new (omega (arith, here.through))) tt)) tt)
+    grind (arith, whole 0 new, is.accepted, has.accepted, commands-none new)
 whole-accepts names raws client (part ∷ parts) (new ∷ done) (list ∷ replies) (is, are) (has, taken) whole (suc index) number same inside =
     whole-accepts names raws (client + 1) parts done replies are taken (λ i d lt. whole (suc i) d (omega arith)) index number (omega arith) (omega arith)
 whole-accepts names raws client parts done replies are taken whole index number same inside = absurd taken
@@ -230,4 +214,4 @@ all-given clients width names number (raw ∷ more) given accept =
 pub unowned-none : (names : List (List ℕ)) (text : List ℕ) (number : ℕ) (parts done : List Part) (replies : List (List Reply)) → AreParts names (raw_lines text) parts → Each HasReplied parts done replies
     → AllGiven (length done) (raw_lines text) → All IsWhole done → unowned_lines (length done) (length names) (commands_of names number (raw_lines text)) ≡ []
 unowned-none names text number parts done replies are taken given whole =
-    all-given (length done) (length names) names number (raw_lines text) given (λ index inside. whole-accepts names (raw_lines text) 1 parts done replies (parts-all names (raw_lines text) parts are) taken whole index (suc index) (omega arith) inside)
+    all-given (length done) (length names) names number (raw_lines text) given (λ index inside. whole-accepts names (raw_lines text) 1 parts done replies are taken whole index (suc index) (omega arith) inside)

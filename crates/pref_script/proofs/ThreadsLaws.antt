@@ -1,5 +1,5 @@
 -- What a script prints whose clients run on threads.
-use Rattle.pref_script.proofs.Common.{◌≡◌, ◌∙◌, ℕ, ◌+◌, ◌<◌, ◌≤◌, ◌^◌, arith, map, Bool, List, ◌++◌, length, refl, sym, subst, Result, Ok, Err, IfErr, ◌⊎◌, inl, inr, ℤ, string_bytes, All, [], Limits}
+use Rattle.pref_script.proofs.Common.{◌≡◌, ℕ, ◌+◌, ◌<◌, ◌≤◌, ◌^◌, arith, map, Bool, List, ◌++◌, length, refl, subst, Result, Ok, Err, IfErr, ◌⊎◌, inl, inr, ℤ, string_bytes, All, [], Limits}
 use Rattle.pref_script.proofs.Common.{AllGiven, AreParts, HasReplied, acts_left, commands_of, ScriptFault, Sections, sections_of, script_of, script_with, share_fault, raw_lines, table_of}
 use Rattle.pref_script.proofs.Common.{texts, Sink, Wrote, ClosesOrStops, HoldsNobody, PrintsOnThreads, always_open, opening_of, unowned_lines, RunFault, Part, Act, CoreFault}
 use Rattle.pref_script.proofs.OutputLaws.{script-core-fault, script-ok}
@@ -11,7 +11,7 @@ use Rattle.pref_share.proofs.InterleavingsLaws.{each_lengths}
 use Rattle.pref_share.proofs.ReportsLaws.{first_stops}
 use Rattle.pref_script.specs.ClientParts.{IsWhole}
 use Rattle.pref_script.specs.declared.script.Sections.{Sections as Cut}
-use Rattle.pref_script.proofs.PartLaws.{acts-listed, parts-all, parts-shown, unowned-none}
+use Rattle.pref_script.proofs.PartLaws.{acts-listed, parts-shown, unowned-none}
 use Rattle.pref_script.specs.Commands.{Command}
 use Rattle.pref_script.specs.Threads.{acts_of_clients}
 use Rattle.pref_core.specs.declared.fault.CoreFault.TheVariants as core
@@ -86,5 +86,5 @@ module _ (limits : Limits) (says : ℕ → ℕ → Bool → Type 0) (bytes : Lis
       let sizes = each_lengths HasReplied parts done run.replies run.taken in (
         script_with (sections_in cut) (names, read),
         script-ok limits bytes (sections_in cut) (names, read) is gives (rw same at room),
-        record { replies = run.replies; joint = run.joint; sequential = run.sequential; returned = grind (arith, wrote, printed_all, first, all, sizes, count, parts-shown names (raw_lines cut.commands.now) 1 parts done run.replies (parts-all names (raw_lines cut.commands.now) parts are) run.taken) },
+        record { replies = run.replies; joint = run.joint; sequential = run.sequential; returned = grind (arith, wrote, printed_all, first, all, sizes, count, parts-shown names (raw_lines cut.commands.now) 1 parts done run.replies are run.taken) },
       )

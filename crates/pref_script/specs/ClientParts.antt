@@ -1,6 +1,6 @@
 -- No public contract cites this.
 -- A client's part of a script: its acts, which come command by command, and the lines of the replies. (this project)
-use Rattle.std.specs.Prelude.{ℕ, suc, ◌≡◌, ◌<◌, ◌⊎◌, true, false, List, [], ◌∷◌, ◌++◌, length, map, drop, Some, Result, Ok, Err, slice_get, string_bytes, vec_len}
+use Rattle.std.specs.Prelude.{ℕ, suc, ◌≡◌, ◌+◌, ◌<◌, ◌⊎◌, true, false, List, [], ◌∷◌, ◌++◌, length, map, drop, Some, Result, Ok, Err, string_bytes, vec_len}
 use Rattle.std.specs.Borrow.{Bor}
 use Rattle.std.specs.List.{list_all}
 use Rattle.pref_table.specs.Number.{is_blank}
@@ -87,9 +87,14 @@ pub record IsPart (names raws left : List (List ℕ)) (client : ℕ) (part : Par
   pub unread : part.read ≡ 0
   pub returned : string_bytes part.text ≡ []
 
+-- the parts of clients, of which the first has this number
+abbrev pub PartsFrom : List (List ℕ) → List (List ℕ) → List (List ℕ) → ℕ → List Part → Type 0
+PartsFrom names raws left client [] = Unit {0}
+PartsFrom names raws left client (part ∷ more) = IsPart names raws left client part × PartsFrom names raws left (client + 1) more
+
 -- the parts of the clients, from client 1 on
 abbrev pub ArePartsUpTo : List (List ℕ) → List (List ℕ) → List (List ℕ) → List Part → Type 0
-ArePartsUpTo names raws left parts = (index : ℕ) (part : Part) → slice_get parts index ≡ Some part → IsPart names raws left (suc index) part
+ArePartsUpTo names raws left parts = PartsFrom names raws left 1 parts
 
 -- the same with all their commands
 abbrev pub AreParts : List (List ℕ) → List (List ℕ) → List Part → Type 0

@@ -16,7 +16,7 @@ returns-in_err-schema g c =
 
 pub joint_parts-requires-clause-few : goal.joint_parts-requires-clause-few
 joint_parts-requires-clause-few g c κs within =
-    parts-few _ _ _ (commands-short c.args.bytes.now c.in_ok-sections.sections c.in_ok-sections.ensures.sections c.in_ok-sections.ensures.few (omega arith)) c.in_ok-parts.ensures.parts
+    parts-few _ _ 1 _ (commands-short c.args.bytes.now c.in_ok-sections.sections c.in_ok-sections.ensures.sections c.in_ok-sections.ensures.few (omega arith)) c.in_ok-parts.ensures.parts
 
 pub unowned_text-requires-clause-none : goal.unowned_text-requires-clause-none
 unowned_text-requires-clause-none g c = λ given whole.
