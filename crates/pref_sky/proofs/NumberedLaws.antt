@@ -1,7 +1,6 @@
 -- Rows that are numbered as they come: their ids differ, and what holds the best of some rows holds the best of these and more once those are added.
-use Rattle.pref_sky.proofs.Common.{◌≡◌, ◌+◌, ◌≤◌, ◌++◌, ◌∷◌, ◌∙◌, ℕ, suc, List, [], ap, arith, refl, sym, subst, map, length, inl, inr, eqb, eq-eqb, cond, count_by, sum_by-cons, length-append}
-use Rattle.pref_sky.proofs.Common.{order_of, Row, Question, cut_of, Entry, HaveDifferentIds, entry_of, entry_order, levels}
-use Rattle.std.proofs.lemmas.Bool.{cases_eq, ne_eqb}
+use Rattle.pref_sky.proofs.Common.{◌≡◌, ◌+◌, ◌≤◌, ◌++◌, ◌∷◌, ◌∙◌, ℕ, suc, List, [], ap, arith, refl, subst, map, length, eqb, cond, count_by, sum_by-cons, length-append}
+use Rattle.pref_sky.proofs.Common.{nat_tests, Ranked, order_of, Row, Question, cut_of, Entry, HaveDifferentIds, entry_of, entry_order, levels}
 use Rattle.pref_sky.proofs.LevelLaws.{held_differ}
 use Rattle.pref_sky.specs.NumberedRows.{BestSoFar, best_of, numbered, numbered_from}
 
@@ -23,20 +22,13 @@ count_first e entries id = sum_by-cons (λ (x : Entry). cond (eqb x.id id) 1 0) 
 -- no row has an id up to the last one
 count_upto_last : (last id : ℕ) (rows : List Row) → id ≤ last → count_by (λ (e : Entry). eqb e.id id) (numbered_from last rows) ≡ 0
 count_upto_last last id [] upto = refl
-count_upto_last last id (row ∷ rows) upto =
-    let other = ap (λ b. cond {A = ℕ} b 1 0) (ne_eqb (suc last) id (λ same. absurd (omega (arith, same, upto)))) in
-    omega (arith, count_first (record { id = suc last; row = row }) (numbered_from (suc last) rows) id, other, count_upto_last (suc last) id rows (omega (arith, upto)))
+count_upto_last last id (row ∷ rows) upto = grind (arith, nat_tests, count_first (record { id = suc last; row = row }) (numbered_from (suc last) rows) id, count_upto_last (suc last) id rows)
 
 pub numbered_differ : (last : ℕ) (rows : List Row) → HaveDifferentIds (numbered_from last rows)
 numbered_differ last [] = record { once = λ id. omega (arith) }
 numbered_differ last (row ∷ rows) =
-    let others = numbered_from (suc last) rows in
-    let counted = count_first (record { id = suc last; row = row }) others in
     record {
-      once = λ id. elim (cases_eq (suc last) id) [
-        | inl same ↦ let here = ap (λ b. cond {A = ℕ} b 1 0) (eq-eqb (suc last) id same) in omega (arith, counted id, here, count_upto_last (suc last) id rows (omega (arith, same)))
-        | inr other ↦ let elsewhere = ap (λ b. cond {A = ℕ} b 1 0) (ne_eqb (suc last) id other) in omega (arith, counted id, elsewhere, (numbered_differ (suc last) rows).once id)
-      ];
+      once = λ id. grind (arith, nat_tests, count_first (record { id = suc last; row = row }) (numbered_from (suc last) rows) id, count_upto_last (suc last) id rows, (numbered_differ (suc last) rows).once id);
     }
 
 -- the rows before and the new ones, as entries
@@ -48,24 +40,11 @@ all_differ before rows = subst HaveDifferentIds (numbered_before before rows) (n
 
 -- new rows have other ids than what is held
 pub new_differ : (q : Question) (before rows : List Row) (best : BestSoFar) → best ≡ best_of q before → HaveDifferentIds (map entry_of best.held ++ numbered_from best.count rows)
-new_differ q before rows best is =
-    let new = numbered_from (length before) rows in
-    subst (λ (b : BestSoFar). HaveDifferentIds (map entry_of b.held ++ numbered_from b.count rows)) (sym is) (held_differ (entry_order (order_of q)) (numbered before) new (cut_of q.mode) (all_differ before rows))
-
-same_best : (a b : BestSoFar) → a.question ≡ b.question → a.held ≡ b.held → a.count ≡ b.count → a ≡ b
-same_best a b question held count = grind (arith)
+new_differ q before rows best is = grind (arith, held_differ (entry_order (order_of q)) (numbered before) (numbered_from best.count rows) (cut_of q.mode), all_differ before rows)
 
 -- where the new entries are added to the levels that are held, these are then the levels of all
-pub more_rows : (q : Question) (before rows : List Row) (best after : BestSoFar) → best ≡ best_of q before
-    → after.question ≡ best.question → after.count ≡ best.count + length rows
-    → ((list : List Entry) → HaveDifferentIds (list ++ numbered_from best.count rows) → best.held ≡ levels (entry_order (order_of best.question)) list (cut_of best.question.mode)
-    → after.held ≡ levels (entry_order (order_of best.question)) (list ++ numbered_from best.count rows) (cut_of best.question.mode))
-    → after ≡ best_of q (before ++ rows)
-more_rows q before rows best after is question count held =
-    let over = entry_order (order_of q) in
-    let new = numbered_from (length before) rows in
-    let all_held = subst (λ (b : BestSoFar). (list : List Entry) → HaveDifferentIds (list ++ numbered_from b.count rows) → b.held ≡ levels (entry_order (order_of b.question)) list (cut_of b.question.mode)
-    → after.held ≡ levels (entry_order (order_of b.question)) (list ++ numbered_from b.count rows) (cut_of b.question.mode)) is held in
-    same_best after (best_of q (before ++ rows)) (question ∙ ap (λ (b : BestSoFar). b.question) is)
-    (all_held (numbered before) (all_differ before rows) refl ∙ ap (λ l. levels over l (cut_of q.mode)) (sym (numbered_before before rows)))
-    (omega (arith, count, ap (λ (b : BestSoFar). b.count) is, length-append before rows))
+pub more_rows : (q : Question) (before rows : List Row) (best : BestSoFar) (new : List Entry) (cut count : ℕ) (after : List Ranked) → best ≡ best_of q before
+    → new ≡ numbered_from best.count rows → cut ≡ cut_of best.question.mode → count ≡ best.count + length rows
+    → ((list : List Entry) → HaveDifferentIds (list ++ new) → best.held ≡ levels (entry_order (order_of best.question)) list cut → after ≡ levels (entry_order (order_of best.question)) (list ++ new) cut)
+    → record { question = best.question; held = after; count = count } ≡ best_of q (before ++ rows)
+more_rows q before rows best new cut count after is numbers cuts counts adds = grind (arith, adds (numbered before), all_differ before rows, numbered_before before rows, length-append before rows)

@@ -1,6 +1,6 @@
 -- Levels found one after the other, each from what the levels before leave: the entries without those that have an id of the best.
-use Rattle.pref_sky.proofs.Common.{◌≡◌, ◌==◌, ℕ, zero, suc, ◌≤◌, Bool, true, not, inl, inr, List, [], ◌∷◌, refl, sym, ◌∙◌, ap, arith, filter, list_any, append-nil, cases_lt, get_or, IsNonDecreasingBy, ltb, ltb-true, eqb-true, eq-eqb}
-use Rattle.pref_sky.proofs.Common.{Among, Entry, HaveDifferentIds, best, is_beaten, rest, without_best, in_order_of_id, levels, both_ways, cases_Bool, false_from_ne_true, not-true, subst}
+use Rattle.pref_sky.proofs.Common.{◌≡◌, ◌==◌, ℕ, zero, suc, ◌≤◌, Bool, not, inl, inr, List, [], ◌∷◌, sym, ◌∙◌, ap, arith, filter, list_any, append-nil, cases_lt, get_or, IsNonDecreasingBy, ltb, ltb-true}
+use Rattle.pref_sky.proofs.Common.{nat_tests, Among, Entry, HaveDifferentIds, best, is_beaten, rest, without_best, in_order_of_id, levels, cases_Bool}
 use Rattle.pref_sky.proofs.IdOrder.{among_in_order, different_later, different_tail, from_in_order, rises_in_order}
 use Rattle.pref_sky.proofs.ListLaws.{any_from, any_none, filter_agree_among, from_filter, in_filter, in_order_at}
 use Rattle.pref_sky.proofs.Merges.{different_filter}
@@ -29,11 +29,10 @@ without_ids over xs different =
     let top = in_order_of_id (best over xs) in
     let is_best : Entry → Bool = λ x. not (is_beaten over xs x) in
     filter_agree_among (λ e. not (list_any (λ (b : Entry). b.id == e.id) top)) (is_beaten over xs) xs (λ x m.
+    let same_id : Entry → Bool = λ b. b.id == x.id in
     elim (cases_Bool (is_beaten over xs x)) [
-      | inl beaten ↦ ap not (any_none (λ (b : Entry). b.id == x.id) top (λ b mb.
-          let was = from_filter is_best xs b (from_in_order (best over xs) b mb) in
-          false_from_ne_true (b.id == x.id) (λ same. both_ways (is_beaten over xs x) (not-true (is_beaten over xs x) (subst (λ y. is_best y ≡ true) (one_by_id xs different b x was.0 m (eqb-true b.id x.id same)) was.1)) beaten))) ∙ sym beaten
-      | inr unbeaten ↦ ap not (any_from (λ (b : Entry). b.id == x.id) top x (among_in_order (best over xs) x (in_filter is_best xs x m (ap not unbeaten))) (eq-eqb x.id x.id refl)) ∙ sym unbeaten
+      | inl beaten ↦ ap not (any_none same_id top (λ b mb. grind (arith, nat_tests, from_filter is_best xs b (from_in_order (best over xs) b mb), one_by_id xs different b x))) ∙ sym beaten
+      | inr unbeaten ↦ grind (arith, nat_tests, any_from same_id top x (among_in_order (best over xs) x (in_filter is_best xs x m (ap not unbeaten))))
     ])
 
 none_later : (over : Entry → Entry → Bool) (all : List Entry) (n m : ℕ) → rest over all n ≡ [] → n ≤ m → rest over all m ≡ []
