@@ -3,7 +3,7 @@ use Rattle.pref_sky.proofs.Common.{◌≡◌, ℕ, zero, suc, ◌≤◌, Bool, t
 use Rattle.pref_sky.proofs.Common.{cases_lt, nat_tests, count_by-le-length, false_from_ne_true, length-map, entry_of, and_parts, and_from, lt-ltb, le-ltb, length-filter, filter-append, IsStrictOrder}
 use Rattle.pref_sky.proofs.Common.{Row, Entry, Ranked, best, rest, in_order_of_id, at_level, levels, count_before, at_least, Among, length-filter_both, ◌<◌, get_or}
 use Rattle.pref_sky.proofs.Common.{IsPartitionedBy, count_by}
-use Rattle.pref_sky.proofs.ListLaws.{sum_by-ones, filter_agree_among, from_map, in_map, none_pass, one_passes}
+use Rattle.pref_sky.proofs.ListLaws.{settled, sum_by-ones, filter_agree_among, from_map, in_map, none_pass, one_passes}
 use Rattle.pref_sky.proofs.ListLaws.{count_append, count_cons}
 use Rattle.pref_sky.proofs.Merges.{comes_after, comes_after_upto, unbeaten_over, best_of_rest_is, is_at, on_level, to_level}
 use Rattle.pref_sky.proofs.IdOrder.{among_in_order, from_in_order}
@@ -53,12 +53,7 @@ one_level_more over strict same within all k n le =
     grind (arith, filter_agree_among (few (some ++ more)) (few some) (some ++ more) agree, filter-append (few some) some more, none_pass (few some) more below, append-nil (filter (few some) some))
 
 past_k : (over : Entry → Entry → Bool) → IsStrictOrder over → (same : Row → Row → Bool) → StaysInGroups over same → (all : List Entry) (k m : ℕ) → k ≤ m → at_least same k (levels over all m) ≡ at_least same k (levels over all k)
-past_k over strict same within all k zero le = let none : 0 ≡ k = omega arith in ap (λ n. at_least same k (levels over all n)) none
-past_k over strict same within all k (suc m) le =
-    elim (cases_lt m k) [
-      | inl first ↦ let here : suc m ≡ k = omega arith in ap (λ n. at_least same k (levels over all n)) here
-      | inr later ↦ one_level_more over strict same within all k m later ∙ past_k over strict same within all k m later
-    ]
+past_k over strict same within all k m le = settled (λ n. at_least same k (levels over all n)) k m (λ n past is. one_level_more over strict same within all k n past ∙ is) le
 
 -- as many levels as entries leave none
 none_deeper : (over : Entry → Entry → Bool) → IsStrictOrder over → (all : List Entry) (n : ℕ) → length all ≤ n → best over (rest over all n) ≡ []
@@ -84,14 +79,9 @@ none_deeper over strict all n le =
 
 -- there are no more levels than entries
 past_all : (over : Entry → Entry → Bool) → IsStrictOrder over → (all : List Entry) (m : ℕ) → length all ≤ m → levels over all m ≡ levels over all (length all)
-past_all over strict all zero le = let none : 0 ≡ length all = omega arith in ap (levels over all) none
-past_all over strict all (suc m) le =
-    elim (cases_lt m (length all)) [
-      | inl first ↦ let here : suc m ≡ length all = omega arith in ap (levels over all) here
-      | inr later ↦
-          ap (λ l. levels over all m ++ map (at_level (suc m)) (in_order_of_id l)) (none_deeper over strict all m later)
-          ∙ (append-nil (levels over all m) ∙ past_all over strict all m later)
-    ]
+past_all over strict all m le =
+    settled (levels over all) (length all) m
+    (λ n past is. ap (λ l. levels over all n ++ map (at_level (suc n)) (in_order_of_id l)) (none_deeper over strict all n past) ∙ (append-nil (levels over all n) ∙ is)) le
 
 -- k levels hold enough
 pub enough : (over : Entry → Entry → Bool) → IsStrictOrder over → (same : Row → Row → Bool) → StaysInGroups over same → (all : List Entry) (k : ℕ) → at_least same k (levels over all (length all)) ≡ at_least same k (levels over all k)

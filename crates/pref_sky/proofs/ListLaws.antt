@@ -138,6 +138,15 @@ pub count_split : {E : Type 0} (p q r : E → Bool) (xs : List E) → ((x : E) �
 count_split p q r [] each = omega arith
 count_split p q r (x ∷ xs) each = grind (arith, count_split p q r xs each, count_cons p x xs, count_cons q x xs, count_cons r x xs)
 
+-- what does not change from a number on is the same at each later one
+pub settled : {A : Type 0} (f : ℕ → A) (k m : ℕ) → ((n : ℕ) → k ≤ n → f n ≡ f k → f (suc n) ≡ f k) → k ≤ m → f m ≡ f k
+settled f k zero next le = let none : 0 ≡ k = omega arith in ap f none
+settled f k (suc m) next le =
+    elim (cases_lt m k) [
+      | inl first ↦ let here : suc m ≡ k = omega arith in ap f here
+      | inr later ↦ next m later (settled f k m next later)
+    ]
+
 pub sum_by-ones : {E : Type 0} (xs : List E) → sum_by (λ _. 1) xs ≡ length xs
 sum_by-ones [] = refl
 sum_by-ones (x ∷ xs) = omega (arith, sum_by-cons (λ _. 1) x xs, sum_by-ones xs)

@@ -1,8 +1,8 @@
 -- Levels found one after the other, each from what the levels before leave: the entries without those that have an id of the best.
-use Rattle.pref_sky.proofs.Common.{◌≡◌, ◌==◌, ℕ, zero, suc, ◌≤◌, Bool, not, inl, inr, List, [], ◌∷◌, sym, ◌∙◌, ap, arith, filter, list_any, append-nil, cases_lt, get_or, IsNonDecreasingBy, ltb, ltb-true}
+use Rattle.pref_sky.proofs.Common.{at_level, map, ◌++◌, ◌≡◌, ◌==◌, ℕ, zero, suc, ◌≤◌, Bool, not, inl, inr, List, [], ◌∷◌, sym, ◌∙◌, ap, arith, filter, list_any, append-nil, cases_lt, get_or, IsNonDecreasingBy, ltb, ltb-true}
 use Rattle.pref_sky.proofs.Common.{nat_tests, Among, Entry, HaveDifferentIds, best, is_beaten, rest, without_best, in_order_of_id, levels, cases_Bool}
 use Rattle.pref_sky.proofs.IdOrder.{among_in_order, different_later, different_tail, from_in_order, rises_in_order}
-use Rattle.pref_sky.proofs.ListLaws.{any_from, any_none, filter_agree_among, from_filter, in_filter, in_order_at}
+use Rattle.pref_sky.proofs.ListLaws.{any_from, any_none, filter_agree_among, from_filter, in_filter, in_order_at, settled}
 use Rattle.pref_sky.proofs.Merges.{different_filter}
 
 pub rest_differ : (over : Entry → Entry → Bool) (all : List Entry) (n : ℕ) → HaveDifferentIds all → HaveDifferentIds (rest over all n)
@@ -36,18 +36,10 @@ without_ids over xs different =
     ])
 
 none_later : (over : Entry → Entry → Bool) (all : List Entry) (n m : ℕ) → rest over all n ≡ [] → n ≤ m → rest over all m ≡ []
-none_later over all n zero none le = let same : 0 ≡ n = omega arith in ap (rest over all) same ∙ none
-none_later over all n (suc m) none le =
-    elim (cases_lt m n) [
-      | inl more ↦ let same : suc m ≡ n = omega arith in ap (rest over all) same ∙ none
-      | inr within ↦ ap (without_best over) (none_later over all n m none within)
-    ]
+none_later over all n m none le = settled (rest over all) n m (λ k past is. ap (without_best over) (is ∙ none) ∙ sym none) le ∙ none
 
 -- where nothing is left, no entry is of a later level
 pub no_later_level : (over : Entry → Entry → Bool) (all : List Entry) (n m : ℕ) → rest over all n ≡ [] → n ≤ m → levels over all n ≡ levels over all m
-no_later_level over all n zero none le = let same : n ≡ 0 = omega arith in ap (levels over all) same
-no_later_level over all n (suc m) none le =
-    elim (cases_lt m n) [
-      | inl more ↦ let same : n ≡ suc m = omega arith in ap (levels over all) same
-      | inr within ↦ grind (arith, no_later_level over all n m none within, none_later over all n m none within, append-nil (levels over all m))
-    ]
+no_later_level over all n m none le =
+    sym (settled (levels over all) n m
+    (λ k past is. ap (λ l. levels over all k ++ map (at_level (suc k)) (in_order_of_id (best over l))) (none_later over all n k none past) ∙ (append-nil (levels over all k) ∙ is)) le)
