@@ -1,6 +1,6 @@
 -- Entries that were held already, when others come: as many levels are above them as before, or more, and none that was of a level is over one that was of it or of one above.
 use Rattle.pref_sky.proofs.Common.{◌≡◌, ℕ, suc, ◌<◌, ◌≤◌, Bool, true, not, ◌&&◌, List, [], ◌∷◌, sym, ◌∙◌, ap, subst, arith, length, get_or, get_or-map, map, filter, nat_lt, All}
-use Rattle.pref_sky.proofs.Common.{and_from, both_ways, false_from_ne_true, IsStrictOrder, Entry, Among, comes_after, count_above, entry_at, entry_of, level_of, own_levels, own_order, AreLeveled, AreLowest, HaveDifferentIds, Item, OwnOrder}
+use Rattle.pref_sky.proofs.Common.{and_from, IsStrictOrder, Entry, Among, comes_after, count_above, entry_at, entry_of, level_of, own_levels, own_order, AreLeveled, AreLowest, HaveDifferentIds, Item, OwnOrder}
 use Rattle.pref_sky.proofs.Common.{length-map}
 use Rattle.pref_sky.proofs.OwnOrders.{own_is_strict}
 use Rattle.pref_sky.proofs.LeveledLaws.{HasChain, level_is, levels_of_kept}
@@ -75,13 +75,10 @@ module _ (over : Entry → Entry → Bool) (strict : IsStrictOrder over) (all : 
         within = λ p inside. omega (arith, is p inside, (upper_at p inside).early);
         after = λ p inside. let w = upper_at p inside in grind (arith, is p inside, upper_chains (number (entry_at upper p)) (entry_at upper p) w.chain.within, w.chain.after);
         apart = λ p q p_inside q_inside some near.
-            let a = entry_at upper p in
-            let b = entry_at upper q in
             let x = upper_at p p_inside in
             let y = upper_at q q_inside in
-            false_from_ne_true (over b a) (λ above.
-            let late : comes_after over all (suc (number b)) a ≡ true = any_from (λ z. comes_after over all (number b) z && over z a) all b y.there (and_from (comes_after over all (number b) b) (over b a) y.chain.after above) in
-            both_ways (comes_after over all (suc (number a)) a) (x.chain.no_more x.early) (comes_after_upto over all (suc (number a)) (suc (number b)) a (omega (arith, is p p_inside, is q q_inside, near)) late));
+            let less = comes_after_upto over all (suc (number (entry_at upper p))) (suc (number (entry_at upper q))) (entry_at upper p) (omega (arith, is p p_inside, is q q_inside, near)) in
+            grind (arith, any_from, y.there, y.chain.after, x.chain.no_more x.early, less);
       }
 
   -- what one of the last level is over is below the cut
