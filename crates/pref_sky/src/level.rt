@@ -89,19 +89,21 @@ fn end_of_no_better(
     steps.len()
 }
 
-/// Whether one of these dominates an entry. The one that does is met sooner the next time.
+/// Whether one of these dominates the entry at a place. The one that does is met sooner the next time.
 fn has_one_over(
     order: &OwnOrder,
     entries: &[Entry],
     items: &mut Vec<Item>,
-    entry: &Entry,
+    place: usize,
     signature: u64,
 ) -> bool
-    requires { All (λ (x : Item). x.place < length entries.now) items.old.items }
+    requires inside { place < length entries.now }
+    requires places { All (λ (x : Item). x.place < length entries.now) items.old.items }
     ensures same { SameMembers items.old.items items.new.items }
-    ensures found { result ≡ true → (x : Item) × Among x items.old.items × (own_order order.now (entry_at entries.now x.place) entry.now ≡ true) }
-    ensures none { result ≡ false → (x : Item) → Among x items.old.items → (is_within x.signature signature && own_order order.now (entry_at entries.now x.place) entry.now) ≡ false }
+    ensures found { result ≡ true → (x : Item) × Among x items.old.items × (own_order order.now (entry_at entries.now x.place) (entry_at entries.now place) ≡ true) }
+    ensures none { result ≡ false → (x : Item) → Among x items.old.items → (is_within x.signature signature && own_order order.now (entry_at entries.now x.place) (entry_at entries.now place)) ≡ false }
 {
+    let entry = &entries[place];
     for (at, item) in items.iter().enumerate() {
         if is_within(item.signature, signature) && order.is_over(&entries[item.place], entry) {
             items.swap(at / 2, at);
@@ -179,10 +181,9 @@ impl Level {
         ensures none { result ≡ false → (x : Item) → IsAskedOf (mark_of lead.now place) x self.old
             → (is_within x.signature signature && own_order order.now (entry_at entries.now x.place) (entry_at entries.now place)) ≡ false }
     {
-        let entry = &entries[place];
-        has_one_over(order, entries, &mut self.fresh, entry, signature)
+        has_one_over(order, entries, &mut self.fresh, place, signature)
             || (lead.held_level(place) == 0
-                && has_one_over(order, entries, &mut self.run, entry, signature))
+                && has_one_over(order, entries, &mut self.run, place, signature))
     }
 
     /// Whether an entry of this level dominates the one at a place behind them, which is of this class. Where that one was held already, this is

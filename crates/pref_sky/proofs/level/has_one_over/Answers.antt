@@ -20,7 +20,7 @@ returns-then-is_over-clause-found c _ =
     let x = get_or run at none in (
       x,
       subst (λ (l : List Item). Among x l) c.deref-item-items.ensures.value (among_place run at none c.loop-at-test.true),
-      grind (arith, get_or_default entries x.place c.index-entries-item.result),
+      grind (arith, get_or_default entries x.place c.index-entries-item.result, get_or_default entries c.args.place c.index-entries-place.result),
     )
 
 pub loop-at-preserved : goal.loop-at-preserved
@@ -29,10 +29,10 @@ loop-at-preserved c k d near =
     let run = c.deref-item-items.result.now in
     let at = c.loop-at.at in
     let none : Item = record { signature = 0; place = 0 } in
-    let is_over_it = λ (x : Item). is_within x.signature c.args.signature && own_order c.args.order.now (entry_at entries x.place) c.args.entry.now in
+    let is_over_it = λ (x : Item). is_within x.signature c.args.signature && own_order c.args.order.now (entry_at entries x.place) (entry_at entries c.args.place) in
     let here : is_over_it (get_or run at none) ≡ false =
     elim c.else-is_within.branch [
-      | else-is_within-via-then-is_within+else-is_over w ↦ grind (arith, get_or_default entries (get_or run at none).place w.index-entries-item.result)
+      | else-is_within-via-then-is_within+else-is_over w ↦ grind (arith, get_or_default entries (get_or run at none).place w.index-entries-item.result, get_or_default entries c.args.place c.index-entries-place.result)
       | else-is_within-via-else-is_within w ↦ grind (arith)
     ] in
     elim (cases_lt k at) [
