@@ -39,6 +39,6 @@ pub refuses_change : (o : Opening) (s : Standing) (call : Call) (fault : CoreFau
 refuses_change o s call fault change e = grind (arith, never)
 
 -- what holds of a fault holds of the error by which it is passed on
-pub passed_on : {T : Type 0} (result : Result T ShareFault) (fault : ShareFault) (P : ShareFault → Type 0) → IsErrAnd result (λ passed. passed ≡ fault) → P fault → IfErr result P
+pub passed_on : {T E : Type 0} (result : Result T E) (fault : E) (P : E → Type 0) → IsErrAnd result (λ passed. passed ≡ fault) → P fault → IfErr result P
 passed_on (Ok done) fault P same h = tt
 passed_on (Err passed) fault P same h = subst P (sym same) h
