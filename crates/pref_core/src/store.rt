@@ -41,6 +41,7 @@ use crate::call::{Call, LentCall, Op, Planned};
 use crate::fault::CoreFault;
 use crate::index::Index;
 use crate::setup::Setup;
+use caller::caller_of;
 use contents::Contents;
 use pref_sky::Entry;
 use pref_table::Row;
@@ -124,7 +125,10 @@ impl Store {
         ensures exact { result ≡ unwrap_or (caller_calls self.now client) 0 }
         ensures state { (state : State) → StandsFor self.now state → result ≡ unwrap_or (calls_of state client) 0 }
     {
-        caller::calls_of(&self.contents.callers, client)
+        match caller_of(&self.contents.callers, client) {
+            Some(caller) => caller.calls,
+            None => 0,
+        }
     }
 
     /// The row of this id in the table now. Goes along the chain of the rows whose home is that of the id, the slot

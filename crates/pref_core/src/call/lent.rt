@@ -176,17 +176,6 @@ impl<'a> LentCall<'a> {
         }
     }
 
-    /// The id and the row of an update.
-    #[inline(always)]
-    pub(crate) fn updated(&self) -> Option<(u64, &'a Row)>
-        ensures { IfSome result (λ returned. self.now ≡ Call.Update returned.0 returned.1.now) }
-    {
-        match self.0 {
-            Lent::Update(id, row) => Some((id, row)),
-            _ => None,
-        }
-    }
-
     /// How many rows the call begins.
     pub(crate) fn begun(&self) -> usize
         ensures count { (next_id : ℕ) → result ≡ length (begun next_id self.now) }

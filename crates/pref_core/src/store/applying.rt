@@ -23,7 +23,7 @@ ghost use Rattle.pref_core.specs.Planned.{op_of};
 ghost use Rattle.pref_core.specs.Slots.{stamps, new_version, visible};
 ghost use Rattle.pref_core.specs.State.{ended, begun, added, changes_of, is_change, succeeds};
 ghost use Rattle.pref_core.specs.Table.{has};
-ghost use Rattle.pref_core.specs.declared.call.Call.{Call};
+ghost use Rattle.pref_core.specs.declared.changes.Change.{Change};
 
 use crate::call::{LentCall, Planned};
 use crate::changes::LentChange;
@@ -83,11 +83,12 @@ impl Contents {
     /// The id and the row of an update, and the slot of its row, where it stays there.
     #[inline(always)]
     fn kept_slot<'b>(&self, op: &Planned<'b>) -> Option<(u64, &'b Row, u32)>
-        ensures { IfSome result (λ kept. (op.now.call.now ≡ Call.Update kept.0 kept.1.now) × (op.now.slots ≡ kept.2 ∷ []) × (row_at self.now.stamp kept.0 self.now.slots kept.2 ≡ true)) }
+        ensures { IfSome result (λ kept. (changes_of op.now.call.now ≡ Change.Set kept.0 kept.1.now ∷ []) × (op.now.slots ≡ kept.2 ∷ []) × (row_at self.now.stamp kept.0 self.now.slots kept.2 ≡ true)) }
     {
-        let (id, row) = op.call.updated()?;
-        match op.slots.as_slice() {
-            [place] if self.slots.stands_at(*place, id) => Some((id, row, *place)),
+        match (op.call.lone()?, op.slots.as_slice()) {
+            (LentChange::Set(id, row), [place]) if self.slots.stands_at(*place, id) => {
+                Some((id, row, *place))
+            }
             _ => None,
         }
     }

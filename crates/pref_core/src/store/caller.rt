@@ -1,8 +1,8 @@
 //! A client's part of a store: how many calls it has made, and its open query's begin.
 
 ghost use Rattle.std.specs.List.{list_any};
-ghost use Rattle.std.specs.Option.{option_to_list, unwrap_or};
-ghost use Rattle.std.specs.Prelude.{IfSome, nat_le, not, option_map, ◌≡◌, ◌^◌, ◌<◌, ◌&&◌};
+ghost use Rattle.std.specs.Option.{option_to_list};
+ghost use Rattle.std.specs.Prelude.{IfSome, nat_le, not, ◌≡◌, ◌^◌, ◌<◌, ◌&&◌};
 ghost use Rattle.pref_core.specs.Operations.{callers_after};
 ghost use Rattle.pref_core.specs.Slots.{has_ended};
 ghost use Rattle.pref_core.specs.State.{seat};
@@ -36,16 +36,6 @@ pub(crate) fn caller_of(callers: &[Caller], client: u8) -> Option<Caller>
         None
     } else {
         callers.get(client as usize - 1).copied()
-    }
-}
-
-/// How many numbered calls the client has made.
-pub(crate) fn calls_of(callers: &[Caller], client: u8) -> u64
-    ensures { result ≡ unwrap_or (option_map (λ caller. caller.calls) (seat client callers.now)) 0 }
-{
-    match caller_of(callers, client) {
-        Some(caller) => caller.calls,
-        None => 0,
     }
 }
 
