@@ -1,11 +1,11 @@
 -- An op that is legal at slots that stand for a state leaves slots that stand for the next one.
 use Rattle.pref_core.proofs.Common.{◌≡◌, ℕ, suc, Bool, true, false, List, [], ◌∷◌, length, Option, Some, None, slice_set, refl, sym, ap, ◌∙◌, arith, AllZip, and_parts, Version, Caller, Call, Outcome}
-use Rattle.pref_core.proofs.Common.{Op, State, Client, with_seat, is_change, missing, ended, begun, begins_row, needed_after, success_outcome, outcome, succeeds, committed, begun_after, counted}
-use Rattle.pref_core.proofs.Common.{after, is_formed, outcome_of, Contents, StandsFor, StandsForClient, stamps, caller_calls, grown, filled, begin_after, callers_after, is_next, same_number}
+use Rattle.pref_core.proofs.Common.{Op, State, is_change, missing, ended, begun, begins_row, needed_after, success_outcome, outcome, succeeds, committed, counted}
+use Rattle.pref_core.proofs.Common.{after, is_formed, outcome_of, Contents, StandsFor, stamps, caller_calls, grown, filled, callers_after, is_next, same_number}
 use Rattle.pref_core.proofs.Common.{outcome_at, refusal_at, slots_after, stepped}
 use Rattle.pref_core.proofs.CommitLaws.{grown_stands}
 use Rattle.pref_core.proofs.SlotReuse.{filled_stands}
-use Rattle.pref_core.proofs.OutcomeLaws.{SameSeat, nobody, somebody, same_seat, same_outcome_at}
+use Rattle.pref_core.proofs.OutcomeLaws.{same_seat, same_outcome_at}
 
 AllZip-set : {A B : Type 0} (R : A → B → Type 0) (xs : List A) (ys : List B) (k : ℕ) (a : A) (b : B) → R a b → AllZip R xs ys → AllZip R (slice_set xs k a) (slice_set ys k b)
 AllZip-set R (x ∷ xs) (y ∷ ys) (suc k) a b r h = (h.0, AllZip-set R xs ys k a b r h.1)
@@ -14,20 +14,16 @@ AllZip-set R xs ys k a b r h = grind (arith)
 counted_stands : (contents : Contents) (state : State) (client : ℕ) (call : Call) → StandsFor contents state → StandsFor
     (record { slots = contents.slots; stamp = contents.stamp; next_id = contents.next_id; callers = callers_after contents.stamp contents.callers client call })
     (record { table = state.table; next_id = state.next_id; commits = state.commits; clients = counted state client call })
-counted_stands contents state client call h = record {
-  stamp = h.stamp;
-  next_id = h.next_id;
-  table = h.table;
-  clients = go (same_seat contents.slots contents.stamp contents.callers state.clients client h.clients);
-  separate = h.separate;
-  within = h.within;
-}
-  where
-    go : {a : Option Caller} {b : Option Client} → SameSeat contents.slots contents.stamp a b → AllZip (StandsForClient contents.slots contents.stamp)
-        (elim a as (λ x. List Caller) [ None ↦ contents.callers | Some found ↦ with_seat client (record { calls = suc found.calls; at_begin = begin_after contents.stamp call found.at_begin }) contents.callers ])
-        (elim b as (λ x. List Client) [ None ↦ state.clients | Some found ↦ with_seat client (record { calls = suc found.calls; at_begin = begun_after state call found.at_begin }) state.clients ])
-    go nobody = h.clients
-    go (somebody caller found s) = grind (arith, AllZip-set)
+counted_stands contents state client call h =
+    record {
+      stamp = h.stamp;
+      next_id = h.next_id;
+      table = h.table;
+      clients = grind
+          (arith, AllZip-set, same_seat contents.slots contents.stamp contents.callers state.clients client h.clients);
+      separate = h.separate;
+      within = h.within;
+    }
 
 -- a change that succeeds misses no row
 pub succeeds-missing : (capacity : ℕ) (begins : Bool) (m : Option ℕ) (size : ℕ) (success_outcome : Outcome) → succeeds (outcome_of capacity begins m size success_outcome) ≡ true → m ≡ None

@@ -7,9 +7,7 @@ use Rattle.pref_core.proofs.ChangeCounts.{added_by-length}
 pub use Rattle.pref_core.proofs.SlotKeys.{AllByRecursion-set}
 
 total-small : (callers : List Caller) → length callers ≤ 8 → AllByRecursion (λ caller. caller.calls ≤ 2 ^ 56) callers → sum_by (λ caller. caller.calls) callers ≤ 2 ^ 59
-total-small callers few small =
-    let all = sum_by-le (λ (caller : Caller). caller.calls) (2 ^ 56) callers (All-from_recursion (λ caller. caller.calls ≤ 2 ^ 56) callers small) in
-    omega arith
+total-small callers few small = grind (arith, sum_by-le (λ (caller : Caller). caller.calls) (2 ^ 56) callers, All-from_recursion)
 
 pub stamp-small : (contents : Contents) → IsBounded contents → contents.stamp < 2 ^ 60
 stamp-small contents h = let total = total-small contents.callers h.callers h.calls in let at = h.stamp in omega arith

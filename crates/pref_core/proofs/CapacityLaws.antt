@@ -1,5 +1,5 @@
 -- The needed versions are within the capacity after each legal history.
-use Rattle.pref_core.proofs.Common.{◌≡◌, ℕ, suc, ◌≤◌, Bool, true, false, ◌||◌, cond, List, [], ◌∷◌, ◌++◌, length, Option, Some, None, slice_get, slice_set, ⊎_elim, refl, sym, ◌∙◌, arith, or_cases}
+use Rattle.pref_core.proofs.Common.{◌≡◌, ℕ, suc, ◌≤◌, Bool, true, false, ◌||◌, List, [], ◌∷◌, ◌++◌, length, Option, Some, None, slice_get, slice_set, ⊎_elim, refl, sym, ◌∙◌, arith, or_cases}
 use Rattle.pref_core.proofs.Common.{or_left, or_right, count_by-le-length, Call, Line, Key, holds_key, keys, State, Client, Snapshot, found_tables, needed, is_change, outcome, succeeds, committed}
 use Rattle.pref_core.proofs.Common.{counted, after, is_needed, stamps, NeededFits, NeededFitsSlots}
 use Rattle.pref_core.proofs.NeededCounts.{fewer, length-needed, holds_key-keys-append}
@@ -18,14 +18,7 @@ cons_found key client clients = grind (arith, holds_key-keys-append)
 
 -- what open queries found, once a client is another
 found_set : (key : Key) (clients : List Client) (k : ℕ) (new : Client) → holds key (found_tables (slice_set clients k new)) ≡ true → (holds key (found_of new.at_begin) || holds key (found_tables clients)) ≡ true
-unfolding holds
-found_set key (client ∷ clients) (suc k) new h =
-    ⊎_elim (λ (here : holds key (found_of client.at_begin) ≡ true). or_right (holds key (found_of new.at_begin)) _ (cons_found key client clients ∙ or_left _ (holds key (found_tables clients)) here))
-    (λ (there : holds key (found_tables (slice_set clients k new)) ≡ true).
-    ⊎_elim (or_left _ _)
-    (λ (rest : holds key (found_tables clients) ≡ true). or_right (holds key (found_of new.at_begin)) _ (cons_found key client clients ∙ or_right (holds key (found_of client.at_begin)) _ rest))
-    (or_cases _ _ (found_set key clients k new there)))
-    (or_cases _ _ (sym (cons_found key client (slice_set clients k new)) ∙ h))
+found_set key (client ∷ clients) (suc k) new h = grind (arith, found_set key clients k new, cons_found)
 found_set key clients k new h = grind (arith, cons_found)
 
 found_has : (key : Key) (clients : List Client) (k : ℕ) (who : Client) → slice_get clients k ≡ Some who → holds key (found_of who.at_begin) ≡ true → holds key (found_tables clients) ≡ true
@@ -57,15 +50,13 @@ change_fits : (capacity : ℕ) (state : State) (call : Call) → is_change call 
 change_fits capacity state call c s fits = grind (arith, ends_need_no_more)
 
 after_fits : (capacity : ℕ) (state : State) (client : ℕ) (call : Call) → length (needed state) ≤ capacity → length (needed (after capacity state client call)) ≤ capacity
-after_fits capacity state client call fits = go (is_change call) refl (succeeds (outcome capacity state call)) refl
-  where
-    go : (c : Bool) → is_change call ≡ c → (s : Bool) → succeeds (outcome capacity state call) ≡ s
-        → length (needed (cond c (cond s (committed call (noted state client call)) (noted state client call)) (noted state client call))) ≤ capacity
-    go true c true e =
-        let made = change_fits capacity state call c e fits in
-        let fewer_now = needed_counted (committed call state).table state client call (committed call state).next_id (committed call state).commits (λ q. absurd (let both : true ≡ false = sym c ∙ q in cc)) in
-        omega arith
-    go c is s e = grind (arith, noted_fits)
+after_fits capacity state client call fits =
+    grind (
+      arith,
+      change_fits capacity state call,
+      noted_fits capacity state client call,
+      needed_counted (committed call state).table state client call (committed call state).next_id (committed call state).commits,
+    )
 
 pub needed_fits : NeededFits
 needed_fits capacity state [] fits legal = fits

@@ -1,17 +1,10 @@
 -- How many changes a call makes, and how many rows they begin and add, one change after the other.
 use Rattle.pref_core.proofs.Common.{◌≡◌, ℕ, zero, suc, ◌+◌, ◌<◌, ◌≤◌, Bool, true, cond, List, [], ◌∷◌, ◌++◌, length, take, drop, get_or, slice_get, add-one, Some, refl, sym, ap, ◌∙◌, arith}
-use Rattle.pref_core.proofs.Common.{nat_lt, drop-cons, take-append-drop, Change, Add, Set, Remove, ended_by, begun_by, added_by, begins_any, among}
+use Rattle.pref_core.proofs.Common.{nat_lt, drop-cons, take-append-drop, Change, Remove, ended_by, begun_by, added_by, begins_any, among}
 use Rattle.pref_core.proofs.ChangesLaws.{among_inside, ended_by-append, drop_at}
 
 pub drop_item : {X : Type 0} (xs : List X) (at : ℕ) (x other : X) → x ≡ get_or xs at other → at < length xs → drop at xs ≡ x ∷ drop (at + 1) xs
 drop_item xs at x other is inside = drop-cons xs at other inside ∙ ap (λ y. y ∷ drop (suc at) xs) (sym is) ∙ ap (λ n. x ∷ drop n xs) (sym (add-one at))
-
--- a place at which something is left
-pub drop_inside : {X : Type 0} (xs : List X) (at : ℕ) (x : X) (rest : List X) → drop at xs ≡ x ∷ rest → at < length xs
-drop_inside [] zero x rest e = absurd (cc)
-drop_inside [] (suc at) x rest e = absurd (cc)
-drop_inside (y ∷ xs) zero x rest e = omega arith
-drop_inside (y ∷ xs) (suc at) x rest e = let more = drop_inside xs at x rest e in omega arith
 
 -- The ids that the first changes end, and the next one.
 pub ended_first : (at : ℕ) (changes : List Change) → length (ended_by (take at changes)) ≤ at
@@ -27,9 +20,7 @@ named_at changes at change id e named = ap (λ l. among l id) (ended_next change
 -- The next id has no say in how many rows begin.
 begun_alike : (m n : ℕ) (changes : List Change) → length (begun_by m changes) ≡ length (begun_by n changes)
 begun_alike m n [] = refl
-begun_alike m n (Add row ∷ rest) = ap suc (begun_alike (suc m) (suc n) rest)
-begun_alike m n (Set id row ∷ rest) = ap suc (begun_alike m n rest)
-begun_alike m n (Remove id ∷ rest) = begun_alike m n rest
+begun_alike m n (change ∷ rest) = grind (arith, begun_alike m n rest, begun_alike (suc m) (suc n) rest)
 
 pub one_begins : (next : ℕ) (change : Change) (rest : List Change) (begins : Bool) → begins_any (change ∷ []) ≡ begins → length (begun_by next (change ∷ rest)) ≡ cond begins (suc (length (begun_by next rest))) (length (begun_by next rest))
 one_begins next change rest begins e = grind (arith, begun_alike)
@@ -41,6 +32,4 @@ begins_some next changes = grind (arith)
 
 pub added_by-length : (changes : List Change) → added_by changes ≤ length changes
 added_by-length [] = omega arith
-added_by-length (Add row ∷ rest) = let more = added_by-length rest in omega arith
-added_by-length (Set id row ∷ rest) = let more = added_by-length rest in omega arith
-added_by-length (Remove id ∷ rest) = let more = added_by-length rest in omega arith
+added_by-length (change ∷ rest) = grind (arith, added_by-length rest)

@@ -59,12 +59,7 @@ change_steps limits system client member act call done q is = grind (arith)
 
 change_is : (old : Running) (system : System) (client : ℕ) (act : Act) (call : Call) (op : Op) (done : Reply) → change_of_act old.contents.next_id act ≡ Some (call, done) → StandsForSystem old system → (planned : IsPlanned old system client call op)
     → step old.limits system (record { client = client; act = act }) ≡ changed op.outcome done call (counted_with planned.let_in.who.query client planned.let_in.who system)
-change_is old system client act call op done is h planned =
-    let who = planned.let_in.who in
-    somebody_steps old.limits system client act who planned.let_in.at
-    ∙ change_steps old.limits system client who act call done who.query (subst (λ n. change_of_act n act ≡ Some (call, done)) h.store.next_id is)
-    ∙ let_in_steps who system _ planned.let_in.unspent
-    ∙ ap (λ o. changed o done call (counted_with who.query client who system)) (sym planned.outcome)
+change_is old system client act call op done is h planned = grind (arith, somebody_steps, change_steps, let_in_steps)
 
 pub is_its_call : (next_id : ℕ) (act : Act) (call : Call) (done : Reply) → change_of_act next_id act ≡ Some (call, done) → call_of_act act ≡ Some call
 is_its_call next_id act call done is = grind (arith)

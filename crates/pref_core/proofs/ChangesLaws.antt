@@ -1,6 +1,6 @@
 -- The changes of a commit: which ids they name, and that the rows that they begin have ids of their own.
-use Rattle.pref_core.proofs.Common.{◌≡◌, ℕ, suc, ◌+◌, ◌<◌, ◌≤◌, Bool, true, false, ◌||◌, cond, eqb, List, [], ◌∷◌, ◌++◌, map, length, take, drop, add-one, slice_get, Some, None, refl, sym, ap, ◌∙◌}
-use Rattle.pref_core.proofs.Common.{subst, arith, ⊎_elim, ◌⊎◌, inl, inr, append-nil, take_more, slice_get_within, get_or_from_slice_get, or_cases, or_right, eqb-true, eq-eqb, Change, Add, Set, Remove}
+use Rattle.pref_core.proofs.Common.{◌≡◌, ℕ, suc, ◌+◌, ◌<◌, ◌≤◌, true, false, ◌||◌, eqb, List, [], ◌∷◌, ◌++◌, map, length, take, drop, add-one, slice_get, Some, None, refl, sym, ap, ◌∙◌}
+use Rattle.pref_core.proofs.Common.{arith, ◌⊎◌, append-nil, take_more, slice_get_within, get_or_from_slice_get, or_right, eq-eqb, Change, Add, Set, Remove}
 use Rattle.pref_core.proofs.Common.{Call, ended_by, begun_by, added_by, twice_from, is_commit, Line, among, has, missing, ended, is_formed, AreFresh, Entry, list_any-append}
 
 pub commit_length : (commit : List Change) → is_commit commit ≡ true → length commit ≤ 8
@@ -23,9 +23,7 @@ among_inside xs ys id = among_append xs (id ∷ ys) id ∙ or_right (among xs id
 
 pub ended_by-append : (xs ys : List Change) → ended_by (xs ++ ys) ≡ ended_by xs ++ ended_by ys
 ended_by-append [] ys = refl
-ended_by-append (Add row ∷ xs) ys = ended_by-append xs ys
-ended_by-append (Set id row ∷ xs) ys = ap (λ l. id ∷ l) (ended_by-append xs ys)
-ended_by-append (Remove id ∷ xs) ys = ap (λ l. id ∷ l) (ended_by-append xs ys)
+ended_by-append (change ∷ xs) ys = grind (arith, ended_by-append xs ys)
 
 -- changes that name no id twice, nor one of these ids
 record Names (earlier : List ℕ) (ids : List ℕ) : Type 0 where
@@ -35,19 +33,9 @@ record Names (earlier : List ℕ) (ids : List ℕ) : Type 0 where
 names_more : (earlier : List ℕ) (id : ℕ) (ids : List ℕ) → among earlier id ≡ false → Names (earlier ++ id ∷ []) ids → Names earlier (id ∷ ids)
 names_more earlier id ids new h = grind (arith, among_append)
 
-once_named : (earlier : List Change) (change : Change) (id : ℕ) (rest : List Change) → ended_by (change ∷ []) ≡ id ∷ [] → cond (among (ended_by earlier) id) (Some (suc (length earlier))) (twice_from (earlier ++ change ∷ []) rest) ≡ None
-    → (twice_from (earlier ++ change ∷ []) rest ≡ None → Names (ended_by (earlier ++ change ∷ [])) (ended_by rest)) → Names (ended_by earlier) (id ∷ ended_by rest)
-once_named earlier change id rest is h more = go (among (ended_by earlier) id) refl h
-  where
-    go : (b : Bool) → among (ended_by earlier) id ≡ b → cond b (Some (suc (length earlier))) (twice_from (earlier ++ change ∷ []) rest) ≡ None → Names (ended_by earlier) (id ∷ ended_by rest)
-    go true e h = absurd (cc)
-    go false e h = names_more (ended_by earlier) id (ended_by rest) e (subst (λ l. Names l (ended_by rest)) (ended_by-append earlier (change ∷ []) ∙ ap (λ l. ended_by earlier ++ l) is) (more h))
-
 once : (earlier changes : List Change) → twice_from earlier changes ≡ None → Names (ended_by earlier) (ended_by changes)
-once earlier [] h = record { apart = tt; others = λ id there. absurd (cc) }
-once earlier (Add row ∷ rest) h = subst (λ l. Names l (ended_by rest)) (ended_by-append earlier (Add row ∷ []) ∙ append-nil (ended_by earlier)) (once (earlier ++ Add row ∷ []) rest h)
-once earlier (Set id row ∷ rest) h = once_named earlier (Set id row) id rest refl h (once (earlier ++ Set id row ∷ []) rest)
-once earlier (Remove id ∷ rest) h = once_named earlier (Remove id) id rest refl h (once (earlier ++ Remove id ∷ []) rest)
+once earlier [] h = grind (arith)
+once earlier (change ∷ rest) h = grind (arith, once (earlier ++ change ∷ []) rest, names_more, ended_by-append, append-nil)
 
 pub formed_apart : (call : Call) → is_formed call ≡ true → AreApart (ended call)
 formed_apart call h = grind (arith, once)
@@ -63,15 +51,7 @@ ids_of entries = map (λ entry. entry.id) entries
 -- a row that begins has the id of one that ends, or a new one
 begun_ids : (next : ℕ) (changes : List Change) (id : ℕ) → among (ids_of (begun_by next changes)) id ≡ true → (among (ended_by changes) id ≡ true) ⊎ (next ≤ id)
 begun_ids next [] id a = absurd (cc)
-begun_ids next (Add row ∷ rest) id a = ⊎_elim
-    (λ (e : eqb next id ≡ true). let same : next ≡ id = eqb-true next id e in inr (omega arith))
-    (λ (e : among (ids_of (begun_by (suc next) rest)) id ≡ true). ⊎_elim (λ (there : among (ended_by rest) id ≡ true). inl there) (λ (l : suc next ≤ id). inr (omega arith)) (begun_ids (suc next) rest id e))
-    (or_cases (eqb next id) (among (ids_of (begun_by (suc next) rest)) id) a)
-begun_ids next (Set other row ∷ rest) id a = ⊎_elim
-    (λ (e : eqb other id ≡ true). inl (ap (λ b. b || among (ended_by rest) id) e))
-    (λ (e : among (ids_of (begun_by next rest)) id ≡ true). ⊎_elim (λ (there : among (ended_by rest) id ≡ true). inl (or_right (eqb other id) (among (ended_by rest) id) there)) (λ (l : next ≤ id). inr l) (begun_ids next rest id e))
-    (or_cases (eqb other id) (among (ids_of (begun_by next rest)) id) a)
-begun_ids next (Remove other ∷ rest) id a = ⊎_elim (λ (there : among (ended_by rest) id ≡ true). inl (or_right (eqb other id) (among (ended_by rest) id) there)) (λ (l : next ≤ id). inr l) (begun_ids next rest id a)
+begun_ids next (change ∷ rest) id a = grind (arith, begun_ids next rest id, begun_ids (suc next) rest id)
 
 -- the rows that changes begin, over a table that has none of the ids from `start` on nor those that they name
 pub begun_fresh : (start next limit : ℕ) (table : List Line) (changes : List Change) → start ≤ next → next + added_by changes ≤ limit
@@ -104,6 +84,4 @@ added_one change = grind (arith)
 
 pub begun_few : (next : ℕ) (changes : List Change) → length (begun_by next changes) ≤ length changes
 begun_few next [] = omega arith
-begun_few next (Add row ∷ rest) = let more = begun_few (suc next) rest in omega arith
-begun_few next (Set id row ∷ rest) = let more = begun_few next rest in omega arith
-begun_few next (Remove id ∷ rest) = let more = begun_few next rest in omega arith
+begun_few next (change ∷ rest) = grind (arith, begun_few next rest, begun_few (suc next) rest)

@@ -1,7 +1,7 @@
 -- Slots for the rows that a call begins: there are some exactly where the needed versions fit, and they are chosen one after the other, in any way.
 use Rattle.pref_core.proofs.Common.{◌≡◌, ℕ, zero, suc, ◌+◌, ◌<◌, ◌≤◌, Bool, true, false, not, cond, eqb, List, [], ◌∷◌, ◌++◌, map, length, Option, Some, None, slice_get, slice_set, refl, sym, ap, ◌∙◌}
-use Rattle.pref_core.proofs.Common.{arith, count_by, count_by-le-length, or_parts, eqb-false, Version, Entry, among, is_needed, new_version, is_free, filled, not-false, length-map, Call, Outcome}
-use Rattle.pref_core.proofs.Common.{ended, begun, success_outcome, succeeds, outcome_of, Contents, begins, close, grown, used, ◌&&◌, Result, Ok, is_some, subst, length-append, append-nil}
+use Rattle.pref_core.proofs.Common.{arith, count_by, count_by-le-length, or_parts, eqb-false, Version, Entry, among, is_needed, new_version, is_free, filled, not-false, length-map, Call}
+use Rattle.pref_core.proofs.Common.{ended, begun, success_outcome, succeeds, Contents, begins, close, grown, used, ◌&&◌, Result, Ok, is_some, length-append, append-nil}
 use Rattle.pref_core.proofs.Common.{append_assoc, Op, Change, Add, Set, Remove, begun_by, begins_any, changes_of, begins_row, is_change, missing, visible, placed, outcome_at, NoSuchRow, is_free_use}
 use Rattle.pref_core.proofs.Common.{IsFreed, FindsFreed, is_open, uses_of, rules}
 use Rattle.pref_core.proofs.SlotSetsLaws.{count_set}
@@ -65,37 +65,30 @@ all_needed ns (slot ∷ slots) h = grind (arith, all_needed ns slots (λ place. 
 pub some_left : (made : ℕ) (ns places : List ℕ) (begun : List Entry) (slots now : List (Option Version)) → filled (made ∷ ns) made places begun slots ≡ Some now
     → count_by (is_needed (made ∷ ns)) slots + length begun < length slots → ((place : ℕ) → is_free (made ∷ ns) slots place ≡ true → among places place ≡ true) → ⊥
 some_left made ns places begun slots now e fits chosen =
-    let full = all_needed (made ∷ ns) now (λ place. each place (is_free (made ∷ ns) slots place) refl) in
-    let a = filled_needs made ns places begun slots now e in
-    let b = length-filled (made ∷ ns) made places begun slots now e in
-    omega arith
-  where
-    each : (place : ℕ) (b : Bool) → is_free (made ∷ ns) slots place ≡ b → is_free (made ∷ ns) now place ≡ false
-    each place b f = grind (arith, taken, not_freed)
+    grind (arith, all_needed (made ∷ ns) now (λ place. grind (arith, taken, not_freed)), filled_needs made ns places begun slots now e, length-filled)
 
 -- the needed versions once these rows have begun, had they always room
 pub count_grown : (made : ℕ) (ns : List ℕ) (begun : List Entry) (slots : List (Option Version)) → count_by (is_needed (made ∷ ns)) (map (new_version made) begun ++ slots) ≡ count_by (is_needed (made ∷ ns)) slots + length begun
 count_grown made ns [] slots = omega arith
 count_grown made ns (fresh ∷ rest) slots = grind (arith, count_grown made ns rest slots, count_cons (is_needed (made ∷ ns)) (new_version made fresh) (map (new_version made) rest ++ slots))
 
--- What is needed after a change that succeeds is no more than the capacity.
-pub succeeds-fits : (capacity : ℕ) (m : Option ℕ) (size : ℕ) (success_outcome : Outcome) → succeeds (outcome_of capacity true m size success_outcome) ≡ true → size ≤ capacity
-succeeds-fits capacity m size success_outcome h = grind (arith)
-
 -- A change that has slots for its rows isn't full.
 pub plan_is_not_full : (contents : Contents) (call : Call) (places : List ℕ) (after : List (Option Version)) → filled (suc contents.stamp ∷ begins contents.callers) (suc contents.stamp) places (begun contents.next_id call) (map (close (ended call) (suc contents.stamp)) contents.slots) ≡ Some after
     → used (grown call contents) ≤ length contents.slots
 plan_is_not_full contents call places after e =
-    let fits = filled_fits (suc contents.stamp) (begins contents.callers) places (begun contents.next_id call) (map (close (ended call) (suc contents.stamp)) contents.slots) after e in
-    let same = count_grown (suc contents.stamp) (begins contents.callers) (begun contents.next_id call) (map (close (ended call) (suc contents.stamp)) contents.slots) in
-    let long = length-map contents.slots (close (ended call) (suc contents.stamp)) in
-    omega arith
+    let closed = map (close (ended call) (suc contents.stamp)) contents.slots in
+    let rows = begun contents.next_id call in
+    omega (
+      arith,
+      filled_fits (suc contents.stamp) (begins contents.callers) places rows closed after e,
+      count_grown (suc contents.stamp) (begins contents.callers) rows closed,
+      length-map contents.slots (close (ended call) (suc contents.stamp)),
+    )
 
 -- nothing ends
 pub close_none : (stamp : ℕ) (slots : List (Option Version)) → map (close [] stamp) slots ≡ slots
 close_none stamp [] = refl
-close_none stamp (None ∷ slots) = ap (λ l. None ∷ l) (close_none stamp slots)
-close_none stamp (Some version ∷ slots) = grind (arith, close_none stamp slots)
+close_none stamp (slot ∷ slots) = grind (arith, close_none stamp slots)
 
 abbrev pub closed_slots : Contents → List ℕ → List (Option Version)
 closed_slots contents ids = map (close ids (suc contents.stamp)) contents.slots
@@ -146,10 +139,7 @@ filled_long ns made (place ∷ places) begun slots after e = grind (arith, fille
 -- there is room for the number of one more
 pub chosen_few : (contents : Contents) (call : Call) (fresh : Entry) (rest : List Entry) (chosen : List ℕ) → length (changes_of call) ≤ 8 → ChosenUpTo contents call (fresh ∷ rest) chosen → length chosen < 8
 chosen_few contents call fresh rest chosen few h =
-    let a = filled_long (stamps_next contents) (suc contents.stamp) chosen h.done (closed_slots contents (ended call)) h.now h.fills in
-    let b = begun_few contents.next_id (changes_of call) in
-    let c = ap length h.all ∙ length-append h.done (fresh ∷ rest) in
-    omega arith
+    grind (arith, filled_long (stamps_next contents) (suc contents.stamp) chosen h.done (closed_slots contents (ended call)) h.now h.fills, begun_few contents.next_id (changes_of call), length-append)
 
 -- one more
 pub choose_one : (contents : Contents) (call : Call) (fresh : Entry) (rest : List Entry) (chosen : List ℕ) (place : ℕ) (freed : List ℕ) → IsFreed contents (ended call) freed
@@ -167,16 +157,14 @@ pub one_left : (contents : Contents) (call : Call) (fresh : Entry) (rest : List 
     → is_change call ≡ true → succeeds (outcome_at contents call) ≡ true → ((place : ℕ) → is_open (uses_of contents) freed place ≡ true → among chosen place ≡ true) → ChosenUpTo contents call (fresh ∷ rest) chosen → ⊥
 one_left contents call fresh rest chosen freed finds c ok taken h =
     some_left (suc contents.stamp) (begins contents.callers) chosen h.done (closed_slots contents (ended call)) h.now h.fills
-    (let size = succeeds-fits (length contents.slots) (missing (ended call) (visible contents.stamp contents.slots)) (used (grown call contents)) (success_outcome contents.next_id call)
-    (subst (λ b. succeeds (outcome_of (length contents.slots) b (missing (ended call) (visible contents.stamp contents.slots)) (used (grown call contents)) (success_outcome contents.next_id call)) ≡ true) begins_one (rw c at ok)) in
-    let more = count_grown (suc contents.stamp) (begins contents.callers) (begun contents.next_id call) (closed_slots contents (ended call)) in
-    let long = length-map contents.slots (close (ended call) (suc contents.stamp)) in
-    let all = ap length h.all ∙ length-append h.done (fresh ∷ rest) in
-    omega arith)
+    (grind (
+      arith,
+      begins_where (changes_of call) contents.next_id h.done fresh rest h.all,
+      count_grown (suc contents.stamp) (begins contents.callers) (begun contents.next_id call) (closed_slots contents (ended call)),
+      length-map,
+      length-append,
+    ))
     (λ place f. taken place (sym (finds.opens place) ∙ f))
-  where
-    begins_one : begins_row call ≡ true
-    begins_one = begins_where (changes_of call) contents.next_id h.done fresh rest h.all
 
 -- all of them
 pub all_chosen : (contents : Contents) (call : Call) (chosen : List ℕ) → is_change call ≡ true → succeeds (outcome_at contents call) ≡ true → ChosenUpTo contents call [] chosen → is_some (placed contents call chosen (outcome_at contents call)) ≡ true

@@ -1,8 +1,8 @@
 -- What a machine returns at each act is the system's reply: calls on queries, and gets and rooms.
-use Rattle.pref_core.proofs.Common.{◌≡◌, ◌⊎◌, ℕ, List, ◌-◌, ◌<◌, true, false, cond, length, Option, Some, None, is_some, Ok, Err, Result, refl, sym, ap, ◌∙◌, subst, arith}
-use Rattle.pref_core.proofs.Common.{Does, option_map, Question, Ranked, answer_of, Begin, Finish, Abandon, Call, Op, CoreFault, NotDone, MissingRow, OutOfMemory, Act, ActBegin, ActFinish}
-use Rattle.pref_core.proofs.Common.{ActAbandon, ActGet, ActRoom, Reply, Answer, Abandoned, Begun, Found, Room, Refused, Row, Line, line_of, entries, State, is_change, seat, begin, blocks, AreAllowed}
-use Rattle.pref_core.proofs.Common.{refusal_by_query, begun_after, needed, Open, Member, System, Step, snapshot, state_of, refused, counted_with, finish, step, StandsFor}
+use Rattle.pref_core.proofs.Common.{◌≡◌, ℕ, List, ◌-◌, true, false, cond, length, Option, Some, None, is_some, Ok, Err, Result, refl, sym, ap, ◌∙◌, subst, arith}
+use Rattle.pref_core.proofs.Common.{Does, option_map, Question, Ranked, answer_of, Begin, Finish, Abandon, Call, Op, CoreFault, NotDone, MissingRow, Act, ActBegin, ActFinish}
+use Rattle.pref_core.proofs.Common.{ActAbandon, ActGet, ActRoom, Reply, Answer, Abandoned, Begun, Found, Room, Row, Line, line_of, entries, State, is_change, seat, begin, blocks, AreAllowed}
+use Rattle.pref_core.proofs.Common.{refusal_by_query, begun_after, needed, Open, Member, System, snapshot, state_of, refused, counted_with, finish, step, StandsFor}
 use Rattle.pref_core.proofs.Common.{applied, called, Scan, Running, Follows, StandsForQuery, StandsForSystem, Returns, is_refusal, AnswersAt, IsPlan, Version, step_of}
 use Rattle.std.specs.Global.{Vec}
 use Rattle.pref_core.specs.MachineParts.{numbered}
@@ -95,12 +95,9 @@ finish_not_done old client op fault plan says = record {
       let asks = IsAsking-from old.contents.slots who.scan who.who.query who.stands who.allowed in
       let answers = subst (λ o. AnswersAt o (Err fault)) (who.place ∙ ap Some asks.place) says in
       let steps = somebody_steps old.limits system client ActFinish who.who who.at ∙ finish_is old system client op planned asks.asked asks.is ∙ let_in_steps who.who system _ who.unspent in
-      by_left system (step old.limits system (record { client = client; act = ActFinish })) who.who asks.asked asks.held.left asks.follows.left h answers steps;
+      let left = asks.follows.left in
+      grind (arith, some_left, no_left);
 }
-  where
-    by_left : (system : System) (right : Step) (who : Member) (query : Open) (left : ℕ) → left ≡ query.left → StandsForSystem old system → ((fault ≡ NotDone left) × (0 < left)) ⊎ ((fault ≡ OutOfMemory) × (left ≡ 0))
-        → right ≡ finish client who system query → Returns old right ActFinish (Err fault) old
-    by_left system right who query left same h says is = grind (arith, some_left, no_left)
 
 -- Reads of a client that is there.
 abbrev pub found_or_missing : ℕ → Option Row → Result Reply CoreFault
@@ -114,12 +111,7 @@ read_does old client act result here says = grind (arith, somebody_steps)
 
 pub get_does : (old : Running) (client id : ℕ) (row : Option Row) → is_some (seat client old.scans) ≡ true
     → ((state : State) → StandsFor old.contents state → row ≡ option_map (λ (l : Line). l.row) (line_of state.table id)) → Does old client (ActGet id) (found_or_missing id row) old
-get_does old client id row here says = read_does old client (ActGet id) (found_or_missing id row) here (λ system member h. go system h (line_of system.table id) (says (state_of system) h.store))
-  where
-    go : (system : System) → StandsForSystem old system → (o : Option Line) → row ≡ option_map (λ (l : Line). l.row) o
-        → Returns old (record { reply = elim o as (λ x. Reply) [ None ↦ Refused (MissingRow id) | Some line ↦ Found id line.row ]; next = system }) (ActGet id) (found_or_missing id row) old
-    go system h o is = grind (arith)
+get_does old client id row here says = read_does old client (ActGet id) (found_or_missing id row) here (λ system member h. let is = says (state_of system) h.store in grind (arith))
 
 pub room_does : (old : Running) (client room : ℕ) → is_some (seat client old.scans) ≡ true → ((state : State) → StandsFor old.contents state → room ≡ length old.contents.slots - length (needed state)) → Does old client ActRoom (Ok (Room room)) old
-room_does old client room here says = read_does old client ActRoom (Ok (Room room)) here
-    (λ system member h. (ap Room (says (state_of system) h.store ∙ ap (λ n. n - length (needed (state_of system))) h.capacity), refl, h))
+room_does old client room here says = read_does old client ActRoom (Ok (Room room)) here (λ system member h. let is = says (state_of system) h.store in grind (arith, h.capacity))

@@ -1,10 +1,10 @@
 -- The rows that a call ends and begins, in their slots, one after the other, and what is kept beside the slots.
-use Rattle.pref_core.proofs.Common.{◌≡◌, ℕ, zero, suc, ◌^◌, Bool, true, false, ◌||◌, eqb, List, [], ◌∷◌, map, set, Option, Some, None, slice_get, refl, sym, ap, ap₂, ◌∙◌, arith, ⊎_elim}
-use Rattle.pref_core.proofs.Common.{AllByRecursion, option_map, map-set, slice_get-map, and_parts, eqb-true, eq-eqb, cases_eq, true≢false, Version, Caller, SlotUse, Live, is_visible, IsWithin, EndsBy}
+use Rattle.pref_core.proofs.Common.{◌≡◌, ℕ, zero, suc, ◌^◌, Bool, true, false, eqb, List, [], ◌∷◌, map, set, Option, Some, None, slice_get, refl, sym, ap, ap₂, ◌∙◌, arith, ⊎_elim}
+use Rattle.pref_core.proofs.Common.{AllByRecursion, map-set, slice_get-map, and_parts, eqb-true, cases_eq, true≢false, Version, Caller, SlotUse, Live, is_visible, IsWithin, EndsBy}
 use Rattle.pref_core.proofs.Common.{close, close_at, use_of, is_row, row_at, IsPlaceOf, ids_of, id_at, AreIds, AreLinks, ◌+◌, subst, length_permutation, Call, Entry, State, changes_of, ended, begun}
-use Rattle.pref_core.proofs.Common.{added, missing, is_formed, Contents, StandsFor, visible, new_version, IsBounded, shown, IsTracked, AreFresh, ◌<◌, ◌≤◌, not, ◌&&◌, cond, nat_eq, ◌++◌, length, drop, length-set}
-use Rattle.pref_core.proofs.Common.{is_some, get_or, unwrap_or, drop_all, length-map, map-set_same, slice_get_within, slice_get-get_or, le-leb, ne_eqb, cases_lt, or_parts, Free, among, has, Op}
-use Rattle.pref_core.proofs.Common.{Outcome, begins_row, success_outcome, is_change, succeeds, begins, stamps, grown, is_free, filled, outcome_at, is_next, slots_after, used, is_free_use, free_at}
+use Rattle.pref_core.proofs.Common.{added, missing, is_formed, Contents, StandsFor, visible, new_version, IsBounded, shown, IsTracked, AreFresh, ◌<◌, ◌&&◌, nat_eq, ◌++◌, length, drop, length-set}
+use Rattle.pref_core.proofs.Common.{is_some, get_or, unwrap_or, drop_all, length-map, map-set_same, slice_get_within, slice_get-get_or, le-leb, cases_lt, or_parts, Free, among, has, Op}
+use Rattle.pref_core.proofs.Common.{Outcome, begins_row, success_outcome, is_change, succeeds, begins, stamps, grown, is_free, filled, outcome_at, is_next, slots_after, used}
 use Rattle.pref_core.proofs.Common.{with_slots, are_free, same_Some}
 use Rattle.pref_core.proofs.StabilityLaws.{slice_get-set_same, slice_get-set_other}
 use Rattle.pref_core.proofs.SlotUseLaws.{holds_there, has_row_at, row_version, free_use}
@@ -24,9 +24,8 @@ use Rattle.pref_core.proofs.ChangeCounts.{drop_item}
 -- lists are equal where they are at each place
 pub same_at_each : {X : Type 0} (xs ys : List X) → ((k : ℕ) → slice_get xs k ≡ slice_get ys k) → xs ≡ ys
 same_at_each [] [] h = refl
-same_at_each [] (y ∷ ys) h = absurd (let bad = h zero in cc)
-same_at_each (x ∷ xs) [] h = absurd (let bad = h zero in cc)
 same_at_each (x ∷ xs) (y ∷ ys) h = let first : x ≡ y = let e = h zero in cc in ap₂ ◌∷◌ first (same_at_each xs ys (λ k. h (suc k)))
+same_at_each xs ys h = absurd (let bad = h zero in cc)
 
 -- a slot that doesn't show the id's row stays
 idle : (next made id : ℕ) (slot : Option Version) → IsWithin next made slot → is_row made id slot ≡ false → close (id ∷ []) made slot ≡ slot
@@ -43,36 +42,19 @@ module _ (next made id : ℕ) (slots : List (Option Version)) (within : AllByRec
   -- Else the one where it stands is.
   pub one_closed : (place : ℕ) (version : Version) → AreIds (2 ^ 64) (id_at (ids_of made slots)) → row_at made id slots place ≡ true → slice_get slots place ≡ Some (Some version)
       → map (close (id ∷ []) made) slots ≡ set slots place (Some (record version { death = close_at made true version.death }))
-  one_closed place version known row at = same_at_each _ _ (λ k. ⊎_elim
-      (λ (e : k ≡ place).
-      ap (slice_get (map (close (id ∷ []) made) slots)) e ∙ slice_get-map (close (id ∷ []) made) slots place ∙ ap (option_map (close (id ∷ []) made)) at ∙ ap Some here
-      ∙ sym (slice_get-set_same slots place (Some version) (Some (record version { death = close_at made true version.death })) at) ∙ ap (slice_get (set slots place (Some (record version { death = close_at made true version.death })))) (sym e))
-      (λ (n : k ≡ place → ⊥).
-      stays k (λ r. n (known.once k place id (row_shown made id slots k r) (row_shown made id slots place row)))
-      ∙ sym (slice_get-set_other slots k place (Some (record version { death = close_at made true version.death })) n))
-      (cases_eq k place))
-    where
-      its : version.id ≡ id
-      its = eqb-true version.id id (and_parts (eqb version.id id) (is_visible made version) (ap (λ o. elim o as (λ x. Bool) [ None ↦ false | Some s ↦ is_row made id s ]) (sym at) ∙ row)).0
-
-      here : close (id ∷ []) made (Some version) ≡ Some (record version { death = close_at made true version.death })
-      here = ap (λ b. Some (record version { death = close_at made (b || false) version.death })) (eq-eqb id version.id (sym its))
+  one_closed place version known row at = same_at_each _ _ (λ k. grind (arith, stays, row_shown, slice_get-map, slice_get-set_same, slice_get-set_other, eqb-true, known.once))
 
 -- A version of a row is in no query's way: it has not ended.
 pub row_alive : (next made id : ℕ) (callers : List Caller) (version : Version) → IsWithin next made (Some version) → is_row made id (Some version) ≡ true → use_of callers (Some version) ≡ Live
 row_alive next made id callers version w r = grind (arith)
 
 pub row_live : (next made id : ℕ) (slots : List (Option Version)) → AllByRecursion (IsWithin next made) slots → (callers : List Caller) (place : ℕ) → row_at made id slots place ≡ true → slice_get (map (use_of callers) slots) place ≡ Some Live
-row_live next made id slots within callers place row =
-    let found = row_version made id slots place row in
-    slice_get-map (use_of callers) slots place ∙ ap (option_map (use_of callers)) found.1
-    ∙ ap Some (row_alive next made id callers found.0 (holds_there (IsWithin next made) slots place (Some found.0) found.1 within) (ap (λ o. elim o as (λ x. Bool) [ None ↦ false | Some s ↦ is_row made id s ]) (sym found.1) ∙ row))
+row_live next made id slots within callers place row = grind (arith, row_version, slice_get-map, row_alive, holds_there)
 
 -- Nothing is ahead of the commit that ends rows.
 pub within_closed : (ids : List ℕ) (next made : ℕ) (slots : List (Option Version)) → AllByRecursion (IsWithin next made) slots → AllByRecursion (IsWithin next made) (map (close ids made) slots)
 within_closed ids next made [] h = tt
-within_closed ids next made (None ∷ slots) h = (tt, within_closed ids next made slots h.1)
-within_closed ids next made (Some version ∷ slots) h = grind (arith, within_closed ids next made slots h.1)
+within_closed ids next made (slot ∷ slots) h = grind (arith, within_closed ids next made slots h.1)
 
 -- what the slots show once rows ended they showed before
 row_back : (ids : List ℕ) (made x : ℕ) (slots : List (Option Version)) (p : ℕ) → row_at made x (map (close ids made) slots) p ≡ true → row_at made x slots p ≡ true
@@ -90,7 +72,8 @@ ids_closed ids made slots known = record {
 
 -- An ended version shows no id.
 pub links_ended : (made place : ℕ) (slots : List (Option Version)) (version : Version) (links : List ℕ) → EndsBy made version.death → AreLinks (length slots) (set (ids_of made slots) place None) links
-    → AreLinks (length (set slots place (Some (record version { death = close_at made true version.death })))) (ids_of made (set slots place (Some (record version { death = close_at made true version.death })))) links
+    → AreLinks (length (set slots place (Some (record version { death = close_at made true version.death }))))
+    (ids_of made (set slots place (Some (record version { death = close_at made true version.death })))) links
 links_ended made place slots version links ends h = grind (arith, map-set, length-set)
 
 -- One slot_use is written.
@@ -122,14 +105,11 @@ ids_next next now (slot ∷ slots) h = ap₂ ◌∷◌ (shown_next next now slot
 -- .. and they are known as a commit begins: nothing is ahead of it, and the lists beside the slots are as before.
 pub tracked_next : (contents : Contents) (uses : List SlotUse) (links : List ℕ) (more : ℕ) → IsTracked contents uses links
     → IsTracked (record { slots = contents.slots; stamp = suc contents.stamp; next_id = contents.next_id + more; callers = contents.callers }) uses links
-tracked_next contents uses links more h = record {
-  seats = h.seats;
-  within = within-more contents.next_id (contents.next_id + more) (suc contents.stamp) contents.slots (omega arith)
-      (subst (AllByRecursion (IsWithin contents.next_id (suc contents.stamp))) (close_none (suc contents.stamp) contents.slots) (within-close [] contents.next_id contents.stamp contents.slots h.within));
-  listed = h.listed;
-  linked = subst (λ ids. AreLinks (length contents.slots) ids links) (sym (ids_next contents.next_id contents.stamp contents.slots h.within)) h.linked;
-  ids = subst (λ ids. AreIds (2 ^ 64) (id_at ids)) (sym (ids_next contents.next_id contents.stamp contents.slots h.within)) h.ids;
-}
+tracked_next contents uses links more h =
+    let same = ids_next contents.next_id contents.stamp contents.slots h.within in
+    let within = subst (AllByRecursion (IsWithin contents.next_id (suc contents.stamp))) (close_none (suc contents.stamp) contents.slots)
+    (within-close [] contents.next_id contents.stamp contents.slots h.within) in
+    grind (arith, within-more contents.next_id (contents.next_id + more) (suc contents.stamp) contents.slots)
 
 -- The rows that it begins are new, once it has ended what it ends.
 pub fresh_begun : (contents : Contents) (state : State) (call : Call) → is_formed call ≡ true → StandsFor contents state → missing (ended call) (visible contents.stamp contents.slots) ≡ None
@@ -141,7 +121,8 @@ fresh_begun contents state call formed stands none =
     (formed_apart call formed)
 
 -- A row that begins adds its id.
-pub links_born : (made place : ℕ) (fresh : Entry) (new : Option Version) (slots : List (Option Version)) (links : List ℕ) → new ≡ new_version made fresh → AreLinks (length slots) (set (ids_of made slots) place (Some fresh.id)) links
+pub links_born : (made place : ℕ) (fresh : Entry) (new : Option Version) (slots : List (Option Version)) (links : List ℕ) → new ≡ new_version made fresh
+    → AreLinks (length slots) (set (ids_of made slots) place (Some fresh.id)) links
     → AreLinks (length (set slots place new)) (ids_of made (set slots place new)) links
 links_born made place fresh new slots links is h = grind (arith, map-set, length-set)
 
@@ -149,13 +130,13 @@ links_born made place fresh new slots links is h = grind (arith, map-set, length
 fills_where : (made : ℕ) (ns earlier : List ℕ) (before : List Entry) (slots now : List (Option Version)) (places : List ℕ) (begun : List Entry) → filled (made ∷ ns) made earlier before slots ≡ Some now → length places ≡ length begun
     → is_some (filled (made ∷ ns) made places begun now) ≡ are_free (made ∷ ns) slots earlier places
 fills_where made ns earlier before slots now (place ∷ places) (fresh ∷ rest) e long =
-    go (among earlier place) refl (is_free (made ∷ ns) slots place) refl
-    (λ free. fills_where made ns (earlier ++ place ∷ []) (before ++ fresh ∷ []) slots (set now place (new_version made fresh)) places rest (filled_snoc (made ∷ ns) made earlier before slots now place fresh e free) (omega arith))
-  where
-    go : (a : Bool) → among earlier place ≡ a → (f : Bool) → is_free (made ∷ ns) slots place ≡ f
-        → (is_free (made ∷ ns) now place ≡ true → is_some (filled (made ∷ ns) made places rest (set now place (new_version made fresh))) ≡ are_free (made ∷ ns) slots (earlier ++ place ∷ []) places)
-        → is_some (cond (is_free (made ∷ ns) now place) (filled (made ∷ ns) made places rest (set now place (new_version made fresh))) None) ≡ ((not (among earlier place) && is_free (made ∷ ns) slots place) && are_free (made ∷ ns) slots (earlier ++ place ∷ []) places)
-    go a chosen f g more = grind (arith, taken, free_still)
+    grind (
+      arith,
+      fills_where made ns (earlier ++ place ∷ []) (before ++ fresh ∷ []) slots (set now place (new_version made fresh)) places rest,
+      filled_snoc (made ∷ ns) made earlier before slots now place fresh,
+      taken,
+      free_still,
+    )
 fills_where made ns earlier before slots now places begun e long = grind (arith)
 
 pub fills_free : (made : ℕ) (ns : List ℕ) (slots : List (Option Version)) (places : List ℕ) (begun : List Entry) → length places ≡ length begun → are_free (made ∷ ns) slots [] places ≡ is_some (filled (made ∷ ns) made places begun slots)
@@ -167,10 +148,7 @@ fills_not ns made (place ∷ places) begun slots n = grind (arith, fills_not ns 
 
 -- A free slot's slot_use is free, and it shows no row.
 pub free_there : (contents : Contents) (uses : List SlotUse) (links : List ℕ) (place : ℕ) → IsTracked contents uses links → is_free (stamps contents) contents.slots place ≡ true → slice_get uses place ≡ Some Free
-free_there contents uses links place h f = go (slice_get uses place) refl (ap (λ z. free_at z place) h.listed ∙ sym (free_use contents.next_id contents.stamp contents.callers contents.slots place h.within) ∙ f)
-  where
-    go : (o : Option SlotUse) → slice_get uses place ≡ o → elim o as (λ x. Bool) [ None ↦ false | Some slot_use ↦ is_free_use slot_use ] ≡ true → slice_get uses place ≡ Some Free
-    go o e is = grind (arith)
+free_there contents uses links place h f = grind (arith, free_use contents.next_id contents.stamp contents.callers contents.slots place h.within)
 
 pub free_inside : (contents : Contents) (uses : List SlotUse) (links : List ℕ) (place : ℕ) → IsTracked contents uses links → is_free (stamps contents) contents.slots place ≡ true → place < length contents.slots
 free_inside contents uses links place h f = grind (arith, slice_get_within)
@@ -213,8 +191,7 @@ EndedUpTo start now ids = now ≡ with_slots (map (close ids start.stamp) start.
 
 pub close_more : (xs ys : List ℕ) (made : ℕ) (slots : List (Option Version)) → map (close ys made) (map (close xs made) slots) ≡ map (close (xs ++ ys) made) slots
 close_more xs ys made [] = refl
-close_more xs ys made (None ∷ slots) = ap (λ l. None ∷ l) (close_more xs ys made slots)
-close_more xs ys made (Some version ∷ slots) = grind (arith, close_more xs ys made slots, among_append)
+close_more xs ys made (slot ∷ slots) = grind (arith, close_more xs ys made slots, among_append)
 
 pub ended_none : (start : Contents) → EndedUpTo start start []
 ended_none start = ap (λ l. with_slots l start) (sym (close_none start.stamp start.slots))
@@ -239,25 +216,8 @@ pub record BeginsNext (start now : Contents) (places : List ℕ) (used : ℕ) (f
 
 pub begins_next : (start now : Contents) (places : List ℕ) (used : ℕ) (first : Entry) (rest : List Entry) (all : Option (List (Option Version))) → BegunUpTo start now (drop used places) (first ∷ rest) all
     → BeginsNext start now places used first rest all
-begins_next start now places used first rest all h = record {
-  inside = inside;
-  free = ap (λ (s : Contents). is_free (stamps s) now.slots (get_or places used 0)) h.contents ∙ parts.0;
-  absent = ap (λ (s : Contents). has (visible s.stamp now.slots) first.id) h.contents ∙ h.fresh.1;
-  low = subst (λ (s : Contents). first.id < s.next_id) (sym h.contents) h.fresh.0;
-  next = record { contents = refl; fills = parts.1; some = h.some; fresh = fresh_left start.next_id start.stamp (get_or places used 0) (begins start.callers) first now.slots rest parts.0 h.fresh.2 h.fresh.3 };
-}
-  where
-    inside : used < length places
-    inside = ⊎_elim (λ (l : used < length places). l)
-        (λ (l : length places ≤ used). absurd (true≢false (sym h.some ∙ ap is_some (sym h.fills ∙ ap (λ (q : List ℕ). filled (stamps start) start.stamp q (first ∷ rest) now.slots) (drop_all used places l)))))
-        (cases_lt used (length places))
-
-    go : (b : Bool) (o : Option (List (Option Version))) → cond b o None ≡ all → (b ≡ true) × (o ≡ all)
-    go b o e = grind (arith, h.some)
-
-    parts : (is_free (stamps start) now.slots (get_or places used 0) ≡ true) × (filled (stamps start) start.stamp (drop (used + 1) places) rest (set now.slots (get_or places used 0) (new_version start.stamp first)) ≡ all)
-    parts = go (is_free (stamps start) now.slots (get_or places used 0)) (filled (stamps start) start.stamp (drop (used + 1) places) rest (set now.slots (get_or places used 0) (new_version start.stamp first)))
-        (subst (λ l. filled (stamps start) start.stamp l (first ∷ rest) now.slots ≡ all) (drop_item places used (get_or places used 0) 0 refl inside) h.fills)
+begins_next start now places used first rest all h =
+    grind (arith, drop_all, drop_item places used, slice_get_within, cases_lt, fresh_left start.next_id start.stamp (get_or places used 0) (begins start.callers) first now.slots rest)
 
 -- .. and once it has begun, ..
 pub begun_one : (start now new : Contents) (places : List ℕ) (used : ℕ) (first : Entry) (rest : List Entry) (all : Option (List (Option Version))) → BegunUpTo start now (drop used places) (first ∷ rest) all
@@ -301,13 +261,16 @@ module _ (contents : Contents) (uses : List SlotUse) (links : List ℕ) (id plac
   pub end_slots : set contents.slots place last ≡ map (close (id ∷ []) contents.stamp) contents.slots
   end_slots = ap (set contents.slots place) (sym closes) ∙ sym (one_closed contents.next_id contents.stamp id contents.slots h.within place version h.ids row at)
 
-  pub end_tracked : (slot_use : SlotUse) (uses_new : List SlotUse) (links_new : List ℕ) → slot_use ≡ use_of contents.callers last → uses_new ≡ set uses place slot_use → AreLinks (length contents.slots) (set (ids_of contents.stamp contents.slots) place None) links_new
+  pub end_tracked : (slot_use : SlotUse) (uses_new : List SlotUse) (links_new : List ℕ) → slot_use ≡ use_of contents.callers last → uses_new ≡ set uses place slot_use
+      → AreLinks (length contents.slots) (set (ids_of contents.stamp contents.slots) place None) links_new
       → IsTracked (with_slots (set contents.slots place last) contents) uses_new links_new
   end_tracked slot_use uses_new links_new is returned linked = record {
     seats = h.seats;
     within = subst (AllByRecursion (IsWithin contents.next_id contents.stamp)) (sym end_slots) (within_closed (id ∷ []) contents.next_id contents.stamp contents.slots h.within);
     listed = closed_uses contents.callers contents.slots uses uses_new place last slot_use h.listed is returned;
-    linked = subst (λ s. AreLinks (length (set contents.slots place s)) (ids_of contents.stamp (set contents.slots place s)) links_new) closes (links_ended contents.stamp place contents.slots version links_new within_here.2 linked);
+    linked =
+        subst (λ s. AreLinks (length (set contents.slots place s)) (ids_of contents.stamp (set contents.slots place s)) links_new) closes
+        (links_ended contents.stamp place contents.slots version links_new within_here.2 linked);
     ids = subst (λ l. AreIds (2 ^ 64) (id_at (ids_of contents.stamp l))) (sym end_slots) (ids_closed (id ∷ []) contents.stamp contents.slots h.ids);
   }
 
@@ -333,13 +296,16 @@ module _ (contents : Contents) (uses : List SlotUse) (links : List ℕ) (id plac
         seats = h.seats;
         within = subst (λ r. AllByRecursion (IsWithin contents.next_id contents.stamp) (set contents.slots place r)) (sym is) (AllByRecursion-set (IsWithin contents.next_id contents.stamp) contents.slots place (new_version contents.stamp entry) (low, omega arith, tt) h.within);
         listed = h.listed ∙ sym (map-set_same (use_of contents.callers) contents.slots place new new slot_use);
-        linked = subst (λ n. AreLinks n (ids_of contents.stamp (set contents.slots place new)) links) (sym (length-set contents.slots place new)) (subst (λ ids. AreLinks (length contents.slots) ids links) (sym ids_same) h.linked);
+        linked =
+            subst (λ n. AreLinks n (ids_of contents.stamp (set contents.slots place new)) links) (sym (length-set contents.slots place new))
+            (subst (λ ids. AreLinks (length contents.slots) ids links) (sym ids_same) h.linked);
         ids = subst (λ ids. AreIds (2 ^ 64) (id_at ids)) (sym ids_same) h.ids;
       }
 
 -- .. or begins.
 pub begin_tracked : (contents : Contents) (uses : List SlotUse) (links : List ℕ) (entry : Entry) (place : ℕ) (row : Option Version) (uses_new : List SlotUse) (links_new : List ℕ) → IsTracked contents uses links → is_free (stamps contents) contents.slots place ≡ true
-    → has (visible contents.stamp contents.slots) entry.id ≡ false → entry.id < contents.next_id → entry.id < 2 ^ 64 → row ≡ new_version contents.stamp entry → uses_new ≡ set uses place Live → AreLinks (length contents.slots) (set (ids_of contents.stamp contents.slots) place (Some entry.id)) links_new
+    → has (visible contents.stamp contents.slots) entry.id ≡ false → entry.id < contents.next_id → entry.id < 2 ^ 64 → row ≡ new_version contents.stamp entry → uses_new ≡ set uses place Live
+    → AreLinks (length contents.slots) (set (ids_of contents.stamp contents.slots) place (Some entry.id)) links_new
     → IsTracked (with_slots (set contents.slots place row) contents) uses_new links_new
 begin_tracked contents uses links entry place row uses_new links_new h free absent low small is returned linked = record {
   seats = h.seats;
@@ -357,23 +323,21 @@ fits_begun contents op c s long = grind (arith, fills_free)
 pub fits_other : (contents : Contents) (op : Op) → is_change op.call ≡ true → succeeds op.outcome ≡ true → (length op.slots ≡ length (begun contents.next_id op.call) → ⊥) → is_some (slots_after contents op) ≡ false
 fits_other contents op c s n = grind (arith, fills_not)
 
+-- No row fits in no slot alone.
+fills_nothing : (ns : List ℕ) (made : ℕ) (places : List ℕ) (slots : List (Option Version)) → is_some (filled ns made places [] slots) ≡ nat_eq (length places) 0
+fills_nothing ns made [] slots = refl
+fills_nothing ns made (place ∷ places) slots = grind (arith)
+
+nothing_filled : (ns : List ℕ) (made : ℕ) (places : List ℕ) (slots : List (Option Version)) → is_some (filled ns made places [] slots) ≡ true → filled ns made places [] slots ≡ Some slots
+nothing_filled ns made [] slots fits = refl
+nothing_filled ns made (place ∷ places) slots fits = grind (arith)
+
 pub fits_quiet : (contents : Contents) (op : Op) (empty : Bool) → (is_change op.call && succeeds op.outcome) ≡ false → empty ≡ nat_eq (length op.slots) 0 → empty ≡ is_some (slots_after contents op)
-fits_quiet contents op empty quiet is = is ∙ by op.slots ∙ sym (ap (λ b. is_some (cond b (filled (suc contents.stamp ∷ begins contents.callers) (suc contents.stamp) op.slots (begun contents.next_id op.call) (map (close (ended op.call) (suc contents.stamp)) contents.slots)) (filled (stamps contents) contents.stamp op.slots [] contents.slots))) quiet)
-  where
-    by : (places : List ℕ) → nat_eq (length places) 0 ≡ is_some (filled (stamps contents) contents.stamp places [] contents.slots)
-    by [] = refl
-    by (place ∷ places) = ne_eqb (length (place ∷ places)) 0 (λ (e : length (place ∷ places) ≡ 0). omega arith)
+fits_quiet contents op empty quiet is = grind (arith, fills_nothing)
 
 -- A call that is no commit, or isn't done, leaves the slots.
 pub slots_still : (contents : Contents) (op : Op) → (is_change op.call && succeeds op.outcome) ≡ false → is_some (slots_after contents op) ≡ true → slots_after contents op ≡ Some contents.slots
-slots_still contents op quiet fits = same ∙ go op.slots (ap is_some (sym same) ∙ fits)
-  where
-    same : slots_after contents op ≡ filled (stamps contents) contents.stamp op.slots [] contents.slots
-    same = ap (λ b. cond b (filled (suc contents.stamp ∷ begins contents.callers) (suc contents.stamp) op.slots (begun contents.next_id op.call) (map (close (ended op.call) (suc contents.stamp)) contents.slots)) (filled (stamps contents) contents.stamp op.slots [] contents.slots)) quiet
-
-    go : (places : List ℕ) → is_some (filled (stamps contents) contents.stamp places [] contents.slots) ≡ true → filled (stamps contents) contents.stamp places [] contents.slots ≡ Some contents.slots
-    go [] h = refl
-    go (place ∷ places) h = absurd (true≢false (sym h))
+slots_still contents op quiet fits = grind (arith, nothing_filled)
 
 -- The contents as a commit begins, that adds so many rows.
 abbrev pub begun_commit : Contents → ℕ → Contents
@@ -385,11 +349,4 @@ none_missing contents call outcome returned ok c = succeeds-missing (length cont
 pub commit_fresh : (now start closed : Contents) (state : State) (op : Op) (first : ℕ) → start ≡ begun_commit now (added op.call) → first ≡ now.next_id → closed ≡ with_slots (map (close (ended op.call) start.stamp) start.slots) start
     → StandsFor now state → is_next now op ≡ true → is_change op.call ≡ true → succeeds op.outcome ≡ true → AreFresh closed.next_id (visible closed.stamp closed.slots) (begun first op.call)
 commit_fresh now start closed state op first is next ends stands legal c s =
-    subst (λ (e : Contents). AreFresh e.next_id (visible e.stamp e.slots) (begun first op.call)) (sym ends)
-    (subst (λ (b : Contents). AreFresh b.next_id (visible b.stamp (map (close (ended op.call) b.stamp) b.slots)) (begun first op.call)) (sym is)
-    (subst (λ n. AreFresh (now.next_id + added op.call) (visible (suc now.stamp) (map (close (ended op.call) (suc now.stamp)) now.slots)) (begun n op.call)) (sym next)
-    (fresh_begun now state op.call (IsAllowed-from now op legal).formed stands (none_missing now op.call op.outcome (IsAllowed-from now op legal).outcome s c))))
-
-pub commit_filled : (now start closed : Contents) (op : Op) (first : ℕ) → start ≡ begun_commit now (added op.call) → first ≡ now.next_id → closed ≡ with_slots (map (close (ended op.call) start.stamp) start.slots) start
-    → is_change op.call ≡ true → succeeds op.outcome ≡ true → filled (stamps closed) closed.stamp op.slots (begun first op.call) closed.slots ≡ slots_after now op
-commit_filled now start closed op first is next ends c s = grind (arith)
+    grind (arith, fresh_begun now state op.call (IsAllowed-from now op legal).formed stands (none_missing now op.call op.outcome (IsAllowed-from now op legal).outcome s c))

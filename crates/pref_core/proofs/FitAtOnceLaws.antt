@@ -1,6 +1,6 @@
 -- The slots of a change that are known by a look at them alone.
-use Rattle.pref_core.proofs.Common.{◌≡◌, ℕ, suc, ◌+◌, ◌≤◌, Bool, true, false, not, ◌&&◌, cond, eqb, List, [], ◌∷◌, ◌++◌, length, take, drop, Option, Some, None, is_some, IfSome, slice_get, ◌⊎◌, inl}
-use Rattle.pref_core.proofs.Common.{inr, ⊎_elim, refl, sym, ap, ap₂, ◌∙◌, subst, arith, eqb-true, or_left, true≢false, append-nil, Call, Op, Change, Add, Set, Remove, Version, ended_by}
+use Rattle.pref_core.proofs.Common.{◌≡◌, ℕ, suc, ◌+◌, ◌≤◌, Bool, true, false, ◌&&◌, cond, eqb, List, [], ◌∷◌, ◌++◌, length, take, drop, Option, Some, None, is_some, IfSome, slice_get, ◌⊎◌, inl}
+use Rattle.pref_core.proofs.Common.{inr, ⊎_elim, refl, sym, ap, ◌∙◌, subst, arith, eqb-true, true≢false, append-nil, Call, Op, Change, Add, Set, Remove, Version, ended_by}
 use Rattle.pref_core.proofs.Common.{begun_by, begins_any, row_at, IsKept, FitAtOnce, FitsNext, are_free, frees_at, uses_of, filled, is_free, is_next, slots_after, used, free_at, Contents, begins}
 use Rattle.pref_core.proofs.Common.{visible, begun, changes_of, ended, is_change, is_formed, missing, Line, among, false_from_ne_true, drop_all}
 use Rattle.std.specs.Option.{option_eq}
@@ -49,23 +49,17 @@ module _ (contents : Contents) (call : Call) (slots : List ℕ) (kept : IsKept c
   there_one id place named row = grind (arith, has_row_at, drop_at)
 
   weaker : (place : ℕ) → Was contents (ended_by (take at changes)) place → Was contents (ended_by (take (at + 1) changes)) place
-  weaker place was = ⊎_elim
-      (λ (free : free_at (uses_of contents) place ≡ true). inl free)
-      (λ (stood : StoodThere contents (ended_by (take at changes)) place). inr (record {
-        id = stood.id;
-        named = ap (λ l. among l stood.id) (ended_so_far changes at change here) ∙ among_append (ended_by (take at changes)) (ended_by (change ∷ [])) stood.id ∙ or_left (among (ended_by (take at changes)) stood.id) (among (ended_by (change ∷ [])) stood.id) stood.named;
-        row = stood.row;
-      }))
-      was
+  weaker place (inl free) = inl free
+  weaker place (inr stood) = inr (record {
+    id = stood.id;
+    named = grind (arith, ended_so_far changes at change here, among_append (ended_by (take at changes)) (ended_by (change ∷ [])) stood.id);
+    row = stood.row;
+  })
 
   -- a slot that fits
   slot_taken : (place : ℕ) → slice_get slots used ≡ Some place → is_free (stamps_next contents) closed place ≡ true → among (take used slots) place ≡ false
       → are_free (stamps_next contents) closed (take (used + 1) slots) (drop (used + 1) slots) ≡ are_free (stamps_next contents) closed [] slots
-  slot_taken place is free new =
-      let one : are_free (stamps_next contents) closed (take used slots) (place ∷ drop (used + 1) slots) ≡ are_free (stamps_next contents) closed (take used slots ++ place ∷ []) (drop (used + 1) slots) =
-      ap₂ (λ a f. (not a && f) && are_free (stamps_next contents) closed (take used slots ++ place ∷ []) (drop (used + 1) slots)) new free in
-      ap (λ l. are_free (stamps_next contents) closed l (drop (used + 1) slots)) (take_at slots used place is) ∙ sym one
-      ∙ sym (ap (are_free (stamps_next contents) closed (take used slots)) (drop_at slots used place is)) ∙ h.free
+  slot_taken place is free new = grind (arith, take_at slots used place is, drop_at slots used place is)
 
   all_taken : (last : ℕ) → slice_get slots used ≡ Some last → Was contents (ended_by (take (at + 1) changes)) last → (place : ℕ) → among (take (used + 1) slots) place ≡ true → Was contents (ended_by (take (at + 1) changes)) place
   all_taken last is was place a = ⊎_elim
@@ -74,7 +68,7 @@ module _ (contents : Contents) (call : Call) (slots : List ℕ) (kept : IsKept c
       (among_last (take used slots) last place (sym (ap (λ l. among l place) (take_at slots used last is)) ∙ a))
 
   length_one : (begins : Bool) → begins_any (change ∷ []) ≡ begins → (next_id : ℕ) → used + cond begins (suc (length (begun_by next_id (drop (at + 1) changes)))) (length (begun_by next_id (drop (at + 1) changes))) ≡ length (begun next_id call)
-  length_one begins e next_id = ap (λ n. used + n) (sym (one_begins next_id change (drop (at + 1) changes) begins e)) ∙ ap (λ l. used + length (begun_by next_id l)) (sym (drop_at changes at change here)) ∙ h.long next_id
+  length_one begins e next_id = grind (arith, one_begins next_id change (drop (at + 1) changes) begins e, drop_at changes at change here)
 
 -- A change that fits in the next slot: an added row may have a free one, a row that is set the one where it stands, and one that is removed needs none.
 pub fits_change : (contents : Contents) (call : Call) (slots : List ℕ) (at used after : ℕ) (change : Change) → IsKept contents → is_formed call ≡ true → slice_get (changes_of call) at ≡ Some change → FitsNext contents slots used change after

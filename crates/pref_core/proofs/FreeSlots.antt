@@ -1,6 +1,6 @@
 -- Which places are free, by the order of places.
-use Rattle.pref_core.proofs.Common.{◌≡◌, ℕ, suc, ◌+◌, ◌<◌, ◌≤◌, nat_lt, Bool, true, false, eqb, List, ◌∷◌, map, length, take, get_or, Some, None, slice_get, ◌∙◌, subst, arith, ⊎_elim}
-use Rattle.pref_core.proofs.Common.{slice_get_within, slice_get-map, slice_get-get_or, get_or_from_slice_get, eqb-true, or_cases, or_right, Ended, number_at, use_at, free_at, IsArranged, among}
+use Rattle.pref_core.proofs.Common.{◌≡◌, ℕ, suc, ◌+◌, ◌<◌, ◌≤◌, nat_lt, Bool, true, false, eqb, List, ◌∷◌, map, length, take, get_or, Some, None, slice_get, arith, ⊎_elim}
+use Rattle.pref_core.proofs.Common.{slice_get_within, slice_get-map, slice_get-get_or, get_or_from_slice_get, eqb-true, or_cases, or_right, Ended, use_at, free_at, IsArranged, among}
 use Rattle.pref_core.proofs.SlotSetsLaws.{number_past, number_below, number_is, number_here, free_number, use_free, free_from}
 
 -- The free places are the first ones of the order.
@@ -40,10 +40,4 @@ kept_first order positions bounds keeper place a few some is = grind (arith, sli
 pub kept_none : (order positions bounds : List ℕ) (keeper : ℕ) → IsArranged order positions bounds → keeper < 8 → get_or bounds (keeper + 2) 0 ≤ get_or bounds (keeper + 1) 0
     → (place : ℕ) → slice_get (map (use_at bounds) positions) place ≡ Some (Ended keeper) → ⊥
 kept_none order positions bounds keeper a few none place at =
-    let from = get_or positions place 0 in
-    let size = a.bounded in
-    let next : suc (suc keeper) ≡ keeper + 2 = omega arith in
-    let number : number_at bounds from ≡ keeper + 2 = number_here order positions bounds place a (suc (suc keeper)) at ∙ next in
-    let past : get_or bounds (keeper + 1) 0 ≤ from = number_past bounds from (keeper + 1) (omega arith) in
-    let below : from < get_or bounds (keeper + 2) 0 = subst (λ n. from < get_or bounds n 0) number (number_below bounds from (omega arith)) in
-    omega arith
+    grind (arith, number_here order positions bounds place a (suc (suc keeper)) at, number_past bounds (get_or positions place 0) (keeper + 1), number_below bounds (get_or positions place 0))

@@ -1,6 +1,6 @@
 -- The slots that ended rows leave free.
 use Rattle.pref_core.proofs.Common.{length-append, ◌≡◌, ℕ, suc, ◌+◌, ◌≤◌, ◌^◌, Bool, true, false, cond, eqb, List, [], ◌∷◌, ◌++◌, map, length, take, drop, set, Option, Some, None, slice_get}
-use Rattle.pref_core.proofs.Common.{refl, sym, ap, ◌∙◌, subst, arith, ⊎_elim, cases_eq, count_by, length-map, map-set, slice_get-map, eqb-true, ne_eqb, or_from, true≢false, Version, SlotUse, Live, Change}
+use Rattle.pref_core.proofs.Common.{refl, sym, ap, ◌∙◌, subst, arith, cases_eq, count_by, length-map, map-set, slice_get-map, eqb-true, or_from, true≢false, Version, SlotUse, Live, Change}
 use Rattle.pref_core.proofs.Common.{ended_by, among, State, missing, Contents, StandsFor, IsWithin, visible, begins, close, is_free, is_free_use, free_at, use_of, uses_of, IsBounded}
 use Rattle.pref_core.proofs.Common.{row_at, IsPlaceOf, AllByRecursion, not, is_needed, has, id_at, AreIds, frees_at, is_open, IsFreed, false_from_ne_true}
 use Rattle.std.proofs.lemmas.List.Folds.{find-append}
@@ -18,9 +18,7 @@ use Rattle.pref_core.proofs.StabilityLaws.{slice_get-set_same, slice_get-set_oth
 -- A row leaves its slot free where no query needs its version as it ends.
 pub frees_row : (stamps ids : List ℕ) (next stamp id place : ℕ) (slots : List (Option Version)) (version : Version) → AllByRecursion (IsWithin next stamp) slots → slice_get slots place ≡ Some (Some version) → among ids id ≡ true
     → row_at stamp id slots place ≡ true → not (is_needed stamps (Some (record version { death = Some (stamp + 1) }))) ≡ frees_at stamps ids (stamp + 1) slots place
-frees_row stamps ids next stamp id place slots version within here named shown =
-    let version_within = holds_there (IsWithin next stamp) slots place (Some version) here within in
-    grind (arith)
+frees_row stamps ids next stamp id place slots version within here named shown = grind (arith, holds_there, within)
 
 -- An id comes before no other place of ids that differ, ..
 apart_before : (xs ys : List ℕ) (id : ℕ) → AreApart (xs ++ id ∷ ys) → among xs id ≡ false
@@ -44,10 +42,7 @@ pub record FreesUpTo (contents : Contents) (done freed : List ℕ) : Type 0 wher
 
 -- .. of none, ..
 pub frees_none : (contents : Contents) → FreesUpTo contents [] []
-frees_none contents =
-    let same : uses_closed contents [] ≡ uses_of contents = ap (map (use_of contents.callers)) (close_none (suc contents.stamp) contents.slots) in
-    let many : count_by is_free_use (uses_closed contents []) ≡ count_by is_free_use (uses_of contents) = ap (count_by is_free_use) same in
-    record { there = refl; opens = λ place. grind (arith, ap (λ (l : List SlotUse). free_at l place) same); counted = omega arith; few = omega arith }
+frees_none contents = let same : uses_closed contents [] ≡ uses_of contents = ap (map (use_of contents.callers)) (close_none (suc contents.stamp) contents.slots) in grind (arith)
 
 missing_after : (done rest : List ℕ) (contents : Contents) → missing done (visible contents.stamp contents.slots) ≡ None → missing (done ++ rest) (visible contents.stamp contents.slots) ≡ missing rest (visible contents.stamp contents.slots)
 missing_after done rest contents none = find-append (λ id. not (has (visible contents.stamp contents.slots) id)) done rest ∙ ap (λ o. option_or o (missing rest (visible contents.stamp contents.slots))) none
@@ -59,11 +54,8 @@ frees_missing contents ids done rest freed id is h absent = grind (arith, missin
 -- a place that wasn't free is of another use, and listed where that is free
 opens_one : (before now : List SlotUse) (freed : List ℕ) (place : ℕ) (slot_use : SlotUse) (b : Bool) → slice_get now place ≡ Some Live → is_free_use slot_use ≡ b → ((p : ℕ) → free_at now p ≡ is_open before freed p)
     → (p : ℕ) → free_at (set now place slot_use) p ≡ is_open before (cond b (freed ++ place ∷ []) freed) p
-opens_one before now freed place slot_use b live is opens p = ⊎_elim
-    (λ (e : p ≡ place).
-    subst (λ q. free_at (set now place slot_use) q ≡ is_open before (cond b (freed ++ place ∷ []) freed) q) (sym e)
-    (grind (arith, opens place, slice_get-set_same now place Live slot_use live, among_inside freed [] place)))
-    (λ (n : p ≡ place → ⊥). grind (arith, opens p, slice_get-set_other now p place slot_use n, among_append freed (place ∷ []) p, ne_eqb place p (λ e. n (sym e)))) (cases_eq p place)
+opens_one before now freed place slot_use b live is opens p =
+    grind (arith, opens p, slice_get-set_same now place Live slot_use live, slice_get-set_other now p place slot_use, among_inside, among_append, cases_eq p place)
 
 length_listed : (b : Bool) (freed : List ℕ) (place : ℕ) → length (cond b (freed ++ place ∷ []) freed) ≡ length freed + cond b 1 0
 length_listed b freed place = grind (arith, length-append)

@@ -75,7 +75,9 @@ added limit capacity homes ids after links linked_after id place node known with
 
     -- the node before leads to the new row
     at_node : (n ≡ place → ⊥) → n ≡ node → LeadsTo capacity homes after home b (linked_after n)
-    at_node apart e = let named = one_node limit capacity homes ids home (homes id) b before.way.bound n within (was_node apart) (subst (IsNode limit capacity homes ids (homes id) before.way.bound) (sym e) before.way.is) in grind (arith, leads.most)
+    at_node apart e =
+        let named = one_node limit capacity homes ids home (homes id) b before.way.bound n within (was_node apart)
+        (subst (IsNode limit capacity homes ids (homes id) before.way.bound) (sym e) before.way.is) in grind (arith, leads.most)
 
     -- and no other node is moved
     elsewhere : (n ≡ place → ⊥) → (n ≡ node → ⊥) → LeadsTo capacity homes after home b (linked_after n)
@@ -104,7 +106,8 @@ removed limit capacity homes ids after links linked_after id place node known wi
     -- the node before leads on to what the row led to
     at_node : n ≡ node → LeadsTo capacity homes after home b (linked_after n)
     at_node e =
-        let named = one_node limit capacity homes ids home (homes id) b before.way.bound n within was_node (subst (IsNode limit capacity homes ids (homes id) before.way.bound) (sym e) before.way.is) in
+        let named = one_node limit capacity homes ids home (homes id) b before.way.bound n within was_node
+        (subst (IsNode limit capacity homes ids (homes id) before.way.bound) (sym e) before.way.is) in
         let goes = linked (homes id) id place inside (inr (there, refl)) in
         grind (arith, leads.most, goes.same, goes.most, goes.past)
 

@@ -1,6 +1,6 @@
 -- An index follows the store through each op that is done.
 use Rattle.pref_core.proofs.Common.{drop, slice_get, ◌≡◌, ℕ, suc, ◌+◌, ◌<◌, Bool, true, false, ◌&&◌, ◌||◌, cond, eqb, nat_lt, List, [], ◌∷◌, map, set, Option, Some, None, is_some, refl, sym, ap, ◌∙◌}
-use Rattle.pref_core.proofs.Common.{subst, arith, AllByRecursion, eqb-true, false_from_ne_true, or_right, Version, row_at, Change, Add, Set, Remove, Call, Op, Entry, Row, ended_by, begun_by, among, has}
+use Rattle.pref_core.proofs.Common.{subst, arith, AllByRecursion, eqb-true, false_from_ne_true, or_right, Version, Change, Add, Set, Remove, Call, Op, Entry, Row, ended_by, begun_by, among, has}
 use Rattle.pref_core.proofs.Common.{is_change, succeeds, added, changes_of, ended, begun, Contents, IsWithin, visible, begins, new_version, close, is_free, filled, slots_after, is_next, applied}
 use Rattle.pref_core.proofs.Common.{slot_of, Points, PointsAll, given, placed_rows, adds, IsPlaceOf, IsIndexOf}
 use Rattle.pref_core.proofs.AppliedLaws.{IsAllowed-from}
@@ -18,12 +18,7 @@ module _ (ns : List ℕ) (made id : ℕ) where
   -- .. one row, ..
   one_placed : (place : ℕ) (fresh : Entry) (slots : List (Option Version)) (before found : Option ℕ) (named : Bool) → is_free (made ∷ ns) slots place ≡ true → IsPlaceOf made id slots before
       → (eqb fresh.id id ≡ true → named ≡ false) → (eqb fresh.id id ≡ false → before ≡ cond named None found) → IsPlaceOf made id (set slots place (new_version made fresh)) (cond named None (cond (eqb fresh.id id) (Some place) found))
-  one_placed place fresh slots before found named free is new old = go (eqb fresh.id id) refl
-    where
-      go : (b : Bool) → eqb fresh.id id ≡ b → IsPlaceOf made id (set slots place (new_version made fresh)) (cond named None (cond b (Some place) found))
-      go true e = subst (λ n. IsPlaceOf made id (set slots place (new_version made fresh)) (cond n None (Some place))) (sym (new e))
-          (subst (λ i. row_at made i (set slots place (new_version made fresh)) place ≡ true) (eqb-true fresh.id id e) (row_at-new_version made fresh ns slots place free))
-      go false e = other_place made id fresh ns slots place (cond named None found) free e (subst (IsPlaceOf made id slots) (old e) is)
+  one_placed place fresh slots before found named free is new old = grind (arith, eqb-true, row_at-new_version, other_place)
 
   -- .. and all rows of a commit, where the ids that it names are gone before.
   filled_place : (changes : List Change) (next : ℕ) (places : List ℕ) (slots after : List (Option Version)) (found : Option ℕ) → filled (made ∷ ns) made places (begun_by next changes) slots ≡ Some after → AreApart (ended_by changes)
@@ -73,11 +68,7 @@ indexed_still contents op index next fits still is = index_after contents op nex
 module _ (contents : Contents) (within : AllByRecursion (IsWithin contents.next_id contents.stamp) contents.slots) where
   -- the place of an id once the rows of these ids ended
   closed_at : (ids : List ℕ) (id : ℕ) (found : Option ℕ) → IsPlaceOf contents.stamp id contents.slots found → IsPlaceOf (suc contents.stamp) id (map (close ids (suc contents.stamp)) contents.slots) (cond (among ids id) None found)
-  closed_at ids id found is = go (among ids id) refl
-    where
-      go : (b : Bool) → among ids id ≡ b → IsPlaceOf (suc contents.stamp) id (map (close ids (suc contents.stamp)) contents.slots) (cond b None found)
-      go true e = ended_place contents.next_id contents.stamp id ids contents.slots within e
-      go false e = closed_place contents.next_id contents.stamp id ids contents.slots found within e is
+  closed_at ids id found is = grind (arith, ended_place contents.next_id contents.stamp id ids contents.slots within, closed_place contents.next_id contents.stamp id ids contents.slots found within)
 
   -- The index of a store, once the rows that a legal op begins or removes were placed, is that of the store after it.
   pub indexed : (op : Op) (before later : Pairs) → is_next contents op ≡ true → is_some (slots_after contents op) ≡ true → succeeds op.outcome ≡ true → IsIndexOf contents before

@@ -24,7 +24,8 @@ applied_stands contents state op h legal = go (slots_after contents op) refl leg
 pub applied_nothing : (contents : Contents) (op : Op) → (is_next contents op && is_some (slots_after contents op)) ≡ false → applied contents op ≡ contents
 applied_nothing contents op illegal = go (is_next contents op) (slots_after contents op) illegal
   where
-    go : (next : Bool) (fits : Option (List (Option Version))) → (next && is_some fits) ≡ false → cond next (elim fits as (λ x. Contents) [ None ↦ contents | Some slots ↦ stepped contents op slots ]) contents ≡ contents
+    go : (next : Bool) (fits : Option (List (Option Version))) → (next && is_some fits) ≡ false
+        → cond next (elim fits as (λ x. Contents) [ None ↦ contents | Some slots ↦ stepped contents op slots ]) contents ≡ contents
     go next fits e = grind (arith)
 
 applied_not : (contents : Contents) (state : State) (op : Op) → StandsFor contents state → ¬ IsLegal state contents op → applied contents op ≡ contents

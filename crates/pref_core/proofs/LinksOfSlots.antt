@@ -23,13 +23,16 @@ id_at-there ids place new p d = ap (λ (o : Option (Option ℕ)). elim o as (λ 
 
 -- An id that no link of its chain leads to is at no place.
 pub nowhere : (stamp id : ℕ) (slots : List (Option Version)) (links : List ℕ) (node : ℕ) → 0 < length slots → AreLinks (length slots) (ids_of stamp slots) links
-    → IsBefore (2 ^ 64) (length slots) (home_of (length slots)) (id_at (ids_of stamp slots)) (slice_index links) id node → row_at stamp id slots (slice_index links node) ≡ false → IsPlaceOf stamp id slots None
+    → IsBefore (2 ^ 64) (length slots) (home_of (length slots)) (id_at (ids_of stamp slots)) (slice_index links) id node → row_at stamp id slots (slice_index links node) ≡ false
+    → IsPlaceOf stamp id slots None
 nowhere stamp id slots links node some h before away = no_place stamp id slots (λ place. false_from_ne_true (row_at stamp id slots place) (λ e.
-    let behind = place_behind (2 ^ 64) (length slots) (home_of (length slots)) (id_at (ids_of stamp slots)) (slice_index links) id node place h.linked (home_inside (length slots) id some) before (row_shown stamp id slots place e) in
+    let behind = place_behind (2 ^ 64) (length slots) (home_of (length slots)) (id_at (ids_of stamp slots)) (slice_index links) id node place h.linked (home_inside (length slots) id some) before
+    (row_shown stamp id slots place e) in
     true≢false (sym (shows_row stamp id slots (slice_index links node) behind) ∙ away)))
 
 -- A row is added.
-pub links_added : (stamp id : ℕ) (slots : List (Option Version)) (links : List ℕ) (place node onward : ℕ) → AreLinks (length slots) (ids_of stamp slots) links → AreIds (2 ^ 64) (id_at (ids_of stamp slots))
+pub links_added : (stamp id : ℕ) (slots : List (Option Version)) (links : List ℕ) (place node onward : ℕ) → AreLinks (length slots) (ids_of stamp slots) links
+    → AreIds (2 ^ 64) (id_at (ids_of stamp slots))
     → place < length slots → id_at (ids_of stamp slots) place ≡ None → IsPlaceOf stamp id slots None
     → IsBefore (2 ^ 64) (length slots) (home_of (length slots)) (id_at (ids_of stamp slots)) (slice_index links) id node → node < length links → onward ≡ slice_index links node
     → AreLinks (length slots) (set (ids_of stamp slots) place (Some id)) (set (set links place onward) node place)
@@ -40,7 +43,8 @@ links_added stamp id slots links place node onward h known room empty absent bef
     record {
       size = length-set ids place (Some id) ∙ h.size;
       long = length-set (set links place onward) node place ∙ length-set links place onward ∙ h.long;
-      linked = added (2 ^ 64) (length slots) (home_of (length slots)) (id_at ids) (id_at (set ids place (Some id))) (slice_index links) (slice_index (set (set links place onward) node place)) id place node
+      linked =
+          added (2 ^ 64) (length slots) (home_of (length slots)) (id_at ids) (id_at (set ids place (Some id))) (slice_index links) (slice_index (set (set links place onward) node place)) id place node
           known (within_at stamp slots) h.linked (home_inside (length slots) id (omega arith)) before room empty
           (λ p at. true≢false (sym (has_row_at stamp id slots p (shows_row stamp id slots p at)) ∙ absent))
           (id_at-here ids place (Some id) (omega arith)) (id_at-there ids place (Some id))
@@ -53,7 +57,8 @@ links_added stamp id slots links place node onward h known room empty absent bef
     apart e = let way = before.way.is in grind (arith)
 
 -- A row is removed.
-pub links_removed : (stamp id : ℕ) (slots : List (Option Version)) (links : List ℕ) (place node onward : ℕ) → AreLinks (length slots) (ids_of stamp slots) links → AreIds (2 ^ 64) (id_at (ids_of stamp slots))
+pub links_removed : (stamp id : ℕ) (slots : List (Option Version)) (links : List ℕ) (place node onward : ℕ) → AreLinks (length slots) (ids_of stamp slots) links
+    → AreIds (2 ^ 64) (id_at (ids_of stamp slots))
     → row_at stamp id slots place ≡ true
     → IsBefore (2 ^ 64) (length slots) (home_of (length slots)) (id_at (ids_of stamp slots)) (slice_index links) id node → node < length links → onward ≡ slice_index links place
     → AreLinks (length slots) (set (ids_of stamp slots) place None) (set links node onward)

@@ -104,8 +104,7 @@ is_needed-empty (n ∷ ns) = is_needed-empty ns
 
 length_needed : (ns : List ℕ) (slots : List (Option Version)) → length (slot_keys (filter (is_needed ns) slots)) ≡ length (filter (is_needed ns) slots)
 length_needed ns [] = refl
-length_needed ns (None ∷ slots) = rw (is_needed-empty ns) (length_needed ns slots)
-length_needed ns (Some version ∷ slots) = grind (arith, length_needed ns slots)
+length_needed ns (slot ∷ slots) = grind (arith, length_needed ns slots, is_needed-empty)
 
 -- the size of `needed` is the number of slots in use
 pub length-needed : (contents : Contents) (state : State) → StandsFor contents state → length (needed state) ≡ used contents

@@ -4,7 +4,8 @@ use Rattle.pref_core.proofs.Common.{length-map, Version, Row, opening_slots, ids
 use Rattle.std.proofs.Math.Nat.{mod-eq_of_lt}
 use Rattle.pref_core.proofs.OpeningLaws.{length-opening_slots}
 
-opened : (limit capacity rows : ℕ) (homes : ℕ → ℕ) (ids : ℕ → Option ℕ) (links : ℕ → ℕ) → rows ≤ capacity → capacity < limit → ((place : ℕ) → ids place ≡ cond (nat_lt place rows) (Some (place + 1)) None)
+opened : (limit capacity rows : ℕ) (homes : ℕ → ℕ) (ids : ℕ → Option ℕ) (links : ℕ → ℕ) → rows ≤ capacity → capacity < limit
+    → ((place : ℕ) → ids place ≡ cond (nat_lt place rows) (Some (place + 1)) None)
     → ((place : ℕ) → place < capacity → homes (place + 1) ≡ place) → ((n : ℕ) → n < capacity → links n ≡ capacity) → ((home : ℕ) → home < capacity → links (capacity + home) ≡ opening_link capacity rows home)
     → AreLinked limit capacity homes ids links
 opened limit capacity rows homes ids links few big each own ends firsts home b n less is = grind (arith)
@@ -25,12 +26,14 @@ none_there : (stamp empty place : ℕ) → id_at (ids_of stamp (replicate empty 
 none_there stamp (suc empty) (suc place) = none_there stamp empty place
 none_there stamp empty place = grind (arith)
 
-id_there : (stamp before empty : ℕ) (rows : List Row) (place : ℕ) → before + length rows ≤ stamp → id_at (ids_of stamp (opening_slots before rows ++ replicate empty None)) place ≡ cond (nat_lt place (length rows)) (Some (before + place + 1)) None
+id_there : (stamp before empty : ℕ) (rows : List Row) (place : ℕ) → before + length rows ≤ stamp
+    → id_at (ids_of stamp (opening_slots before rows ++ replicate empty None)) place ≡ cond (nat_lt place (length rows)) (Some (before + place + 1)) None
 id_there stamp before empty [] place early = grind (arith, none_there stamp empty place)
 id_there stamp before empty (row ∷ rows) (suc place) early = grind (arith, id_there stamp (suc before) empty rows place (omega arith))
 id_there stamp before empty rows place early = grind (arith)
 
-pub opening_is : (capacity stamp : ℕ) (rows : List Row) (slots : List (Option Version)) → length rows ≤ capacity → stamp ≡ length rows → slots ≡ opening_slots 0 rows ++ replicate (capacity - length rows) None → AreOpening capacity (length rows) (ids_of stamp slots)
+pub opening_is : (capacity stamp : ℕ) (rows : List Row) (slots : List (Option Version)) → length rows ≤ capacity → stamp ≡ length rows
+    → slots ≡ opening_slots 0 rows ++ replicate (capacity - length rows) None → AreOpening capacity (length rows) (ids_of stamp slots)
 opening_is capacity stamp rows slots few now is = record {
   size = grind (arith, length-map, length-append, length-replicate, length-opening_slots);
   each = λ place.

@@ -1,6 +1,6 @@
 -- On slots that stand for a state, refusals and outcomes are the state's.
-use Rattle.pref_core.proofs.Common.{◌≡◌, ℕ, zero, suc, Bool, true, false, not, List, [], ◌∷◌, length, Option, Some, None, is_some, slice_get, refl, ap, ap₂, AllZip, find, Version, Caller, Call, State}
-use Rattle.pref_core.proofs.Common.{Client, Snapshot, seat, calls_of, refusal, refusal_of, missing, ended, outcome, committed, is_change, is_formed, Contents, StandsFor, StandsForClient, ShowsBegin}
+use Rattle.pref_core.proofs.Common.{◌≡◌, ℕ, zero, suc, true, not, List, [], ◌∷◌, length, Option, Some, None, is_some, slice_get, refl, ap, AllZip, find, Version, Caller, Call, State}
+use Rattle.pref_core.proofs.Common.{Client, Snapshot, seat, calls_of, refusal, missing, ended, outcome, committed, is_formed, Contents, StandsFor, StandsForClient, ShowsBegin}
 use Rattle.pref_core.proofs.Common.{visible, caller_calls, refusal_at, outcome_at, grown, arith}
 use Rattle.pref_core.proofs.CommitLaws.{has_visible, grown_stands}
 use Rattle.pref_core.proofs.NeededCounts.{length-needed}
@@ -11,11 +11,10 @@ pub data SameSeat (slots : List (Option Version)) (now : ℕ) : Option Caller �
   somebody : (caller : Caller) (client : Client) → StandsForClient slots now caller client → SameSeat slots now (Some caller) (Some client)
 
 same_get : (slots : List (Option Version)) (now : ℕ) (callers : List Caller) (clients : List Client) (k : ℕ) → AllZip (StandsForClient slots now) callers clients → SameSeat slots now (slice_get callers k) (slice_get clients k)
-same_get slots now [] [] k h = nobody
-same_get slots now [] (client ∷ clients) k h = absurd h
-same_get slots now (caller ∷ callers) [] k h = absurd h
 same_get slots now (caller ∷ callers) (client ∷ clients) zero h = somebody caller client h.0
 same_get slots now (caller ∷ callers) (client ∷ clients) (suc k) h = same_get slots now callers clients k h.1
+same_get slots now [] [] k h = nobody
+same_get slots now callers clients k h = absurd (grind (arith))
 
 pub same_seat : (slots : List (Option Version)) (now : ℕ) (callers : List Caller) (clients : List Client) (client : ℕ) → AllZip (StandsForClient slots now) callers clients → SameSeat slots now (seat client callers) (seat client clients)
 same_seat slots now callers clients zero h = nobody
@@ -38,16 +37,10 @@ pub same_calls : (contents : Contents) (state : State) (client : ℕ) → Stands
 same_calls contents state client h = seat_calls (same_seat contents.slots contents.stamp contents.callers state.clients client h.clients)
 
 pub same_refusal : (contents : Contents) (state : State) (client : ℕ) (call : Call) → StandsFor contents state → refusal_at contents client call ≡ refusal state client call
-same_refusal contents state client call h =
-    ap₂ (λ calls open_. refusal_of calls open_ call) (same_calls contents state client h) (seat_open (same_seat contents.slots contents.stamp contents.callers state.clients client h.clients))
+same_refusal contents state client call h = grind (arith, same_calls, seat_open (same_seat contents.slots contents.stamp contents.callers state.clients client h.clients))
 
 same_missing : (contents : Contents) (state : State) (ids : List ℕ) → StandsFor contents state → missing ids (visible contents.stamp contents.slots) ≡ missing ids state.table
 same_missing contents state ids h = λ i. find (λ id. not (has_visible contents.slots contents.stamp state.table h.table id i)) ids
 
 pub same_outcome_at : (contents : Contents) (state : State) (call : Call) → is_formed call ≡ true → StandsFor contents state → outcome_at contents call ≡ outcome (length contents.slots) state call
-same_outcome_at contents state call formed h = go (is_change call) refl (missing (ended call) state.table) refl
-  where
-    go : (b : Bool) → is_change call ≡ b → (m : Option ℕ) → missing (ended call) state.table ≡ m → outcome_at contents call ≡ outcome (length contents.slots) state call
-    go false c m e = rw c refl
-    go true c (Some id) e = rw (c, same_missing contents state (ended call) h, e) refl
-    go true c None e = rw (c, same_missing contents state (ended call) h, e, length-needed (grown call contents) (committed call state) (grown_stands contents state call c formed e h), h.next_id) refl
+same_outcome_at contents state call formed h = grind (arith, same_missing contents state (ended call) h, length-needed (grown call contents) (committed call state), grown_stands contents state call)

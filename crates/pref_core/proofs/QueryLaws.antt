@@ -70,24 +70,15 @@ next_is_new slots scan query shows h = next_is_new_on_its_way slots scan query.t
 
 pub follows_scanned : (slots : List (Option Version)) (scan new : Scan) (query : Open) → Shows slots query.commits query.table → Follows slots scan query → IsScanned scan slots new → Follows slots new (one_less query)
 follows_scanned slots scan new query shows h is =
-    let left = is.left in
-    let query_left = h.left in
-    record {
-      ask = is.ask ∙ h.ask;
-      stamp = is.stamp ∙ h.stamp;
-      left = omega arith;
-      way = scanned_on_its_way slots scan new query.table (subst (λ n. Shows slots n query.table) (sym h.stamp) shows) h.way is;
-    }
+    let way = scanned_on_its_way slots scan new query.table (subst (λ n. Shows slots n query.table) (sym h.stamp) shows) h.way is in
+    record { ask = is.ask ∙ h.ask; stamp = is.stamp ∙ h.stamp; left = omega (arith, is.left, h.left); way = way }
 
 pub begun_on_its_way : (limits : Limits) (slots : List (Option Version)) (ask : Question) (stamp : ℕ) → AreAllowed limits → length slots ≡ limits.capacity → IsOnItsWay slots (begin ask stamp limits)
 begun_on_its_way limits slots ask stamp allowed long = grind (arith, levels_of_none)
 
 -- what shows the same, and as many slots
 pub way_stays : (before after : List (Option Version)) (scan : Scan) → length after ≡ length before → shown scan.stamp after ≡ shown scan.stamp before → IsOnItsWay before scan → IsOnItsWay after scan
-way_stays before after scan long same h = record {
-  partial = h.partial ∙ ap (λ l. levels_for scan.ask (entries l)) (sym (visible_take scan.stamp (scan.done * scan.size) before after same));
-  rest = subst (λ n. n ≤ (scan.done + scan.left) * scan.size) (sym long) h.rest;
-}
+way_stays before after scan long same h = grind (arith, visible_take scan.stamp (scan.done * scan.size) before after same)
 
 -- whatever is done to the slots while the query is open
 pub stays_on_its_way : (contents : Contents) (client : ℕ) (scan : Scan) → caller_begun contents client ≡ Some scan.stamp → scan.stamp ≤ contents.stamp
@@ -98,19 +89,14 @@ stays_on_its_way contents client scan is early ops open_ h = way_stays contents.
 pub answers_the_begin : (slots : List (Option Version)) (scan : Scan) (table : List Line) (ranked : List Ranked) → Shows slots scan.stamp table → IsOnItsWay slots scan → scan.left ≡ 0
     → ((list : List Entry) → scan.partial ≡ levels_for scan.ask list → ranked ≡ answer_of scan.ask list) → ranked ≡ answer_of scan.ask (entries table)
 answers_the_begin slots scan table ranked shows h none says =
-    let all : scan.done + scan.left ≡ scan.done = omega arith in
-    let long : length slots ≤ scan.done * scan.size = subst (λ n. length slots ≤ n * scan.size) all h.rest in
-    let whole : take (scan.done * scan.size) slots ≡ slots = take_all (scan.done * scan.size) slots long in
-    let held : scan.partial ≡ levels_for scan.ask (entries (visible scan.stamp slots)) = h.partial ∙ (λ i. levels_for scan.ask (entries (visible scan.stamp (whole i)))) in
-    let arranged = IsPermutation-map (λ (l : Line). record { id = l.id; row = l.row }) _ _ shows.lines in
-    says (entries (visible scan.stamp slots)) held
-    ∙ answer_of_same scan.ask _ _ (shown_differs slots scan.stamp table shows) (table_differs table shows.ordered) (same_if_permuted _ _ arranged)
+    let whole = take_all (scan.done * scan.size) slots (grind (arith)) in
+    says (entries (visible scan.stamp slots)) (grind (arith))
+    ∙ answer_of_same scan.ask _ _ (shown_differs slots scan.stamp table shows) (table_differs table shows.ordered)
+    (same_if_permuted _ _ (IsPermutation-map (λ (l : Line). record { id = l.id; row = l.row }) _ _ shows.lines))
 
 pub follows_answered : (slots : List (Option Version)) (scan : Scan) (query : Open) (ranked : List Ranked) → Shows slots query.commits query.table → Follows slots scan query → scan.left ≡ 0
     → ((list : List Entry) → scan.partial ≡ levels_for scan.ask list → ranked ≡ answer_of scan.ask list) → ranked ≡ answer_of query.ask (entries query.table)
-follows_answered slots scan query ranked shows h none says =
-    answers_the_begin slots scan query.table ranked (subst (λ n. Shows slots n query.table) (sym h.stamp) shows) h.way none says
-    ∙ ap (λ (q : Question). answer_of q (entries query.table)) h.ask
+follows_answered slots scan query ranked shows h none says = grind (arith, answers_the_begin slots scan query.table ranked)
 
 -- The blocks, one after the other, are the slots.
 first_blocks_taken : (n size : ℕ) (slots : List (Option Version)) → first_blocks n size slots ≡ take (n * size) slots

@@ -43,9 +43,7 @@ reply_is_added before returned result after adds ok = grind (arith)
 -- where memory was wanting, an event is left without one
 pub event_is_left : (before : List Reply) (returned : Result Reply AllocError) (result : Result (Unit {0}) AllocError) (after : List Reply) (yielded events : List Event) → AddsReply before returned result after → is_err result ≡ true
     → length before ≡ length yielded → length yielded < length events → nat_lt (length after) (length events) ≡ true
-event_is_left before returned result after yielded events adds failed one_each inside =
-    let same : after ≡ before = grind arith in
-    lt-ltb _ _ (omega (arith, ap length same))
+event_is_left before returned result after yielded events adds failed one_each inside = grind (arith, lt-ltb)
 
 -- one reply to each event
 replies_count : (limits : Limits) (system : System) (events : List Event) → length (replies_from limits system events) ≡ length events

@@ -1,6 +1,6 @@
 -- New versions go into slots that aren't needed.
 use Rattle.pref_core.proofs.Common.{◌≡◌, ℕ, suc, ◌+◌, Bool, true, false, cond, List, ◌∷◌, ◌++◌, map, length, Option, Some, None, slice_get, slice_set, refl, ap, ◌∙◌, subst, arith}
-use Rattle.pref_core.proofs.Common.{AllByRecursion, IsWithin, Version, Entry, State, Contents, StandsFor, seen, is_needed, stamps, begins, new_version, is_free, filled}
+use Rattle.pref_core.proofs.Common.{Version, Entry, State, Contents, StandsFor, is_needed, stamps, new_version, is_free, filled}
 use Rattle.pref_core.proofs.StandsForLaws.{Shows-set, hidden_unneeded, clients-set}
 use Rattle.pref_core.proofs.SlotKeys.{AreDifferent-set, AllByRecursion-set}
 
@@ -16,16 +16,7 @@ IsFree-from ns slots place h = grind (arith)
 set_stands : (contents : Contents) (state : State) (place : ℕ) (new : Option Version) → IsFree (stamps contents) contents.slots place
     → StandsFor (record { slots = new ∷ contents.slots; stamp = contents.stamp; next_id = contents.next_id; callers = contents.callers }) state
     → StandsFor (record { slots = slice_set contents.slots place new; stamp = contents.stamp; next_id = contents.next_id; callers = contents.callers }) state
-set_stands contents state place new free h =
-    let hidden : AllByRecursion (λ stamp. seen stamp free.old ≡ None) (contents.stamp ∷ begins contents.callers) = hidden_unneeded (stamps contents) free.old free.unneeded in
-    record {
-      stamp = h.stamp;
-      next_id = h.next_id;
-      table = Shows-set contents.stamp contents.slots place free.old new state.table free.at hidden.0 h.table;
-      clients = clients-set contents.stamp contents.slots place free.old new free.at contents.callers state.clients hidden.1 h.clients;
-      separate = AreDifferent-set contents.slots place new h.separate;
-      within = AllByRecursion-set (IsWithin contents.next_id contents.stamp) contents.slots place new h.within.0 h.within.1;
-    }
+set_stands contents state place new free h = grind (arith, hidden_unneeded, Shows-set, clients-set, AreDifferent-set, AllByRecursion-set)
 
 slice_get_behind : {X : Type 0} (front xs : List X) (i n : ℕ) → n ≡ length front + i → slice_get (front ++ xs) n ≡ slice_get xs i
 slice_get_behind (x ∷ front) xs i (suc n) e = slice_get_behind front xs i n (omega arith)

@@ -84,16 +84,7 @@ module _ (order positions : List ℕ) (place to : ℕ) (inv : IsInverse order po
   position_goes Q a b c k l = grind (arith, at_place, at_other, at_neither)
 
   pub inverse_moved : IsInverse new_order new_positions
-  inverse_moved = record {
-    long = length_positions ∙ sym length_order;
-    places = λ i l. subst (λ n. get_or new_order i 0 < n) (sym length_order) (order_goes (λ k x. x < length order) lp lo (λ k m a b. inv.places k m) i (below i l));
-    there = λ i l. order_goes (λ k x. get_or new_positions x 0 ≡ k) at_place at_other (λ k m a b. at_neither (get_or order k 0) (λ e. a (sym (inv.there k m) ∙ ap (λ x. get_or positions x 0) e)) (λ e. b (sym (inv.there k m) ∙ ap (λ x. get_or positions x 0) e ∙ other_at)) ∙ inv.there k m) i (below i l);
-    within = λ p l. subst (λ n. get_or new_positions p 0 < n) (sym length_order) (position_goes (λ k x. x < length order) lt lf (λ k m a b. inv.within k m) p (below p l));
-    back = λ p l. position_goes (λ k x. get_or new_order x 0 ≡ k) order_to order_from (λ k m a b. order_neither (get_or positions k 0) (apart k m a) (apart_other k m b) ∙ inv.back k m) p (below p l);
-  }
-    where
-      below : (k : ℕ) → k < length new_order → k < length order
-      below k l = let e = length_order in omega arith
+  inverse_moved = grind (arith, length_positions, length_order, order_goes, lo, at_place, at_other, at_neither, other_at, position_goes, lf, order_to, order_from, order_neither, apart, apart_other)
 
   -- the uses after a move that shifts a border past the position
   pub uses_moved : (bounds after : List ℕ) (slot_use : SlotUse) → use_at after to ≡ slot_use
@@ -130,10 +121,7 @@ module _ (order positions : List ℕ) (place to : ℕ) (inv : IsInverse order po
 
 -- Numbers of positions: past each bound before, ..
 pub number_past : (bounds : List ℕ) (x j : ℕ) → j < number_at bounds x → get_or bounds j 0 ≤ x
-number_past (bound ∷ bounds) x (suc j) l = go (nat_lt x bound) l (λ m. number_past bounds x j m)
-  where
-    go : (b : Bool) → suc j < cond b 0 (suc (number_at bounds x)) → (j < number_at bounds x → get_or bounds j 0 ≤ x) → get_or bounds j 0 ≤ x
-    go b l more = grind (arith)
+number_past (bound ∷ bounds) x (suc j) l = grind (arith, number_past bounds x j)
 number_past bounds x j l = grind (arith)
 
 -- .. and below their own, ..
@@ -194,11 +182,9 @@ module _ (order positions bounds : List ℕ) (place : ℕ) (a : IsArranged order
 
   pub use_here : (old : SlotUse) → slice_get uses place ≡ Some old → (place < length order) × (use_at bounds (get_or positions place 0) ≡ old)
   use_here old at =
-      let inside : place < length uses = slice_get_within uses place old at in
-      let long : length uses ≡ length positions = length-map positions (use_at bounds) in
-      let same = a.inverse.long in
-      let within : place < length positions = omega arith in
-      (omega arith, sym (get_or-map (use_at bounds) positions place 0 old within) ∙ get_or_from_slice_get uses place old old at)
+      let inside = slice_get_within uses place old at in
+      let long = length-map positions (use_at bounds) in
+      grind (arith, a.inverse.long, get_or-map (use_at bounds) positions place 0 old, get_or_from_slice_get uses place old old at)
 
   pub number_here : (k : ℕ) → slice_get uses place ≡ Some (numbered k) → number_at bounds (get_or positions place 0) ≡ k
   number_here k at = use_number bounds (get_or positions place 0) k (use_here (numbered k) at).1

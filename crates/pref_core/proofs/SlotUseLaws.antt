@@ -1,7 +1,7 @@
 -- The uses of slots, and how many are free.
-use Rattle.pref_core.proofs.Common.{◌≡◌, ℕ, zero, suc, ◌+◌, ◌<◌, Bool, true, false, not, ◌&&◌, cond, eqb, List, [], ◌∷◌, map, length, Option, Some, None, slice_get, refl, ap}
-use Rattle.pref_core.proofs.Common.{arith, count_by, cons_option, AllByRecursion, Version, Caller, has, is_visible}
-use Rattle.pref_core.proofs.Common.{visible, line, is_needed, begins, IsWithin, is_free, is_free_use, free_at, kept_from, use_of, is_spare, row_at}
+use Rattle.pref_core.proofs.Common.{◌≡◌, ℕ, zero, suc, ◌+◌, ◌<◌, Bool, true, false, not, cond, List, [], ◌∷◌, map, length, Option, Some, None, slice_get, refl, ap}
+use Rattle.pref_core.proofs.Common.{arith, count_by, AllByRecursion, Version, Caller, has}
+use Rattle.pref_core.proofs.Common.{visible, is_needed, begins, IsWithin, is_free, is_free_use, free_at, kept_from, use_of, is_spare, row_at}
 use Rattle.pref_core.proofs.NeededCounts.{is_needed-empty}
 use Rattle.pref_sky.proofs.ListLaws.{count_cons}
 
@@ -49,8 +49,4 @@ row_version stamp id (slot ∷ slots) (suc place) at = row_version stamp id slot
 -- Where no place shows the id's row it isn't in the table.
 pub has_nowhere : (stamp id : ℕ) (slots : List (Option Version)) → ((k : ℕ) → k < length slots → row_at stamp id slots k ≡ false) → has (visible stamp slots) id ≡ false
 has_nowhere stamp id [] h = refl
-has_nowhere stamp id (None ∷ slots) h = has_nowhere stamp id slots (λ k l. h (suc k) (omega arith))
-has_nowhere stamp id (Some version ∷ slots) h = first (is_visible stamp version) (h zero (omega arith)) (has_nowhere stamp id slots (λ k l. h (suc k) (omega arith)))
-  where
-    first : (b : Bool) → (eqb version.id id && b) ≡ false → has (visible stamp slots) id ≡ false → has (cons_option (cond b (Some (line version)) None) (visible stamp slots)) id ≡ false
-    first b e rest = grind (arith)
+has_nowhere stamp id (slot ∷ slots) h = let first = h zero (omega arith) in grind (arith, has_nowhere stamp id slots (λ k l. h (suc k) (omega arith)))

@@ -32,10 +32,7 @@ shown_set stamp slots place old new at same = map-set_same (seen stamp) slots pl
 
 -- the client's begin is one of the begins
 hidden_at : (callers : List Caller) (k : ℕ) (caller : Caller) (stamp : ℕ) (P : ℕ → Type 0) → slice_get callers k ≡ Some caller → caller.at_begin ≡ Some stamp → AllByRecursion P (begins callers) → P stamp
-hidden_at (first ∷ callers) (suc k) caller stamp P at is h = hidden_at callers k caller stamp P at is (rest first.at_begin h)
-  where
-    rest : (b : Option ℕ) → AllByRecursion P (cons_option b (begins callers)) → AllByRecursion P (begins callers)
-    rest b h = grind (arith)
+hidden_at (first ∷ callers) (suc k) caller stamp P at is h = grind (arith, hidden_at callers k caller stamp P at is)
 hidden_at callers k caller stamp P at is h = grind (arith)
 
 begin_hidden : (contents : Contents) (client stamp : ℕ) (P : ℕ → Type 0) → caller_begun contents client ≡ Some stamp → AllByRecursion P (begins contents.callers) → P stamp
@@ -99,6 +96,16 @@ kept_at : (contents : Contents) (client stamp : ℕ) (op : Op) → caller_begun 
     → begun_at (seat client (callers_after contents.stamp contents.callers op.client op.call)) ≡ Some stamp
 kept_at contents client stamp op is accepted open_ = grind (arith, seat-with_seat_other, begun_own)
 
+-- What holds of a store, and after each legal op, holds after every op.
+pub holds_applied : (contents : Contents) (op : Op) (P : Contents → Type 0) → P contents
+    → ((slots : List (Option Version)) → is_next contents op ≡ true → slots_after contents op ≡ Some slots → P (stepped contents op slots)) → P (applied contents op)
+holds_applied contents op P still done = go (is_next contents op) refl (slots_after contents op) refl
+  where
+    go : (b : Bool) → is_next contents op ≡ b → (s : Option (List (Option Version))) → slots_after contents op ≡ s
+        → P (cond b (elim s as (λ x. Contents) [ None ↦ contents | Some slots ↦ stepped contents op slots ]) contents)
+    go true n (Some slots) e = done slots n e
+    go b n s e = grind (arith)
+
 -- what lasts over one op
 pub record Lasts (client stamp : ℕ) (before after : Contents) : Type 0 where
   pub at_begin : caller_begun after client ≡ Some stamp
@@ -110,13 +117,10 @@ lasts_stepped : (contents : Contents) (client stamp : ℕ) (op : Op) (slots : Li
 lasts_stepped contents client stamp op slots begun l shows = grind (arith)
 
 pub lasts_applied : (contents : Contents) (client stamp : ℕ) (op : Op) → caller_begun contents client ≡ Some stamp → stamp ≤ contents.stamp → ends_query client op ≡ false → Lasts client stamp contents (applied contents op)
-lasts_applied contents client stamp op is l open_ = go (is_next contents op) refl (slots_after contents op) refl
-  where
-    go : (b : Bool) → is_next contents op ≡ b → (s : Option (List (Option Version))) → slots_after contents op ≡ s
-        → Lasts client stamp contents (cond b (elim s as (λ x. Contents) [ None ↦ contents | Some slots ↦ stepped contents op slots ]) contents)
-    go true n (Some slots) e =
-        lasts_stepped contents client stamp op slots (kept_at contents client stamp op is (IsAllowed-from contents op n).accepted open_) l (shown_after contents client stamp is l op slots e)
-    go b n s e = grind (arith)
+lasts_applied contents client stamp op is l open_ =
+    holds_applied contents op (Lasts client stamp contents) (record { at_begin = is; within = l; shows = refl })
+    (λ slots n e. lasts_stepped contents client stamp op slots (kept_at contents client stamp op is (IsAllowed-from contents op n).accepted open_) l
+    (shown_after contents client stamp is l op slots e))
 
 pub shown_ran : (ops : List Op) (contents : Contents) (client stamp : ℕ) → caller_begun contents client ≡ Some stamp → stamp ≤ contents.stamp → AllByRecursion (λ op. ends_query client op ≡ false) ops → shown stamp (ran contents ops).slots ≡ shown stamp contents.slots
 shown_ran [] contents client stamp is l h = refl

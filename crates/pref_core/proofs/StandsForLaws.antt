@@ -1,5 +1,5 @@
 -- What slots show at each stamp when versions end, begin, and take a slot that isn't needed.
-use Rattle.pref_core.proofs.Common.{◌≡◌, ℕ, suc, ◌≤◌, false, not, List, [], ◌∷◌, map, Option, Some, None, slice_get, slice_set, refl, arith, cons_option, AllByRecursion, AllZip, IsPermutation-trans}
+use Rattle.pref_core.proofs.Common.{◌≡◌, ℕ, suc, ◌≤◌, false, not, List, [], ◌∷◌, map, Option, Some, None, slice_get, slice_set, refl, arith, AllByRecursion, AllZip, IsPermutation-trans}
 use Rattle.pref_core.proofs.Common.{IsPermutation-sym, Version, Caller, Line, among, without, Entry, Client, Snapshot, seen, is_needed, begins, IsWithin, Shows, ShowsBegin, StandsForClient}
 use Rattle.pref_core.proofs.Common.{new_version, close, rules}
 use Rattle.pref_core.proofs.Permutations.{IsPermutation-filter}
@@ -47,18 +47,5 @@ pub clients-later : (now : ℕ) (slots : List (Option Version)) (callers : List 
 clients-later now slots = grind (arith, AllZip-weaker)
 
 pub clients-set : (now : ℕ) (slots : List (Option Version)) (place : ℕ) (old new : Option Version) → slice_get slots place ≡ Some old → (callers : List Caller) (clients : List Client) → AllByRecursion (λ stamp. seen stamp old ≡ None) (begins callers) → AllZip (StandsForClient (new ∷ slots) now) callers clients → AllZip (StandsForClient (slice_set slots place new) now) callers clients
-clients-set now slots place old new at (caller ∷ callers) (client ∷ clients) hidden h =
-    let split = parts caller.at_begin hidden in (
-      record {
-        calls = h.0.calls;
-        at_begin = ShowsBegin-moved (new ∷ slots) _ now now (omega arith) caller.at_begin client.at_begin (λ stamp table e l. Shows-set stamp slots place old new table at (split.0 stamp e)) h.0.at_begin;
-      },
-      clients-set now slots place old new at callers clients split.1 h.1,
-    )
-  where
-    Hidden : List ℕ → Type 0
-    Hidden = AllByRecursion (λ stamp. seen stamp old ≡ None)
-
-    parts : (begun : Option ℕ) → Hidden (cons_option begun (begins callers)) → ((stamp : ℕ) → begun ≡ Some stamp → seen stamp old ≡ None) × Hidden (begins callers)
-    parts begun h = grind (arith)
+clients-set now slots place old new at (caller ∷ callers) (client ∷ clients) hidden h = grind (arith, clients-set now slots place old new at callers clients, ShowsBegin-moved, Shows-set)
 clients-set now slots place old new at callers clients hidden h = grind (arith)

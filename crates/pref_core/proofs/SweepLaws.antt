@@ -25,16 +25,12 @@ kept_one keeper = ap (λ b. cond b 1 0) (eq-eqb keeper keeper refl)
 
 pub sweep_goes : (keeper turn place : ℕ) (uses after : List SlotUse) → IsSweeping keeper turn uses after → slice_get uses place ≡ Some (Ended keeper) → IsSweeping keeper (turn + 1) (set uses place (get_or after place Live)) after
 sweep_goes keeper turn place uses after h at =
-    let given = use_given keeper place uses after h.may (slice_get_within uses place (Ended keeper) at) in
-    record {
-      may = given.0;
-      left =
-          let count = count_set (is_kept_by keeper) uses place (Ended keeper) (get_or after place Live) at in
-          let one = kept_one keeper in
-          let none : ◌≡◌ {A = ℕ} (cond (is_kept_by keeper (get_or after place Live)) 1 0) 0 = ap (λ b. cond b 1 0) given.1 in
-          let few = h.left in
-          omega arith;
-    }
+    grind (
+      arith,
+      use_given keeper place uses after h.may (slice_get_within uses place (Ended keeper) at),
+      count_set (is_kept_by keeper) uses place (Ended keeper) (get_or after place Live) at,
+      kept_one,
+    )
 
 -- Where no place is kept all uses are as they are to be, ..
 pub swept : (keeper : ℕ) (uses after : List SlotUse) → AllZip (MayBecome keeper) uses after → ((place : ℕ) → slice_get uses place ≡ Some (Ended keeper) → ⊥) → uses ≡ after
@@ -43,8 +39,4 @@ swept keeper uses after h none = grind (arith)
 
 -- .. and so they are where no turn is left.
 pub swept_all : (keeper turn : ℕ) (uses after : List SlotUse) → IsSweeping keeper turn uses after → length after ≤ turn → uses ≡ after
-swept_all keeper turn uses after h past = swept keeper uses after h.may (λ place at.
-    let count = count_set (is_kept_by keeper) uses place (Ended keeper) Free at in
-    let one = kept_one keeper in
-    let few = h.left in
-    absurd (omega arith))
+swept_all keeper turn uses after h past = swept keeper uses after h.may (λ place at. grind (arith, count_set (is_kept_by keeper) uses place (Ended keeper) Free at, kept_one))

@@ -1,6 +1,6 @@
 -- What runs stands for the system, call by call.
-use Rattle.pref_core.proofs.Common.{◌≡◌, ℕ, zero, suc, ◌^◌, true, false, nat_lt, List, [], ◌∷◌, map, length, replicate, Option, Some, None, is_some, refl, sym, ap, ◌∙◌, subst, ⊎_elim, option_map}
-use Rattle.pref_core.proofs.Common.{cases_eq, Question, Version, Call, Outcome, Op, Reply, NoSuchClient, Row, Limits, AreAllowed, blocks, State, Client, Snapshot, seat, with_seat, begun_of}
+use Rattle.pref_core.proofs.Common.{◌≡◌, ℕ, zero, suc, ◌^◌, true, false, nat_lt, List, [], ◌∷◌, map, length, replicate, Option, Some, None, is_some, refl, sym, ap, ◌∙◌, subst, option_map}
+use Rattle.pref_core.proofs.Common.{Question, Version, Call, Outcome, Op, Reply, NoSuchClient, Row, Limits, AreAllowed, blocks, State, Client, Snapshot, seat, with_seat, begun_of}
 use Rattle.pref_core.proofs.Common.{refusal, refusal_of, refusal_by_query, is_change, succeeds, outcome, committed, counted, begun_after, after, opening, idle_clients, Open, Member, System, snapshot}
 use Rattle.pref_core.proofs.Common.{client_of, state_of, counted_with, scanned_with, changed, opened, Contents, StandsFor, Shows, IsLegal, applied, Scan, begin, Running, Follows}
 use Rattle.pref_core.proofs.Common.{StandsForQuery, StandsForMember, StandsForSystem, IsPlan, called, Ok, arith}
@@ -68,19 +68,12 @@ pub record IsLetIn (running : Running) (system : System) (client : ℕ) (call : 
 IsLetIn-from : (running : Running) (system : System) (client : ℕ) (call : Call) → StandsForSystem running system → refusal (state_of system) client call ≡ None → IsLetIn running system client call
 IsLetIn-from running system client call h accepted = go (seat client system.members) refl (seat client running.scans) refl (h.members client)
   where
-    nobody : seat client system.members ≡ None → ⊥
-    nobody at = grind (arith, refusal_nobody)
-
-    unspent : (member : Member) → seat client system.members ≡ Some member → nat_lt member.calls (2 ^ 56) ≡ true
-    unspent member at = grind (arith, refusal_there system client member call at)
-
-    allowed : (member : Member) → seat client system.members ≡ Some member → refusal_by_query (is_some (option_map snapshot member.query)) call ≡ None
-    allowed member at = grind (arith, refusal_there system client member call at)
-
     go : (m : Option Member) → seat client system.members ≡ m → (s : Option (Option Scan)) → seat client running.scans ≡ s → StandsForMember running.contents.slots s m → IsLetIn running system client call
-    go (Some member) at (Some scan) place stands = record { who = member; at = at; unspent = unspent member at; allowed = allowed member at; scan = scan; place = place; stands = stands }
+    go (Some member) at (Some scan) place stands =
+        let let_in = sym (refusal_there system client member call at) ∙ accepted in
+        record { who = member; at = at; unspent = grind (arith); allowed = grind (arith); scan = scan; place = place; stands = stands }
     go (Some member) at None place stands = absurd stands
-    go None at s place stands = absurd (nobody at)
+    go None at s place stands = absurd (let refused = sym (refusal_nobody system client call at) ∙ accepted in cc)
 
 query_stays : (before after : List (Option Version)) (scan : Option Scan) (query : Option Open) → length after ≡ length before
     → ((open_ : Open) → query ≡ Some open_ → shown open_.commits after ≡ shown open_.commits before)
@@ -100,13 +93,7 @@ member_stays running system op client h scan member at s = grind (arith)
 -- a client's place and the client, both changed
 placed : (slots : List (Option Version)) (scans : List (Option Scan)) (members : List Member) (client : ℕ) (scan held : Option Scan) (member new : Member) → seat client members ≡ Some member → seat client scans ≡ Some held → StandsForQuery slots scan new.query
     → ((other : ℕ) → StandsForMember slots (seat other scans) (seat other members)) → (other : ℕ) → StandsForMember slots (seat other (with_seat client scan scans)) (seat other (with_seat client new members))
-placed slots scans members client scan held member new at place mine h other = ⊎_elim same others (cases_eq other client)
-  where
-    same : other ≡ client → StandsForMember slots (seat other (with_seat client scan scans)) (seat other (with_seat client new members))
-    same e = grind (arith, seat-with_seat_same)
-
-    others : (other ≡ client → ⊥) → StandsForMember slots (seat other (with_seat client scan scans)) (seat other (with_seat client new members))
-    others n = grind (arith, seat-with_seat_other)
+placed slots scans members client scan held member new at place mine h other = grind (arith, seat-with_seat_same, seat-with_seat_other)
 
 -- A planned call: who is let in, its outcome, and that what runs once it is done stands for what it leaves.
 pub record IsPlanned (running : Running) (system : System) (client : ℕ) (call : Call) (op : Op) : Type 0 where
@@ -167,14 +154,7 @@ follows_begun limits slots ask system stamp allowed long here = record { ask = r
 pub scanned_stands : (running : Running) (system : System) (client : ℕ) (member : Member) (held scan : Scan) (query : Open) → seat client system.members ≡ Some member → seat client running.scans ≡ Some (Some held) → option_map snapshot member.query ≡ Some (snapshot query) → StandsForSystem running system
     → Follows running.contents.slots scan query
     → StandsForSystem (record { contents = running.contents; limits = running.limits; scans = with_seat client (Some scan) running.scans }) (scanned_with query client member system)
-scanned_stands running system client member held scan query at place same h mine = record {
-  store = subst (StandsFor running.contents) (sym unchanged) h.store;
-  capacity = h.capacity;
-  members = placed running.contents.slots running.scans system.members client (Some scan) (Some held) member (record { calls = member.calls; query = Some query }) at place mine h.members;
-}
-  where
-    unchanged : state_of (scanned_with query client member system) ≡ state_of system
-    unchanged = grind (arith, with_seat-map, with_seat_self, client_there)
+scanned_stands running system client member held scan query at place same h mine = grind (arith, placed, with_seat-map, with_seat_self, client_there)
 
 -- what an open query found, the slots still show
 pub query_shows : (running : Running) (system : System) (client : ℕ) (member : Member) (query : Open) → StandsForSystem running system → seat client system.members ≡ Some member → member.query ≡ Some query → Shows running.contents.slots query.commits query.table

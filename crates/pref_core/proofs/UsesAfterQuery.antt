@@ -1,8 +1,8 @@
 -- What becomes of the uses where an open query begins or ends.
 use Rattle.pref_core.proofs.Common.{◌≡◌, ℕ, zero, suc, ◌+◌, ◌-◌, ◌<◌, ◌≤◌, inl, true, false, cond, List, [], ◌∷◌, ◌++◌, map, length, set, replicate, Option, Some, None, is_some, slice_get, refl, sym}
 use Rattle.pref_core.proofs.Common.{ap, ap₂, ◌∙◌, subst, arith, AllByRecursion, AllZip, option_to_list, length-set, slice_get_within, Version, Caller, SlotUse, Free, Ended, Live, Call, Op, Row}
-use Rattle.pref_core.proofs.Common.{refusal_of, after, Contents, is_needed, StandsFor, IsWithin, opening_slots, begin_after, callers_after, refusal_at, is_next, slots_after, stepped, applied, is_end}
-use Rattle.pref_core.proofs.Common.{kept_from, use_of, number_of, is_kept_by, MayBecome, IsBounded, IsKept, uses_of}
+use Rattle.pref_core.proofs.Common.{refusal_of, Contents, is_needed, IsWithin, opening_slots, begin_after, callers_after, refusal_at, is_next, slots_after, stepped, applied, is_end}
+use Rattle.pref_core.proofs.Common.{kept_from, use_of, number_of, is_kept_by, MayBecome, IsKept, uses_of}
 use Rattle.pref_core.proofs.AppliedLaws.{stepped_stands}
 use Rattle.pref_core.proofs.BoundsLaws.{IsBounded-stepped}
 
@@ -67,15 +67,8 @@ use_left start (suc k) keeper (first ∷ callers) new slot is l e = grind (arith
 
 uses_left : (keeper : ℕ) (callers : List Caller) (new : Caller) (slots : List (Option Version)) → keeper < length callers → new.at_begin ≡ None → AllZip (MayBecome keeper) (map (use_of callers) slots) (map (use_of (set callers keeper new)) slots)
 uses_left keeper callers new [] l e = tt
-uses_left keeper callers new (slot ∷ slots) l e = (first slot, uses_left keeper callers new slots l e)
-  where
-    first : (slot : Option Version) → MayBecome keeper (use_of callers slot) (use_of (set callers keeper new) slot)
-    first None = (refl, inl refl)
-    first (Some version) = at_death version.death
-      where
-        at_death : (death : Option ℕ) → MayBecome keeper (use_of callers (Some (record version { death = death }))) (use_of (set callers keeper new) (Some (record version { death = death })))
-        at_death None = (refl, inl refl)
-        at_death (Some death) = use_left 0 keeper keeper callers new (Some (record version { death = Some death })) (omega arith) l e
+uses_left keeper callers new (None ∷ slots) l e = ((refl, inl refl), uses_left keeper callers new slots l e)
+uses_left keeper callers new (Some version ∷ slots) l e = grind (arith, uses_left keeper callers new slots l e, use_left 0 keeper keeper callers new (Some version))
 
 pub uses_end : (contents : Contents) (client : ℕ) (call : Call) → refusal_at contents client call ≡ None → is_end call ≡ true
     → AllZip (MayBecome (client - 1)) (uses_of contents) (map (use_of (callers_after contents.stamp contents.callers client call)) contents.slots)
@@ -97,11 +90,7 @@ stepped_is contents op slots new next fits is = rw (next, fits) is
 
 -- .. and is kept.
 pub kept_stepped : (contents : Contents) (op : Op) (slots : List (Option Version)) (new : Contents) → IsKept contents → is_next contents op ≡ true → slots_after contents op ≡ Some slots → new ≡ stepped contents op slots → IsKept new
-kept_stepped contents op slots new h next fits is = record {
-  bounded = subst IsBounded (sym is) (IsBounded-stepped contents op slots h.bounded next fits);
-  state = after (length contents.slots) h.state op.client op.call;
-  stands = subst (λ s. StandsFor s (after (length contents.slots) h.state op.client op.call)) (sym is) (stepped_stands contents h.state op slots h.stands next fits);
-}
+kept_stepped contents op slots new h next fits is = grind (arith, IsBounded-stepped contents op slots h.bounded next fits, stepped_stands contents h.state op slots h.stands next fits)
 
 -- The uses as a store is opened.
 uses_opening : (callers : List Caller) (before : ℕ) (rows : List Row) (empty : ℕ) → map (use_of callers) (opening_slots before rows ++ replicate empty None) ≡ replicate (length rows) Live ++ replicate empty Free

@@ -1,10 +1,10 @@
 -- A legal op leaves what open queries see.
-use Rattle.pref_core.proofs.Common.{◌≡◌, ℕ, ◌≤◌, Bool, true, cond, List, [], ◌∷◌, length, take, Option, Some, None, refl, ◌∙◌, arith}
+use Rattle.pref_core.proofs.Common.{◌≡◌, ℕ, ◌≤◌, List, [], ◌∷◌, length, take, Option, Some, None, refl, ◌∙◌, arith}
 use Rattle.pref_core.proofs.Common.{take-map, Version, Caller, Op, State, Client, Snapshot, begun_of, Line, Contents, StandsFor, Shows, ShowsBegin, seen}
-use Rattle.pref_core.proofs.Common.{visible, caller_begun, IsLegal, slots_after, stepped, applied, ran, is_next}
+use Rattle.pref_core.proofs.Common.{visible, caller_begun, IsLegal, applied, ran}
 use Rattle.pref_core.proofs.BoundsLaws.{length-slots_after}
 use Rattle.pref_core.proofs.OutcomeLaws.{SameSeat, nobody, somebody, same_seat}
-use Rattle.pref_core.proofs.StabilityLaws.{shown, visible_shown, shown_after}
+use Rattle.pref_core.proofs.StabilityLaws.{holds_applied, shown, visible_shown, shown_after}
 
 -- the front of the slots shows what it showed
 pub visible_take : (stamp n : ℕ) (before after : List (Option Version)) → shown stamp after ≡ shown stamp before → visible stamp (take n after) ≡ visible stamp (take n before)
@@ -29,10 +29,7 @@ shows_still before after stamp table same shows = grind (arith, visible_shown st
 
 -- the slots stay as many, whatever is applied
 length-applied_any : (contents : Contents) (op : Op) → length (applied contents op).slots ≡ length contents.slots
-length-applied_any contents op = go (is_next contents op) (slots_after contents op) refl
-  where
-    go : (b : Bool) (o : Option (List (Option Version))) → slots_after contents op ≡ o → length (cond {A = Contents} b (elim o as (λ x. Contents) [ None ↦ contents | Some slots ↦ stepped contents op slots ]) contents).slots ≡ length contents.slots
-    go b o e = grind (arith, length-slots_after)
+length-applied_any contents op = holds_applied contents op (λ s. length s.slots ≡ length contents.slots) refl (λ slots n e. grind (arith, length-slots_after))
 
 pub length-ran : (ops : List Op) (contents : Contents) → length (ran contents ops).slots ≡ length contents.slots
 length-ran [] contents = refl
@@ -43,12 +40,6 @@ length-applied contents state op h legal = length-applied_any contents op
 
 -- .. and show what an open query found
 pub shown_applied : (contents : Contents) (state : State) (op : Op) (client : ℕ) (snapshot : Snapshot) → StandsFor contents state → begun_of state client ≡ Some snapshot → shown snapshot.commits (applied contents op).slots ≡ shown snapshot.commits contents.slots
-shown_applied contents state op client snapshot h is = go (is_next contents op) (slots_after contents op) refl (begun_kept contents state client snapshot h is)
-  where
-    stepped_shows : (slots : List (Option Version)) → shown snapshot.commits slots ≡ shown snapshot.commits contents.slots → shown snapshot.commits (stepped contents op slots).slots ≡ shown snapshot.commits contents.slots
-    stepped_shows slots same = grind (arith)
-
-    go : (b : Bool) (o : Option (List (Option Version))) → slots_after contents op ≡ o → (caller_begun contents client ≡ Some snapshot.commits) × (snapshot.commits ≤ contents.stamp) × Shows contents.slots snapshot.commits snapshot.table
-        → shown snapshot.commits (cond {A = Contents} b (elim o as (λ x. Contents) [ None ↦ contents | Some slots ↦ stepped contents op slots ]) contents).slots ≡ shown snapshot.commits contents.slots
-    go true (Some slots) e kept = stepped_shows slots (shown_after contents client snapshot.commits kept.0 kept.1 op slots e)
-    go b o e kept = grind (arith)
+shown_applied contents state op client snapshot h is =
+    let kept = begun_kept contents state client snapshot h is in holds_applied contents op (λ s. shown snapshot.commits s.slots ≡ shown snapshot.commits contents.slots) refl
+    (λ slots n e. let same = shown_after contents client snapshot.commits kept.0 kept.1 op slots e in grind (arith))

@@ -11,7 +11,9 @@ perform-requires c =
     record { by = refl; what = refl; next = parts.0; fits = parts.1 }
 
 exact : (c : Else-is_legal) → c.args.self.now ≡ applied c.args.self.now (op_of c.args.op.now)
-exact c = let op = op_of c.args.op.now in sym (applied_nothing c.args.self.now op (subst (λ (s : Contents). (is_next s op && is_some (slots_after s op)) ≡ false) c.self.view_is (sym c.is_legal.ensures ∙ c.if-is_legal.false)))
+exact c =
+    let op = op_of c.args.op.now in sym (applied_nothing c.args.self.now op
+    (subst (λ (s : Contents). (is_next s op && is_some (slots_after s op)) ≡ false) c.self.view_is (sym c.is_legal.ensures ∙ c.if-is_legal.false)))
 
 pub returns-else-is_legal-clause-exact : goal.returns-else-is_legal-clause-exact
 returns-else-is_legal-clause-exact c = exact c

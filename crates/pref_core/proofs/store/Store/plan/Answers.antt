@@ -10,4 +10,5 @@ returns-in-Ok-clause-state c state h = plans_in c.args.self.now state c.args.cli
 
 pub returns-in-Err-clause-state : goal.returns-in-Err-clause-state
 returns-in-Err-clause-state c state h =
-    plans_in c.args.self.now state c.args.client c.args.call (Err c.in-Err.fault) h (subst (λ (t : Contents × Call). refusal_at t.0 c.args.client t.1 ≡ Some c.in-Err.fault) (λ i. (c.self.view_is i, c.lend.ensures i)) c.in-Err.ensures)
+    plans_in c.args.self.now state c.args.client c.args.call (Err c.in-Err.fault) h
+    (subst (λ (t : Contents × Call). refusal_at t.0 c.args.client t.1 ≡ Some c.in-Err.fault) (λ i. (c.self.view_is i, c.lend.ensures i)) c.in-Err.ensures)

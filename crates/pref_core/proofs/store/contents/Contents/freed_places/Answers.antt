@@ -40,7 +40,8 @@ pub returns-clause-found : goal.returns-clause-found
 returns-clause-found c =
     let now = c.args.self.now in
     let call = c.args.call.now in
-    freed_all now c.requires.kept.state c.requires.kept.bounded c.requires.kept.stands (ended call) c.loop-at.freed (subst (λ l. FreesUpTo now (ended_by l) c.loop-at.freed) (take_all c.loop-at.at (changes_of call) (omega arith)) c.loop-at.invariant)
+    freed_all now c.requires.kept.state c.requires.kept.bounded c.requires.kept.stands (ended call) c.loop-at.freed
+    (subst (λ l. FreesUpTo now (ended_by l) c.loop-at.freed) (take_all c.loop-at.at (changes_of call) (omega arith)) c.loop-at.invariant)
 
 pub returns-in_default-place_of-clause-found : goal.returns-in_default-place_of-clause-found
 returns-in_default-place_of-clause-found c =

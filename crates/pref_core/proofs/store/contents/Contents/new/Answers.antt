@@ -19,7 +19,9 @@ invariant_of-result c =
       seats = kept.bounded.callers;
       within = kept.stands.within;
       listed = uses_opened c.in_ok-callers.callers.items capacity rows slots.slots c.in_ok-places.places opened c.in_ok-places.ensures;
-      linked = subst (λ n. AreLinks n (ids_of slots.stamp slots.slots) c.in_ok-links.links) (sym ids.size ∙ length-map slots.slots (shown slots.stamp)) (c.in_ok-links.ensures (ids_of slots.stamp slots.slots) ids);
+      linked =
+          subst (λ n. AreLinks n (ids_of slots.stamp slots.slots) c.in_ok-links.links) (sym ids.size ∙ length-map slots.slots (shown slots.stamp))
+          (c.in_ok-links.ensures (ids_of slots.stamp slots.slots) ids);
       ids = known_ids _ kept.state kept.bounded kept.stands;
     }
 

@@ -9,4 +9,6 @@ returns c =
     let same = ap length c.deref.ensures.value in
     let inside = c.before-node.ensures.inside in
     links_added slots.stamp c.args.id slots.slots c.self.inside.next.items c.args.place c.before-node.result c.index.result.now links c.requires.ids c.requires.place c.requires.empty c.requires.absent
-    (subst (λ l. IsBefore (2 ^ 64) (length slots.slots) (home_of (length slots.slots)) (id_at (ids_of slots.stamp slots.slots)) (slice_index l) c.args.id c.before-node.result) c.deref.ensures.value c.before-node.ensures.before) (omega arith) (c.index.ensures ∙ get_or_default_zero c.self.inside.next.items c.before-node.result _ (omega arith))
+    (subst (λ l. IsBefore (2 ^ 64) (length slots.slots) (home_of (length slots.slots)) (id_at (ids_of slots.stamp slots.slots))
+    (slice_index l) c.args.id c.before-node.result) c.deref.ensures.value c.before-node.ensures.before) (omega arith)
+    (c.index.ensures ∙ get_or_default_zero c.self.inside.next.items c.before-node.result _ (omega arith))

@@ -7,7 +7,8 @@ pub index-requires : goal.index-requires
 index-requires c =
     let slots = c.args.slots.now in
     let links = subst (AreLinks (length slots.slots) (ids_of slots.stamp slots.slots)) (sym c.self.view_is) c.requires.links in
-    let room = within_at slots.stamp slots.slots c.index-place.result.now c.args.id (row_shown slots.stamp c.args.id slots.slots c.index-place.result.now (sym c.stands_at.ensures ∙ c.if-not-stands_at.false)) in
+    let room = within_at slots.stamp slots.slots c.index-place.result.now c.args.id
+    (row_shown slots.stamp c.args.id slots.slots c.index-place.result.now (sym c.stands_at.ensures ∙ c.if-not-stands_at.false)) in
     grind (arith, common_steps, links.long, room)
 
 pub returns-clause-some : goal.returns-clause-some
@@ -20,4 +21,6 @@ returns-clause-some c =
     let inside = c.before-node.ensures.inside in
     let long = links.long in
     links_removed slots.stamp c.args.id slots.slots c.self.inside.next.items c.index-place.result.now c.before-node.result c.index.result.now links c.requires.ids there
-    (subst (λ l. IsBefore (2 ^ 64) (length slots.slots) (home_of (length slots.slots)) (id_at (ids_of slots.stamp slots.slots)) (slice_index l) c.args.id c.before-node.result) c.deref.ensures.value c.before-node.ensures.before) (omega arith) (c.index.ensures ∙ get_or_default_zero c.self.inside.next.items c.index-place.result.now _ (omega arith))
+    (subst (λ l. IsBefore (2 ^ 64) (length slots.slots) (home_of (length slots.slots)) (id_at (ids_of slots.stamp slots.slots))
+    (slice_index l) c.args.id c.before-node.result) c.deref.ensures.value c.before-node.ensures.before) (omega arith)
+    (c.index.ensures ∙ get_or_default_zero c.self.inside.next.items c.index-place.result.now _ (omega arith))
