@@ -1,12 +1,10 @@
 /* The proved calls of crates/prefq_c, whose contracts say what each does. A slice is a pointer, which is not NULL, and a length. */
-#ifndef PREFQ_PROVED_H
-#define PREFQ_PROVED_H
-
 #include "../include/prefq.h"
 
 enum { MOST_CLIENTS = 8, MOST_COLUMNS = 16, MOST_ROWS = 65536, MOST_CHANGES = 8 };
 
-enum outcome { DONE = 0, REFUSED = 1, OUT_OF_MEMORY = 2 };
+/* How calls end; a proved one by one of the first three. */
+enum outcome { DONE, REFUSED, OUT_OF_MEMORY, ENDED };
 
 /* How a call ended: its result, or the numbers of a refusal and the length of its text. UINT64_MAX is a place or a row that there is not. */
 struct ended {
@@ -41,9 +39,7 @@ PROVED(begin_all, uint8_t client, TEXT);
 PROVED(scan, uint8_t client, TEXT);
 PROVED(finish, uint8_t client, TEXT);
 PROVED(abandon, uint8_t client, TEXT);
-PROVED(reply, const char *line, size_t length, TEXT);
+PROVED(lines, const char *lines, size_t length, TEXT);
 void prefq_table_answer(void **table, int64_t *numbers, size_t count);
 void prefq_table_replies(void **table, char *replies, size_t room);
 void prefq_table_close(void **table);
-
-#endif

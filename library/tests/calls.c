@@ -39,6 +39,8 @@ static void test_calls(void)
     EXPECT(prefq_finish(table, 2, &answer, &count) == PREFQ_OK && count == 5 && answer[2] == 50);
     EXPECT(prefq_lines(table, "as 1 get 2\r\n\nas 2 get 1", 23, &replies, &length) == PREFQ_OK);
     EXPECT(length == strlen(replies) && strcmp(replies, "1 row 2: 80,2\n2 refused 7: no such row 1\n") == 0);
+    EXPECT(prefq_lines(table, "as 1 get 2\r", 11, &replies, &length) == PREFQ_OK && strcmp(replies, "1 row 2: 80,2\n") == 0);
+    EXPECT(prefq_lines(table, "", 0, &replies, &length) == PREFQ_OK && length == 0 && replies[0] == '\0');
     prefq_end(table);
     prefq_end(table);
     EXPECT(answer[2] == 50 && prefq_get(table, 2, values, 2) == PREFQ_ENDED && strcmp(prefq_last_refusal()->text, "the table has ended") == 0);

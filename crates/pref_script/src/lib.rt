@@ -35,7 +35,8 @@ pub use run::run_script;
 pub use threads::{OpenGate, run_script_on_threads, run_threads};
 pub use watched::Watched;
 
-/// How refusals are printed, for who prints them in no line of a reply.
+/// How lines are cut and refusals are printed, for who does so outside a script.
 pub mod engine {
+    pub use crate::script::{cut_line, line_text};
     pub use crate::text::{push_core_fault, push_table_fault, push_term_fault};
 }

@@ -1,4 +1,4 @@
 pub mod EndLaws
 pub mod NumbersLaws
 pub mod RowsLaws
-pub mod InsertLaws
+pub mod EachLaws

@@ -1,5 +1,5 @@
 -- What the calls on rows and queries do to a table. (this project)
-use Rattle.std.specs.Prelude.{ℕ, ℤ, pos, negsuc, ◌≡◌, ◌⊎◌, ◌==◌, ◌||◌, ◌+◌, ◌-◌, ◌^◌, min, nat_lt, false, List, [], ◌∷◌, length, take, Result, Ok, Err, IfOk, MatchResult, if◌then◌else◌}
+use Rattle.std.specs.Prelude.{ℕ, ℤ, pos, negsuc, ◌≡◌, ◌⊎◌, ◌==◌, ◌||◌, ◌+◌, ◌-◌, ◌^◌, min, nat_lt, false, List, [], length, take, Result, Ok, Err, IfOk, MatchResult, if◌then◌else◌}
 use Rattle.pref_table.specs.Rows.{numbers_row}
 use Rattle.pref_table.specs.declared.fault.TableFault.TheVariants.{Width}
 use Rattle.pref_term.specs.Asked.{asked}
@@ -17,6 +17,7 @@ use Rattle.pref_core.specs.declared.fault.CoreFault.TheVariants.{Full}
 use Rattle.pref_table.specs.Numbered.{◌>>=◌}
 use Rattle.pref_script.specs.LiveTable.{names_of, running_of}
 use Rattle.prefq_c.specs.Commits.{changes_of, updates_of}
+use Rattle.prefq_c.specs.Each.{DoesEach}
 use Rattle.prefq_c.specs.Openings.{rows_in}
 use Rattle.prefq_c.specs.Faults.{act_fault, question_fault, values_fault}
 use Rattle.prefq_c.specs.Numbers.{rows_numbers}
@@ -42,10 +43,14 @@ Acts client act kind before result after = (after ≡ running_as before after) �
 abbrev pub Refuses : Fault → Table → Result ℕ Fault → Table → Type 0
 Refuses why before result after = (result ≡ Err why) × (after ≡ before)
 
--- a row of these numbers is inserted, or put in place of the one of this id, by client 1, as all that changes rows
+-- a row is inserted, by client 1, as all that changes rows
+abbrev pub InsertsRow : List ℤ → Table → Result ℕ Fault → Table → Type 0
+InsertsRow row before result after = Acts 1 (Insert row) Inserted before result after
+
+-- a row of these numbers is inserted, or put in place of the one of this id
 abbrev pub Inserts : List ℤ → Table → Result ℕ Fault → Table → Type 0
 Inserts numbers before result after = MatchResult (numbers_row (width_of before) numbers)
-    (λ row. Acts 1 (Insert row) Inserted before result after)
+    (λ row. InsertsRow row before result after)
     (λ why. Refuses (values_fault why) before result after)
 
 abbrev pub Updates : ℕ → List ℤ → Table → Result ℕ Fault → Table → Type 0
@@ -96,17 +101,14 @@ insertable table room count width numbers = if count == 0
 abbrev pub first_id : ℕ → ℕ → ℕ
 first_id first id = if first == 0 then id else first
 
--- rows are inserted one after the other, up to one that is refused; the result is the id of the first one, or this one where there was one before
-abbrev pub InsertsEach : ℕ → List (List ℤ) → Table → Result ℕ Fault → Table → Type 0
-InsertsEach first [] before result after = (result ≡ Ok first) × (after ≡ before)
-InsertsEach first (row ∷ rows) before result after = (mid : Table) × (inserted : Result ℕ Fault) × Acts 1 (Insert row) Inserted before inserted mid × MatchResult inserted
-    (λ id. InsertsEach (first_id first id) rows mid result after)
-    (λ why. (result ≡ Err why) × (after ≡ mid))
+-- rows are inserted one after the other, up to one that is refused; the result is the id of the first one
+abbrev pub InsertsEach : List (List ℤ) → Table → Result ℕ Fault → Table → Type 0
+InsertsEach rows before result after = DoesEach InsertsRow first_id 0 rows before result after
 
 -- so many rows of these numbers are inserted, where there is room for all of them, and the id of the first one is the result, 0 where there is none
 abbrev pub InsertsWithin : Result ℕ Fault → ℕ → ℕ → List ℤ → Table → Result ℕ Fault → Table → Type 0
 InsertsWithin room count width numbers before result after = MatchResult (insertable before room count width numbers)
-    (λ rows. InsertsEach 0 rows before result after)
+    (λ rows. InsertsEach rows before result after)
     (λ why. Refuses why before result after)
 
 -- the same by the room that the table tells

@@ -1,4 +1,5 @@
 pub mod Held
+pub mod Each
 pub mod Lines
 pub mod Ended
 pub mod Faults

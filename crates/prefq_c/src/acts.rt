@@ -53,7 +53,7 @@ impl Table {
     /// Inserts rows, and returns the id of the first one.
     fn insert_rows(&mut self, alloc: Global, count: usize, numbers: &[i64]) -> Result<u64, Fault>
         requires { HaveRows (width_of self.old) count numbers.now }
-        ensures { InsertsEach 0 (rows_in (width_of self.old) count numbers.now) self.old result self.new }
+        ensures { InsertsEach (rows_in (width_of self.old) count numbers.now) self.old result self.new }
     {
         let mut first = 0;
         let mut left = numbers;

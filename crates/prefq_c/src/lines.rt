@@ -1,27 +1,28 @@
 //! The calls that give a table lines of the language of `prefq live`.
 ghost use Rattle.std.specs.Prelude.{◌≡◌, IfSome, IsSome, string_bytes};
+ghost use Rattle.pref_script.specs.Script.{raw_lines};
 ghost use Rattle.prefq_c.specs.Ends.{Copied, Ends};
-ghost use Rattle.prefq_c.specs.Lines.{KeepsNoReplies, Replies};
+ghost use Rattle.prefq_c.specs.Lines.{KeepsNoReplies, RepliesEach};
 
 use crate::answer::{copy_text, end};
 use crate::ended::Ended;
 use crate::handle::{Handle, freeze, take};
 use std::alloc::Global;
 
-/// Gives a table a line, without its end. Its replies, which are none where it is blank, come behind those that the table keeps; the result is how many bytes
+/// Gives a table lines, one after the other. Their replies, which are none to a blank line, come behind those that the table keeps; the result is how many bytes
 /// these are together.
 #[unsafe(no_mangle)]
-pub extern "C" fn prefq_table_reply(
+pub extern "C" fn prefq_table_lines(
     alloc: Global,
     handle: &mut Handle,
-    line: &[u8],
+    lines: &[u8],
     said: &mut [u8],
 ) -> Ended
     requires { IsSome handle.old.value }
-    ensures { IfSome handle.old.value (λ before. Ends (Replies line.now before) handle.new.value said.old said.new result) }
+    ensures { IfSome handle.old.value (λ before. Ends (RepliesEach (raw_lines lines.now) before) handle.new.value said.old said.new result) }
 {
     let mut table = take(alloc, handle);
-    let returned = table.reply_to(alloc, line);
+    let returned = table.reply_to_lines(alloc, lines);
     end(alloc, handle, table, returned, said)
 }
 

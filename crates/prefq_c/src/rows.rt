@@ -29,7 +29,8 @@ pub extern "C" fn prefq_table_insert(
     end(alloc, handle, table, returned, said)
 }
 
-/// Inserts `count` rows of these numbers, each of which has `width`, all or none. The result is the id of the first one, 0 where there is none.
+/// Inserts `count` rows of these numbers, each of which has `width`: none where there is no room for all of them. Else one after the other, up to one that is
+/// refused all the same, as the 2^56th call of a table is. The result is the id of the first one, 0 where there is none.
 #[unsafe(no_mangle)]
 pub extern "C" fn prefq_table_insert_many(
     alloc: Global,

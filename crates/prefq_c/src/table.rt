@@ -1,7 +1,8 @@
 //! A live table with what it keeps for its callers.
 ghost use Rattle.std.specs.Prelude.{◌≡◌, ◌≤◌, drop, length, IfOk, Ok};
 ghost use Rattle.pref_table.specs.Tables.{Gives};
-ghost use Rattle.prefq_c.specs.Lines.{KeepsNoReplies, Replies};
+ghost use Rattle.pref_script.specs.Script.{raw_lines};
+ghost use Rattle.prefq_c.specs.Lines.{KeepsNoReplies, Replies, RepliesEach};
 ghost use Rattle.prefq_c.specs.Openings.{HaveRows, Opens, OpensTable, feeds, limits_of, line_end_from, numbers_table, rows_in, rows_of};
 ghost use Rattle.pref_table.specs.Tables.{table_of};
 
@@ -10,6 +11,7 @@ use crate::fault::Fault;
 use crate::sizes::{Sizes, count_feeds, setup_of};
 use pref_core::{CoreFault, Machine, RankedList, Setup};
 use pref_script::LiveTable;
+use pref_script::engine::{cut_line, line_text};
 use pref_table::{Row, Schema, TableFault, read_table};
 use std::alloc::{AllocError, Global};
 
@@ -40,7 +42,7 @@ pub fn behind<'a>(schema: &Schema, numbers: &'a [i64]) -> &'a [i64]
 }
 
 /// The first `count` rows of numbers, each of which is as wide as the table.
-#[tactic(auto, using(crate::proofs::RowsLaws::rows_end, crate::proofs::RowsLaws::rows_next))]
+#[tactic(auto, using(crate::proofs::RowsLaws::rows_end, crate::proofs::RowsLaws::have_next))]
 fn cut_rows(
     alloc: Global,
     schema: &Schema,
@@ -152,7 +154,7 @@ impl Table {
 
     /// Gives it a line, without its end, and returns how many bytes the replies have that it keeps. Refused `Memory` alone, also after 2^62 lines; it is to be
     /// given no more lines then.
-    pub fn reply_to(&mut self, alloc: Global, line: &[u8]) -> Result<u64, Fault>
+    fn reply_to(&mut self, alloc: Global, line: &[u8]) -> Result<u64, Fault>
         ensures { Replies line.now self.old result self.new }
     {
         if self.live.number >= MOST_LINES {
@@ -162,6 +164,20 @@ impl Table {
             Ok(()) => Ok(self.text.len() as u64),
             Err(_) => Err(Fault::Memory),
         }
+    }
+
+    /// Gives it lines, one after the other, and returns how many bytes the replies have that it keeps. Refused as [`Table::reply_to`] is.
+    pub fn reply_to_lines(&mut self, alloc: Global, lines: &[u8]) -> Result<u64, Fault>
+        ensures { RepliesEach (raw_lines lines.now) self.old result self.new }
+    {
+        let mut size = self.text.len() as u64;
+        let mut left = lines;
+        while !left.is_empty() {
+            let (line, tail) = cut_line(left);
+            size = self.reply_to(alloc, line_text(line))?;
+            left = tail;
+        }
+        Ok(size)
     }
 
     /// Lets the replies go that it keeps.

@@ -1,0 +1,6 @@
+use Rattle.std.proofs.Common.{arith}
+use Rattle.prefq_c.proofs.EndLaws.{ends}
+use Rattle.prefq_c.proofs.lines.prefq_table_lines.Goals as goal
+
+pub returns : goal.returns
+returns c = ends _ _ _ c.deref_mut.result.now _ _ _ _ _ (grind arith) c.reply_to_lines-returned.ensures c.end.ensures
