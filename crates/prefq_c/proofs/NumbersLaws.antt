@@ -1,11 +1,20 @@
 -- The numbers of rows, one row after the other.
 use Rattle.std.proofs.Common.{arith, ◌≡◌, ◌∙◌, ℕ, ℤ, ◌+◌, ◌<◌, ◌≤◌, List, [], ◌∷◌, ◌++◌, length, drop, get_or, pos, ap, set, sym, take, append_assoc}
 use Rattle.std.proofs.lemmas.Grind.{take-set_at}
-use Rattle.std.proofs.lemmas.List.{append-nil, drop_more, drop_all, length-append, take_all}
+use Rattle.std.proofs.lemmas.List.{append-nil, drop_more, drop_all, length-append, length-set, take_all}
 use Rattle.std.proofs.lemmas.List.FromFn.{length-map-range_with_len, map-range_with_len_more}
 use Rattle.pref_sky.specs.declared.entry.Ranked.{Ranked}
 use Rattle.prefq_c.specs.Numbers.{row_cells, row_numbers}
 unfoldable use Rattle.prefq_c.specs.Numbers.{rows_numbers}
+
+-- a level and an id are put behind what was there
+pub head-put : (numbers : List ℤ) (at : ℕ) (level id first second : ℤ) (row : List ℤ) → at + 2 ≤ length numbers → first ≡ level → second ≡ id
+    → (length (set (set numbers at first) (at + 1) second) ≡ length numbers) × (take (at + (2 + 0)) (set (set numbers at first) (at + 1) second) ≡ take at numbers ++ level ∷ id ∷ row_cells 0 row)
+head-put numbers at level id first second row room is_level is_id =
+    let one : take (at + 1) (set numbers at first) ≡ take at numbers ++ (first ∷ []) = take-set_at numbers at (at + 1) first (omega arith) (omega (arith, room)) in
+    let same = length-set numbers at first in
+    let both : take (at + (2 + 0)) (set (set numbers at first) (at + 1) second) ≡ take (at + 1) (set numbers at first) ++ (second ∷ []) = take-set_at (set numbers at first) (at + 1) (at + (2 + 0)) second (omega arith) (omega (arith, room, same)) in
+    (length-set _ _ _ ∙ same, grind (arith, one, both, is_level, is_id, append_assoc))
 
 -- one cell more
 pub cells-more : (cells : List ℤ) (col : ℕ) → row_cells (col + 1) cells ≡ row_cells col cells ++ (get_or cells col (pos 0) ∷ [])
