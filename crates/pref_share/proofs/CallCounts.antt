@@ -87,11 +87,7 @@ record CountsOne (before after : List Client) : Type 0 where
 
 with_seat_counts : (clients : List Client) (client : ℕ) (new who : Client) → seat client clients ≡ Some who → who.calls < 2 ^ 56 → new.calls ≡ suc who.calls → CountsOne clients (with_seat client new clients)
 with_seat_counts clients zero new who at few same = absurd (cc)
-with_seat_counts clients (suc k) new who at few same = record {
-  long = length-set clients k new;
-  few = λ h. AllByRecursion-set (λ who. who.calls ≤ 2 ^ 56) clients k new (omega arith) h;
-  all = sum_by-set_suc (λ who. who.calls) clients k who new at same;
-}
+with_seat_counts clients (suc k) new who at few same = grind (arith, length-set, AllByRecursion-set, sum_by-set_suc)
 
 counts_one : (n : ℕ) (s : State) (op : Op) → IsCaller s op → CountsOne s.clients (after n s op.client op.call).clients
 counts_one n s op c = subst (CountsOne s.clients) (sym (after_clients n s op.client op.call)) (rw (c.at, counted) (with_seat_counts s.clients op.client (one_more s op.call c.who) c.who c.at c.few refl))

@@ -165,6 +165,7 @@ impl<J: BoardBrand> Client<J> {
     ///     client.scan(alloc)?;
     /// }
     /// ```
+    #[tactic(auto, using(crate::proofs::ViewsLaws::still_knows))]
     pub fn scan(&mut self, alloc: Global) -> Result<u32, ShareFault>
         ensures scanned { IfOk result (λ left. Scanned J.opening self.old left self.new) }
         ensures refused { IfErr result (λ fault. RefusesScan J.opening self.old fault self.new) }

@@ -82,25 +82,11 @@ returns-clause-refused g c =
 pub returns-in_default-clause-refused : goal.returns-in_default-clause-refused
 returns-in_default-clause-refused g c = rw (← c.self.view_is) (c.in_default.is, refl)
 
-pub invariant_of-self-then-left-eq0 : goal.invariant_of-self-then-left-eq0
-invariant_of-self-then-left-eq0 g c =
-    let s = c.self.inside in
-    (c.self.invariant.0, c.self.invariant.1, subst (λ (q : Option Asking). Stands g.J.BoardBrand.opening s.number s.counter s.seen q) c.in-Some.is c.self.invariant.2, c.self.invariant.3)
-
 pub returns-then-left-eq0-clause-refused : goal.returns-then-left-eq0-clause-refused
 returns-then-left-eq0-clause-refused g c =
     let s = c.self.inside in
     let query : s.asking ≡ Some (record { scan = c.asking.inside.query; at_begin = c.asking.inside.at_begin }) = c.in-Some.is ∙ ap Some (sym c.asking.view_is) in
     rw (← c.self.view_is) (record { asking = _; is_open = query; done = sym c.left.ensures ∙ c.if-left-eq0.true }, λ i. record { number = s.number; counter = s.counter; seen = s.seen; query = sym c.in-Some.is i })
-
-pub invariant_of-self-in_default-found : goal.invariant_of-self-in_default-found
-invariant_of-self-in_default-found g c =
-    let s = c.self.inside in (
-      still_knows c.read-found.ensures.view c.self.invariant.0,
-      c.self.invariant.1,
-      subst (λ (q : Option Asking). Stands g.J.BoardBrand.opening s.number s.counter s.seen q) c.in-Some.is c.self.invariant.2,
-      c.self.invariant.3,
-    )
 
 pub returns-in_default-found-clause-refused : goal.returns-in_default-found-clause-refused
 returns-in_default-found-clause-refused g c =
