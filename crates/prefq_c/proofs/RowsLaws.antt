@@ -1,16 +1,15 @@
 -- The rows of numbers, one after the other.
-use Rattle.std.proofs.Common.{arith, ◌≡◌, ◌∙◌, ℕ, suc, ℤ, ◌+◌, ◌-◌, ◌<◌, ◌≤◌, List, [], ◌∷◌, ◌++◌, ap, length, take, drop, subst, sym, append_assoc}
+use Rattle.std.proofs.Common.{arith, ◌≡◌, ◌∙◌, ℕ, zero, suc, ℤ, ◌+◌, ◌-◌, ◌<◌, ◌≤◌, List, [], ◌∷◌, ◌++◌, ap, length, take, drop, subst, sym, append_assoc}
 use Rattle.std.proofs.lemmas.List.{append-nil}
 use Rattle.pref_table.specs.Rows.{padded}
 use Rattle.prefq_c.specs.Openings.{HaveRows, rows_in}
 
--- what there is of the next row
-pub have_next : (width count place : ℕ) (left : List ℤ) → place < count → HaveRows width (count - place) left → width ≤ length left
-have_next width count place left inside have =
-    let next : count - place ≡ suc (count - (place + 1)) = omega (arith, inside) in
-    let (some, rest) = subst (λ k. HaveRows width k left) next have in some
+-- what there is of the first row
+pub have_first : (width count : ℕ) (numbers : List ℤ) → 0 < count → HaveRows width count numbers → width ≤ length numbers
+have_first width zero numbers some have = absurd (omega arith)
+have_first width (suc count) numbers some (first, rest) = first
 
--- and of those behind it
+-- and of the rows behind the next one
 pub have_rest : (width count place : ℕ) (left : List ℤ) → place < count → HaveRows width (count - place) left → HaveRows width (count - (place + 1)) (drop width left)
 have_rest width count place left inside have =
     let next : count - place ≡ suc (count - (place + 1)) = omega (arith, inside) in

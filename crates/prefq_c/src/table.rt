@@ -42,7 +42,7 @@ pub fn behind<'a>(schema: &Schema, numbers: &'a [i64]) -> &'a [i64]
 }
 
 /// The first `count` rows of numbers, each of which is as wide as the table.
-#[tactic(auto, using(crate::proofs::RowsLaws::rows_end, crate::proofs::RowsLaws::have_next))]
+#[tactic(auto, using(crate::proofs::RowsLaws::rows_end, crate::proofs::RowsLaws::have_first))]
 fn cut_rows(
     alloc: Global,
     schema: &Schema,

@@ -3,7 +3,7 @@ use Rattle.pref_table.specs.Rows.{padded}
 use Rattle.prefq_c.specs.Acts.{InsertsRow, first_id, width_of}
 use Rattle.prefq_c.specs.Openings.{HaveRows, rows_in}
 use Rattle.prefq_c.proofs.EachLaws.{GoesOn, all_done, none_yet, one_more, one_refused}
-use Rattle.prefq_c.proofs.RowsLaws.{have_next, have_rest, rows_next, rows_none}
+use Rattle.prefq_c.proofs.RowsLaws.{have_first, have_rest, rows_next, rows_none}
 use Rattle.prefq_c.proofs.table.Table.insert_rows.Goals as goal
 
 pub loop-row-init : goal.loop-row-init
@@ -18,15 +18,17 @@ loop-row-init c =
 pub row_of-row-requires : goal.row_of-row-requires
 row_of-row-requires c few =
     let (have, same, goes) = c.loop-row.invariant in
-    let some = have_next (width_of c.args.self.now) c.args.count c.loop-row._row c.loop-row.left.now c.loop-row-test.true have in
+    let some = have_first (width_of c.args.self.now) (c.args.count - c.loop-row._row) c.loop-row.left.now (omega (arith, c.loop-row-test.true)) have in
     omega (arith, some, same)
 
+-- also of the numbers of all rows: whose row comes next is a matter of the invariant
 pub behind-left-requires : goal.behind-left-requires
 behind-left-requires c =
     let (have, same, goes) = c.loop-row.invariant in
-    let some = have_next (width_of c.args.self.now) c.args.count c.loop-row._row c.loop-row.left.now c.loop-row-test.true have in
+    let some = have_first (width_of c.args.self.now) (c.args.count - c.loop-row._row) c.loop-row.left.now (omega (arith, c.loop-row-test.true)) have in
+    let all = have_first (width_of c.args.self.now) c.args.count c.args.numbers.now (omega (arith, c.loop-row-test.true)) c.requires in
     let kept : width_of c.insert_row.new.self ≡ width_of c.loop-row.self = ap width_of c.in_ok-id.ensures.0 in
-    omega (arith, some, same, kept)
+    omega (arith, some, all, same, kept)
 
 pub loop-row-preserved : goal.loop-row-preserved
 loop-row-preserved c =
