@@ -1,6 +1,6 @@
 """Whole rows as they came from a source: they go with the columns that are asked, and are understood once they are in an answer."""
 from itertools import groupby, islice
-from typing import Any, Iterable, List, Sequence, Tuple
+from typing import Any, Iterable, List, Optional, Sequence, Tuple
 
 from .loading import CellRefused, Encoded, column_of_texts, column_of_values
 from .missing import Missing
@@ -20,15 +20,15 @@ class Rows:
         """The rows with these numbers, counted from 0."""
         raise NotImplementedError
 
-    def column(self, name: str, reading: Reading, ids: Sequence[int]) -> Encoded:
-        """A column, and its numbers. A value that is refused is named with the id of its row."""
+    def column(self, name: str, reading: Reading, ids: Optional[Sequence[int]] = None) -> Encoded:
+        """A column, and its numbers. A value that is refused is named with the id of its row, or its number where none are given."""
         raise NotImplementedError
 
 
 class Listed(Rows):
     """Rows that are lists of what stands in their columns."""
 
-    def __init__(self, names: Sequence[str], rows: Sequence[Sequence[Any]]) -> None:
+    def __init__(self, names: Sequence[str], rows: Iterable[Sequence[Any]]) -> None:
         self.names, self.rows = tuple(names), list(rows)
 
     def __eq__(self, other: Any) -> bool:
@@ -49,17 +49,17 @@ class Listed(Rows):
 class CellRows(Listed):
     """Rows of a file, as the texts of their cells."""
 
-    def column(self, name: str, reading: Reading, ids: Sequence[int]) -> Encoded:
+    def column(self, name: str, reading: Reading, ids: Optional[Sequence[int]] = None) -> Encoded:
         try:
             return column_of_texts(name, self.values(name), reading.kinds.get(name), Missing(reading.missing), reading.form)
         except CellRefused as why:
-            raise type(why.why)(f"row {ids[why.row]}, {why}") from None
+            raise type(why.why)(f"row {ids[why.row] if ids else why.row + 1}, {why}") from None
 
 
 class ValueRows(Listed):
     """Rows of Python's values."""
 
-    def column(self, name: str, reading: Reading, ids: Sequence[int]) -> Encoded:
+    def column(self, name: str, reading: Reading, ids: Optional[Sequence[int]] = None) -> Encoded:
         return column_of_values(name, self.values(name), reading.kinds, ids)
 
 
@@ -79,7 +79,7 @@ class FrameRows(Rows):
     def at(self, places: Iterable[int]) -> "FrameRows":
         return FrameRows(self.frame.iloc[list(places)])
 
-    def column(self, name: str, reading: Reading, ids: Sequence[int]) -> Encoded:
+    def column(self, name: str, reading: Reading, ids: Optional[Sequence[int]] = None) -> Encoded:
         from .pandas_frames import encoded_series
         return encoded_series(self.frame[name], name, reading.kinds, ids)
 

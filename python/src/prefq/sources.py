@@ -1,41 +1,42 @@
 """A partition that is open: its columns are read as they are asked for, and whole rows once it is known which are left."""
 import os
-from typing import Any, Dict, Iterable, List, Sequence, Tuple
+from typing import Any, Dict, Sequence
 
 from .carried import CellRows, FrameRows, Rows, ValueRows
 from .errors import Refused
-from .loading import Encoded, File, check_kinds, column_of_values
+from .loading import Encoded, File, check_kinds
 from .missing import Missing
 from .partition import Numbered, Partition, Reading, Source, is_frame, values_of_rows
 from .reading import check_names, read_csv
 
 
 class Opened:
-    """A partition. `names` are those of its columns; `words` are those that were taken for missing, with the number of their rows, by column."""
+    """A partition whose rows are in memory. `names` are those of its columns; `words` are those that were taken for missing, with the number of their rows, by column."""
 
-    names: Tuple[Any, ...]
     # Whether words such as n/a may be missing values.
     has_words = False
 
-    def __init__(self, names: Iterable[Any]) -> None:
-        self.names = tuple(names)
+    def __init__(self, rows: Rows, reading: Reading) -> None:
+        self.names = rows.names
         self.words: Dict[str, Dict[str, int]] = {}
+        self._rows, self._reading = rows, reading
 
     @property
     def count(self) -> int:
         """The number of rows."""
-        raise NotImplementedError
+        return len(self._rows)
 
     def load(self, names: Sequence[str]) -> None:
         """Reads these columns, all at once."""
 
     def column(self, name: str) -> Encoded:
         """A column, and its numbers."""
-        raise NotImplementedError
+        check_names(other for other in self.names if other == name)
+        return self._rows.column(name, self._reading)
 
     def rows_at(self, places: Sequence[int]) -> Rows:
         """Whole rows, by their numbers from 0, ascending."""
-        raise NotImplementedError
+        return self._rows.at(places)
 
 
 class OpenedFile(Opened):
@@ -44,7 +45,7 @@ class OpenedFile(Opened):
     def __init__(self, path: Any, reading: Reading) -> None:
         self._cells = read_csv(path, reading.dialect)
         self._cells.check_columns(self._cells.names)
-        super().__init__(self._cells.names)
+        super().__init__(CellRows(self._cells.names, []), reading)
         self.has_words = reading.missing is None
         self._file = File(self._cells, reading.kinds, Missing(reading.missing), reading.form)
 
@@ -65,60 +66,23 @@ class OpenedFile(Opened):
         return CellRows(self.names, [found[place] for place in places])
 
 
-class OpenedRows(Opened):
-    """Rows in memory."""
-
-    def __init__(self, partition: Partition, reading: Reading) -> None:
-        super().__init__(check_names(partition.columns))
-        self._kinds = reading.kinds
-        check_kinds(self._kinds, self.names)
-        self._rows: List[Sequence[Any]] = list(values_of_rows(partition))
-
-    @property
-    def count(self) -> int:
-        return len(self._rows)
-
-    def column(self, name: str) -> Encoded:
-        place = self.names.index(name)
-        return column_of_values(name, [row[place] for row in self._rows], self._kinds)
-
-    def rows_at(self, places: Sequence[int]) -> Rows:
-        return ValueRows(self.names, [self._rows[place] for place in places])
-
-
-class OpenedFrame(Opened):
-    """A DataFrame of pandas."""
-
-    def __init__(self, frame: Any, reading: Reading) -> None:
-        from .pandas_frames import native
-        super().__init__(frame.columns)
-        self._frame, self._kinds = native(frame), reading.kinds
-        check_kinds(self._kinds, self.names)
-
-    @property
-    def count(self) -> int:
-        return len(self._frame)
-
-    def column(self, name: str) -> Encoded:
-        from .pandas_frames import encoded_series
-        check_names(other for other in self.names if other == name)
-        return encoded_series(self._frame[name], name, self._kinds)
-
-    def rows_at(self, places: Sequence[int]) -> Rows:
-        return FrameRows(self._frame.iloc[list(places)])
-
-
 def opened(source: Source, reading: Reading) -> Opened:
     """A partition, open. What is none is a `TypeError`."""
     if isinstance(source, Numbered):
         source = source.source
+    if isinstance(source, (str, os.PathLike)):
+        if not is_parquet(source):
+            return OpenedFile(source, reading)
+        source = parquet(source)
     if is_frame(source):
-        return OpenedFrame(source, reading)
-    if isinstance(source, Partition):
-        return OpenedRows(source, reading)
-    if not isinstance(source, (str, os.PathLike)):
+        from .pandas_frames import native
+        check_kinds(reading.kinds, list(source.columns))
+        return Opened(FrameRows(native(source)), reading)
+    if not isinstance(source, Partition):
         raise TypeError(f"a partition is a path, a Partition or a DataFrame of pandas, not {source!r}")
-    return OpenedFrame(parquet(source), reading) if is_parquet(source) else OpenedFile(source, reading)
+    names = check_names(source.columns)
+    check_kinds(reading.kinds, names)
+    return Opened(ValueRows(names, values_of_rows(source)), reading)
 
 
 def is_parquet(path: Any) -> bool:
