@@ -220,7 +220,7 @@ class AtRandom(TestCase):
             met = [id for id in rows if all(part.of(rows[id]) is True for part in parts)]
             self.assertEqual([id for id in rows if condition.is_met(numbers[id])], met, where)
         selection = Selection.of(where=where)
-        moment = moment_of(opened.columns, list(numbers.values()), lambda number: number)
+        moment = moment_of(opened.columns, lambda place: [row[place] for row in numbers.values()], lambda number: number)
         with warnings.catch_warnings():
             warnings.simplefilter("ignore", prefq.UnknownValue)
             try:
@@ -229,7 +229,7 @@ class AtRandom(TestCase):
                 return
         dealt = Dealt(opened.columns, list(numbers), Zipped(list(zip(*numbers.values()))), {"capacity": chance.choice([8, 1024])})
         try:
-            self.assertEqual([(row.level, row.key) for row in asked_of(dealt, asked, selection).answer()], wanted, (asked, where))
+            self.assertEqual([(row.level, row.id) for row in asked_of(dealt, asked, selection).answer()], wanted, (asked, where))
         finally:
             dealt.close()
 

@@ -49,7 +49,7 @@ class ManyTables(OfSqlite):
             self.assertEqual(pairs(frame.best(QUESTION, top=10, where="price > 20")), pairs(wanted))
             self.assertEqual(asked.call_count, 1)
             picture = frame.snapshot(QUESTION, Selection.of(top=10, where="price > 20"))
-            self.assertEqual([(row.level, row.key) for row in picture.best], list(pairs(wanted)))
+            self.assertEqual([(row.level, row.id) for row in picture.best], list(pairs(wanted)))
             with self.refuses(prefq.parts.RowsLeft, "200 rows of 200 are left"):
                 frame.best("best empty()")
             with unittest.mock.patch("prefq.selection.MOST_ROWS", 60), self.refuses(prefq.parts.RowsLeft, "179 rows of 179 are left"):

@@ -72,7 +72,7 @@ def condition_of(text: Optional[str], columns: Columns) -> ReadCondition:
         return EVERY_ROW
     if isinstance(text, str) and len(text) > LONGEST_QUESTION:
         return ReadCondition()
-    no_rows = moment_of(columns.columns, [], lambda number: number)
+    no_rows = moment_of(columns.columns, lambda place: [], lambda number: number)
     node = read_condition(text, no_rows.column, no_rows.names)
     computer = Computer(text, no_rows)
     nodes = node.parts if isinstance(node, Operation) and node.name == "and" else [node]

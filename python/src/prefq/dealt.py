@@ -37,10 +37,10 @@ IDS = (1 << ID_BITS) - 1
 
 
 class Found(NamedTuple):
-    """A row of an answer."""
+    """A row of an answer: its level, its id or key, and its numbers as they stand in a table."""
 
     level: int
-    key: Key
+    id: Any
     numbers: Numbers
 
 

@@ -5,12 +5,12 @@ why). What no table answers by itself, as a condition, is computed over all rows
 """
 from dataclasses import replace
 from itertools import chain
-from typing import List, Sequence, Tuple
+from typing import List, Sequence, Tuple, Union
 
 from .columns import Column
 from .condition_terms import RangeCondition, ReadCondition, condition_of, planned
 from .dealt import Begun, Dealt, Found, ordered
-from .moment import Moment, moment_of, moment_of_columnar
+from .moment import Moment, moment_of
 from .parts import fitting
 from .questions import Question
 from .rows import ColumnarRows, Row, Zipped
@@ -18,23 +18,11 @@ from .selection import Selection, answered, first_of_each, picked, reading
 from .table import ask_once
 from .translate import Plan, bases_of, clause_of, plan
 
-
 # So many levels are asked of tables for as many rows, by the number of base terms: more take longer than to read the rows that meet a condition.
 MOST_LEVELS_FOR_ROWS = {1: 1000, 2: 32, 3: 10}
 
 
-class Asked:
-    """A question that has begun; the columns of the rows that it is about, and what is said of its values, which is there once it has its answer."""
-
-    columns: Tuple[Column, ...]
-    unknown: Sequence[str] = ()
-
-    def answer(self) -> List[Found]:
-        """The answer, by level and then by key."""
-        raise NotImplementedError
-
-
-class AskedOfTables(Asked):
+class AskedOfTables:
     """A question that each table answers, and of whose answer the first rows may be wanted. Of rows that are equal in the columns of a distinct clause, the one with
     the smallest key is in the answer: a table would take the one that came first."""
 
@@ -53,11 +41,12 @@ class AskedOfTables(Asked):
             self._begun = Begun(dealt, of_tables.text)
 
     def answer(self) -> List[Found]:
+        """The answer, by level and then by key. What is said of its values is `unknown` then."""
         parts = self._begun.answers()
         if self._condition.ranges:
             parts = [[row for row in part if self._condition.is_met(row.numbers)] for part in parts]
         rows = parts[0] if len(parts) == 1 else self._merged(list(chain.from_iterable(parts)))
-        rows.sort(key=lambda row: (row.level, ordered(row.key)))
+        rows.sort(key=lambda row: (row.level, ordered(row.id)))
         twins = self._twins
         if twins is not None:
             rows = first_of_each(rows, lambda row: tuple(row.numbers[place] for place in twins))
@@ -65,7 +54,7 @@ class AskedOfTables(Asked):
 
     def _first(self, found: List[Found]) -> List[Found]:
         """The first rows of the answer that are wanted."""
-        moment = moment_of(self.columns, [row.numbers for row in found], lambda number: repr(found[number - 1].key))
+        moment = moment_of(self.columns, lambda place: [row.numbers[place] for row in found], lambda number: repr(found[number - 1].id))
         read = reading(self._text, self._selection, moment)
         rows = [Row(row.level, number, list(values)) for number, (row, values) in enumerate(zip(found, zip(*read.lists)), 1)]
         first, absent_in_ties = picked(rows, read, self._selection, moment)
@@ -82,8 +71,10 @@ class AskedOfTables(Asked):
         return [rows[at[row.id - 1]]._replace(level=row.level) for row in asked(self._plan.text, at)]
 
 
-class AskedOfRows(Asked):
+class AskedOfRows:
     """A question that is computed over all rows as they were at its begin."""
+
+    unknown: Sequence[str] = ()
 
     def __init__(self, dealt: Dealt, text: str, selection: Selection, condition: ReadCondition) -> None:
         self.columns = dealt.columns
@@ -91,12 +82,16 @@ class AskedOfRows(Asked):
         self._begun = dealt.begin_all(condition.narrowing)
 
     def answer(self) -> List[Found]:
+        """See `AskedOfTables.answer`."""
         pairs = self._begun.rows()
         moment = moment_of_keyed(self.columns, pairs)
         read = reading(self._text, self._selection, moment)
         rows, absent_in_ties = picked(answered(read, None, {}), read, self._selection, moment)
         self.unknown = [*read.unknown, *absent_in_ties]
         return [Found(row.level, *pairs[row.id - 1]) for row in rows]
+
+
+Asked = Union[AskedOfTables, AskedOfRows]
 
 
 def asked_of(dealt: Dealt, text: str, selection: Selection) -> Asked:
@@ -132,4 +127,4 @@ def of_tables(question: Question, tables: int) -> Question:
 
 def moment_of_keyed(columns: Sequence[Column], rows: ColumnarRows) -> Moment:
     """Rows of these columns as they are at one moment, which messages call by their keys."""
-    return moment_of_columnar(columns, rows, lambda number: repr(rows[number - 1][0]))
+    return moment_of(columns, rows.column, lambda number: repr(rows[number - 1][0]))

@@ -11,6 +11,7 @@ from typing import Any, Callable, Dict, Iterable, List, Mapping, NamedTuple, Opt
 
 from .clients import locked
 from .columns import Column, listed
+from .dealt import Found
 from .errors import Ended, Error, Refused, no_such_row
 from .frame import Frame
 from .frame_query import FrameQuery
@@ -29,14 +30,6 @@ Result = TypeVar("Result")
 class Held(NamedTuple):
     """A row of a desk: its id, and its numbers as they stand in the table."""
 
-    id: int
-    numbers: Numbers
-
-
-class Found(NamedTuple):
-    """A row of an answer."""
-
-    level: int
     id: int
     numbers: Numbers
 
@@ -363,4 +356,4 @@ def computed_picture(text: str, selection: Selection, version: int, columns: Lis
 
 def moment_of_picture(columns: Sequence[Column], rows: Sequence[Held]) -> Moment:
     """The rows of a picture as those of a moment, counted from 1."""
-    return moment_of(columns, [row.numbers for row in rows], lambda number: rows[number - 1].id)
+    return moment_of(columns, lambda place: [row.numbers[place] for row in rows], lambda number: rows[number - 1].id)

@@ -294,7 +294,7 @@ class Engine:
 
     def begin(self, asker: Asker, question: str, left: c_uint32) -> None:
         """Begins a query, of which so many blocks are left then."""
-        self._call_as(asker, self._begin, question, left)
+        self._call_as(asker, self._call_with, question, self._calls.prefq_begin, left)
 
     def scan(self, asker: Asker, blocks: int, left: c_uint32) -> None:
         """Scans some blocks. How many are left is told by the call itself, so that no interruption can come in between."""
@@ -302,11 +302,11 @@ class Engine:
 
     def finish(self, asker: Asker) -> bytes:
         """The rows of the answer one after the other: each is its level, its id and its values. The query has ended then."""
-        return self._call_as(asker, self._finish)
+        return self._call_as(asker, self._answer, None)
 
     def ask(self, asker: Asker, question: str) -> bytes:
         """The answer to a question, as `finish` has it, by one call: only where that cannot take long."""
-        return self._call_as(asker, self._ask, question)
+        return self._call_as(asker, self._answer, question)
 
     def _call_as(self, asker: Asker, call: Callable[..., Result], *words: Any) -> Result:
         """A call of a query, which has its client as long as that takes."""
@@ -326,15 +326,7 @@ class Engine:
         finally:
             asker.is_used = False
 
-    def _ask(self, asker: Asker, question: str) -> bytes:
-        numbers, count = Numbers(), c_size_t()
-        self._call_with(question, asker, self._calls.prefq_ask, numbers, count)
-        return self._answer(asker, numbers, count)
-
-    def _begin(self, asker: Asker, question: str, left: c_uint32) -> None:
-        self._call_with(question, asker, self._calls.prefq_begin, left)
-
-    def _call_with(self, question: str, asker: Asker, call: Any, *results: Any) -> None:
+    def _call_with(self, asker: Asker, question: str, call: Any, *results: Any) -> None:
         """A call with a question. Where that is refused, the client is free again."""
         text = question.encode()
         words = (self._pointer, asker.client, text, len(text), *results)
@@ -348,13 +340,14 @@ class Engine:
     def _scan(self, asker: Asker, blocks: int, left: c_uint32) -> None:
         self._call(self._calls.prefq_scan, self._pointer, asker.client, blocks, left)
 
-    def _finish(self, asker: Asker) -> bytes:
-        numbers, count = Numbers(), c_size_t()
-        self._call(self._calls.prefq_finish, self._pointer, asker.client, numbers, count)
-        return self._answer(asker, numbers, count)
-
-    def _answer(self, asker: Asker, numbers: Any, count: c_size_t) -> bytes:
-        """A copy of an answer. Until it is made, the client gets no other query."""
+    def _answer(self, asker: Asker, question: Optional[str]) -> bytes:
+        """A copy of the answer to this question, or of one that was begun. Until it is made, the client gets no other query."""
+        numbers: Any = Numbers()
+        count = c_size_t()
+        if question is None:
+            self._call(self._calls.prefq_finish, self._pointer, asker.client, numbers, count)
+        else:
+            self._call_with(asker, question, self._calls.prefq_ask, numbers, count)
         found: bytes = numbers[:BYTES * count.value * (2 + self.width)]
         del self.queries[asker.client]
         return found

@@ -5,7 +5,8 @@ import weakref
 from typing import Any, Callable, Dict, List, Mapping, Optional, Sequence
 
 from .columns import Column
-from .desk import Desk, Found, Held, Picture, row_type
+from .dealt import Found
+from .desk import Desk, Held, Picture, row_type
 from .errors import Ended, Refused
 from .follow import Followed
 from .selection import Selection
@@ -72,7 +73,7 @@ class FollowedDesk(Desk):
         self._see(found.version, found.columns)
         made = row_type(found.columns)
         rows = [Held(int(key), made(numbers)) for key, numbers in found.rows.items()]
-        best = [Found(row.level, int(row.key), made(row.numbers)) for row in found.best]
+        best = [Found(row.level, int(row.id), made(row.numbers)) for row in found.best]
         return Picture(found.version + turns, list(found.columns), rows, best, list(found.asked), tuple(found.unknown))
 
     def _look(self) -> None:

@@ -7,7 +7,6 @@ from .columns import Column
 from .loading import Encoded
 from .pauses import extended
 from .reading import Progress, check_names
-from .rows import ColumnarRows
 
 
 class Moment:
@@ -83,16 +82,7 @@ class Moment:
         return part
 
 
-def moment_of(columns: Sequence[Column], rows: Sequence[Sequence[int]], called: Callable[[int], Any]) -> Moment:
-    """Rows as numbers of these columns, which are all at hand. `called` gives what messages call a row by its number, from 1 on."""
-    return _moment(columns, lambda place: [row[place] for row in rows], called)
-
-
-def moment_of_columnar(columns: Sequence[Column], rows: ColumnarRows, called: Callable[[int], Any]) -> Moment:
-    """The same of rows whose columns are taken when they are named."""
-    return _moment(columns, rows.column, called)
-
-
-def _moment(columns: Sequence[Column], numbers: Callable[[int], Sequence[int]], called: Callable[[int], Any]) -> Moment:
+def moment_of(columns: Sequence[Column], numbers: Callable[[int], Sequence[int]], called: Callable[[int], Any]) -> Moment:
+    """Rows of these columns, each of which has its numbers by its place. `called` gives what messages call a row by its number, from 1 on."""
     places = {column.name: place for place, column in enumerate(columns)}
     return Moment(list(places), lambda name: (columns[places[name]], numbers(places[name])), called=called)

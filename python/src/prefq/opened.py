@@ -9,7 +9,7 @@ from .kept import Answered, Kept
 from .kinds import Decimals, Kind, Texts, Whole
 from .kinds.texts import CodeBookState
 from .loading import CellRefused, check_width
-from .moment import Moment, moment_of_columnar
+from .moment import Moment, moment_of
 from .reading import check_names
 from .rows import ColumnarRows, WholeRows, Zipped
 from .table import Table
@@ -82,7 +82,7 @@ class Opened(Columns):
 
     def moment(self, rows: ColumnarRows) -> Moment:
         """Rows of the table as they are at one moment, counted from 1."""
-        return moment_of_columnar(self.columns, rows, lambda number: self.ids.outside(rows[number - 1][0]))
+        return moment_of(self.columns, rows.column, lambda number: self.ids.outside(rows[number - 1][0]))
 
     def numbers(self, rows: Sequence[Sequence[Any]], kinds: Mapping[str, Kind] = {}) -> List[List[int]]:
         """The numbers of rows of values, where these columns have other kinds; `CellRefused` says which row has none. What is missing is not noted yet: a row may

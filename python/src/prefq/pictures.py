@@ -181,7 +181,7 @@ def texts(columns: Sequence[Column], numbers: Sequence[int]) -> List[str]:
     return [column.text(column.decode(number)) for column, number in zip(columns, numbers)]
 
 
-def ranks(columns: Sequence[Column], rows: Sequence[Numbers]) -> List[Tuple[Optional[int], ...]]:
+def ranks(columns: Sequence[Column], rows: Sequence[Sequence[int]]) -> List[Tuple[Optional[int], ...]]:
     """At which place of the order of its column each value of some rows is, so that a page can sort by it; None where it is missing."""
     return list(zip(*(ranks_in(column, numbers) for column, numbers in zip(columns, zip(*rows)))))
 

@@ -72,23 +72,6 @@ class WholeRows:
         raise NotImplementedError
 
 
-class TextRows(WholeRows):
-    """Rows as lines of text, which the library reads."""
-
-    def __init__(self, lines: Sequence[bytes]) -> None:
-        self._lines = lines
-
-    def __len__(self) -> int:
-        return len(self._lines)
-
-    def text(self) -> bytes:
-        """The rows one to a line."""
-        return b"".join([line + b"\n" for line in self._lines])
-
-    def opened(self, columns: Sequence[str], setup: Setup) -> Engine:
-        return Engine.opened_text(columns, self.text(), len(self), setup)
-
-
 class Packed(WholeRows):
     """Rows one after the other."""
 

@@ -6,8 +6,10 @@ import re
 from typing import Iterable, List, NamedTuple, Optional, Sequence, Tuple
 
 from .checks import LEAST
+from .engine import Engine
+from .library import Setup
 from .reading import Chunk
-from .rows import TextRows
+from .rows import WholeRows
 
 # A number has 18 digits at most, so that each fits, and one spelling. (An empty cell takes another pattern, since most files have none.)
 NUMBER = r"-?[1-9][0-9]{0,17}|0"
@@ -40,8 +42,8 @@ def filled(text: str) -> str:
     return between.replace("\n,", f"\n{GAP},").replace(",\n", f",{GAP}\n")[1:]
 
 
-class Standing(TextRows):
-    """The rows of chunks as they stand."""
+class Standing(WholeRows):
+    """The rows of chunks as they stand, which the library reads."""
 
     def __init__(self, chunks: Sequence[Lines]) -> None:
         self._chunks = chunks
@@ -63,7 +65,11 @@ class Standing(TextRows):
         return sum(chunk.rows for chunk in self._chunks)
 
     def text(self) -> bytes:
+        """The rows one to a line."""
         return "".join(chunk.text for chunk in self._chunks).encode()
+
+    def opened(self, columns: Sequence[str], setup: Setup) -> Engine:
+        return Engine.opened_text(columns, self.text(), len(self), setup)
 
     def has_gaps(self, place: int) -> bool:
         """Whether some cell of a column is empty."""
