@@ -365,7 +365,7 @@ class ManyThreads(TestCase):
 
             def opens_anew():
                 while not stop.is_set():
-                    desk._frame._alone(lambda: (desk._frame._open_anew({}), desk._read()))
+                    desk._frame._alone(lambda: (desk._frame._open_anew({}), setattr(desk, "_rows", desk._there())))
                     self.assertEqual(len(desk.picture("best low(Distance)").best) > 0, True)
                     stop.wait(0.1)
             with ThreadPoolExecutor(5) as pool:

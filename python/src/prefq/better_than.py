@@ -13,11 +13,11 @@ Sides = Tuple[int, int]
 
 
 class Order:
-    """The term of a question over rows, which are given by columns."""
+    """The term of a question, in the language of the program, over rows, which are given by columns."""
 
     def __init__(self, term: str, names: Sequence[str], columns: Rows) -> None:
         self._columns = dict(zip(names, columns))
-        self.term = term_of(term, names)
+        self.term = read_question(f"best {term}", {name: Column(name, "whole") for name in names}.get, names).term
         self.count = len(columns[0]) if columns else 0
 
     def scores(self, base: Base, turned: bool) -> List[int]:
@@ -61,11 +61,6 @@ class Order:
             return [sum(row) for row in zip(*parts)] if term.sign == "*" else ranks(list(zip(*parts)))
 
         return places(self.term, False)
-
-
-def term_of(text: str, names: Sequence[str]) -> Term:
-    """The term of a text in the language of the program."""
-    return read_question(f"best {text}", {name: Column(name, "whole") for name in names}.get, names).term
 
 
 def score_of(base: Base) -> Callable[[int], int]:

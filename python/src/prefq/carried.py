@@ -1,32 +1,17 @@
 """Whole rows as they came from a source: they go with the columns that are asked, and are understood once they are in an answer."""
 from itertools import groupby, islice
-from typing import Any, Iterable, List, Optional, Sequence, Tuple
+from typing import Any, Iterable, List, Optional, Sequence, Tuple, TypeVar, Union
 
 from .loading import CellRefused, Encoded, column_of_texts, column_of_values
 from .missing import Missing
 from .partition import Reading
 from .widening import Segment, as_in_a_frame, joined
 
-
-class Rows:
-    """Some rows of one source, by the names of its columns."""
-
-    names: Tuple[Any, ...]
-
-    def __len__(self) -> int:
-        raise NotImplementedError
-
-    def at(self, places: Iterable[int]) -> "Rows":
-        """The rows with these numbers, counted from 0."""
-        raise NotImplementedError
-
-    def column(self, name: str, reading: Reading, ids: Optional[Sequence[int]] = None) -> Encoded:
-        """A column, and its numbers. A value that is refused is named with the id of its row, or its number where none are given."""
-        raise NotImplementedError
+Self = TypeVar("Self", bound="Listed")
 
 
-class Listed(Rows):
-    """Rows that are lists of what stands in their columns."""
+class Listed:
+    """Some rows of one source, by the names of its columns, as lists of what stands there."""
 
     def __init__(self, names: Sequence[str], rows: Iterable[Sequence[Any]]) -> None:
         self.names, self.rows = tuple(names), list(rows)
@@ -37,7 +22,8 @@ class Listed(Rows):
     def __len__(self) -> int:
         return len(self.rows)
 
-    def at(self, places: Iterable[int]) -> "Listed":
+    def at(self: Self, places: Iterable[int]) -> Self:
+        """The rows with these numbers, counted from 0."""
         return type(self)(self.names, [self.rows[place] for place in places])
 
     def values(self, name: str) -> List[Any]:
@@ -50,6 +36,7 @@ class CellRows(Listed):
     """Rows of a file, as the texts of their cells."""
 
     def column(self, name: str, reading: Reading, ids: Optional[Sequence[int]] = None) -> Encoded:
+        """A column, and its numbers. A value that is refused is named with the id of its row, or its number where none are given."""
         try:
             return column_of_texts(name, self.values(name), reading.kinds.get(name), Missing(reading.missing), reading.form)
         except CellRefused as why:
@@ -63,7 +50,7 @@ class ValueRows(Listed):
         return column_of_values(name, self.values(name), reading.kinds, ids)
 
 
-class FrameRows(Rows):
+class FrameRows:
     """Rows of a DataFrame of pandas."""
 
     def __init__(self, frame: Any) -> None:
@@ -82,6 +69,9 @@ class FrameRows(Rows):
     def column(self, name: str, reading: Reading, ids: Optional[Sequence[int]] = None) -> Encoded:
         from .pandas_frames import encoded_series
         return encoded_series(self.frame[name], name, reading.kinds, ids)
+
+
+Rows = Union[CellRows, ValueRows, FrameRows]
 
 
 def column_of(rows: Sequence[Rows], name: str, reading: Reading, ids: Iterable[int]) -> Segment:

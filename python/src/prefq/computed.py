@@ -16,7 +16,7 @@ from typing import Any, Callable, Dict, List, Optional, Tuple, Union
 
 from .checks import LEAST
 from .columns import Column
-from .computed_values import NoValues, NumberColumn, Numbers, Others, Truths, Values, Within, both_known, combined, joined, known_in
+from .computed_values import NoValues, NumberColumn, Numbers, Others, Truths, Values, Within, both_known, combined, joined
 from .computed_numbers import column_of_numbers, decoded_texts, numbers_of_floats, position_in
 from .expressions import Comparison, Literal, Named, Node, Operation
 from .kinds import Booleans, Choices, Dates, Floats, Texts, Times, Whole
@@ -25,7 +25,7 @@ from .kinds.exact import Number as Rational
 from .kinds.numbers import Number
 from .moment import Moment
 from .questions import refuse
-from .ranges import MISSING, VALUES, Ranges, beside, complement
+from .ranges import MISSING, VALUES, Ranges, beside, complement, within
 from .translate import OF_CONDITIONS, check_kind_is_known, check_order
 from .widening import Nothing
 
@@ -99,7 +99,8 @@ class Computer:
     def _known(self, column: Column) -> Optional[bytes]:
         """The rows that have a value in a column; None where all have one."""
         if id(column) not in self._known_in:
-            self._known_in[id(column)] = known_in(self._moment.numbers(column))
+            numbers = self._moment.numbers(column)
+            self._known_in[id(column)] = within(VALUES, numbers) if LEAST in numbers else None
         return self._known_in[id(column)]
 
     def _masks(self, found: Union[Truths, Within]) -> Truths:

@@ -149,11 +149,6 @@ def both_known(one: Optional[bytes], other: Optional[bytes]) -> Optional[bytes]:
     return joined(operator.and_, one, other)
 
 
-def known_in(numbers: Sequence[int]) -> Optional[bytes]:
-    """The rows that have a value in a column; None where all have one."""
-    return within(VALUES, numbers) if LEAST in numbers else None
-
-
 def combined(function: Callable[[Any, Any], Any], left: Numbers, right: Numbers, factors: Tuple[int, int], scale: int) -> Numbers:
     """What a function makes of two numbers of each row, which are multiplied by these factors before."""
     is_constant = left.is_constant and right.is_constant

@@ -15,6 +15,7 @@ from .dealt import Key
 from .follow_source import UNCHANGED
 
 NAME = r'(?:"(?:[^"]|"")*"|[^"\s.,:\[\]]+)'
+TABLE = re.compile(rf"{NAME}\.{NAME}")
 HEAD = re.compile(rf"table (?P<tables>{NAME}\.{NAME}(?:, {NAME}\.{NAME})*): (?P<verb>INSERT|UPDATE|DELETE|TRUNCATE):")
 CELL = re.compile(rf""" (?P<name>{NAME})\[(?P<type>(?:"(?:[^"]|"")*"|[^"])*?)\]:(?P<value>B?'(?:[^']|'')*'|[^\s']+)""", re.DOTALL)
 OLD, NEW = " old-key:", " new-tuple:"
@@ -71,7 +72,7 @@ class Log:
         head = HEAD.match(line)
         if line.startswith("COMMIT"):
             self.place = place_of(place)
-        elif head and self._layout.name in _names(head["tables"]):
+        elif head and self._layout.name in TABLE.findall(head["tables"]):
             try:
                 self._change(head["verb"], line[head.end():])
             except NotUnderstood:
@@ -90,12 +91,9 @@ class Log:
         if verb == "DELETE":
             self.rows[key] = None
             return
-        self._write(key, before, [cells[name] if cells.get(name) is UNCHANGED else self._layout.cell(name, cells[name]) for name in self._followed(cells)])
-
-    def _followed(self, cells: Mapping[str, Any]) -> Sequence[str]:
         if not set(self._layout.columns) <= set(cells):
             raise NotUnderstood("a column is not there")
-        return self._layout.columns
+        self._write(key, before, [cells[name] if cells[name] is UNCHANGED else self._layout.cell(name, cells[name]) for name in self._layout.columns])
 
     def _key(self, cells: Mapping[str, Any]) -> Key:
         key = cells.get(self._layout.key)
@@ -115,10 +113,6 @@ class Log:
         if before != key:
             self.rows[before] = None
         self.rows[key] = values
-
-
-def _names(tables: str) -> List[str]:
-    return re.findall(rf"{NAME}\.{NAME}", tables)
 
 
 def _cells(text: str, types: Mapping[str, str]) -> Iterator[Tuple[str, Any]]:

@@ -89,8 +89,7 @@ class Desk:
         self._subscribed: List[Callable[[], None]] = []
         # Whether the rows here are those of the frame: not where a change was interrupted, nor where the answer to a question has a row that is not here.
         self._is_whole = True
-        self._rows: Dict[int, Held] = {}
-        self._read()
+        self._rows = self._there()
 
     def __enter__(self) -> "Desk":
         return self
@@ -117,8 +116,7 @@ class Desk:
     @property
     def table(self) -> Table:
         """The table that is asked now."""
-        table: Table = self._frame.table
-        return table
+        return self._frame.table  # type: ignore[no-any-return]
 
     @property
     def is_closed(self) -> bool:
@@ -213,10 +211,6 @@ class Desk:
                 self._is_whole = False
             return self.picture(text, selection)
         return Picture(version, columns, list(rows.values()), [Found(level or 0, id, rows[id].numbers) for level, id, _ in found.rows], columns_in(question), tuple(found.unknown))
-
-    def _read(self) -> None:
-        """Takes the columns and the rows as they are in the frame."""
-        self._rows = self._there()
 
     def _there(self) -> Dict[int, Held]:
         """The rows as they are in the frame, whose columns are taken."""

@@ -142,21 +142,14 @@ class FrameReader(Reader):
         token = self._next
         if token.kind == "word" and self._is_called() and token.text in ("true", "empty"):
             self._at += 1
-            if token.text == "true":
-                return self._true(token)
             self._need("(")
+            column = self._expression() if token.text == "true" else NO_COLUMN
             self._need(")")
-            return Base("empty", NO_COLUMN, (), token.place)
-        found = super()._base()
+            found = Base(token.text, column, (), token.place)
+        else:
+            found = super()._base()
         self.hints = OF_FRAMES
         return found
-
-    def _true(self, token: Token) -> Base:
-        self._need("(")
-        column = self._expression()
-        self._need(")")
-        self.hints = OF_FRAMES
-        return Base("true", column, (), token.place)
 
     def _of_a_column(self, empty: Base, by: Sequence[Column]) -> Base:
         """What is asked where there is nothing but `empty()`. By a set without values all rows are the same, whatever the column is: one of the groups, or the first by

@@ -382,25 +382,18 @@ class Followed:
                 dealt.close()
 
     def _column(self, name: str, values: Sequence[Any], own: Optional[Column], keys: Sequence[Key]) -> Tuple[Column, Sequence[int]]:
-        """A column of these values: of the kind that is given for it, or that it has by itself, or else of the kind of its values."""
+        """A column of these values: of the kind that is given for it, or that it has by itself, or else of the kind of its values. A value that it does not take is
+        `Refused`, with its key."""
         column = Column(name, self._kinds[name]) if name in self._kinds else own
         try:
-            return column_at_keys(name, values, column, keys)
-        except Refused as why:
+            return column_of_values(name, values, None, keys, "key") if column is None else (column, encoded(column, values, keys, "key"))
+        except (Refused, TypeError, ValueError) as why:
             raise Refused(f"{self._source.name}: {why}", "follow") from None
 
 
 def key_given(id: Any) -> Key:
     """A key as it was given."""
     return id if isinstance(id, str) else whole(id, "id", LEAST, MOST)
-
-
-def column_at_keys(name: str, values: Sequence[Any], column: Optional[Column], keys: Sequence[Key]) -> Tuple[Column, Sequence[int]]:
-    """This column, or one of the kind of the values, with their numbers. A value that it does not take is `Refused`, with its key."""
-    try:
-        return column_of_values(name, values, None, keys, "key") if column is None else (column, encoded(column, values, keys, "key"))
-    except (Refused, TypeError, ValueError) as why:
-        raise Refused(str(why), "follow") from None
 
 
 def numbers_of_rows(dealt: Dealt, rows: Mapping[Key, Cells]) -> Mapping[Key, Numbers]:

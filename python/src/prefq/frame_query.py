@@ -45,13 +45,11 @@ class FrameQuery:
     @property
     def left(self) -> int:
         """How many blocks are still to be scanned."""
-        left: int = self._query.left
-        return left
+        return int(self._query.left)
 
     def scan(self) -> int:
         """See `Query.scan`."""
-        left: int = self._query.scan()
-        return left
+        return int(self._query.scan())
 
     def scan_piece(self) -> None:
         """See `Query.scan_piece`."""

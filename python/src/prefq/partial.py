@@ -2,7 +2,7 @@
 from array import array
 from bisect import bisect_left
 from dataclasses import dataclass, field, replace
-from typing import Any, Dict, Iterable, Iterator, Mapping, Sequence, Tuple
+from typing import Any, Dict, Iterable, Mapping, Sequence, Tuple
 
 from .carried import Rows
 from .errors import Refused
@@ -64,27 +64,18 @@ def together(partials: Sequence[Partial]) -> Partial:
         places.extend(count + place for place in partial.places)
         count += partial.count
     moments = {name: text for partial in partials for name, text in partial.moments.items()}
-    return Partial(first.names, tuple(_asked(partials, moments)), count, places, tuple(rows for partial in partials for rows in partial.rows), _absent_in_all(partials),
-                   _words_of(partials), tuple(_computed(partials, moments)), moments, first.source)
 
+    def brought_together(segments: Sequence[Segment]) -> Segment:
+        check_zones(segments, moments.get(segments[0].column.name, ()))
+        return joined(segments)
 
-def _asked(partials: Sequence[Partial], moments: Mapping[str, Tuple[str, ...]]) -> Iterator[Segment]:
-    """The columns of the question, each brought together."""
-    return (_joined(segments, moments) for segments in zip(*(partial.asked for partial in partials)))
-
-
-def _computed(partials: Sequence[Partial], moments: Mapping[str, Tuple[str, ...]]) -> Iterator[Segment]:
-    """The columns over which something is computed, each brought together."""
+    asked = tuple(map(brought_together, zip(*(partial.asked for partial in partials))))
+    computed = []
     for segments in zip(*(partial.computed for partial in partials)):
         check_one_line_of_time(segments)
-        yield _joined(segments, moments)
-
-
-def _joined(segments: Sequence[Segment], moments: Mapping[str, Tuple[str, ...]]) -> Segment:
-    name = segments[0].column.name
-    if name in moments:
-        check_zones(segments, moments[name])
-    return joined(segments)
+        computed.append(brought_together(segments))
+    return Partial(first.names, asked, count, places, tuple(rows for partial in partials for rows in partial.rows), _absent_in_all(partials), _words_of(partials),
+                   tuple(computed), moments, first.source)
 
 
 def _rows_at(rows: Sequence[Rows], at: Sequence[int]) -> Iterable[Rows]:

@@ -362,7 +362,8 @@ def content_of(file: IO[Any], what: str, dialect: Dialect, path: Union[str, "os.
         if is_packed:
             first = unpacked(first + file.read(), what)
         encoding = dialect.encoding or encoding_of(first)
-        check_text(first, encoding, what)
+        if b"\0" in first[:SAMPLE] and "16" not in encoding and "32" not in encoding:
+            raise Refused(f"{what} is no text: its byte {first.index(0)} is 0", "table")
         if len(first) == SAMPLE and not END_OF_LINE.search(first):
             first += file.read(LONGEST_HEAD)
             if not END_OF_LINE.search(first) and len(first) > LONGEST_HEAD:
@@ -389,12 +390,6 @@ def state_of(file: IO[bytes]) -> Tuple[int, ...]:
     """What of a file differs where it was written to."""
     found = os.fstat(file.fileno())
     return found.st_dev, found.st_ino, found.st_size, found.st_mtime_ns
-
-
-def check_text(first: bytes, encoding: str, what: str) -> None:
-    """Refuses what begins as no text does."""
-    if b"\0" in first[:SAMPLE] and "16" not in encoding and "32" not in encoding:
-        raise Refused(f"{what} is no text: its byte {first.index(0)} is 0", "table")
 
 
 def unpacked(data: bytes, what: str) -> bytes:

@@ -73,16 +73,11 @@ def levels_of(read: Reading, found: List[int]) -> Dict[int, int]:
     term = read.term
     if read.question.distinct:
         lists = clause_in_turn(read, names, lists)
-        names = names_of_criteria(len(lists))
+        if len(lists) > MOST_COLUMNS:       # of one column both min and max may be criteria
+            raise Refused(f"a distinct clause of {len(lists)} criteria, and the rows that dominate one are compared by {MOST_COLUMNS} at most", "arguments")
+        names = [f"c{place}" for place in range(len(lists))]
         term = " * ".join(f"low({name})" for name in names)
     return {found[row.id - 1]: row.level for row in ask_once(names, Zipped(lists), f"top_level {LEVELS} {term}")}
-
-
-def names_of_criteria(count: int) -> List[str]:
-    """Names for so many criteria, of which there are more than columns where both min and max are asked of one. More than a table has columns are `Refused`."""
-    if count > MOST_COLUMNS:
-        raise Refused(f"a distinct clause of {count} criteria, and the rows that dominate one are compared by {MOST_COLUMNS} at most", "arguments")
-    return [f"c{place}" for place in range(count)]
 
 
 def terms_lists(read: Reading) -> Tuple[List[str], List[Sequence[int]]]:

@@ -98,10 +98,9 @@ class Whole(Number):
 
     def read_all(self, texts: Sequence[str]) -> Optional[List[int]]:
         plain = texts if self.form.is_plain else self.form.all_plain(texts)
-        if plain is None:
-            return None
-        found = scaled_numbers(plain, self.decimals)
-        return found if found is not None and are_in_range(found) else None
+        found = PlainTexts.of(plain) if plain else None
+        numbers = None if found is None else found.scaled(self.decimals)
+        return numbers if numbers is not None and are_in_range(numbers) else None
 
     def widened(self, value: Any) -> Optional[Kind]:
         if self._has(value):
@@ -288,9 +287,3 @@ def decimals_of(text: str, form: Form = PLAIN) -> int:
 def are_in_range(numbers: Sequence[int]) -> bool:
     """Whether a column can have all of these numbers."""
     return not numbers or LEAST < min(numbers) and max(numbers) <= MOST
-
-
-def scaled_numbers(texts: Sequence[str], decimals: int) -> Optional[List[int]]:
-    """The numbers that plain texts spell without an exponent, in units of the last of so many decimals; None where one of them has to be looked at by itself."""
-    plain = PlainTexts.of(texts) if texts else None
-    return None if plain is None else plain.scaled(decimals)
