@@ -5,19 +5,18 @@ import re
 import sys
 import time
 import warnings
-from typing import Dict, Iterable, List, Mapping, Optional, Sequence, Tuple
+from typing import Any, Dict, Iterable, List, Mapping, Optional, Sequence, Tuple
 
 from .answer import Answer
 from .ask_files import asked_of_files, files_like
 from .columns import Column
 from .errors import Ended, Error
 from .infer import kind_of_texts
-from .kinds.forms import Form
 from .loading import Encoded, File, records_of
 from .missing import Missing
 from .moment import Moment
 from .partition import Reading
-from .reading import Dialect, is_blank, read_csv
+from .reading import is_blank, read_csv
 from .records import Record
 from .selection import Selection, selected
 from .streams import FULL, NotWritten, complain, give_up_output, standard_input, write
@@ -47,10 +46,9 @@ def parser() -> argparse.ArgumentParser:
                                     formatter_class=argparse.RawDescriptionHelpFormatter)
     found.add_argument("file", metavar="FILE.csv", help="comma-separated values with names in the first line; - is standard input; in quotes, 'data/*.csv' is all of these files")
     found.add_argument("question", metavar="QUESTION", nargs="?", help="in the names and values of the file; without one, the columns are printed")
-    form = found.add_mutually_exclusive_group()
-    form.add_argument("--csv", dest="form", action="store_const", const="csv", help="print CSV")
-    form.add_argument("--json", dest="form", action="store_const", const="json", help="print JSON")
-    form.add_argument("--html", dest="form", action="store_const", const="html", help="print a page of HTML")
+    forms = found.add_mutually_exclusive_group()
+    for form, what in (("csv", "CSV"), ("json", "JSON"), ("html", "a page of HTML")):
+        forms.add_argument(f"--{form}", dest="form", action="store_const", const=form, help=f"print {what}")
     found.add_argument("--where", metavar="CONDITION", help="only rows that meet it count, as --where \"Stars >= 4 and City = 'Lyon'\"")
     found.add_argument("--top", type=int, metavar="K", help="print K rows, in each group: those of whole levels, and of the last one those that stand first in the file")
     found.add_argument("--ties", metavar="TERM", help="of the last level, print those that this term likes best; with a minus in front, as --ties='-low(x)'")
@@ -73,11 +71,15 @@ def add_file_options(found: argparse.ArgumentParser) -> None:
     found.add_argument("--null-padding", action="store_true", help="a row that is too short ends in missing values, and is not refused")
 
 
+def file_options(options: argparse.Namespace) -> Dict[str, Any]:
+    """How files are read by these options, as `Frame.from_csv` takes it."""
+    names = ("missing", "encoding", "delimiter", "decimal", "thousands", "skip", "null_padding")
+    return {"kinds": kinds_of(options.kind), **{name: getattr(options, name) for name in names}}
+
+
 def reading_of(options: argparse.Namespace) -> Reading:
-    """How files are read by these options."""
-    missing = None if options.missing is None else tuple(options.missing)
-    dialect = Dialect(options.encoding, options.delimiter, options.skip, options.null_padding)
-    return Reading(kinds_of(options.kind), missing, dialect, Form(options.decimal, options.thousands))
+    """The same of several files."""
+    return Reading.of(file_options(options), "ask")
 
 
 def file_of(options: argparse.Namespace, progress: Optional["Progress"] = None) -> File:
@@ -202,7 +204,7 @@ class FileAnswer(Answer):
 
     def __init__(self, question: str, file: File, rows: Sequence[Tuple[int, int]]) -> None:
         self._rows = file.cells.rows_at(id - 1 for _, id in rows)
-        self._loaded: Dict[str, Encoded] = {name: file.column(name) for name in dict.fromkeys(file.cells.names) if file.is_loaded(name)}
+        self._loaded: Dict[str, Encoded] = {name: file.loaded[name] for name in dict.fromkeys(file.cells.names) if name in file.loaded}
         columns = [self._loaded[name][0] if name in self._loaded else self._shown(name, place) for place, name in enumerate(file.cells.names)]
         super().__init__(question, columns, self._records(rows), others=lambda: self._records((None, id) for id in range(1, file.rows + 1)))
 

@@ -279,22 +279,8 @@ class Followed:
             raise Ended("the frame was closed", "closed")
 
     def _surviving(self, call: Callable[[Dealt], Result], is_there: bool = False, until: Optional[float] = None) -> Result:
-        """A call of the tables once they have what is committed, or as they are where that `is_there`. Where one has ended, as for want of memory, everything
-        is read anew."""
-        self._check_process()
-        for last in [False] * TRIES + [True]:
-            try:
-                if not is_there:
-                    self._catch_up(until)
-                found = self._alone(lambda: [call(self._tables)] if self._is_whole else [])
-                if found:
-                    return found[0]
-                is_there = False
-            except Ended:
-                self._is_whole = False
-                if last or self._is_closed:
-                    raise
-        raise Refused(f"{self._source.name} was read {TRIES + 1} times, and other calls of this frame were interrupted each time: ask again", "follow")
+        """A call of the tables once they have what is committed, or as they are where that `is_there`."""
+        return self._answered(call, lambda found: found, is_there, until)  # type: ignore[no-any-return]
 
     def _asked(self, begin: Any, answer: Callable[[Any], Result], selection: Selection, is_there: bool = False, until: Optional[float] = None) -> Result:
         """What a question begins, which is answered while others go on. Where too many rows were left of the tables with a condition, it is begun once more, over the rows
@@ -306,16 +292,21 @@ class Followed:
         return self._answered(partial(begin, asked_of_rows), answer, is_there, until)
 
     def _answered(self, begin: Callable[[Dealt], Any], answer: Callable[[Any], Result], is_there: bool = False, until: Optional[float] = None) -> Result:
-        """What is begun by one call, and answered while others go on."""
+        """What is begun by such a call, and answered while others go on. Where a table has ended, as for want of memory, everything is read anew."""
+        self._check_process()
         for last in [False] * TRIES + [True]:
-            begun = self._surviving(begin, is_there, until)
             try:
-                return answer(begun)
+                if not is_there:
+                    self._catch_up(until)
+                begun = self._alone(lambda: [begin(self._tables)] if self._is_whole else [])
+                if begun:
+                    return answer(begun[0])
             except Ended:
+                self._is_whole = False
                 if last or self._is_closed:
                     raise
-                self._is_whole = False
-        raise AssertionError
+            is_there = False
+        raise Refused(f"{self._source.name} was read {TRIES + 1} times, and other calls of this frame were interrupted each time: ask again", "follow")
 
     def _wait(self, place: int, seconds: float) -> None:
         """Waits until the rows are those of this place or a later one."""

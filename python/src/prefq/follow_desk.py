@@ -2,11 +2,11 @@
 import threading
 import time
 import weakref
-from typing import Any, Callable, Dict, List, Mapping, Optional, Sequence
+from typing import Callable, Iterable, List, Sequence
 
 from .columns import Column
 from .dealt import Found
-from .desk import Desk, Held, Picture, row_type
+from .desk import Desk, Held, Picture, Result, row_type
 from .errors import Ended, Refused
 from .follow import Followed
 from .selection import Selection
@@ -50,14 +50,8 @@ class FollowedDesk(Desk):
     def __len__(self) -> int:
         return len(self._frame)
 
-    def insert(self, values: Mapping[str, Any]) -> int:
-        raise changed_elsewhere()
-
-    def update(self, id: int, values: Mapping[str, Any], *, seen: Optional[int] = None) -> None:
-        raise changed_elsewhere()
-
-    def delete(self, id: int, *, seen: Optional[int] = None) -> Dict[str, Any]:
-        raise changed_elsewhere()
+    def _change(self, change: Callable[[], Result], values: Iterable[str] = ()) -> Result:
+        raise Refused("the rows are those of a database: they are changed there", "follow")
 
     def picture(self, text: str, selection: Selection = Selection()) -> Picture:
         """The rows and the answer to a question, with what is asked beside it, at one version. Where the database itself refuses to be read, that is `Refused` too, and
@@ -118,8 +112,3 @@ def follows(held: "weakref.ref[FollowedDesk]") -> None:
         desk._look()
         pause = PAUSE if desk._is_readable else PAUSE_REFUSED
         del desk
-
-
-def changed_elsewhere() -> Refused:
-    """What is said of a change that is made here."""
-    return Refused("the rows are those of a database: they are changed there", "follow")

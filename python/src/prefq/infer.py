@@ -3,7 +3,7 @@ import datetime
 import re
 from array import array
 from decimal import Decimal
-from typing import Any, Iterable, List, Optional, Sequence, Set, Tuple
+from typing import Any, Callable, Dict, Iterable, List, Optional, Sequence, Set, Tuple
 
 from .checks import MOST
 from .columns import is_missing
@@ -23,6 +23,8 @@ FIRST_SIGNS = frozenset("0123456789+-.")
 # So many texts are looked at for what is said of a column.
 LOOKED_AT = 2000
 MOST_PROPOSED = 3
+# The kinds of values that are all of one type of Python.
+PLAIN_KINDS: Dict[Any, Callable[[], Kind]] = {str: Texts, bool: Booleans, int: Whole, datetime.date: Dates, datetime.time: Clock}
 
 
 def kind_of_texts(texts: Sequence[str], form: Form = PLAIN) -> Kind:
@@ -139,20 +141,14 @@ def kind_of_values(name: str, values: Sequence[Any], ids: Optional[Sequence[Any]
 
 def _kind_of_types(types: Set[Any], present: Sequence[Any]) -> Optional[Kind]:
     """The kind of values of these types, None where they do not go together."""
-    if not types or types == {str}:
+    if not types:
         return Texts()
-    if types == {bool}:
-        return Booleans()
-    if types == {int}:
-        return Whole()
+    if len(types) == 1 and types <= set(PLAIN_KINDS):
+        return PLAIN_KINDS[next(iter(types))]()
     if types <= {int, Decimal}:
         return _kind_of_decimals(present)
     if types <= {int, float}:
         return Floats()
-    if types == {datetime.date}:
-        return Dates()
-    if types == {datetime.time}:
-        return Clock()
     if types == {datetime.datetime}:
         zone = present[0].tzinfo        # Those of dateutil have no hash.
         is_of_all = all(value.tzinfo == zone or are_of_one_name(value.tzinfo, zone) for value in present)

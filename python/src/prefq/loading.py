@@ -1,5 +1,6 @@
 """From the values of columns to the numbers of a table, and back."""
 from array import array
+from collections import Counter
 from contextlib import suppress
 from itertools import chain, filterfalse
 from typing import Any, Dict, Iterable, Iterator, List, Mapping, NamedTuple, Optional, Sequence, Tuple
@@ -33,10 +34,11 @@ class File:
         self.cells = cells
         # The words that were taken for missing, each with the number of its rows, by column.
         self.words: Dict[str, Dict[str, int]] = {}
+        # The columns that have been read.
+        self.loaded: Dict[str, Encoded] = {}
         self.rows = 0
         self._kinds = dict(kinds or {})
         self._missing, self._form = missing, form
-        self._columns: Dict[str, Encoded] = {}
         check_kinds(self._kinds, cells.names)
 
     @property
@@ -46,7 +48,7 @@ class File:
 
     def load(self, names: Iterable[str]) -> None:
         """Reads these columns, all in one pass through the file."""
-        readers = self._readers(name for name in dict.fromkeys(names) if name not in self._columns)
+        readers = self._readers(name for name in dict.fromkeys(names) if name not in self.loaded)
         if readers:
             self._read(readers, self._chunks())
 
@@ -60,18 +62,14 @@ class File:
                 return [reader.column_of_numbers(standing, place) for place, reader in enumerate(readers)], standing
             chunks = chain(taken, chunks)
         self._read(readers, chunks)
-        found = [self._columns[name] for name in names]
+        found = [self.loaded[name] for name in names]
         return [column for column, _ in found], Zipped([numbers for _, numbers in found])
-
-    def is_loaded(self, name: str) -> bool:
-        """Whether a column has been read."""
-        return name in self._columns
 
     def column(self, name: str) -> Encoded:
         """A column, and its numbers."""
-        if name not in self._columns:
+        if name not in self.loaded:
             self.load([name])
-        return self._columns[name]
+        return self.loaded[name]
 
     def _readers(self, names: Iterable[str]) -> List["ColumnReader"]:
         wanted = list(names)
@@ -94,7 +92,7 @@ class File:
         if mixed:
             self._pass(mixed, self._chunks())
         for reader in readers:
-            self._columns[reader.name] = reader.encoded()
+            self.loaded[reader.name] = reader.encoded()
             counts = reader.words_taken()
             if counts:
                 self.words[reader.name] = counts
@@ -104,15 +102,12 @@ class File:
         places = [place_of[reader.name] for reader in readers]
         for chunk in chunks:
             for reader, place in zip(readers, places):
-                self._add(reader, chunk.column(place), chunk.first)
+                try:
+                    reader.add(chunk.column(place))
+                except CellRefused as why:
+                    raise type(why.why)(f"line {self.cells.line(chunk.first + why.row)}, {why.why}") from None
         for reader in readers:
             reader.end()
-
-    def _add(self, reader: "ColumnReader", texts: List[str], first: int) -> None:
-        try:
-            reader.add(texts)
-        except CellRefused as why:
-            raise type(why.why)(f"line {self.cells.line(first + why.row)}, {why.why}") from None
 
 
 class CellRefused(Exception):
@@ -271,10 +266,9 @@ class ColumnReader:
 
     def words_taken(self) -> Dict[str, int]:
         """The words that were taken for missing, each with the number of its rows."""
-        counts: Dict[str, int] = {}
+        counts: "Counter[str]" = Counter()
         for part in self._parts:
-            for word, count in part.words.items():
-                counts[word] = counts.get(word, 0) + count
+            counts.update(part.words)
         return counts
 
     def _part_with_new(self, texts: List[str]) -> Part:

@@ -36,6 +36,7 @@ from .hosts import Hosts
 from .infer import first_inexact
 from .kinds import Choices, Texts
 from .pictures import ID, NUMBER, Asked
+from .visible import SURROGATE
 
 PAGE = Path(__file__).with_name("page")
 SCRIPTS = ("page.js", "edit.js", "plot.js", "parts.js", "speech.js", "stream.js", "table.js", "legend.js", "scales.js", "stairs.js", "why.js", "builder.js")
@@ -51,7 +52,6 @@ SECONDS_STALLED = 10.0      # that a browser may take nothing of what is sent
 SECONDS_REQUEST = 10.0      # from the first byte of a request to its last
 SIGN_OF_LIFE = "event: alive\ndata:\n\n"
 COME_AGAIN = "retry: 1000\n\n"      # milliseconds, where the stream breaks
-HALF = re.compile("[\ud800-\udfff]")
 ROW = re.compile(r"/rows/(\d{1,18})")
 
 
@@ -231,7 +231,7 @@ class Site:
         if not isinstance(values, dict):
             raise Wrong(400, "the body is no JSON object of values by the names of columns")
         for column in self.desk.columns:
-            if isinstance(values.get(column.name), str) and HALF.search(values[column.name]):
+            if isinstance(values.get(column.name), str) and SURROGATE.search(values[column.name]):
                 raise ValueError(f"column {column.name!r} ({column.kind}): the text has half of a character (a lone surrogate), which the download could not have")
         texts = {column.name for column in self.desk.columns if column.kind.name == Texts.name}
         return {name: None if value == "" and name not in texts else value for name, value in values.items()}

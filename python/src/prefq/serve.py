@@ -4,7 +4,7 @@ import csv
 from pathlib import Path
 from typing import Optional, Sequence
 
-from .ask import add_file_options, kinds_of, say, wrong
+from .ask import add_file_options, file_options, say, wrong
 from .desk import Desk
 from .errors import Ended, Error
 from .frame import Frame
@@ -37,9 +37,7 @@ def main(arguments: Optional[Sequence[str]] = None) -> int:
     options = parser().parse_args(arguments)
     try:
         columns = next(csv.reader([options.columns], skipinitialspace=True)) if options.columns else None
-        frame = Frame.from_csv(options.file, columns=columns, kinds=kinds_of(options.kind), missing=options.missing, encoding=options.encoding,
-                               delimiter=options.delimiter, decimal=options.decimal, thousands=options.thousands, skip=options.skip,
-                               null_padding=options.null_padding)
+        frame = Frame.from_csv(options.file, columns=columns, **file_options(options))
     except (Error, OSError, ValueError, TypeError, LookupError) as why:
         complain(wrong(why).replace("by columns=[..]", "by --columns"))
         return 1 if isinstance(why, Ended) else 2
