@@ -8,6 +8,7 @@ import unittest
 import unittest.mock
 import warnings
 from contextlib import contextmanager
+from functools import partial
 from pathlib import Path
 
 import prefq
@@ -113,10 +114,14 @@ class Top(FrameTestCase):
             for ties in ("low(dist) by city", prefq.low("dist").by("city")):
                 with self.refuses(prefq.Refused, "is a preference, as low(x), without best, top_level and so on, and without groups", kind="term"):
                     self.frame.best("best low(price)", top=1, ties=ties, by=by)
-        with self.refuses(TypeError, "a question is a text, not 5"):
-            self.frame.best("best low(dist)", top=1, ties=5)
-        with self.refuses(TypeError, "a condition is a text, not 5"):
-            self.frame.best("best low(dist)", where=5)
+        for wrong in (5, [], {"low(dist)": 1}):     # of which some cannot be looked up among the answers that are kept
+            for ask in (self.frame.best, self.frame.query, partial(self.frame.why, 1)):
+                with self.refuses(TypeError, f"a question is a text, not {wrong!r}"):
+                    ask(wrong)
+                with self.refuses(TypeError, f"a condition is a text, not {wrong!r}"):
+                    ask("best low(dist)", where=wrong)
+            with self.refuses(TypeError, f"a question is a text, not {wrong!r}"):
+                self.frame.best("best low(dist)", top=1, ties=wrong)
         with self.refuses(prefq.Refused, "no column 'citi'; did you mean city?", kind="arguments"):
             self.frame.best("best low(dist)", by="citi")
         with self.refuses(prefq.Refused, "the question has groups itself"):

@@ -66,10 +66,16 @@ def names(columns: Any) -> Tuple[str, ...]:
     return found
 
 
-def text_of_question(question: Any) -> str:
+def checked_text(value: Any, what: str) -> str:
+    """The value, which is to be a text, and is called so in what is said."""
+    if not isinstance(value, str):
+        raise TypeError(f"{what} is a text, not {value!r}")
+    return value
+
+
+def text_of_question(given: Any) -> str:
     """The question, if it can be sent at all: whatever else is wrong, the program says."""
-    if not isinstance(question, str):
-        raise TypeError(f"a question is a text, not {question!r}")
+    question = checked_text(given, "a question")
     wrong = UNSENDABLE.search(question)
     if wrong:
         what = "a question is one line" if wrong[0] in "\r\n" else f"{wrong[0]!r} is no character"

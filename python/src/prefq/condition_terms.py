@@ -70,7 +70,7 @@ def condition_of(text: Optional[str], columns: Columns) -> ReadCondition:
     """The condition of this text, which is refused where it means nothing. What is longer than any question of a table is not tried: to read it twice takes long."""
     if text is None:
         return EVERY_ROW
-    if isinstance(text, str) and len(text) > LONGEST_QUESTION:
+    if len(text) > LONGEST_QUESTION:
         return ReadCondition()
     no_rows = moment_of(columns.columns, lambda place: [], lambda number: number)
     node = read_condition(text, no_rows.column, no_rows.names)

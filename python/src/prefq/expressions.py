@@ -10,6 +10,7 @@ from contextlib import contextmanager
 from dataclasses import dataclass, replace
 from typing import Callable, Dict, Iterator, List, Optional, Sequence, Tuple, Union
 
+from .checks import checked_text
 from .columns import Column, quoted
 from .hints import IN_EXPRESSIONS, OF_FRAMES, WORDS_OF_MISSING, nearest, unknown_column
 from .kinds.booleans import WORDS
@@ -74,15 +75,11 @@ def unmade(node: Node, text: str, place: int) -> Column:
 
 def read_frames_question(question: str, column: Callable[[str], Optional[Column]], names: Sequence[str], mode: Optional[Mode] = None, make: Make = unmade) -> Question:
     """The tree of a question of a frame. Where a mode is given, the question may do without one."""
-    if not isinstance(question, str):
-        raise TypeError(f"a question is a text, not {question!r}")
-    return FrameReader(question, column, names, make).question(mode)
+    return FrameReader(checked_text(question, "a question"), column, names, make).question(mode)
 
 
 def read_condition(text: str, column: Callable[[str], Optional[Column]], names: Sequence[str]) -> Node:
     """The tree of a condition that stands alone."""
-    if not isinstance(text, str):
-        raise TypeError(f"a condition is a text, not {text!r}")
     return FrameReader(text, column, names, unmade).condition()
 
 

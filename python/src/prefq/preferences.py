@@ -7,7 +7,7 @@ from decimal import Decimal
 from fractions import Fraction
 from typing import Any, Tuple, Union
 
-from .checks import NO_LISTS
+from .checks import NO_LISTS, checked_text
 from .columns import is_missing, quoted, spelled
 from .kinds.booleans import is_truth
 from .kinds.forms import PLAIN
@@ -28,9 +28,7 @@ class Expression:
     """
 
     def __init__(self, text: str) -> None:
-        if not isinstance(text, str):
-            raise TypeError(f"an expression is a text, not {text!r}")
-        self.text = text
+        self.text = checked_text(text, "an expression")
 
     def __repr__(self) -> str:
         return f"expr({self.text!r})"
@@ -307,22 +305,22 @@ def true(condition: Operand) -> Preference:
     >>> true("Price < 100 and Stars >= 4")
     true(Price < 100 and Stars >= 4)
     """
-    return _base("true", Expression(text_of_operand(condition)))
+    return _base("true", condition if isinstance(condition, Expression) else Expression(condition))
 
 
 Asked = Union[str, Preference]
 
 
-def text_of_operand(expression: Operand) -> str:
-    """The text of an expression."""
-    return expression.text if isinstance(expression, Expression) else expression
+def text_of_condition(condition: Operand) -> str:
+    """The text of a condition."""
+    return checked_text(condition.text if isinstance(condition, Expression) else condition, "a condition")
 
 
 def text_asked(question: Asked) -> str:
     """The text of a question, which may be a preference: then it asks for the best rows."""
-    return question.question if isinstance(question, Preference) else question
+    return checked_text(question.question if isinstance(question, Preference) else question, "a question")
 
 
 def text_preferred(preference: Asked) -> str:
     """The text of a preference."""
-    return str(preference) if isinstance(preference, Preference) else preference
+    return checked_text(str(preference) if isinstance(preference, Preference) else preference, "a question")

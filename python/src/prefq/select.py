@@ -46,7 +46,7 @@ def psel(frame: Any, preference: Asked, *, where: Optional[Operand] = None, top:
     selection = Selection.of(mode_of(top_level, at_least), where=where, top=top, ties=ties, by=by)
     check_options(options, [*PSEL_OPTIONS, *TABLE_OPTIONS], "psel")
     text = text_preferred(preference)
-    if (top_level is not None or at_least is not None) and isinstance(text, str) and has_mode(text):
+    if (top_level is not None or at_least is not None) and has_mode(text):
         raise Refused("the question says itself how many levels are wanted: leave out top_level= and at_least=, or its mode", "arguments")
     if type(frame).__name__ in ("DataFrameGroupBy", "SeriesGroupBy"):
         from .pandas_frames import ungrouped

@@ -14,7 +14,7 @@ from .expressions import Make, read_condition, read_frames_question, unmade
 from .hints import MODES, unknown_column
 from .intersection import Intersections, has_intersection
 from .moment import Moment
-from .preferences import Asked, Operand, text_of_operand, text_preferred
+from .preferences import Asked, Operand, text_of_condition, text_preferred
 from .query import Query
 from .questions import Mode, Question, names_asked_for, refuse, tokens_of
 from .reading import Progress
@@ -48,7 +48,7 @@ class Selection:
         if ties is not None and top is None:
             raise Refused("ties= says which rows of the last level are among the first ones: it needs top=", "arguments")
         rows = None if top is None else whole(top, "top", 1, MOST_ROWS_ASKED)
-        return Selection(mode, None if where is None else text_of_operand(where), rows, None if ties is None else text_preferred(ties), names_of(by))
+        return Selection(mode, None if where is None else text_of_condition(where), rows, None if ties is None else text_preferred(ties), names_of(by))
 
     def grouped(self, names: Sequence[str]) -> "Selection":
         """The same in groups of rows that are equal in these columns."""
