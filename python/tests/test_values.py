@@ -361,6 +361,19 @@ class KindsThatAreGiven(TestCase):
             door({"price": "decimal(2)"})
 
 
+    def test_texts_of_many_blanks(self):
+        """With as many as 200, a look at one such text took a minute: each was tried as a blank behind each of the signs that may stand there."""
+        blanks = " " * 5_000
+        with self.within(10):
+            for spelling in ('decimal(2, unit="€", parentheses)', 'whole(unit="€")', 'float(thousands=" ", decimal=",", unit="€", parentheses)'):
+                for text in (f"({blanks}x", f"-{blanks}x", f"({blanks}-{blanks}€{blanks}x", f"5{blanks}x", f"(5{blanks}€{blanks}x"):
+                    with self.refuses(ValueError, "is no number"):
+                        kind_named(spelling).read(text)
+            # What is said of a column of texts looks for a kind that would read them.
+            with prefq.Frame.from_records([{"price": "(5 €)"}, {"price": f"({blanks}5 x)"}]) as frame, self.refuses(prefq.Refused, "has texts"):
+                frame.best("best low(price)")
+        self.assertEqual([kind_named('whole(unit="€", parentheses)').read(text) for text in ("( € 5 )", "(5 €)", "-  5", "€ 5", "5  €")], [-5, -5, -5, 5, 5])
+
     def test_that_is_none_for_a_column_that_nobody_asks(self):
         """A slip would be forgotten as long as the question names another column."""
         records, text = [{"price": 1, "x": 2}], "price,x\n1,2\n"

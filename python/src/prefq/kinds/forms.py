@@ -83,9 +83,11 @@ class Form:
     def _pattern(self) -> "re.Pattern[str]":
         unit, decimal, thousands = re.escape(self.unit), re.escape(self.decimal), re.escape(self.thousands)
         digits = rf"\d{{1,3}}(?:{thousands}\d{{3}})+|\d+" if self.thousands else r"\d+"
-        before, behind = (rf"(?P<before>{unit})?\s*", rf"\s*(?P<behind>{unit})?") if self.unit else ("(?P<before>)", "(?P<behind>)")
-        opened, closed = (r"(?P<open>\()?\s*", r"\s*(?P<close>\))?") if self.parentheses else ("(?P<open>)", "(?P<close>)")
-        return re.compile(rf"{opened}(?:(?P<sign>[+-])\s*)?{before}(?P<whole>{digits})?(?:{decimal}(?P<part>\d*))?(?P<exponent>[eE][+-]?\d{{1,4}})?{behind}{closed}")
+        # Blanks belong to the sign beside them, and a digit stands behind those in front: a text of many blanks would be read in as many ways as these can be told apart.
+        before, behind = (rf"(?:(?P<before>{unit})\s*)?", rf"(?:\s*(?P<behind>{unit}))?") if self.unit else ("(?P<before>)", "(?P<behind>)")
+        opened, closed = (r"(?:(?P<open>\()\s*)?", r"(?:\s*(?P<close>\)))?") if self.parentheses else ("(?P<open>)", "(?P<close>)")
+        number = rf"(?=\d|{decimal})(?P<whole>{digits})?(?:{decimal}(?P<part>\d*))?(?P<exponent>[eE][+-]?\d{{1,4}})?"
+        return re.compile(rf"{opened}(?:(?P<sign>[+-])\s*)?{before}{number}{behind}{closed}")
 
 
 PLAIN = Form()
