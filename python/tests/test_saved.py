@@ -178,6 +178,19 @@ class Saved(InAFolder):
             with prefq.Frame.open(some) as opened:
                 self.assertEqual(opened.get(1), {"x": 1})
 
+    def test_the_longest_names(self):
+        """The file that is written beside one has a name of its own, which may not be longer than the system takes."""
+        with tempfile.TemporaryDirectory() as folder, prefq.Frame.from_records([{"x": 1}]) as frame:
+            for name in ("a" * 218, "a" * 219, "ab" + 126 * "é", 255 * "a"):
+                frame.save(os.path.join(folder, name))
+                self.assertIn(name, os.listdir(folder))
+                with prefq.Frame.open(os.path.join(folder, name)) as opened:
+                    self.assertEqual(opened.rows(), [{"x": 1}])
+            self.assertEqual(len(os.listdir(folder)), 4)
+            with self.refuses(OSError, 256 * "a"):
+                frame.save(os.path.join(folder, 256 * "a"))
+            self.assertEqual(len(os.listdir(folder)), 4)
+
     def test_a_folder_in_which_no_file_can_be_made_is_said_by_the_system(self):
         self.path.write_bytes(b"")
         with prefq.Frame.from_records([{"x": 1}]) as frame:

@@ -25,6 +25,8 @@ MAGIC = b"SQLite format 3\0"
 # What stands in the header of the file: that it is a frame, "prfq", and of which version.
 APPLICATION = 0x70726671
 VERSION = 1
+# Bytes of a file's name that stand in that of the file beside it too, which is no longer than the 255 that systems take.
+LONGEST_BESIDE = 218
 MICROSECONDS, NANOSECONDS = "microseconds", "nanoseconds"
 TABLES = """
     create table frame (last integer not null, notes text not null, digest text not null);
@@ -105,7 +107,8 @@ def write(path: Path, contents: Contents) -> None:
     """Has the file at this path hold these contents, and what is there now until then. Where that fails, what is there stays; a folder in which no file can be
     made is the system's own exception, with the path."""
     target = os.path.realpath(os.fsdecode(path))
-    beside = f"{target}.{uuid4().hex}.new"
+    folder, name = os.path.split(target)
+    beside = os.path.join(folder, f"{os.fsdecode(os.fsencode(name)[:LONGEST_BESIDE])}.{uuid4().hex}.new")
     try:
         _make(beside, path)
         with closing(sqlite3.connect(beside, isolation_level=None)) as file:
@@ -114,7 +117,7 @@ def write(path: Path, contents: Contents) -> None:
             os.chmod(beside, stat.S_IMODE(os.stat(target).st_mode))
         _to_disk(beside)
         os.replace(beside, target)
-        _to_disk(os.path.dirname(target))
+        _to_disk(folder)
     finally:
         with suppress(FileNotFoundError, NotADirectoryError):
             os.remove(beside)
