@@ -61,6 +61,17 @@ class Expressions(FrameTestCase):
                 frame.best("best low(x + 1)")
             self.assertEqual(frame.best("best high(x)", where="x > 1e308").ids, [2])
 
+    def test_numbers_of_thousands_of_digits(self):
+        """A condition of a hundred letters took hours over many rows; what is only compared, and products of columns, are not larger than they were."""
+        with prefq.Frame.from_records([{"x": number, "f": float(f"{number}e300")} for number in range(1, 2_001)]) as frame, self.within(20):
+            for sign in ("*", "/"):
+                with self.refuses(prefq.Refused, f"behind this {sign} a number may have more than 8,192 digits, with which nothing is computed", kind="term"):
+                    frame.best("best low(x)", where="x" + 63 * f" {sign} 1e4000" + " > 5")
+            self.assertEqual(frame.best("best low(x)", where="x > 1e9999").ids, [])
+            self.assertEqual(frame.best("best low(x)", where="x * 1e3000 * 1e3000 > 5").ids, [1])
+            for expression in ("*".join(64 * ["x"]), "+".join(16 * ["f"]), f"max({', '.join(['f', *map(str, range(600))])}) * 2", "x" + 63 * " / 7"):
+                self.assertEqual(frame.best(f"best low({expression})").ids, [1])
+
     def test_what_is_missing_comes_last(self):
         with prefq.Frame.from_records([{"x": 1, "y": 2}, {"x": None, "y": 1}, {"x": 3, "y": 3}]) as frame:
             self.assertEqual(pairs(frame.best("top_level 3 low(x + y)")), [(1, 1), (2, 3), (3, 2)])

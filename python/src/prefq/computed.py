@@ -32,6 +32,7 @@ from .widening import Nothing
 COMPARE: Dict[str, Callable[[Any, Any], bool]] = {"=": operator.eq, "<>": operator.ne, "<": operator.lt, "<=": operator.le, ">": operator.gt, ">=": operator.ge}
 TURNED = {"<": ">", "<=": ">=", ">": "<", ">=": "<="}      # the comparisons with their sides exchanged, of which = and <> are the same
 COMBINE: Dict[str, Callable[[Any, Any], Any]] = {"+": operator.add, "-": operator.sub, "*": operator.mul, "min": min, "max": max}
+MOST_BITS = 2**15       # of a number that is computed
 
 
 class Computer:
@@ -140,7 +141,8 @@ class Computer:
         scale = 1 if decimals is None else 10**decimals
         scaled = value * scale
         is_whole = scaled.denominator == 1
-        return Numbers([scaled.numerator if is_whole else scaled], scale, are_whole=is_whole, is_constant=True)
+        bits = scaled.numerator.bit_length() + scaled.denominator.bit_length()
+        return Numbers([scaled.numerator if is_whole else scaled], scale, are_whole=is_whole, is_constant=True, bits=bits)
 
     def _finite(self, node: Node, found: Values) -> Numbers:
         numbers = self._numbers(node, found)
@@ -159,8 +161,17 @@ class Computer:
         for part in rest:
             scale = whole.scale * part.scale if node.name == "*" else math.lcm(whole.scale, part.scale)
             factors = (1, 1) if node.name == "*" else (scale // whole.scale, scale // part.scale)
-            whole = combined(COMBINE[node.name], whole, part, factors, scale)
+            bits = max(whole.bits, part.bits) if node.name in ("min", "max") else self._bits(node, whole, part)
+            whole = replace(combined(COMBINE[node.name], whole, part, factors, scale), bits=bits)
         return whole
+
+    def _bits(self, node: Operation, left: Numbers, right: Numbers) -> int:
+        """How many bits a number may have that is made of two. Thousands of digits, as of x * 1e9000 * 1e9000, are refused: to compute with them for each of many rows
+        takes hours."""
+        bits = left.bits + right.bits + left.scale.bit_length() + right.scale.bit_length()
+        if bits > MOST_BITS:
+            refuse(self._text, node.place, f"behind this {node.name} a number may have more than {MOST_BITS // 4:,} digits, with which nothing is computed")
+        return bits
 
     def _moments(self, left: Values, right: Values) -> Optional[List[Numbers]]:
         """Two dates in days, or two times in seconds; None where there are others."""
@@ -172,10 +183,12 @@ class Computer:
 
     def _quotient(self, node: Operation) -> Numbers:
         left, right = (self._finite(part, self._values(part)) for part in node.parts)
+        bits = self._bits(node, left, right)
         if right.is_constant and right.known is None and right.are_whole and right.values[0]:
             # In units of one that many times smaller the numbers stay whole.
             divisor = int(right.values[0])
-            return combined(operator.mul, left, Numbers([1 if divisor > 0 else -1], is_constant=True), (right.scale, 1), left.scale * abs(divisor))
+            found = combined(operator.mul, left, Numbers([1 if divisor > 0 else -1], is_constant=True), (right.scale, 1), left.scale * abs(divisor))
+            return replace(found, bits=bits)
         known = both_known(left.known, right.known)
         zeros = bytes([value == 0 for value in right.values]) * (self._moment.count if right.is_constant else 1)
         place = (zeros if known is None else joined(operator.and_, zeros, known)).find(1)
@@ -186,7 +199,7 @@ class Computer:
             found = Fraction(a * right.scale, b * left.scale) if b else Fraction(0)     # where one of them is missing
             return found.numerator if found.denominator == 1 else found
 
-        return replace(combined(quotient, left, right, (1, 1), 1), are_whole=False)
+        return replace(combined(quotient, left, right, (1, 1), 1), are_whole=False, bits=bits)
 
     def _truths(self, node: Node) -> Union[Truths, Within]:
         return self._as_truths(node, self._values(node))

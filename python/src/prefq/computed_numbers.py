@@ -15,6 +15,9 @@ from .kinds.numbers import are_in_range
 from .pauses import extended
 from .ranges import float_position
 
+# Of the numerator and the denominator of a float that Python shows with an exponent.
+BITS_OF_A_FLOAT = 1_130
+
 
 def position_in(column: Column, constant: Numbers) -> Fraction:
     """Where a number lies among those of a column of numbers, between two of them perhaps."""
@@ -35,7 +38,7 @@ def numbers_of_floats(numbers: Sequence[int], known: Optional[bytes]) -> Numbers
         scaled = plain.scaled(plain.decimals)
         if scaled is not None:
             return Numbers(scaled, 10**plain.decimals, known)
-    return Numbers(by_value(fractions_of, numbers), known=known, are_whole=False)
+    return Numbers(by_value(fractions_of, numbers), known=known, are_whole=False, bits=BITS_OF_A_FLOAT)
 
 
 def floats_of(numbers: Sequence[int]) -> List[float]:

@@ -20,13 +20,14 @@ INVERTED = bytes.maketrans(b"\0\1", b"\1\0")
 @dataclass(frozen=True)
 class Numbers:
     """A number for each row, in units of 1/scale; or one for all of them, where it `is_constant`. `known` is the mask of the rows that have one, where not all do: in
-    others any number stands in its place. Where they `are_whole`, no number is a fraction or an infinite float."""
+    others any number stands in its place. Where they `are_whole`, no number is a fraction or an infinite float. None has many more than so many `bits`."""
 
     values: Sequence[Number]
     scale: int = 1
     known: Optional[bytes] = None
     are_whole: bool = True
     is_constant: bool = False
+    bits: int = 64
 
     def each(self, factor: int = 1) -> Iterable[Number]:
         """The numbers, multiplied by a factor, once for each row."""
