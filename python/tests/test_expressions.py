@@ -103,6 +103,15 @@ class Expressions(FrameTestCase):
                     ask()
             self.assertEqual(frame.hasse(terms), [(2, 1)])
 
+    def test_more_parts_of_an_intersection_than_a_table_has_columns(self):
+        """They are refused before they are computed, which took minutes for 300 of them."""
+        with prefq.Frame.from_records([{"x": number, "y": -number} for number in range(5_000)]) as frame, self.within(10):
+            for count in (17, 300, 5_000):
+                for mode in ("best ", "top_level 3 -"):
+                    with self.refuses(prefq.Refused, f"{count} columns and expressions are asked, and a table has 16", kind="term", place=len(mode) + 1):
+                        frame.best(f"{mode}({' | '.join(count * ['low(x)'])})")
+            self.assertEqual(frame.best(" | ".join(["best low(x)", *15 * ["low(x)"]])).ids, [1])
+
     def test_true_of_what_is_neither_true_nor_false_is_refused(self):
         """A column of texts was asked for the text true, which some row may have."""
         with prefq.Frame.from_records([{"c": "true", "x": 1, "b": None}, {"c": "a", "x": 2, "b": True}], kinds={"b": "bool"}) as frame:

@@ -12,6 +12,7 @@ from dataclasses import replace
 from typing import List, Sequence, Tuple
 
 from .better_than import Order, is_weak, ranks
+from .checks import MOST_COLUMNS
 from .columns import Column
 from .moment import Moment
 from .questions import Base, Converse, Product, Question, Term, refuse
@@ -53,6 +54,8 @@ class Intersections:
         if not all(map(is_weak, parts)):
             refuse(self._text, place, "| stands between terms by which any two rows can be compared, that is base terms, and those with & between them: of others it is "
                    "no product of columns that the table could compare")
+        if len(parts) > MOST_COLUMNS:       # of which each is a column: the ranks of many, each by all others, would take hours before the table refuses them
+            refuse(self._text, place, f"{len(parts)} columns and expressions are asked, and a table has {MOST_COLUMNS}")
         by_part = [self._ranks(Converse(part) if turned else part) for part in parts]
         columns = [self._column(f"part {number + 1} of |", by_part, number) for number in range(len(parts))]
         product = Product("*", tuple(Base("low", column, (), place) for column in columns))
