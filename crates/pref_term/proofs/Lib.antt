@@ -6,8 +6,8 @@ pub mod KeyEqual
 pub mod ChainLaws
 pub mod ExtensionLaws
 pub mod LeadingLaws
-pub mod SignatureWords
 pub mod SignatureMarks
+pub mod SignatureWords
 pub mod SignatureLaws
 pub mod WorkedTerms
 pub mod GrammarSound

@@ -1,8 +1,8 @@
 -- Of two rows of which the first is over the second, or its twin, the first reaches no mark that the second does not reach.
 use Rattle.std.specs.Prelude.{◌||◌}
-use Rattle.pref_term.proofs.Common.{◌≡◌, ℕ, ℤ, pos, List, Bool, true, false, map, not, sym, ap, ◌∙◌, arith, All, int_lt}
+use Rattle.pref_term.proofs.Common.{◌≡◌, ℤ, List, Bool, true, false, not, sym, ap, ◌∙◌, arith, All, int_lt}
 use Rattle.pref_term.proofs.Common.{ints, All-append, All-cons, All-contains, All-nil, order_of}
-use Rattle.pref_term.proofs.Common.{keyed, leading, is_better, is_same, Preference, scored, pareto, prior, reverse, Question, Suit, bits_by, is_within}
+use Rattle.pref_term.proofs.Common.{leading, is_better, is_same, Preference, scored, pareto, prior, reverse, Question, Suit, bits_by, is_within}
 use Rattle.pref_term.proofs.Common.{signature, twins_alike, by_scores, in_priority, in_product, walked, Key, Relation}
 use Rattle.pref_term.specs.RelationLaws.{priority-better, priority-same, product-better, product-same, scores-better, scores-same}
 use Rattle.pref_term.specs.Walk.{directed}
@@ -38,14 +38,10 @@ keep (reverse p) s a b h = keep p (not s) a b (ap fits (directed_reverse s p a b
 
 -- ---- a scale
 
--- where the second row has no smaller key, it reaches each mark that the first reaches
-reached : (k : Key) (marks : List ℕ) (a b : List ℤ) → IsNoGreater a b k
-    → Implied (map (λ mark. not (int_lt (keyed k a) (pos mark))) marks) (map (λ mark. not (int_lt (keyed k b) (pos mark))) marks)
-unfolding IsNoGreater
-reached k marks a b keeps = grind (arith, implied_map, ints)
-
+-- where the second row has no greater key by the scale, it reaches each mark that the first reaches
 suiting : (keys : List Key) (scale : Scale) (a b : List ℤ) → All (IsNoGreater a b) keys → IsBy keys scale → Implied (bits_by scale a) (bits_by scale b)
-suiting keys scale a b keeps by = reached scale.key scale.marks.items a b (All-contains (IsNoGreater a b) keys scale.key keeps by.key)
+unfolding IsNoGreater
+suiting keys scale a b keeps by = let key = All-contains (IsNoGreater a b) keys scale.key keeps by.key in grind (arith, implied_map, ints, key)
 
 -- ---- the law
 

@@ -18,7 +18,7 @@ or_behind word k bits inside small =
     let whole : bits ≡ bits % 2 ^ 64 = omega (arith, pow_below k 64 inside) in
     ap (bit_or (word * 2 ^ k % 2 ^ 64)) whole ∙ sym (or_mod (word * 2 ^ k) bits 64) ∙ ap (λ n. n % 2 ^ 64) (or_shifted word k bits small)
 
-bit_behind : (word : ℕ) (b : Bool) → with_bit word b ≡ (word * 2 + from_bool b) % 2 ^ 64
+pub bit_behind : (word : ℕ) (b : Bool) → with_bit word b ≡ (word * 2 + from_bool b) % 2 ^ 64
 bit_behind word true = or_behind word 1 1 (omega arith) (omega arith)
 bit_behind word false = or_behind word 1 0 (omega arith) (omega arith)
 
