@@ -1,13 +1,13 @@
 -- The chain of all keys of a question extends its order: what dominates is better by the chain, and rows are the same by it just where they are of one group and the same.
-use Rattle.pref_term.proofs.Common.{◌≡◌, arith, ◌<◌, ℕ, ℤ, Bool, true, false, not, List, [], ◌∷◌, ◌++◌, refl, sym, ap, subst, ◌∙◌, ◌&&◌, and_parts, ints, int_eq, order_of, order_of_alike}
-use Rattle.pref_term.proofs.Common.{All, All-append, All-cons, All-contains, All-head, All-nil, All-tail, better, in_same_group, by_chain, AreInRow, by_key, key_for, opposed, is_better, is_same, low}
+use Rattle.pref_term.proofs.Common.{◌≡◌, arith, ◌<◌, ℕ, ℤ, Bool, true, false, not, List, [], ◌∷◌, ◌++◌, refl, sym, ap, subst, ◌∙◌, ◌&&◌, ints, int_eq, order_of, order_of_alike}
+use Rattle.pref_term.proofs.Common.{All, All-append, All-cons, All-contains, All-nil, in_same_group, by_chain, AreInRow, by_key, key_for, opposed, is_better, is_same, low}
 use Rattle.pref_term.proofs.Common.{Preference, scored, pareto, prior, reverse, Question, IsAsk, alike, ReadsBelow, order_of_twins_are_alike, by_scores, in_priority, in_product, Key, Relation}
-use Rattle.std.proofs.lemmas.List.Elements.{All-pop, All-push}
+use Rattle.std.proofs.lemmas.List.Elements.{All-map, All-pop, All-push}
 use Rattle.std.specs.Prelude.{Contains, Some}
 use Rattle.pref_term.specs.Extension.{IsShortened, all_keys, ask_keys, group_keys}
 use Rattle.pref_term.specs.Keys.{keyed}
 use Rattle.pref_term.specs.Order.{StandAlike, is_worse}
-use Rattle.pref_term.specs.RelationLaws.{priority-better, priority-same, priority-worse, scores-better, scores-same, scores-worse}
+use Rattle.pref_term.specs.RelationLaws.{priority-same, scores-better, scores-same, scores-worse}
 use Rattle.pref_term.specs.Walk.{directed, is_neither}
 use Rattle.pref_term.proofs.ChainLaws.{chain-append, one_key}
 use Rattle.pref_term.proofs.KeyLaws.{directed_priority, directed_product, directed_reverse, key_column, key_law}
@@ -15,23 +15,16 @@ use Rattle.pref_term.proofs.WalkLaws.{walked_better, walked_same}
 
 -- ---- a chain in the other direction
 
-scores_back : (x y : ℤ) → is_same (by_scores x y) ≡ is_same (by_scores y x)
-scores_back x y = grind (arith, ints)
-
 scores_decided : (x y : ℤ) → is_neither (by_scores x y) ≡ false
 scores_decided x y = grind (arith, ints)
 
-priority_decided : (r s : Relation) → is_neither r ≡ false → is_neither s ≡ false → is_neither (in_priority r s) ≡ false
-priority_decided r s h k = grind (arith, h, k)
-
 pub chain_back : (keys : List Key) (a b : List ℤ) → is_worse (by_chain keys a b) ≡ is_better (by_chain keys b a)
 chain_back [] a b = refl
-chain_back (key ∷ keys) a b =
-    grind (arith, priority-worse (by_key key a b) (by_chain keys a b), priority-better (by_key key b a) (by_chain keys b a), scores-worse, scores-better, scores_back (keyed key a) (keyed key b), chain_back keys a b)
+chain_back (key ∷ keys) a b = grind (arith, ints, scores-better, scores-same, scores-worse, chain_back keys a b)
 
 pub chain_decided : (keys : List Key) (a b : List ℤ) → is_neither (by_chain keys a b) ≡ false
 chain_decided [] a b = refl
-chain_decided (key ∷ keys) a b = priority_decided (by_key key a b) (by_chain keys a b) (scores_decided (keyed key a) (keyed key b)) (chain_decided keys a b)
+chain_decided (key ∷ keys) a b = grind (arith, scores_decided (keyed key a) (keyed key b), chain_decided keys a b)
 
 -- ---- a preference, or its converse
 
@@ -40,9 +33,6 @@ pub record Extends (c r : Relation) : Type 0 where
   pub same : is_same c ≡ is_same r
   pub better : is_better r ≡ true → is_better c ≡ true
 
-itself_extends : (c r : Relation) → c ≡ r → Extends c r
-itself_extends c r e = record { same = ap is_same e; better = λ h. ap is_better e ∙ h }
-
 product_extended : (r s c d : Relation) → Extends c r → Extends d s → Extends (in_priority c d) (in_product r s)
 product_extended r s c d h k = record { same = grind (arith, h.same, k.same); better = λ e. grind (arith, h.same, h.better, k.better) }
 
@@ -50,7 +40,7 @@ priority_extended : (r s c d : Relation) → Extends c r → Extends d s → Ext
 priority_extended r s c d h k = record { same = grind (arith, h.same, k.same); better = λ e. grind (arith, h.same, h.better, k.better) }
 
 pub all_extend : (p : Preference) (s : Bool) (a b : List ℤ) → Extends (by_chain (all_keys p s) a b) (directed s p a b)
-all_extend (scored t) s a b = itself_extends (by_chain (key_for t s ∷ []) a b) (directed s (scored t) a b) (one_key (key_for t s) a b ∙ key_law t s a b)
+all_extend (scored t) s a b = grind (arith, one_key, key_law)
 all_extend (pareto p q) s a b = grind (arith, directed_product, chain-append, product_extended, all_extend p s a b, all_extend q s a b)
 all_extend (prior p q) s a b = grind (arith, directed_priority, chain-append, priority_extended, all_extend p s a b, all_extend q s a b)
 all_extend (reverse p) s a b = subst (Extends (by_chain (all_keys p (not s)) a b)) (directed_reverse s p a b) (all_extend p (not s) a b)
@@ -64,11 +54,6 @@ all_in_row (reverse p) s h = all_in_row p (not s) h
 
 -- ---- an ask, within its groups
 
-group_in_row : (columns : List ℕ) → All (λ col. col < 16) columns → AreInRow (group_keys columns)
-group_in_row [] h = All-nil (λ key. key.col < 16)
-group_in_row (col ∷ columns) h =
-    All-cons (λ key. key.col < 16) (key_for (low col) false) (group_keys columns) (All-head (λ c. c < 16) col columns h) (group_in_row columns (All-tail (λ c. c < 16) col columns h))
-
 -- rows of one group are the same by the keys of the groups
 pub group_same : (columns : List ℕ) (a b : List ℤ) → is_same (by_chain (group_keys columns) a b) ≡ in_same_group columns a b
 group_same [] a b = refl
@@ -77,16 +62,8 @@ group_same (col ∷ columns) a b = grind (arith, ints, priority-same, key_law, s
 pub ask_same : (q : Question) (a b : List ℤ) → is_same (by_chain (ask_keys q) a b) ≡ alike q a b
 ask_same q a b = grind (arith, chain-append, priority-same, group_same, all_extend, walked_same)
 
--- behind chains in which two rows are the same, the next one decides
-behind_same : (c d : Relation) → is_same c ≡ true → is_better d ≡ true → is_better (in_priority c d) ≡ true
-behind_same c d h k = grind (arith)
-
 pub ask_extended : (q : Question) (a b : List ℤ) → (order_of q).over a b ≡ true → is_better (by_chain (ask_keys q) a b) ≡ true
-ask_extended q a b h =
-    let both = and_parts (in_same_group q.group a b) (better q.preference a b) h in
-    ap is_better (chain-append (group_keys q.group) (all_keys q.preference false) a b)
-    ∙ behind_same (by_chain (group_keys q.group) a b) (by_chain (all_keys q.preference false) a b) (group_same q.group a b ∙ both.0)
-    ((all_extend q.preference false a b).better (walked_better q.preference a b ∙ both.1))
+ask_extended q a b h = let all = all_extend q.preference false a b in grind (arith, h, all.better, walked_better q.preference a b, chain-append, group_same q.group a b)
 
 pub ask_back : (q : Question) (a b : List ℤ) → (order_of q).over b a ≡ true → is_worse (by_chain (ask_keys q) a b) ≡ true
 ask_back q a b h = chain_back (ask_keys q) a b ∙ ask_extended q b a h
@@ -101,13 +78,12 @@ ask_twins q known a b = order_of_twins_are_alike q known a b ∙ ap (λ r. q.dis
 pub ask_in_row : (q : Question) → IsAsk q → AreInRow (ask_keys q)
 ask_in_row q known =
     All-append (λ key. key.col < 16) (group_keys q.group) (all_keys q.preference false)
-    (group_in_row q.group known.columns.group) (all_in_row q.preference false known.columns.preference)
+    (All-map (λ key. key.col < 16) (λ col. key_for (low col) false) q.group known.columns.group) (all_in_row q.preference false known.columns.preference)
 
 -- ---- keys that stand twice
 
 same_opposed : (s : Bool) (x y : ℤ) → is_same (by_scores (opposed s x) (opposed s y)) ≡ int_eq x y
-same_opposed true x y = grind (arith, ints)
-same_opposed false x y = scores-same x y
+same_opposed s x y = grind (arith, ints)
 
 -- rows are the same in keys of one column and score, whichever way these are turned
 pub same_either_way : (k j : Key) (a b : List ℤ) → k.col ≡ j.col → k.score ≡ j.score → is_same (by_key k a b) ≡ is_same (by_key j a b)
@@ -121,19 +97,11 @@ same_in_each (x ∷ xs) a b h = grind (arith, h, priority-same, All-cons (λ key
 pub same_in_one : (keys : List Key) (key : Key) (a b : List ℤ) → Contains keys key → is_same (by_chain keys a b) ≡ true → is_same (by_key key a b) ≡ true
 same_in_one keys key a b h e = All-contains (λ key. is_same (by_key key a b) ≡ true) keys key (same_in_each keys a b e) h
 
-pub none_shortened : IsShortened [] []
-none_shortened = record { in_row = λ h. h; compares = λ a b. refl }
-
-settled : (r s : Relation) → (is_same r ≡ true → is_same s ≡ true) → r ≡ in_priority r s
-settled r s h = grind (arith, h)
-
 -- a key that sees no difference between rows that are the same in the others can be left out
 pub one_repeated : (keys kept : List Key) (key : Key) → IsShortened keys kept → ((a b : List ℤ) → is_same (by_chain kept a b) ≡ true → is_same (by_key key a b) ≡ true) → IsShortened (keys ++ key ∷ []) kept
 one_repeated keys kept key h same = record {
   in_row = λ all. h.in_row (All-pop (λ key. key.col < 16) (keys ++ key ∷ []) keys (Some key) refl all).0;
-  compares = λ a b.
-      settled (by_chain kept a b) (by_key key a b) (same a b)
-      ∙ ((λ i. in_priority (h.compares a b i) (sym (one_key key a b) i)) ∙ sym (chain-append keys (key ∷ []) a b));
+  compares = λ a b. grind (arith, same a b, h.compares a b, one_key key a b, chain-append keys (key ∷ []) a b);
 }
 
 pub one_new : (keys kept : List Key) (key : Key) → IsShortened keys kept → IsShortened (keys ++ key ∷ []) (kept ++ key ∷ [])

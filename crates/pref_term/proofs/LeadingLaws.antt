@@ -1,8 +1,8 @@
 -- Where the product of the chains that lead a preference sees a difference, it decides; and these chains, one after the other, lead the chain of all keys.
 use Rattle.pref_term.proofs.Common.{◌≡◌, arith, ◌<◌, ℕ, zero, suc, get_or, ℤ, Bool, true, false, not, List, [], ◌∷◌, ◌++◌, refl, sym, ap, ◌∙◌, ◌⊎◌, length, length-append, and_from, and_parts, false≢true}
-use Rattle.pref_term.proofs.Common.{All, All-append, All-cons, All-nil, All-head, All-tail, AreInRow, ReadsBelow, by_chain, is_chain, is_better, is_same, is_worse}
+use Rattle.pref_term.proofs.Common.{All, All-append, All-nil, AreInRow, ReadsBelow, by_chain, is_chain, is_better, is_same, is_worse}
 use Rattle.pref_term.proofs.Common.{Preference, scored, pareto, prior, reverse, Question, IsAsk, in_priority, in_product, Key, Relation}
-use Rattle.std.proofs.lemmas.List.Elements.{All-pop, All-push}
+use Rattle.std.proofs.lemmas.List.Elements.{All-map, All-weaker, All-pop, All-push}
 use Rattle.std.specs.Prelude.{Contains, Some}
 use Rattle.pref_term.specs.Extension.{all_keys}
 use Rattle.pref_term.specs.Keys.{IsNoGreater, leading}
@@ -30,12 +30,6 @@ product_behind r s t = grind arith
 asked_again : (r s t : Relation) → in_priority (in_priority r s) (in_priority r t) ≡ in_priority r (in_priority s t)
 asked_again r s t = grind arith
 
-factor_again : (r s : Relation) → in_product (in_product r s) r ≡ in_product r s
-factor_again r s = grind arith
-
-priority_again : (r s : Relation) → in_priority (in_priority r s) r ≡ in_priority r s
-priority_again r s = grind arith
-
 first_decides : (r s t : Relation) → Decides r s → Decides r (in_priority s t)
 first_decides r s t h = grind (arith, h)
 
@@ -61,9 +55,7 @@ same_joined (chain ∷ chains) a b = grind (arith, chain-append chain (joined ch
 product_behind_chain : (keys : List Key) (chains : List (List Key)) (a b : List ℤ) → by_product (each_behind keys chains) a b ≡ in_priority (by_chain keys a b) (by_product chains a b)
 product_behind_chain keys [] a b = product_same (by_chain keys a b) ∙ sym (priority_same (by_chain keys a b))
 product_behind_chain keys (chain ∷ []) a b = grind (arith, product_same, chain-append keys chain a b)
-product_behind_chain keys (chain ∷ next ∷ chains) a b =
-    (λ i. in_product (chain-append keys chain a b i) (product_behind_chain keys (next ∷ chains) a b i))
-    ∙ product_behind (by_chain keys a b) (by_chain chain a b) (by_product (next ∷ chains) a b)
+product_behind_chain keys (chain ∷ next ∷ chains) a b = grind (arith, chain-append keys chain a b, product_behind_chain keys (next ∷ chains) a b, product_behind)
 
 joined_behind_chain : (keys : List Key) (chains : List (List Key)) (a b : List ℤ) → by_chain (joined (each_behind keys chains)) a b ≡ in_priority (by_chain keys a b) (by_chain (joined chains) a b)
 joined_behind_chain keys [] a b = chain-append keys [] a b
@@ -73,10 +65,7 @@ joined_behind_chain keys (chain ∷ next ∷ chains) a b =
 
 behind_in_row : (keys : List Key) (chains : List (List Key)) → AreInRow keys → All AreInRow chains → All AreInRow (each_behind keys chains)
 behind_in_row keys [] h k = All-push AreInRow [] keys k h
-behind_in_row keys (chain ∷ []) h k = All-push AreInRow [] (keys ++ chain) (All-nil AreInRow) (All-append (λ key. key.col < 16) keys chain h (All-head AreInRow chain [] k))
-behind_in_row keys (chain ∷ next ∷ chains) h k =
-    All-cons AreInRow (keys ++ chain) (each_behind keys (next ∷ chains)) (All-append (λ key. key.col < 16) keys chain h (All-head AreInRow chain (next ∷ chains) k))
-    (behind_in_row keys (next ∷ chains) h (All-tail AreInRow chain (next ∷ chains) k))
+behind_in_row keys (chain ∷ chains) h k = All-map AreInRow (λ other. keys ++ other) (chain ∷ chains) (All-weaker AreInRow (λ other. AreInRow (keys ++ other)) (λ other. All-append (λ key. key.col < 16) keys other h) (chain ∷ chains) k)
 
 -- ---- the chains of two products
 
@@ -89,15 +78,11 @@ joined-append [] ys a b = refl
 joined-append (x ∷ xs) ys a b = grind (arith, chain-append x (joined (xs ++ ys)) a b, joined-append xs ys a b, priority-assoc, chain-append x (joined xs) a b)
 
 -- a chain that is one of the factors adds nothing, wherever it stands
-factor_held : (chains : List (List Key)) (chain : List Key) (i : ℕ) (a b : List ℤ) → i < length chains → get_or chains i chain ≡ chain → in_product (by_product chains a b) (by_chain chain a b) ≡ by_product chains a b
-factor_held [] chain i a b lt e = absurd (omega arith)
-factor_held (x ∷ xs) chain zero a b lt e = grind (arith, e, factor_again)
-factor_held (x ∷ xs) chain (suc i) a b lt e = grind (arith, product-assoc, factor_held xs chain i a b)
-
-chain_held : (chains : List (List Key)) (chain : List Key) (i : ℕ) (a b : List ℤ) → i < length chains → get_or chains i chain ≡ chain → in_priority (by_chain (joined chains) a b) (by_chain chain a b) ≡ by_chain (joined chains) a b
-chain_held [] chain i a b lt e = absurd (omega arith)
-chain_held (x ∷ xs) chain zero a b lt e = grind (arith, e, chain-append x (joined xs) a b, priority_again)
-chain_held (x ∷ xs) chain (suc i) a b lt e = grind (arith, chain-append x (joined xs) a b, priority-assoc, chain_held xs chain i a b)
+held : (chains : List (List Key)) (chain : List Key) (i : ℕ) (a b : List ℤ) → i < length chains → get_or chains i chain ≡ chain
+    → (in_product (by_product chains a b) (by_chain chain a b) ≡ by_product chains a b) × (in_priority (by_chain (joined chains) a b) (by_chain chain a b) ≡ by_chain (joined chains) a b)
+held [] chain i a b lt e = absurd (omega arith)
+held (x ∷ xs) chain zero a b lt e = grind (arith, e, chain-append x (joined xs) a b)
+held (x ∷ xs) chain (suc i) a b lt e = grind (arith, product-assoc, priority-assoc, chain-append x (joined xs) a b, held xs chain i a b)
 
 pub one_added : (xs ys all : List (List Key)) (y : List Key) → AreBoth xs ys all → AreBoth xs (ys ++ y ∷ []) (all ++ y ∷ [])
 one_added xs ys all y h = record {
@@ -111,14 +96,9 @@ one_held xs ys all y h stands =
     let more = one_added xs ys all y h in
     record {
       in_row = λ k l. h.in_row k (All-pop AreInRow (ys ++ y ∷ []) ys (Some y) refl l).0;
-      product = λ a b.
-          sym (product-append all (y ∷ []) a b ∙ (ap (in_product (by_product all a b)) (product_same (by_chain y a b)) ∙ factor_held all y stands.0 a b stands.1 stands.2)) ∙ more.product a b;
-      in_order = λ a b.
-          sym (joined-append all (y ∷ []) a b ∙ (ap (in_priority (by_chain (joined all) a b)) (one_joined y a b) ∙ chain_held all y stands.0 a b stands.1 stands.2)) ∙ more.in_order a b;
+      product = λ a b. grind (arith, product-append all (y ∷ []) a b, product_same (by_chain y a b), held all y stands.0 a b stands.1 stands.2, more.product a b);
+      in_order = λ a b. grind (arith, joined-append all (y ∷ []) a b, chain-append y [] a b, priority_same (by_chain y a b), held all y stands.0 a b stands.1 stands.2, more.in_order a b);
     }
-  where
-    one_joined : (chain : List Key) (a b : List ℤ) → by_chain (joined (chain ∷ [])) a b ≡ by_chain chain a b
-    one_joined chain a b = chain-append chain [] a b ∙ priority_same (by_chain chain a b)
 
 -- ---- a preference, or its converse
 
@@ -135,12 +115,9 @@ leading_some (pareto p q) s = grind (arith, length-append (leading p s) (leading
 leading_some (prior p q) s = leading_some p s
 leading_some (reverse p) s = leading_some p (not s)
 
-not_alone : (p : Preference) (s : Bool) (keys : List Key) → keys ≡ leading p s → keys ≡ [] → ⊥
-not_alone p s keys is none = let some = leading_some p s in let e : length (leading p s) ≡ 0 = ap length (sym is ∙ none) in grind (arith, some, e)
-
 -- no chain leads it, and its leading keys are behind none
 pub none_leads : (p : Preference) (s : Bool) (keys : List Key) → keys ≡ leading p s → IsLedBy p s [] keys false
-none_leads p s keys is = grind (arith, All-nil, leading_in_row, false≢true, keep, not_alone)
+none_leads p s keys is = grind (arith, All-nil, leading_in_row, false≢true, keep, leading_some p s)
 
 -- it is led by itself
 pub chain_leads : (p : Preference) (s : Bool) → is_chain p ≡ true → IsLedBy p s (all_keys p s ∷ []) [] true
@@ -167,7 +144,7 @@ first_leads p q s whole chains keys found h within rest some = grind (arith, dir
 
 -- chains that are the whole of the first part leave the rest to the second one
 pub whole_leads : (p q : Preference) (s : Bool) (chains : List (List Key)) (keys found : List Key) → IsLedBy p s chains keys true → found ≡ leading q s → IsLedBy (prior p q) s chains found false
-whole_leads p q s chains keys found h is = grind (arith, first_leads, leading_in_row, keep, second_fits, not_alone)
+whole_leads p q s chains keys found h is = grind (arith, first_leads, leading_in_row, keep, second_fits, leading_some q s)
 
 -- others keep their keys
 pub part_leads : (p q : Preference) (s : Bool) (chains : List (List Key)) (keys : List Key) → IsLedBy p s chains keys false → IsLedBy (prior p q) s chains keys false
