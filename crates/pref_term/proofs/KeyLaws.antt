@@ -6,9 +6,6 @@ use Rattle.pref_term.proofs.Common.{by_sides, in_priority, in_product, is_better
 use Rattle.pref_term.proofs.Common.{find, int_eq, list_any}
 use Rattle.std.specs.Prelude.{◌||◌}
 use Rattle.std.specs.Option.{option_map_or}
-use Rattle.pref_term.specs.Keys.{from_zero}
-use Rattle.pref_term.specs.Better.{cell}
-use Rattle.pref_term.specs.declared.key.Score.TheVariants.{Sets}
 use Rattle.pref_term.specs.Walk.{directed}
 
 raised : (x y : ℤ) → by_scores (x +ℤ pos (2 ^ 63)) (y +ℤ pos (2 ^ 63)) ≡ by_scores x y
@@ -75,9 +72,7 @@ leading_in_row (reverse p) s h = leading_in_row p (not s) h
 -- those of a product have no sets
 pub leading_numbers : (p : Preference) (s : Bool) → is_product p ≡ true → All (λ key. is_number key.score ≡ true) (leading p s)
 leading_numbers (scored t) s h = grind (arith)
-leading_numbers (pareto p q) s h =
-    let both = and_parts (is_product p) (is_product q) h in
-    All-append (λ key. is_number key.score ≡ true) (leading p s) (leading q s) (leading_numbers p s both.0) (leading_numbers q s both.1)
+leading_numbers (pareto p q) s h = grind (arith, h, and_parts, All-append (λ key. is_number key.score ≡ true) (leading p s) (leading q s), leading_numbers p s, leading_numbers q s)
 leading_numbers (prior p q) s h = absurd (false≢true h)
 leading_numbers (reverse p) s h = leading_numbers p (not s) h
 
@@ -103,20 +98,8 @@ leading_law p s a b h = grind (arith, product_same, key_law, keys-append, direct
 abbrev pub holds_one : ℤ → ℤ → List ℤ → Bool
 holds_one a b set = list_any (int_eq a) set || list_any (int_eq b) set
 
-first_or_later : (set : List ℤ) (sets : List (List ℤ)) (a b : ℤ) (x y : Bool) → list_any (int_eq a) set ≡ x → list_any (int_eq b) set ≡ y
-    → by_scores (pos (sets_before sets a)) (pos (sets_before sets b)) ≡ option_map_or (λ s. by_scores (missed s a) (missed s b)) (find (holds_one a b) sets) Same
-    → by_scores (pos (sets_before (set ∷ sets) a)) (pos (sets_before (set ∷ sets) b))
-    ≡ option_map_or (λ s. by_scores (missed s a) (missed s b)) (find (holds_one a b) (set ∷ sets)) Same
-first_or_later set sets a b x y first second rest = grind (arith, ints)
-
 -- the first set that holds one of two values decides
 pub first_decides : (sets : List (List ℤ)) (a b : ℤ)
     → by_scores (pos (sets_before sets a)) (pos (sets_before sets b)) ≡ option_map_or (λ s. by_scores (missed s a) (missed s b)) (find (holds_one a b) sets) Same
 first_decides [] a b = refl
-first_decides (set ∷ sets) a b = first_or_later set sets a b (list_any (int_eq a) set) (list_any (int_eq b) set) refl refl (first_decides sets a b)
-
--- a key whose values are scored by sets compares rows as these do, or the other way round
-pub by_sets_of : (k : Key) (sets : List (List ℤ)) (t : Bool) (a b : List ℤ) → k.score ≡ Sets sets → k.turned ≡ t
-    → by_scores (opposed t (pos (sets_before sets (cell a k.col)))) (opposed t (pos (sets_before sets (cell b k.col)))) ≡ by_key k a b
-by_sets_of k sets t a b score is i =
-    by_scores (opposed (sym is i) (from_zero (sym score i) (cell a k.col))) (opposed (sym is i) (from_zero (sym score i) (cell b k.col)))
+first_decides (set ∷ sets) a b = grind (arith, ints, first_decides sets a b)

@@ -1,14 +1,9 @@
-use Rattle.pref_term.proofs.Common.{◌≡◌, true, sym, subst, ◌∙◌, ap, arith, order_of_alike, order_of_twins_alike, in_same_group, same, is_same, Question, IsAsk, alike, and_from, and_parts, twins_alike}
+use Rattle.pref_term.proofs.Common.{◌≡◌, true, subst, ◌∙◌, arith, order_of_alike, order_of_twins_alike, in_same_group, same, is_same, IsAsk, alike, and_parts, twins_alike}
 use Rattle.pref_term.proofs.ask.AskDominance.compare.Goals as goal
 
 -- rows that are reported as the same are of one group, and the same
 reported_alike : (c : goal.After-compare_in_group) → is_same c.compare_in_group.result ≡ true → alike c.args.self.now c.args.a.now c.args.b.now ≡ true
-reported_alike c reported =
-    let q = c.args.self.now in
-    let group : c.deref.result.now ≡ q.group = c.deref.ensures.value ∙ ap (λ (s : Question). s.group) c.self.view_is in
-    and_from (in_same_group q.group c.args.a.now c.args.b.now) (same q.preference c.args.a.now c.args.b.now)
-    (ap (λ cols. in_same_group cols c.args.a.now c.args.b.now) (sym group) ∙ sym c.in_same_group.ensures ∙ c.if-in_same_group.true)
-    (sym c.compare_in_group.ensures.same ∙ reported)
+reported_alike c reported = grind (arith, c.self.view_is, c.deref.ensures.value, c.in_same_group.ensures, c.if-in_same_group.true, c.compare_in_group.ensures.same, reported)
 
 pub returns-then-in_same_group-clause-stand_alike : goal.returns-then-in_same_group-clause-stand_alike
 returns-then-in_same_group-clause-stand_alike c reported =

@@ -1,7 +1,6 @@
-use Rattle.pref_term.proofs.Common.{All-same, subst, sym}
+use Rattle.pref_term.proofs.Common.{subst, sym}
 use Rattle.std.proofs.lemmas.List.Elements.{Contains-get_or}
 use Rattle.std.specs.Prelude.{Contains}
-use Rattle.pref_term.specs.Signatures.{IsBy}
 use Rattle.pref_term.proofs.signature.choose.scales_for.Goals as goal
 
 pub loop-key-preserved : goal.loop-key-preserved
@@ -13,6 +12,3 @@ loop-key-preserved c =
       within = c.in_ok-push_key.ensures.within;
       by = c.in_ok-push_key.ensures.by keys there c.loop-key.invariant.by;
     }
-
-pub returns : goal.returns
-returns c = All-same (IsBy c.args.keys.now) _ _ c.of.ensures c.loop-key.invariant.by

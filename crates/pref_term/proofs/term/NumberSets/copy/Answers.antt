@@ -1,5 +1,0 @@
-use Rattle.pref_term.proofs.Common.{arith, common_steps}
-use Rattle.pref_term.proofs.term.NumberSets.copy.Goals as goal
-
-pub loop-set-preserved : goal.loop-set-preserved
-loop-set-preserved c = grind (arith, common_steps)
