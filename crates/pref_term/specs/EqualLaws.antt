@@ -1,6 +1,6 @@
 -- No public contract cites this.
 -- The tests of equality are true exactly where preferences, modes and questions are the same. (this project)
-use Rattle.std.proofs.Common.{◌≡◌, ◌==◌, ℕ, List, true, arith, refl, ℤ}
+use Rattle.std.proofs.Common.{◌≡◌, ◌==◌, ℕ, List, arith, refl, ℤ}
 use Rattle.std.proofs.lemmas.Bool.{and_parts}
 use Rattle.std.proofs.lemmas.Cmp.{on_equiv}
 use Rattle.std.proofs.lemmas.Int.{ints}
@@ -37,16 +37,8 @@ modes_Decides a b = grind (arith)
 groups_Decides : (a b : List ℕ) → Decides (pointwise ◌==◌ a b) (a ≡ b)
 groups_Decides a b = slice_eq-Decides unsigned_Decides a b _ refl
 
--- the tests of the parts are the test of the whole
-parts_decide : (p q : Question) → question_eq p q ≡ true → p ≡ q
-parts_decide p q h =
-    let k = and_parts _ _ h in
-    let l = and_parts _ _ k.0 in
-    let m = and_parts _ _ l.0 in
-    λ i. record { preference = (preferences_Decides p.preference q.preference).0 m.0 i; group = (groups_Decides p.group q.group).0 m.1 i; mode = (modes_Decides p.mode q.mode).0 l.1 i; distinct = (booleans_Decides p.distinct q.distinct).0 k.1 i }
-
 pub questions_Decides : (p q : Question) → Decides (question_eq p q) (p ≡ q)
-questions_Decides p q = (parts_decide p q, λ e. grind (arith, e, preferences_Decides p.preference q.preference, groups_Decides p.group q.group, modes_Decides p.mode q.mode, booleans_Decides p.distinct q.distinct))
+questions_Decides p q = grind (arith, preferences_Decides p.preference q.preference, groups_Decides p.group q.group, modes_Decides p.mode q.mode, booleans_Decides p.distinct q.distinct)
 
 pub terms_equal : IsEquivalence (on preference_of preference_eq)
 terms_equal = on_equiv preference_of (decided preference_eq preferences_Decides)

@@ -5,7 +5,7 @@ use Rattle.std.specs.Prelude.{◌&&◌}
 use Rattle.std.proofs.lemmas.Bool.{and_parts}
 use Rattle.std.proofs.lemmas.Bool.Decides.{Decides-int_eq}
 use Rattle.std.proofs.lemmas.Int.{ints}
-use Rattle.pref_term.specs.Preference.{Base, low, Preference, scored, pareto, prior, reverse}
+use Rattle.pref_term.specs.Preference.{Base, Preference, scored, pareto, prior, reverse}
 use Rattle.pref_term.specs.Better.{cell, score, same, in_same_group}
 use Rattle.pref_term.specs.Columns.{column, columns_in}
 use Rattle.pref_term.specs.OrderLaws.{group_back, group_on}
@@ -17,8 +17,7 @@ group_append (x ∷ xs) ys a b = grind (arith, group_append xs ys a b)
 
 -- rows that are equal in its column score alike
 cell_score : (t : Base) (a b : List ℤ) → cell a (column t) ≡ cell b (column t) → score t a ≡ score t b
-cell_score (low col) a b e = e
-cell_score t a b e = rw e refl
+cell_score t a b e = grind (arith, e)
 
 -- rows that are equal in all columns of a preference are the same to it
 equal_same : (p : Preference) (a b : List ℤ) → in_same_group (columns_in p) a b ≡ true → same p a b ≡ true
