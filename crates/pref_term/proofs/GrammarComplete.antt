@@ -200,12 +200,15 @@ first_reads s leaf m e c = record { leaves = leaf ∷ c.leaves; tree = c.tree; r
 more_reads : (s : State) (leaves : List Leaf) (m : State) → Reads s leaves m → CanEnd m → CanEnd s
 more_reads s leaves m h c = record { leaves = leaves ++ c.leaves; tree = c.tree; reads = reads_on s leaves c.leaves m (done c.tree) h c.reads }
 
+ends_here : (s : State) (a : AskText) → next s finish ≡ Some (last, done a) → CanEnd s
+ends_here s a e = record { leaves = last ∷ []; tree = a; reads = (done a, e, refl) }
+
 after_ranked : (h : ProductHole) (p : ProductText) → after h p ≡ ranked (outer h) (closed h p)
 after_ranked h p = grind arith
 
 mutual
   ends_prior : (h : PriorHole) (r : PriorText) → CanEnd (ranked h r)
-  ends_prior (whole head) r = record { leaves = last ∷ []; tree = rated head r []; reads = (done (rated head r []), ranked_whole head r, refl) }
+  ends_prior (whole head) r = ends_here (ranked (whole head) r) (rated head r []) (ranked_whole head r)
   ends_prior (in_group h) r = first_reads (ranked (in_group h) r) (mark right) (completed h (grouped r)) (ranked_right (in_group h) r) (ends_unary h (grouped r))
   ends_prior (in_reverse h) r = first_reads (ranked (in_reverse h) r) (mark right) (completed h (reversed r)) (ranked_right (in_reverse h) r) (ends_unary h (reversed r))
 
@@ -221,25 +224,23 @@ mutual
 ends_operand : (h : UnaryHole) → CanEnd (operand h)
 ends_operand h = more_reads (operand h) (base_leaves (low_text x_name)) (completed h (based (low_text x_name))) (reads_base (low_text x_name) h) (ends_unary h (based (low_text x_name)))
 
-ends_sets : (h : UnaryHole) (column : List ℕ) (first : SetText) (others : List SetText) → CanEnd (reading h (sets_listed column first others))
-ends_sets h column first others = first_reads _ (mark right) (completed h (based (layered_text column first others))) refl (ends_unary h (based (layered_text column first others)))
+-- a parenthesis that ends a base term
+ends_based : (h : UnaryHole) (b : BasePart) (text : BaseText) → next (reading h b) (sign right) ≡ Some (mark right, completed h (based text)) → CanEnd (reading h b)
+ends_based h b text e = first_reads (reading h b) (mark right) (completed h (based text)) e (ends_unary h (based text))
 
 ends_closed : (h : UnaryHole) (l : NumberList) (first : NumberText) (others : List NumberText) → CanEnd (stepped h (list_closed l first others))
 ends_closed h (in_pos column) first others = ends_unary h (based (pos_text column first others))
-ends_closed h (in_set column []) first others = ends_sets h column (record { first = first; others = others }) []
-ends_closed h (in_set column (s ∷ ss)) first others = ends_sets h column s (ss ++ record { first = first; others = others } ∷ [])
+ends_closed h (in_set column []) first others = ends_based h _ (layered_text column (record { first = first; others = others }) []) refl
+ends_closed h (in_set column (s ∷ ss)) first others = ends_based h _ (layered_text column s (ss ++ record { first = first; others = others } ∷ [])) refl
 
 ends_listed : (h : UnaryHole) (l : NumberList) (first : NumberText) (others : List NumberText) → CanEnd (reading h (listed l first others))
 ends_listed h l first others = first_reads _ (mark (closing l)) (stepped h (list_closed l first others)) (list_ends h l first others) (ends_closed h l first others)
 
-ends_range : (h : UnaryHole) (column : List ℕ) (l r : NumberText) → CanEnd (reading h (range_ended column l r))
-ends_range h column l r = first_reads _ (mark right) (completed h (based (between_text column l r))) refl (ends_unary h (based (between_text column l r)))
-
 ends_filled : (h : UnaryHole) (hole : NumberHole) (n : NumberText) → CanEnd (reading h (filled hole n))
-ends_filled h (centre_of column) n = first_reads _ (mark right) (completed h (based (around_text column n))) refl (ends_unary h (based (around_text column n)))
+ends_filled h (centre_of column) n = ends_based h _ (around_text column n) refl
 ends_filled h (start_of column) n = first_reads _ (mark comma) (reading h (number_due (end_of column n))) refl
-    (first_reads _ (number_digits (Some n) false zero_digits) (reading h (range_ended column n (record { negative = false; digits = zero_digits }))) refl (ends_range h column n (record { negative = false; digits = zero_digits })))
-ends_filled h (end_of column l) n = ends_range h column l n
+    (first_reads _ (number_digits (Some n) false zero_digits) (reading h (range_ended column n (record { negative = false; digits = zero_digits }))) refl (ends_based h _ (between_text column n (record { negative = false; digits = zero_digits })) refl))
+ends_filled h (end_of column l) n = ends_based h _ (between_text column l n) refl
 ends_filled h (next_of l []) n = ends_listed h l n []
 ends_filled h (next_of l (first ∷ others)) n = ends_listed h l first (others ++ n ∷ [])
 
@@ -251,8 +252,8 @@ ends_set_due h column sets = first_reads _ (mark left_brace) (reading h (number_
 
 -- behind a column of each kind of base term
 ends_columned : (h : UnaryHole) (k : BaseKind) (column : List ℕ) → CanEnd (reading h (columned k column))
-ends_columned h low_kind column = first_reads _ (mark right) (completed h (based (low_text column))) refl (ends_unary h (based (low_text column)))
-ends_columned h high_kind column = first_reads _ (mark right) (completed h (based (high_text column))) refl (ends_unary h (based (high_text column)))
+ends_columned h low_kind column = ends_based h _ (low_text column) refl
+ends_columned h high_kind column = ends_based h _ (high_text column) refl
 ends_columned h around_kind column = first_reads _ (mark comma) (reading h (number_due (centre_of column))) refl (ends_due h (centre_of column))
 ends_columned h between_kind column = first_reads _ (mark comma) (reading h (number_due (start_of column))) refl (ends_due h (start_of column))
 ends_columned h pos_kind column = first_reads _ (mark comma) (reading h (number_due (next_of (in_pos column) []))) refl (ends_due h (next_of (in_pos column) []))
@@ -266,29 +267,20 @@ ends_part h (number_due n) = ends_due h n
 ends_part h (number_signed n) = first_reads _ (number_digits (least_of n) true zero_digits) (reading h (filled n (record { negative = true; digits = zero_digits }))) refl (ends_filled h n (record { negative = true; digits = zero_digits }))
 ends_part h (centred column centre) = ends_filled h (centre_of column) centre
 ends_part h (ranged column l) = ends_filled h (start_of column) l
-ends_part h (range_ended column l r) = ends_range h column l r
+ends_part h (range_ended column l r) = ends_based h _ (between_text column l r) refl
 ends_part h (listed l first others) = ends_listed h l first others
 ends_part h (set_due column sets) = ends_set_due h column sets
-ends_part h (sets_listed column first others) = ends_sets h column first others
+ends_part h (sets_listed column first others) = ends_based h _ (layered_text column first others) refl
 
-ends_listed_group : (head : HeadText) (r : PriorText) (first : List ℕ) (others : List (List ℕ)) → CanEnd (group_listed head r first others)
-ends_listed_group head r first others = record { leaves = last ∷ []; tree = rated head r (first ∷ others); reads = (done (rated head r (first ∷ others)), refl, refl) }
-
-ends_group : (head : HeadText) (r : PriorText) (columns : List (List ℕ)) → CanEnd (group_due head r columns)
-ends_group head r [] = first_reads _ (column_name x_name) (group_listed head r x_name []) refl (ends_listed_group head r x_name [])
-ends_group head r (c ∷ cs) = first_reads _ (column_name x_name) (group_listed head r c (cs ++ x_name ∷ [])) refl (ends_listed_group head r c (cs ++ x_name ∷ []))
-
-ends_dims : (s o : List ℕ) (first : DimText) (others : List DimText) → CanEnd (dims_listed s o first others)
-ends_dims s o first others = record { leaves = last ∷ []; tree = skyline s o first others; reads = (done (skyline s o first others), refl, refl) }
-
-ends_listed_dim : (s o : List ℕ) (dims : List DimText) (d : DimText) → CanEnd (with_next (dims_listed s o) dims d)
-ends_listed_dim s o [] d = ends_dims s o d []
-ends_listed_dim s o (e ∷ es) d = ends_dims s o e (es ++ d ∷ [])
+-- one more behind some, where each that stands there can be the last
+ends_next : {X : Type 0} (parts : X → List X → State) → ((first : X) (others : List X) → CanEnd (parts first others)) → (some : List X) (x : X) → CanEnd (with_next parts some x)
+ends_next parts each [] x = each x []
+ends_next parts each (first ∷ others) x = each first (others ++ x ∷ [])
 
 ends_named_dim : (s o : List ℕ) (dims : List DimText) (column : List ℕ) → CanEnd (dim_named s o dims column)
 ends_named_dim s o dims column =
     let d : DimText = record { column = column; direction = minimal; written = cased_letters min_word } in
-    first_reads _ (cased min_word (cased_letters min_word)) (with_next (dims_listed s o) dims d) refl (ends_listed_dim s o dims d)
+    first_reads _ (cased min_word (cased_letters min_word)) (with_next (dims_listed s o) dims d) refl (ends_next (dims_listed s o) (λ first others. ends_here _ (skyline s o first others) refl) dims d)
 
 ends_dim : (s o : List ℕ) (dims : List DimText) → CanEnd (dim_due s o dims)
 ends_dim s o dims = first_reads _ (column_name x_name) (dim_named s o dims x_name) refl (ends_named_dim s o dims x_name)
@@ -301,10 +293,10 @@ can_end (reverse_named h) = first_reads (reverse_named h) (opens (unary_depth h)
 can_end (reading h b) = ends_part h b
 can_end (after h p) = ends_product h p
 can_end (count_due k) = first_reads (count_due k) (count_digits zero_digits) (operand (in_whole (count_head k zero_digits))) refl (ends_operand (in_whole (count_head k zero_digits)))
-can_end (group_due head r columns) = ends_group head r columns
-can_end (group_listed head r first others) = ends_listed_group head r first others
+can_end (group_due head r columns) = first_reads _ (column_name x_name) (with_next (group_listed head r) columns x_name) refl (ends_next (group_listed head r) (λ first others. ends_here _ (rated head r (first ∷ others)) refl) columns x_name)
+can_end (group_listed head r first others) = ends_here _ (rated head r (first ∷ others)) refl
 can_end (skyline_named s) = first_reads (skyline_named s) (cased of_word (cased_letters of_word)) (dim_due s (cased_letters of_word) []) refl (ends_dim s (cased_letters of_word) [])
 can_end (dim_due s o dims) = ends_dim s o dims
 can_end (dim_named s o dims column) = ends_named_dim s o dims column
-can_end (dims_listed s o first others) = ends_dims s o first others
+can_end (dims_listed s o first others) = ends_here _ (skyline s o first others) refl
 can_end (done a) = record { leaves = []; tree = a; reads = refl }
