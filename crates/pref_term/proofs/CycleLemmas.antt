@@ -130,9 +130,9 @@ module _ (names : Names) (depth : ℕ) (ts : List Placed) (t : Lexeme) (letters 
 -- what the readers of a base term, a group and a factor need
 pub ruleset reads_base = (taken_base, low_taken, high_taken, low_taken_fails, high_taken_fails)
 
-pub ruleset reads_group = (group_not_opened, group_too_deep, group_end_fails)
+pub ruleset reads_group = (group_not_opened, group_too_deep, group_within_fails, group_read, group_end_fails)
 
-pub ruleset reads_unary = (minus_read, word_reverse_read, word_reverse_fails)
+pub ruleset reads_unary = (minus_read, minus_fails, group_alone, word_reverse_read, word_reverse_fails)
 
 -- ---- products and priors
 

@@ -1,6 +1,6 @@
 use Rattle.pref_term.proofs.Common.{List, arith, sym, ap, subst, ◌∙◌, length, Placed, NotNext, sign, star, ampersand}
 use Rattle.pref_term.proofs.LedLemmas.{fault_exit}
-use Rattle.pref_term.proofs.CycleLemmas.{group_alone, group_read, group_within_fails, minus_fails, more_factors, more_factors_fail, more_products, more_products_fail}
+use Rattle.pref_term.proofs.CycleLemmas.{more_factors, more_factors_fail, more_products, more_products_fail}
 use Rattle.pref_term.proofs.read.term.+term.Goals as goal
 
 pub prior-returns-in_err-last-clause-parsed : goal.prior-returns-in_err-last-clause-parsed
@@ -38,21 +38,3 @@ prior-returns-then-not-is-clause-parsed t c =
 pub product-returns-then-not-is-clause-parsed : goal.product-returns-then-not-is-clause-parsed
 product-returns-then-not-is-clause-parsed t c =
     record { factors = c.loop-taken.invariant.so_far; stops = subst (NotNext (sign star)) (sym c.take-taken.ensures) c.if-not-is.ensures.no }
-
-pub group-returns-in_err-term-clause-parsed : goal.group-returns-in_err-term-clause-parsed
-group-returns-in_err-term-clause-parsed t c =
-    let room = c.in_ok-inside.ensures.ok in
-    fault_exit _ _ _ c.from_residual-in_err-term.ensures.1 (group_within_fails _ _ _ c.take-taken.result.at _ _ room.0 room.1 (c.take-taken.ensures ∙ c.if-not-is.ensures.yes) _ c.in_err-term.ensures.parsed)
-
-pub group-returns-clause-parsed : goal.group-returns-clause-parsed
-group-returns-clause-parsed t c =
-    let room = c.in_ok-inside.ensures.ok in
-    group_read _ _ _ c.take-taken.result.at _ _ room.0 room.1 (c.take-taken.ensures ∙ c.if-not-is.ensures.yes) _ _ c.in_ok-term.ensures.parsed _ c.in_ok-rest.ensures.ok
-
-pub unary-returns-in_err-part-clause-parsed : goal.unary-returns-in_err-part-clause-parsed
-unary-returns-in_err-part-clause-parsed t c =
-    let room = c.in_ok-inside.ensures.ok in
-    fault_exit _ _ _ c.from_residual-in_err-part.ensures.1 (minus_fails _ _ _ c.take-taken.result.at _ _ room.0 room.1 (c.take-taken.ensures ∙ c.if-is.ensures.yes) _ c.in_err-part.ensures.parsed)
-
-pub unary-returns-then-is-2-clause-parsed : goal.unary-returns-then-is-2-clause-parsed
-unary-returns-then-is-2-clause-parsed t c = group_alone _ _ c.take-taken.result.at _ _ (c.take-taken.ensures ∙ c.if-is-2.ensures.yes) c.group.result c.group.ensures.parsed
