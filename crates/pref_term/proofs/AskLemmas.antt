@@ -94,13 +94,7 @@ asks_exit (Err g) e h = rw e h
 
 pub rated_read : (names : Names) (ts us : List Placed) (p : Preference) (group : List ℕ) (mode : Mode) → ReadsPrior names 0 ts p us → ReadsGrouping names us group → (head : HeadText) → mode_of head ≡ mode → Asks names false (operand (in_whole head)) ts (Ok (record { preference = p; group = group; mode = mode; distinct = false }))
 rated_read names ts us p group mode r g head e =
-    goes_asks names false _ (ranked (whole head) r.products.tree) ts us (Ok (record { preference = p; group = group; mode = mode; distinct = false })) (r.products.goes (whole head) refl)
-    (record {
-      asks = λ k. ap (meant names false) (g.goes head r.products.tree k)
-          ∙ (ap (λ x. Ok (record { preference = x; group = map (column_at names) g.some; mode = mode_of head; distinct = false })) r.products.meaning
-          ∙ (ap (λ x. Ok (record { preference = p; group = x; mode = mode_of head; distinct = false })) g.meaning
-          ∙ ap (λ x. Ok (record { preference = p; group = group; mode = x; distinct = false })) e));
-    })
+    goes_asks names false _ (ranked (whole head) r.products.tree) ts us _ (r.products.goes (whole head) refl) (record { asks = λ k. rw (g.goes head r.products.tree k, r.products.meaning, g.meaning, e) refl })
 
 pub rated_fails : (names : Names) (ts : List Placed) (f : TermFault) → FailsPrior names 0 ts f → (head : HeadText) → Asks names false (operand (in_whole head)) ts (Err f)
 rated_fails names ts f r head = fails_asks names false _ ts f (r.fails (whole head) refl)
