@@ -1,6 +1,6 @@
 -- Each text of the grammar is read to its end, and each state of reading can be completed.
 use Rattle.pref_term.proofs.Common.{◌≡◌, arith, ℕ, ◌+◌, List, [], ◌∷◌, ◌++◌, Bool, true, false, Option, Some, None, refl, sym, ap, subst, ◌∙◌, append_assoc, append-nil, IfSome, AllByRecursion, bytes_eq}
-use Rattle.pref_term.proofs.Common.{str_to_ascii_lowercase, bytes_eq-Decides, left, right, left_brace, comma, star, ampersand, word, sign, finish, Keyword, best_word, by_word, CasedWord, skyline_word}
+use Rattle.pref_term.proofs.Common.{str_to_ascii_lowercase, bytes_eq-Decides, left, right, left_brace, comma, star, ampersand, word, sign, finish, Keyword, best_word, low_word, by_word, CasedWord, skyline_word}
 use Rattle.pref_term.proofs.Common.{of_word, min_word, letters_of, keyword_of, cased_letters, cased_in, cased_of, HeadText, best_head, top_level_head, at_least_head, head_leaves}
 use Rattle.pref_term.proofs.Common.{Direction, minimal, direction_word, DimText, dim_leaves, group_leaves, AskText, rated, skyline, IsWritten, IsText}
 use Rattle.pref_term.proofs.Common.{NumberText, BaseText, low_text, high_text, around_text, pos_text, PriorText, one_product, then_product, ProductText, one_factor, then_factor, UnaryText, negated}
@@ -9,7 +9,7 @@ use Rattle.pref_term.proofs.Common.{prior_leaves, product_leaves, unary_leaves, 
 use Rattle.pref_term.proofs.Common.{low_kind, high_kind, around_kind, pos_kind, NumberHole, centre_of, next_of, BasePart, named, opened, columned, number_due, number_signed, centred, listed}
 use Rattle.pref_term.proofs.Common.{filled, PriorHole, whole, in_group, in_reverse, ProductHole, first_product, next_product, UnaryHole, first_factor, next_factor, in_minus, prior_depth}
 use Rattle.pref_term.proofs.Common.{product_depth, unary_depth, State, start, operand, reverse_named, reading, after, group_due, group_listed, skyline_named, dim_due}
-use Rattle.pref_term.proofs.Common.{dim_named, dims_listed, done, completed, outer, closed, ranked, in_whole, begun, of_named, directed, next, between_kind, start_of, end_of, least_of}
+use Rattle.pref_term.proofs.Common.{dim_named, dims_listed, done, completed, ranked, in_whole, begun, of_named, directed, next, between_kind, start_of, end_of, least_of}
 use Rattle.pref_term.proofs.Common.{ranged, range_ended, layered_kind, NumberList, in_pos, in_set, closing, list_closed, stepped, set_due, sets_listed, parted, after_commas, column_leaves, with_next, count_due, count_head}
 use Rattle.pref_term.proofs.GrammarSound.{keyword_letters}
 
@@ -197,14 +197,8 @@ pub record CanEnd (s : State) : Type 0 where
 first_reads : (s : State) (leaf : Leaf) (m : State) → next s (token_of leaf) ≡ Some (leaf, m) → CanEnd m → CanEnd s
 first_reads s leaf m e c = record { leaves = leaf ∷ c.leaves; tree = c.tree; reads = (m, e, c.reads) }
 
-more_reads : (s : State) (leaves : List Leaf) (m : State) → Reads s leaves m → CanEnd m → CanEnd s
-more_reads s leaves m h c = record { leaves = leaves ++ c.leaves; tree = c.tree; reads = reads_on s leaves c.leaves m (done c.tree) h c.reads }
-
 ends_here : (s : State) (a : AskText) → next s finish ≡ Some (last, done a) → CanEnd s
 ends_here s a e = record { leaves = last ∷ []; tree = a; reads = (done a, e, refl) }
-
-after_ranked : (h : ProductHole) (p : ProductText) → after h p ≡ ranked (outer h) (closed h p)
-after_ranked h p = grind arith
 
 mutual
   ends_prior : (h : PriorHole) (r : PriorText) → CanEnd (ranked h r)
@@ -213,16 +207,13 @@ mutual
   ends_prior (in_reverse h) r = first_reads (ranked (in_reverse h) r) (mark right) (completed h (reversed r)) (ranked_right (in_reverse h) r) (ends_unary h (reversed r))
 
   ends_product : (h : ProductHole) (p : ProductText) → CanEnd (after h p)
-  ends_product (first_product h) p = subst CanEnd (sym (after_ranked (first_product h) p)) (ends_prior h (one_product p))
-  ends_product (next_product h r) p = subst CanEnd (sym (after_ranked (next_product h r) p)) (ends_prior h (then_product r p))
+  ends_product (first_product h) p = ends_prior h (one_product p)
+  ends_product (next_product h r) p = ends_prior h (then_product r p)
 
   ends_unary : (h : UnaryHole) (u : UnaryText) → CanEnd (completed h u)
   ends_unary (first_factor h) u = ends_product h (one_factor u)
   ends_unary (next_factor h p) u = ends_product h (then_factor p u)
   ends_unary (in_minus h) u = ends_unary h (negated u)
-
-ends_operand : (h : UnaryHole) → CanEnd (operand h)
-ends_operand h = more_reads (operand h) (base_leaves (low_text x_name)) (completed h (based (low_text x_name))) (reads_base (low_text x_name) h) (ends_unary h (based (low_text x_name)))
 
 -- a parenthesis that ends a base term
 ends_based : (h : UnaryHole) (b : BasePart) (text : BaseText) → next (reading h b) (sign right) ≡ Some (mark right, completed h (based text)) → CanEnd (reading h b)
@@ -247,9 +238,6 @@ ends_filled h (next_of l (first ∷ others)) n = ends_listed h l first (others +
 ends_due : (h : UnaryHole) (hole : NumberHole) → CanEnd (reading h (number_due hole))
 ends_due h hole = first_reads _ (number_digits (least_of hole) false zero_digits) (reading h (filled hole (record { negative = false; digits = zero_digits }))) refl (ends_filled h hole (record { negative = false; digits = zero_digits }))
 
-ends_set_due : (h : UnaryHole) (column : List ℕ) (sets : List SetText) → CanEnd (reading h (set_due column sets))
-ends_set_due h column sets = first_reads _ (mark left_brace) (reading h (number_due (next_of (in_set column sets) []))) refl (ends_due h (next_of (in_set column sets) []))
-
 -- behind a column of each kind of base term
 ends_columned : (h : UnaryHole) (k : BaseKind) (column : List ℕ) → CanEnd (reading h (columned k column))
 ends_columned h low_kind column = ends_based h _ (low_text column) refl
@@ -257,9 +245,9 @@ ends_columned h high_kind column = ends_based h _ (high_text column) refl
 ends_columned h around_kind column = first_reads _ (mark comma) (reading h (number_due (centre_of column))) refl (ends_due h (centre_of column))
 ends_columned h between_kind column = first_reads _ (mark comma) (reading h (number_due (start_of column))) refl (ends_due h (start_of column))
 ends_columned h pos_kind column = first_reads _ (mark comma) (reading h (number_due (next_of (in_pos column) []))) refl (ends_due h (next_of (in_pos column) []))
-ends_columned h layered_kind column = first_reads _ (mark comma) (reading h (set_due column [])) refl (ends_set_due h column [])
+ends_columned h layered_kind column = first_reads _ (mark comma) (reading h (set_due column [])) refl (first_reads _ (mark left_brace) (reading h (number_due (next_of (in_set column []) []))) refl (ends_due h (next_of (in_set column []) [])))
 
-pub ends_part : (h : UnaryHole) (b : BasePart) → CanEnd (reading h b)
+ends_part : (h : UnaryHole) (b : BasePart) → CanEnd (reading h b)
 ends_part h (named k) = first_reads _ (mark left) (reading h (opened k)) refl (first_reads _ (column_name x_name) (reading h (columned k x_name)) refl (ends_columned h k x_name))
 ends_part h (opened k) = first_reads _ (column_name x_name) (reading h (columned k x_name)) refl (ends_columned h k x_name)
 ends_part h (columned k column) = ends_columned h k column
@@ -269,8 +257,11 @@ ends_part h (centred column centre) = ends_filled h (centre_of column) centre
 ends_part h (ranged column l) = ends_filled h (start_of column) l
 ends_part h (range_ended column l r) = ends_based h _ (between_text column l r) refl
 ends_part h (listed l first others) = ends_listed h l first others
-ends_part h (set_due column sets) = ends_set_due h column sets
+ends_part h (set_due column sets) = first_reads _ (mark left_brace) (reading h (number_due (next_of (in_set column sets) []))) refl (ends_due h (next_of (in_set column sets) []))
 ends_part h (sets_listed column first others) = ends_based h _ (layered_text column first others) refl
+
+ends_operand : (h : UnaryHole) → CanEnd (operand h)
+ends_operand h = first_reads (operand h) (name low_word) (reading h (named low_kind)) refl (ends_part h (named low_kind))
 
 -- one more behind some, where each that stands there can be the last
 ends_next : {X : Type 0} (parts : X → List X → State) → ((first : X) (others : List X) → CanEnd (parts first others)) → (some : List X) (x : X) → CanEnd (with_next parts some x)
