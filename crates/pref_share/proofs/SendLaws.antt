@@ -84,8 +84,25 @@ asking_send : (J : RattleType) (N : _) → IsSend (asking.the_row J N)
 asking_send J N = view_send _ _ _ _ _ (asking_inside J N)
 
 client_inside : (J : RattleType) (N : _) → IsSend (client_fields.the_row J N)
-client_inside J N =
-    search (sendable, declared_send, as_row_send, setups.the_send, prefixes.the_send, options.the_send, asking_send, pages.the_send, readers.the_field_send, heap.the_send, published.the_sync, heap.the_sync, frees) depth 20
+client_inside J N = declared_send (client_fields.the_type J N) (
+  search (sendable, as_row_send),
+  (
+    search (sendable, as_row_send),
+    (
+      search (sendable, setups.the_send),
+      (
+        search (sendable, as_row_send, prefixes.the_send),
+        (
+          search (sendable, as_row_send, options.the_send, asking_send),
+          (
+            search (sendable, as_row_send, pages.the_send),
+            (search (sendable, as_row_send, readers.the_field_send, heap.the_send, published.the_sync, heap.the_sync, frees) depth 9, tt),
+          ),
+        ),
+      ),
+    ),
+  ),
+)
 
 pub client_send : (J : RattleType) (N : _) → IsSend (client.the_row J N)
 client_send J N = view_send _ _ _ _ _ (client_inside J N)
