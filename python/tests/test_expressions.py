@@ -2,6 +2,7 @@
 import datetime
 import os
 import random
+import time
 import unittest
 import warnings
 from decimal import Decimal
@@ -176,6 +177,17 @@ class Expressions(FrameTestCase):
         with self.assertWarnsRegex(prefq.UnknownValue, "no row of 'City' has 'Lion'; did you mean 'Lyon'?") as caught:
             self.assertEqual(self.frame.best("best low(Price)", where="City = 'Lion'"), [])
         self.assertEqual(caught.filename, __file__)
+
+    def test_many_values_that_no_row_has(self):
+        wanted = [f"City {number} of the coast" for number in range(3000)]
+        rows = [{"City": f"Town {number} of the coast", "price": number} for number in range(500)]
+        with prefq.Frame.from_records(rows) as frame, warnings.catch_warnings(record=True) as caught:
+            warnings.simplefilter("always")
+            begun = time.process_time()
+            self.assertEqual(frame.best("best low(price)", where=f"City in ({', '.join(map(repr, wanted))})"), [])
+            self.assertLess(time.process_time() - begun, 3)
+        self.assertEqual(len(caught), 3000)
+        self.assertEqual(sum("did you mean" in str(each.message) for each in caught), 20)
 
     def test_it_follows_each_change(self):
         with prefq.Frame.from_records([{"price": 50, "stars": 2}, {"price": 90, "stars": 3}]) as frame:

@@ -22,7 +22,7 @@ from .moment import moment_of
 from .opened import Columns
 from .questions import Question
 from .ranges import Ranges, complement, intersection, numbers_in, size
-from .translate import Plan, plan, unknown_value
+from .translate import Plan, plan, unknown_values
 
 ARITHMETIC = ("+", "-", "*", *FUNCTIONS)       # without the /, behind which a row may have 0
 MOST_VALUES_WRITTEN = 100
@@ -86,7 +86,7 @@ def condition_of(text: Optional[str], columns: Columns) -> ReadCondition:
     terms = terms_of_places(ranges, columns)
     whole = None
     if terms is not None and None not in parts:
-        whole = RangeCondition(ranges, terms, [unknown_value(column, text) for column, text in computer.absent])
+        whole = RangeCondition(ranges, terms, unknown_values(computer.absent))
     return ReadCondition(whole, [] if terms is None or may_refuse_rows(node) else first_terms(terms), bool(computer.absent))
 
 

@@ -14,7 +14,7 @@ from .moment import Moment
 from .partial import Absent, Partial
 from .questions import Question, Term
 from .selection import Selection, kept
-from .translate import bases_of, unknown_value
+from .translate import bases_of, unknown_values
 from .widening import Segment, Undecided
 
 # With so many columns of either way there are 64 ways.
@@ -45,7 +45,8 @@ def _met(condition: str, view: Iterable[Segment], count: int) -> Tuple[Sequence[
 
 def absent_in(found: Iterable[Tuple[Column, str]]) -> Absent:
     """What is said of values that no row of a column has, by column and text."""
-    return {(column.name, text): unknown_value(column, text) for column, text in found}
+    values = list(found)
+    return dict(zip(((column.name, text) for column, text in values), unknown_values(values)))
 
 
 def texts_beside_columns(node: Node) -> Iterator[Tuple[Column, str]]:

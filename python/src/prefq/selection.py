@@ -20,7 +20,7 @@ from .questions import Mode, Question, names_asked_for, refuse, tokens_of
 from .reading import Progress
 from .rows import Row, Zipped
 from .table import Table, ask_once
-from .translate import Plan, bases_of, below, columns_in, plan, term_below, unknown_value
+from .translate import Plan, bases_of, below, columns_in, plan, term_below, unknown_values
 from .warned import warn_of
 
 MOST_ROWS_ASKED = 1000
@@ -190,7 +190,7 @@ class Reading(NamedTuple):
     @property
     def unknown(self) -> List[str]:
         """What is said of each value that no row has."""
-        return [unknown_value(column, text) for column, text in self.absent]
+        return unknown_values(self.absent)
 
     def at(self, places: Sequence[int]) -> "Reading":
         """The same of only the rows at these places, from 0."""

@@ -28,8 +28,9 @@ from .widening import Nothing
 
 
 OF_CONDITIONS = "a condition is true or false: write a comparison, such as x > 5 or City = 'Lyon'"
-# To compare a text with so many others takes some ten milliseconds.
+# To compare a text with so many others takes some ten milliseconds. It is done for so many of the values that no row has.
 TEXTS_COMPARED = 500
+VALUES_COMPARED = 20
 
 
 class Piece(NamedTuple):
@@ -57,7 +58,7 @@ class Plan:
     @property
     def unknown(self) -> Tuple[str, ...]:
         """What is said of each value of the question that no row has."""
-        return tuple(unknown_value(column, text) for column, text in self.absent)
+        return tuple(unknown_values(self.absent))
 
     @contextmanager
     def refusing(self) -> Iterator[None]:
@@ -308,7 +309,13 @@ def between(name: str, first: int, last: int) -> str:
     return f"between({name}, {ends[0]}, {ends[1]})"
 
 
-def unknown_value(column: Column, text: str) -> str:
-    """What is said of a value that no row has."""
+def unknown_values(absent: Iterable[Tuple[Column, str]]) -> List[str]:
+    """What is said of each value that no row of its column has, and of the first ones also which text is most like them."""
+    return [f"no row of {column.name!r} has {quoted(text)}" + (meant_text(column, text) if place < VALUES_COMPARED else "")
+            for place, (column, text) in enumerate(absent)]
+
+
+def meant_text(column: Column, text: str) -> str:
+    """What is said of a text that no row has, where one of the column's texts is like it."""
     near = nearest(text, column.kind.texts[:TEXTS_COMPARED]) if isinstance(column.kind, Texts) else None
-    return f"no row of {column.name!r} has {quoted(text)}" + (f"; did you mean {quoted(near)}?" if near is not None else "")
+    return "" if near is None else f"; did you mean {quoted(near)}?"
