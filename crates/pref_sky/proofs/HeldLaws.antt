@@ -1,12 +1,14 @@
 -- Entries that were held already, when others come: as many levels are above them as before, or more, and none that was of a level is over one that was of it or of one above.
-use Rattle.pref_sky.proofs.Common.{◌≡◌, ℕ, suc, ◌<◌, ◌≤◌, Bool, true, not, ◌&&◌, List, [], ◌∷◌, sym, ◌∙◌, ap, subst, arith, length, get_or, get_or-map, map, filter, nat_lt, All}
-use Rattle.pref_sky.proofs.Common.{and_from, IsStrictOrder, Entry, Among, comes_after, count_above, entry_at, entry_of, level_of, own_levels, own_order, AreLeveled, AreLowest, HaveDifferentIds, Item, OwnOrder}
+use Rattle.pref_sky.proofs.Common.{◌≡◌, ℕ, suc, ◌<◌, Bool, true, false, not, ◌&&◌, List, [], ◌∷◌, sym, ◌∙◌, ap, subst, arith, length, get_or, get_or-map, map, filter, nat_lt, All}
+use Rattle.pref_sky.proofs.Common.{and_from, Entry, Among, comes_after, count_above, entry_at, entry_of, level_of, own_levels, own_order, AreLeveled, AreLowest, HaveDifferentIds, Item, OwnOrder}
 use Rattle.pref_sky.proofs.Common.{length-map}
 use Rattle.pref_sky.proofs.OwnOrders.{own_is_strict}
-use Rattle.pref_sky.proofs.LeveledLaws.{HasChain, level_is, levels_of_kept}
-use Rattle.pref_sky.proofs.ListLaws.{among_place, any_from, from_filter, in_filter}
-use Rattle.pref_sky.proofs.Merges.{comes_after_among_more, comes_after_upto, same_chains}
+use Rattle.pref_sky.proofs.KeptLaws.{keeps_filtered}
+use Rattle.pref_sky.proofs.LeveledLaws.{levels_of_kept}
+use Rattle.pref_sky.proofs.ListLaws.{among_place, any_from, from_filter}
+use Rattle.pref_sky.proofs.Merges.{comes_after_among_more, comes_after_upto}
 use Rattle.pref_sky.proofs.Ranks.{kept_are}
+use Rattle.pref_sky.proofs.SortedLevels.{KeepsUpper, same_above}
 use Rattle.pref_sky.proofs.SweepLaws.{chain_of_count}
 use Rattle.pref_sky.specs.Held.{AreHeld, AreMarked, AreTakenOver, IsTakenOver, marked_entries, marked_levels}
 use Rattle.pref_sky.specs.declared.merging.Marked.{Marked}
@@ -32,89 +34,60 @@ held_among over cut held all levels found are taken within =
       apart = λ p q p_inside q_inside some near. grind (arith, taken p p_inside, taken q q_inside, are.apart);
     }
 
--- ---- those that have a level
-
-module _ (over : Entry → Entry → Bool) (strict : IsStrictOrder over) (all : List Entry) (cut : ℕ) where
-  abbrev pub is_upper : Entry → Bool
-  is_upper e = not (comes_after over all cut e)
-
-  abbrev pub upper : List Entry
-  upper = filter is_upper all
-
-  abbrev number : Entry → ℕ
-  number e = count_above over all cut e
-
-  record IsUpper (e : Entry) : Type 0 where
-    there : Among e all
-    early : number e < cut
-    chain : HasChain over cut all e (number e)
-
-  upper_is : (e : Entry) → Among e upper → IsUpper e
-  upper_is e m =
-      let w = from_filter is_upper all e m in
-      let chain = chain_of_count over cut all e in
-      record {
-        there = w.0;
-        early = grind (arith, w.1, chain.within, chain.after);
-        chain = chain;
-      }
-
-  upper_at : (p : ℕ) → p < length upper → IsUpper (entry_at upper p)
-  upper_at p inside = upper_is (entry_at upper p) (among_place upper p (record { id = 0; row = [] }) inside)
-
-  upper_chains : (n : ℕ) (e : Entry) → n ≤ cut → comes_after over upper n e ≡ comes_after over all n e
-  upper_chains = same_chains over strict upper all cut (λ x m. (from_filter is_upper all x m).0) (λ x m early. in_filter is_upper all x m (ap not early))
-
-  level_at : (p : ℕ) → p < length upper → level_of over all cut (entry_at upper p) ≡ suc (number (entry_at upper p))
-  level_at p inside = let w = upper_at p inside in level_is over cut all (entry_at upper p) (number (entry_at upper p)) w.chain w.early
-
-  pub upper_held : (mark : ℕ → ℕ) → ((p : ℕ) → p < length upper → mark p ≡ level_of over all cut (entry_at upper p)) → AreHeld over cut mark upper
-  upper_held mark are =
-      let is : (p : ℕ) → p < length upper → mark p ≡ suc (number (entry_at upper p)) = λ p inside. are p inside ∙ level_at p inside in
-      record {
-        within = λ p inside. omega (arith, is p inside, (upper_at p inside).early);
-        after = λ p inside. let w = upper_at p inside in grind (arith, is p inside, upper_chains (number (entry_at upper p)) (entry_at upper p) w.chain.within, w.chain.after);
-        apart = λ p q p_inside q_inside some near.
-            let x = upper_at p p_inside in
-            let y = upper_at q q_inside in
-            let less = comes_after_upto over all (suc (number (entry_at upper p))) (suc (number (entry_at upper q))) (entry_at upper p) (omega (arith, is p p_inside, is q q_inside, near)) in
-            grind (arith, any_from, y.there, y.chain.after, x.chain.no_more x.early, less);
-      }
-
-  -- what one of the last level is over is below the cut
-  pub upper_lowest : (p : ℕ) → p < length upper → level_of over all cut (entry_at upper p) ≡ cut → (e : Entry) → over (entry_at upper p) e ≡ true → comes_after over upper cut e ≡ true
-  upper_lowest p inside last e above =
-      let x = entry_at upper p in
-      let w = upper_at p inside in
-      let chain : comes_after over upper (number x) x ≡ true = upper_chains (number x) x w.chain.within ∙ w.chain.after in
-      subst (λ n. comes_after over upper n e ≡ true) (sym (level_at p inside) ∙ last)
-      (any_from (λ y. comes_after over upper (number x) y && over y e) upper x (among_place upper p (record { id = 0; row = [] }) inside) (and_from (comes_after over upper (number x) x) (over x e) chain above))
-
 -- ---- of entries that are held in some order, those that have a level, and their levels
 
 module _ (order : OwnOrder) (held all : List Entry) (levels : List ℕ) (different : HaveDifferentIds (map entry_of (own_levels order held))) (are : AreLeveled order held all levels) (kept : List Entry) (left : List ℕ)
     (kept_is : kept ≡ filter (λ e. nat_lt 0 (level_of (own_order order) all order.cut e)) all) (left_is : left ≡ map (level_of (own_order order) all order.cut) kept) where
-  abbrev level : Entry → ℕ
-  level = level_of (own_order order) all order.cut
+  abbrev over : Entry → Entry → Bool
+  over = own_order order
 
-  abbrev some : List Entry
-  some = upper (own_order order) (own_is_strict order) all order.cut
+  abbrev number : ℕ → ℕ
+  number p = count_above over all order.cut (entry_at kept p)
 
-  same : kept ≡ some
-  same = kept_is ∙ kept_are (own_order order) all order.cut
+  same : kept ≡ filter (λ e. not (comes_after over all order.cut e)) all
+  same = kept_is ∙ kept_are over all order.cut
 
-  level_there : (p : ℕ) → p < length some → get_or left p 0 ≡ level (entry_at some p)
-  level_there p inside = ap (λ l. get_or l p 0) (left_is ∙ ap (map level) same) ∙ get_or-map level some p (record { id = 0; row = [] }) 0 inside
+  keeps : KeepsUpper over order.cut all all kept
+  keeps = subst (KeepsUpper over order.cut all all) (sym same) (keeps_filtered (comes_after over all order.cut) all)
 
+  -- what is known of one of them
+  record IsKept (p : ℕ) : Type 0 where
+    level : get_or left p 0 ≡ suc (number p)
+    early : number p < order.cut
+    after : comes_after over kept (number p) (entry_at kept p) ≡ true
+    last : comes_after over all (suc (number p)) (entry_at kept p) ≡ false
+
+  is_kept : (p : ℕ) → p < length kept → IsKept p
+  is_kept p inside =
+      let e = entry_at kept p in
+      let there = among_place kept p (record { id = 0; row = [] }) inside in
+      let upper = from_filter (λ x. not (comes_after over all order.cut x)) all e (subst (Among e) same there) in
+      let chain = chain_of_count over order.cut all e in
+      let level = ap (λ l. get_or l p 0) left_is ∙ get_or-map (level_of over all order.cut) kept p (record { id = 0; row = [] }) 0 inside in
+      grind (arith, level, upper.1, chain.within, chain.after, chain.no_more, same_above over (own_is_strict order) kept all order.cut keeps (number p) e)
+
+  pub kept_held : AreHeld over order.cut (λ p. get_or left p 0) kept
+  kept_held = record {
+    within = λ p inside. let w = is_kept p inside in omega (arith, w.level, w.early);
+    after = λ p inside. let w = is_kept p inside in grind (arith, w.level, w.after);
+    apart = λ p q p_inside q_inside some near.
+        let x = is_kept p p_inside in
+        let y = is_kept q q_inside in
+        let above = any_from (λ e. comes_after over kept (number q) e && over e (entry_at kept p)) kept (entry_at kept q) (among_place kept q (record { id = 0; row = [] }) q_inside) in
+        let chain = same_above over (own_is_strict order) kept all order.cut keeps (suc (number q)) (entry_at kept p) (omega (arith, y.early)) in
+        grind (arith, x.level, y.level, y.after, x.last, above, chain, comes_after_upto over all (suc (number p)) (suc (number q)) (entry_at kept p));
+  }
+
+  -- what one of the last level is over is below the cut
   pub kept_lowest : (items : List Item) → All (λ (item : Item). (item.place < length kept) × (get_or left item.place 0 ≡ order.cut)) items → AreLowest order kept items
-  kept_lowest items lowest = subst (λ l. AreLowest order l items) (sym same) (λ k d inside.
+  kept_lowest items lowest k d inside =
       let at = lowest k d inside in
-      let place = (get_or items k d).place in
-      let within : place < length some = subst (λ l. place < length l) same at.0 in
-      (within, λ e above. upper_lowest (own_order order) (own_is_strict order) all order.cut place within (sym (level_there place within) ∙ at.1) e above))
-
-  pub kept_held : AreHeld (own_order order) order.cut (λ k. get_or left k 0) kept
-  kept_held = subst (AreHeld (own_order order) order.cut (λ k. get_or left k 0)) (sym same) (upper_held (own_order order) (own_is_strict order) all order.cut (λ k. get_or left k 0) level_there)
+      let p = (get_or items k d).place in
+      let w = is_kept p at.0 in (
+        at.0,
+        λ e above. subst (λ n. comes_after over kept n e ≡ true) (sym w.level ∙ at.1)
+            (any_from (λ x. comes_after over kept (number p) x && over x e) kept (entry_at kept p) (among_place kept p (record { id = 0; row = [] }) at.0) (and_from _ _ w.after above)),
+      )
 
   pub kept_levels : own_levels order kept ≡ own_levels order held
-  kept_levels = ap (own_levels order) same ∙ levels_of_kept order held all different are.moved
+  kept_levels = levels_of_kept order held all different are.moved kept keeps

@@ -1,15 +1,15 @@
 -- Laws of the levels, for the crates above: no entries have no levels, the order in which entries stand does not matter, what is held has different ids, and of twins the first is best.
-use Rattle.pref_sky.proofs.Common.{not, ◌≡◌, List, arith, RowOrder, Entry, best, entry_order, Among, ℕ, zero, suc, ◌<◌, Bool, [], ◌∷◌, ◌++◌, map, append_assoc, refl, sym, ◌∙◌, ap, append-nil, ◌==◌}
-use Rattle.pref_sky.proofs.Common.{flat_map, IsStrictOrder, Row, Best, TopLevel, AtLeast, Question, Ranked, rest, without_best, order_of, order_of_is_row_order, HaveDifferentIds, entry_of, held_after}
-use Rattle.pref_sky.proofs.Common.{levels, count_by, count_upto, cut_of, in_same_group, selected, answer_of, at_least, ◌≤◌}
+use Rattle.pref_sky.proofs.Common.{◌≡◌, List, arith, RowOrder, Entry, best, entry_order, Among, ℕ, zero, suc, ◌<◌, Bool, [], ◌∷◌, ◌++◌, map, append_assoc, refl, sym, ◌∙◌, ap, append-nil, ◌==◌}
+use Rattle.pref_sky.proofs.Common.{flat_map, IsStrictOrder, Row, Best, TopLevel, AtLeast, Question, Ranked, rest, without_best, order_of, order_of_is_row_order, HaveDifferentIds, entry_of, held_after, in_order_of_id}
+use Rattle.pref_sky.proofs.Common.{levels, count_upto, cut_of, in_same_group, selected, answer_of, at_least}
 use Rattle.pref_sky.specs.Parts.{held_of_parts}
 use Rattle.pref_sky.specs.Twins.{IsFirstOfTwins}
 use Rattle.pref_term.specs.declared.ask.Mode.{Mode}
-use Rattle.pref_sky.proofs.ListLaws.{SameMembers, in_either, in_left, in_right, any_from, any_gives, count_and, count_within, from_filter, in_filter, count_append}
-use Rattle.pref_sky.proofs.IdOrder.{different_by_count}
-use Rattle.pref_sky.proofs.Merges.{comes_after, entry_order_is_strict, entry_order_stays_in_groups}
-use Rattle.pref_sky.proofs.Ranks.{count_levels, same_levels}
-use Rattle.pref_sky.proofs.SortedLevels.{merge}
+use Rattle.pref_sky.proofs.ListLaws.{SameMembers, in_left, in_right, any_from, any_gives, count_within, from_filter, in_filter, count_append}
+use Rattle.pref_sky.proofs.IdOrder.{in_order_moves, same_in_order}
+use Rattle.pref_sky.proofs.KeptLaws.{keeps_all, keeps_joined, keeps_moved, keeps_still, kept_differ}
+use Rattle.pref_sky.proofs.Merges.{comes_after_among_more, entry_order_is_strict, entry_order_stays_in_groups}
+use Rattle.pref_sky.proofs.SortedLevels.{KeepsUpper, levels_keep, levels_kept, merge}
 use Rattle.pref_sky.proofs.AtLeastLaws.{StaysInGroups, enough}
 
 pub best_is_first : (order : RowOrder) (all : List Entry) (e : Entry) → Among e (best (entry_order order) all) → IsFirstOfTwins order all e
@@ -34,11 +34,14 @@ answer_by_cut over strict same within (TopLevel k) xs ys levels_same = levels_sa
 answer_by_cut over strict same within (AtLeast k) xs ys levels_same = grind (arith, enough over strict same within xs k, enough over strict same within ys k)
 
 levels_differ : (over : Entry → Entry → Bool) (all : List Entry) (n : ℕ) → HaveDifferentIds all → HaveDifferentIds (map entry_of (levels over all n))
-levels_differ over all n different = record { once = λ id. omega (arith, different.once id, count_levels over (λ (e : Entry). e.id == id) all n, count_and (λ (e : Entry). e.id == id) (λ e. not (comes_after over all n e)) all) }
+levels_differ over all n = kept_differ _ _ (levels_keep over all n)
 
--- the order in which the entries stand does not matter
+-- the order in which the entries stand does not matter: those of each list have the same levels in order of id
+levels_in_order : (over : Entry → Entry → Bool) → IsStrictOrder over → (all : List Entry) → HaveDifferentIds all → (n : ℕ) → levels over (in_order_of_id all) n ≡ levels over all n
+levels_in_order over strict all different n = levels_kept over strict _ all n (keeps_moved _ _ (keeps_all all) _ (in_order_moves all)) (levels_differ over all n different)
+
 levels_of_same : (over : Entry → Entry → Bool) → IsStrictOrder over → (xs ys : List Entry) → HaveDifferentIds xs → HaveDifferentIds ys → SameMembers xs ys → (n : ℕ) → levels over xs n ≡ levels over ys n
-levels_of_same over strict xs ys dx dy same n = same_levels over strict xs ys n (record { within = same.there; kept = λ x m early. same.back x m }) (levels_differ over xs n dx) (levels_differ over ys n dy)
+levels_of_same over strict xs ys dx dy same n = grind (arith, levels_in_order over strict xs dx n, levels_in_order over strict ys dy n, same_in_order xs ys dx dy same)
 
 pub answer_of_same : (ask : Question) (xs ys : List Entry) → HaveDifferentIds xs → HaveDifferentIds ys → SameMembers xs ys → answer_of ask xs ≡ answer_of ask ys
 answer_of_same ask xs ys dx dy same =
@@ -48,10 +51,7 @@ answer_of_same ask xs ys dx dy same =
 
 -- what is held of entries has different ids
 pub held_differ : (over : Entry → Entry → Bool) (before new : List Entry) (n : ℕ) → HaveDifferentIds (before ++ new) → HaveDifferentIds (map entry_of (levels over before n) ++ new)
-held_differ over before new n different =
-    let top = map entry_of (levels over before n) in
-    different_by_count before new (top ++ new) different
-    (λ p. omega (arith, count_append p top new, count_levels over p before n, count_and p (λ e. not (comes_after over before n e)) before))
+held_differ over before new n = kept_differ _ _ (keeps_joined _ _ _ _ (levels_keep over before n) (keeps_all new))
 
 -- the first ones of a list have different ids where all have
 pub first_differ : (xs ys : List Entry) → HaveDifferentIds (xs ++ ys) → HaveDifferentIds xs
@@ -80,50 +80,21 @@ held_after_pieces over strict cut pieces different = cut_into over strict cut []
 
 -- ---- parts
 
--- of two lists the first may come behind the second
-same_turned : (xs ys : List Entry) → SameMembers (xs ++ ys) (ys ++ xs)
-same_turned xs ys = grind (arith, in_either xs ys, in_left ys xs, in_right ys xs, in_either ys xs, in_left xs ys, in_right xs ys)
-
-behind_differ : (xs ys : List Entry) → HaveDifferentIds (xs ++ ys) → HaveDifferentIds (ys ++ xs)
-behind_differ xs ys different = different_by_count xs ys (ys ++ xs) different (λ p. omega (arith, count_append p ys xs))
-
-held_no_more : (over : Entry → Entry → Bool) (cut : ℕ) (p : Entry → Bool) (parts : List (List Entry)) → count_by p (held_of_parts over cut parts) ≤ count_by p (flat_map (λ part. part) parts)
-held_no_more over cut p [] = omega arith
-held_no_more over cut p (part ∷ parts) =
-    let held = map entry_of (levels over part cut) in
-    omega (
-      arith,
-      held_no_more over cut p parts,
-      count_append p held (held_of_parts over cut parts),
-      count_append p part (flat_map (λ (l : List Entry). l) parts),
-      count_levels over p part cut,
-      count_and p (λ e. not (comes_after over part cut e)) part,
-    )
-
--- what parts hold has different ids, beside others too
-held_differ_beside : (over : Entry → Entry → Bool) (cut : ℕ) (xs : List Entry) (parts : List (List Entry)) → HaveDifferentIds (xs ++ flat_map (λ part. part) parts) → HaveDifferentIds (xs ++ held_of_parts over cut parts)
-held_differ_beside over cut xs parts different =
-    different_by_count xs (flat_map (λ (part : List Entry). part) parts) (xs ++ held_of_parts over cut parts) different (λ p. omega (arith, held_no_more over cut p parts, count_append p xs (held_of_parts over cut parts)))
+parts_keep : (over : Entry → Entry → Bool) (cut : ℕ) (all : List Entry) (parts : List (List Entry)) → ((x : Entry) → Among x (flat_map (λ part. part) parts) → Among x all)
+    → KeepsUpper over cut all (flat_map (λ part. part) parts) (held_of_parts over cut parts)
+parts_keep over cut all [] within = keeps_all []
+parts_keep over cut all (part ∷ parts) within =
+    let others = flat_map (λ (l : List Entry). l) parts in
+    let first = keeps_still _ _ (levels_keep over part cut) (comes_after_among_more over part all (λ x m. within x (in_left part others x m)) cut) in
+    keeps_joined _ _ _ _ first (parts_keep over cut all parts (λ x m. within x (in_right part others x m)))
 
 pub held_of_parts_differ : (over : Entry → Entry → Bool) (cut : ℕ) (parts : List (List Entry)) → HaveDifferentIds (flat_map (λ part. part) parts) → HaveDifferentIds (held_of_parts over cut parts)
-held_of_parts_differ over cut parts different = held_differ_beside over cut [] parts different
+held_of_parts_differ over cut parts = kept_differ _ _ (parts_keep over cut (flat_map (λ part. part) parts) parts (λ x m. m))
 
 -- the levels of what parts hold are those of all
 pub levels_of_held : (over : Entry → Entry → Bool) → IsStrictOrder over → (cut : ℕ) (parts : List (List Entry)) → HaveDifferentIds (flat_map (λ part. part) parts)
     → levels over (held_of_parts over cut parts) cut ≡ levels over (flat_map (λ part. part) parts) cut
-levels_of_held over strict cut [] different = refl
-levels_of_held over strict cut (part ∷ parts) different =
-    let held = held_of_parts over cut parts in
-    let others = flat_map (λ (l : List Entry). l) parts in
-    let beside = held_differ_beside over cut part parts different in
-    let behind = behind_differ part held beside in
-    let last = behind_differ part others different in
-    merge over strict cut part held (held_differ over part held cut beside)
-    ∙ (levels_of_same over strict (part ++ held) (held ++ part) beside behind (same_turned part held) cut
-    ∙ (sym (merge over strict cut held part (held_differ over held part cut behind))
-    ∙ (ap (λ l. levels over (map entry_of l ++ part) cut) (levels_of_held over strict cut parts (first_differ others part last))
-    ∙ (merge over strict cut others part (held_differ over others part cut last)
-    ∙ levels_of_same over strict (others ++ part) (part ++ others) last different (same_turned others part) cut))))
+levels_of_held over strict cut parts different = let all = flat_map (λ (l : List Entry). l) parts in levels_kept over strict _ all cut (parts_keep over cut all parts (λ x m. m)) (levels_differ over all cut different)
 
 -- and so is the answer
 pub answer_of_held : (ask : Question) (parts : List (List Entry)) → HaveDifferentIds (flat_map (λ part. part) parts) → answer_of ask (held_of_parts (entry_order (order_of ask)) (cut_of ask.mode) parts) ≡ answer_of ask (flat_map (λ part. part) parts)

@@ -1,12 +1,12 @@
 -- The levels of a list are its entries over which no chain of the cut stands, each with its level, in order of level, then id: one list for each set of them.
-use Rattle.pref_sky.proofs.Common.{◌≡◌, ℕ, zero, suc, ◌≤◌, Bool, true, false, not, ◌&&◌, List, [], ◌∷◌, ◌++◌, map, refl, sym, ◌∙◌, ap, subst, arith, filter, filter_agree, map-append, nat_lt, nat_tests, eqb, cond, cond-true}
-use Rattle.pref_sky.proofs.Common.{Among, Entry, Ranked, HaveDifferentIds, at_level, entry_of, in_order_of_id, best, rest, levels, level_of, count_above, comes_after, count_by, IsInOrder, IsStrictOrder}
+use Rattle.pref_sky.proofs.Common.{◌≡◌, ℕ, zero, suc, ◌≤◌, Bool, true, not, ◌&&◌, List, [], ◌∷◌, ◌++◌, map, refl, sym, ◌∙◌, ap, subst, arith, filter, filter_agree, map-append, nat_lt, nat_tests, eqb, cond, cond-true}
+use Rattle.pref_sky.proofs.Common.{Among, Entry, Ranked, HaveDifferentIds, at_level, entry_of, in_order_of_id, best, rest, levels, level_of, count_above, comes_after, count_by, IsInOrder}
 use Rattle.pref_sky.proofs.Common.{IsPermutation, IsPermutation-cons, IsPermutation-map, IsPermutation-middle, IsPermutation-refl, IsPermutation-sym, IsPermutation-trans, sum_by-IsPermutation, sorted_far}
 use Rattle.std.proofs.lemmas.List.Sorted.{IsPermutation-append}
 use Rattle.std.specs.Cmp.{IsStrictWeakOrder}
 use Rattle.pref_sky.proofs.IdOrder.{Differ, Rises, count_in_order, different_by_count, in_order_if_sorted, in_order_moves, rises_in_order, same_if_in_order}
-use Rattle.pref_sky.proofs.ListLaws.{count_filtered, count_map, from_filter, from_map, in_either, in_filter, in_map, in_order_joined, none_pass, same_if_permuted}
-use Rattle.pref_sky.proofs.Merges.{HoldsLevels, best_of_rest_is, comes_after_less, is_at, same_chains}
+use Rattle.pref_sky.proofs.ListLaws.{count_filtered, count_map, from_map, in_either, in_order_joined, none_pass, same_if_permuted}
+use Rattle.pref_sky.proofs.Merges.{best_of_rest_is, comes_after_less, is_at}
 pub use Rattle.pref_sky.specs.Ranking.{ranks_before}
 use Rattle.pref_sky.specs.Ranking.{AreInRanks, leveled}
 
@@ -108,40 +108,3 @@ sorted_are_levels over all cut different sorted are =
     same_if_in_order ranks_before ranks_are_ordered.one_way sorted found
     (in_order_if_sorted (λ (r : Ranked). r.id) ranks_before (λ r s h differ. grind (arith, nat_tests, h, differ)) sorted differ (sorted_far ranks_before ranks_are_ordered sorted are.in_order))
     (levels_rise over all cut different) (same_if_permuted sorted found moved)
-
--- ---- of lists that hold the same levels
-
-in_levels : (over : Entry → Entry → Bool) (all : List Entry) (cut : ℕ) (e : Entry) → Among e all → comes_after over all cut e ≡ false → Among (at_level (level_of over all cut e) e) (levels over all cut)
-in_levels over all cut e m early =
-    let level = level_of over all cut in
-    let here : Among e (filter (λ x. nat_lt 0 (level x)) all) = in_filter (λ x. nat_lt 0 (level x)) all e m (grind (arith, early)) in
-    (same_if_permuted (leveled level all) (levels over all cut) (leveled_are over all cut)).there (at_level (level e) e) (in_map (λ x. at_level (level x) x) (filter (λ x. nat_lt 0 (level x)) all) e here)
-
-from_levels : (over : Entry → Entry → Bool) (all : List Entry) (cut : ℕ) (r : Ranked) → Among r (levels over all cut) → (e : Entry) × Among e all × (comes_after over all cut e ≡ false) × (r ≡ at_level (level_of over all cut e) e)
-from_levels over all cut r m =
-    let level = level_of over all cut in
-    let w = from_map (λ x. at_level (level x) x) (filter (λ x. nat_lt 0 (level x)) all) r ((same_if_permuted (leveled level all) (levels over all cut) (leveled_are over all cut)).back r m) in
-    let there = from_filter (λ x. nat_lt 0 (level x)) all w.0 w.1 in
-    (w.0, there.0, grind (arith, there.1), w.2)
-
-same_count : {E : Type 0} (over : E → E → Bool) (xs ys : List E) (e : E) (cut : ℕ) → ((n : ℕ) → n ≤ cut → comes_after over xs n e ≡ comes_after over ys n e) → count_above over xs cut e ≡ count_above over ys cut e
-same_count over xs ys e zero same = refl
-same_count over xs ys e (suc cut) same = grind (arith, same (suc cut), same_count over xs ys e cut (λ n le. same n (omega (arith, le))))
-
--- a list that holds the levels up to the cut has the same levels, where the ids of what is of these differ
-pub same_levels : (over : Entry → Entry → Bool) → IsStrictOrder over → (some all : List Entry) (cut : ℕ) → HoldsLevels over some all cut
-    → HaveDifferentIds (map entry_of (levels over some cut)) → HaveDifferentIds (map entry_of (levels over all cut)) → levels over some cut ≡ levels over all cut
-same_levels over strict some all cut holds ds da =
-    let chains = same_chains over strict some all cut holds.within holds.kept in
-    let same : (e : Entry) → level_of over some cut e ≡ level_of over all cut e = λ e. grind (arith, chains cut e, same_count over some all e cut (λ n le. chains n e le)) in
-    same_if_in_order ranks_before ranks_are_ordered.one_way (levels over some cut) (levels over all cut) (levels_rise over some cut ds) (levels_rise over all cut da)
-    (record {
-      there = λ r m. let w = from_levels over some cut r m in grind (arith, w.3, same w.0, chains cut w.0, holds.within w.0 w.1, in_levels over all cut w.0);
-      back = λ r m. let w = from_levels over all cut r m in grind (arith, w.3, same w.0, chains cut w.0, holds.kept w.0 w.1, in_levels over some cut w.0);
-    })
-
-pub held_within : (over : Entry → Entry → Bool) (all : List Entry) (n : ℕ) (x : Entry) → Among x (map entry_of (levels over all n)) → Among x all
-held_within over all n x m = (from_filter (λ e. not (comes_after over all n e)) all x ((same_if_permuted _ _ (held_are over all n)).back x m)).0
-
-pub held_all : (over : Entry → Entry → Bool) (all : List Entry) (n : ℕ) (x : Entry) → Among x all → comes_after over all n x ≡ false → Among x (map entry_of (levels over all n))
-held_all over all n x m early = (same_if_permuted _ _ (held_are over all n)).there x (in_filter (λ e. not (comes_after over all n e)) all x m (ap not early))

@@ -1,79 +1,77 @@
--- Lists with the same members have the same best, and entries that others are over change nothing of these. Lists with the same levels up to a cut, where the ids differ of what is of these: what is below may be left out, and may be there twice.
-use Rattle.pref_sky.proofs.Common.{◌≡◌, ◌≤◌, Bool, true, not, inl, inr, List, ◌++◌, sym, ◌∙◌, ap, arith, count_by, IsStrictOrder, Entry}
-use Rattle.pref_sky.proofs.Common.{HaveDifferentIds, Among, false}
-use Rattle.pref_sky.proofs.Common.{ℕ, ◌&&◌, ◌⊎◌, map, subst, append_assoc, ◌==◌, OwnOrder, is_below, own_levels, own_order, entry_of}
-use Rattle.pref_sky.proofs.Common.{levels, HoldsUpper}
-use Rattle.pref_sky.proofs.ListLaws.{in_either, in_left, in_right, count_append, count_and}
-use Rattle.pref_sky.proofs.ListLaws.{count_within}
-use Rattle.pref_sky.proofs.IdOrder.{different_by_count}
-use Rattle.pref_sky.proofs.Merges.{HoldsLevels, comes_after, comes_after_among_more, same_chains}
+-- Entries that are below the levels of a list may be left out of it, and may be there twice: the levels are the same. So levels may be merged, and of new entries those alone be kept that are not below those before.
+use Rattle.pref_sky.proofs.Common.{◌≡◌, ◌==◌, ◌<◌, ◌≤◌, Bool, true, not, ◌&&◌, ℕ, zero, suc, List, ◌++◌, refl, sym, ◌∙◌, ap, subst, arith, append_assoc, count_by, map}
+use Rattle.pref_sky.proofs.Common.{IsStrictOrder, Entry, HaveDifferentIds, KeepsAllBut, HoldsUpper, OwnOrder, own_levels, own_order, best, comes_after, entry_of, in_order_of_id, levels, rest}
+use Rattle.pref_sky.proofs.IdOrder.{different_by_count, same_in_order}
+use Rattle.pref_sky.proofs.KeptLaws.{keeps_all, keeps_filtered, keeps_joined, keeps_moved, keeps_still}
+use Rattle.pref_sky.proofs.ListLaws.{count_append, count_filtered, count_within, from_filter, in_filter, in_left}
+use Rattle.pref_sky.proofs.Merges.{best_of_rest_is, comes_after_among_more, early_stays, is_at, same_chains}
 use Rattle.pref_sky.proofs.OwnOrders.{own_is_strict}
-use Rattle.pref_sky.proofs.Ranks.{count_levels, held_all, held_within, same_levels}
+use Rattle.pref_sky.proofs.Ranks.{count_levels, held_are}
 
--- a list that holds the levels of another, and nothing more often
-module _ (over : Entry → Entry → Bool) (strict : IsStrictOrder over) (some all : List Entry) (cut : ℕ) (holds : HoldsLevels over some all cut) (fewer : (p : Entry → Bool) → count_by p some ≤ count_by p all)
-    (different : HaveDifferentIds (map entry_of (levels over all cut))) where
-  pub some_differ : HaveDifferentIds (map entry_of (levels over some cut))
-  some_differ =
+-- some of these entries, with all that are not below the levels of a list
+abbrev pub KeepsUpper : (Entry → Entry → Bool) → (cut : ℕ) → (upper entries kept : List Entry) → Type 0
+KeepsUpper over cut upper = KeepsAllBut (λ e. comes_after over upper cut e ≡ true)
+
+-- those of the levels are such
+pub levels_keep : (over : Entry → Entry → Bool) (all : List Entry) (cut : ℕ) → KeepsUpper over cut all all (map entry_of (levels over all cut))
+levels_keep over all cut = keeps_moved _ _ (keeps_filtered (comes_after over all cut) all) _ (held_are over all cut)
+
+module _ (over : Entry → Entry → Bool) (strict : IsStrictOrder over) (some all : List Entry) (cut : ℕ) (keeps : KeepsUpper over cut all all some) where
+  pub same_above : (n : ℕ) (e : Entry) → n ≤ cut → comes_after over some n e ≡ comes_after over all n e
+  same_above = same_chains over strict some all cut keeps.within (λ x m early. grind (arith, keeps.covers x m))
+
+  level_differs : HaveDifferentIds (map entry_of (levels over all cut)) → (n : ℕ) → n < cut → HaveDifferentIds (best over (rest over some n))
+  level_differs different n early =
       record {
         once = λ id.
             let p : Entry → Bool = λ e. e.id == id in
-            let early : Entry → Bool = λ e. p e && not (comes_after over all cut e) in
-            let same = count_within (λ e. p e && not (comes_after over some cut e)) early some
-            (λ e h. ap (λ b. p e && not b) (sym (same_chains over strict some all cut holds.within holds.kept cut e (omega arith))) ∙ h) in
-            omega (arith, different.once id, count_levels over p some cut, count_levels over p all cut, same, fewer early);
+            let upper : Entry → Bool = λ e. p e && not (comes_after over all cut e) in
+            let within = count_within (λ e. p e && is_at over some n e) upper some (λ e h. grind (arith, h, same_above (suc n) e, early_stays over all (suc n) cut e)) in
+            omega (arith, different.once id, within, keeps.counts upper, count_levels over p all cut, count_filtered p (is_at over some n) some, ap (count_by p) (best_of_rest_is over some n));
       }
 
-  pub some_levels : levels over some cut ≡ levels over all cut
-  some_levels = same_levels over strict some all cut holds some_differ different
+-- a list that keeps of another what is of its levels has the same levels
+module _ (over : Entry → Entry → Bool) (strict : IsStrictOrder over) (some all : List Entry) (cut : ℕ) (keeps : KeepsUpper over cut all all some) (different : HaveDifferentIds (map entry_of (levels over all cut))) where
+  same_level : (n : ℕ) → n < cut → in_order_of_id (best over (rest over some n)) ≡ in_order_of_id (best over (rest over all n))
+  same_level n early =
+      let same = same_above over strict some all cut keeps in
+      same_in_order _ _ (level_differs over strict some all cut keeps different n early) (level_differs over strict all all cut (keeps_all all) different n early) (record {
+        there = λ e m. grind (arith, best_of_rest_is over some n, best_of_rest_is over all n, from_filter, in_filter, keeps.within, same n e, same (suc n) e);
+        back = λ e m. grind (arith, best_of_rest_is over some n, best_of_rest_is over all n, from_filter, in_filter, keeps.covers e, same n e, same (suc n) e, early_stays over all (suc n) cut e);
+      })
+
+  levels_upto : (n : ℕ) → n ≤ cut → levels over some n ≡ levels over all n
+  levels_upto zero le = refl
+  levels_upto (suc n) le = grind (arith, same_level n, levels_upto n)
+
+  pub levels_kept : levels over some cut ≡ levels over all cut
+  levels_kept = levels_upto cut (omega arith)
 
 -- new entries come to those that are held, of which those of the levels count alone
 module _ (over : Entry → Entry → Bool) (strict : IsStrictOrder over) (cut : ℕ) (held entries : List Entry) (different : HaveDifferentIds (map entry_of (levels over held cut) ++ entries)) where
-  later_still : (x : Entry) → comes_after over (held ++ entries) cut x ≡ false → comes_after over held cut x ≡ false
-  later_still x early = grind (arith, comes_after_among_more over held (held ++ entries) (in_left held entries) cut x)
+  still_below : (x : Entry) → comes_after over held cut x ≡ true → comes_after over (held ++ entries) cut x ≡ true
+  still_below = comes_after_among_more over held (held ++ entries) (in_left held entries) cut
 
-  all_differ : HaveDifferentIds (map entry_of (levels over (held ++ entries) cut))
-  all_differ = grind (arith, different_by_count, count_within, later_still, count_levels, count_append)
+  pub merged_differ : HaveDifferentIds (map entry_of (levels over (held ++ entries) cut))
+  merged_differ = grind (arith, different_by_count, count_within, still_below, count_levels, count_append)
 
   -- the merge law: those of the levels stand for all that are held
   pub merge : levels over (map entry_of (levels over held cut) ++ entries) cut ≡ levels over (held ++ entries) cut
-  merge =
-      let top = map entry_of (levels over held cut) in
-      some_levels over strict (top ++ entries) (held ++ entries) cut
-      (record {
-        within = λ x m. elim (in_either top entries x m) [ inl old ↦ in_left held entries x (held_within over held cut x old) | inr new ↦ in_right held entries x new ];
-        kept = λ x m early. elim (in_either held entries x m) [ inl old ↦ in_left top entries x (held_all over held cut x old (later_still x early)) | inr new ↦ in_right top entries x new ];
-      })
-      (λ p.
-      omega (arith, count_append p top entries, count_append p held entries, count_levels over p held cut, count_and p (λ e. not (comes_after over held cut e)) held)) all_differ
+  merge = levels_kept over strict _ (held ++ entries) cut (keeps_joined _ _ _ _ (keeps_still _ _ (levels_keep over held cut) still_below) (keeps_all entries)) merged_differ
 
   -- those of them that are kept
-  module _ (kept : List Entry) (within : (x : Entry) → Among x kept → Among x entries) (covers : (x : Entry) → Among x entries → Among x kept ⊎ (comes_after over held cut x ≡ true)) (fewer : (p : Entry → Bool) → count_by p kept ≤ count_by p entries) where
-    kept_holds : HoldsLevels over (held ++ kept) (held ++ entries) cut
-    kept_holds = grind (arith, in_either held kept, in_left held entries, in_right held entries, in_either held entries, in_left held kept, in_right held kept, later_still)
-
-    no_more : (p : Entry → Bool) → count_by p (held ++ kept) ≤ count_by p (held ++ entries)
-    no_more p = omega (arith, fewer p, count_append p held kept, count_append p held entries)
-
-    pub kept_differ : HaveDifferentIds (map entry_of (levels over (held ++ kept) cut))
-    kept_differ = some_differ over strict (held ++ kept) (held ++ entries) cut kept_holds no_more all_differ
-
-    pub kept_levels : levels over (held ++ kept) cut ≡ levels over (held ++ entries) cut
-    kept_levels = some_levels over strict (held ++ kept) (held ++ entries) cut kept_holds no_more all_differ
+  pub merge_kept : (kept : List Entry) → KeepsUpper over cut held entries kept → levels over (held ++ kept) cut ≡ levels over (held ++ entries) cut
+  merge_kept kept keeps = levels_kept over strict _ (held ++ entries) cut (keeps_joined _ _ _ _ (keeps_all held) (keeps_still _ _ keeps still_below)) merged_differ
 
 -- and of sorted and recent entries, with what is kept of new ones
 module _ (order : OwnOrder) (sorted recent entries : List Entry) (different : HaveDifferentIds (map entry_of (own_levels order (sorted ++ recent)) ++ entries)) (kept : List Entry) (upper : HoldsUpper order sorted entries kept) where
-  covers : (x : Entry) → Among x entries → Among x kept ⊎ (is_below order (sorted ++ recent) x ≡ true)
-  covers x m = elim (upper.covers x m) [ inl stays ↦ inl stays | inr below ↦ inr (comes_after_among_more (own_order order) sorted (sorted ++ recent) (in_left sorted recent) order.cut x below) ]
+  all_levels : own_levels order (sorted ++ (recent ++ kept)) ≡ own_levels order ((sorted ++ recent) ++ entries)
+  all_levels =
+      let still = keeps_still _ _ upper (comes_after_among_more (own_order order) sorted (sorted ++ recent) (in_left sorted recent) order.cut) in
+      ap (own_levels order) (sym (append_assoc sorted recent kept)) ∙ merge_kept (own_order order) (own_is_strict order) order.cut (sorted ++ recent) entries different kept still
 
   pub upper_differ : HaveDifferentIds (map entry_of (own_levels order (sorted ++ (recent ++ kept))))
-  upper_differ = grind (arith, append_assoc sorted recent kept, kept_differ (own_order order) (own_is_strict order) order.cut (sorted ++ recent) entries different kept upper.within covers upper.counts)
+  upper_differ = subst (λ l. HaveDifferentIds (map entry_of l)) (sym all_levels) (merged_differ (own_order order) (own_is_strict order) order.cut (sorted ++ recent) entries different)
 
   pub upper_levels : (before : List Entry) → own_levels order (sorted ++ recent) ≡ own_levels order before → own_levels order (sorted ++ (recent ++ kept)) ≡ own_levels order (before ++ entries)
-  upper_levels before is =
-      let own = own_order order in
-      let strict = own_is_strict order in
-      ap (own_levels order) (sym (append_assoc sorted recent kept))
-      ∙ (kept_levels own strict order.cut (sorted ++ recent) entries different kept upper.within covers upper.counts
-      ∙ (sym (merge own strict order.cut (sorted ++ recent) entries different)
-      ∙ (ap (λ l. levels own (map entry_of l ++ entries) order.cut) is ∙ merge own strict order.cut before entries (subst (λ l. HaveDifferentIds (map entry_of l ++ entries)) is different))))
+  upper_levels before is = grind (arith, all_levels, merge (own_order order) (own_is_strict order) order.cut (sorted ++ recent) entries different, merge (own_order order) (own_is_strict order) order.cut before entries)
