@@ -1,37 +1,25 @@
 -- Laws of the levels, for the crates above: no entries have no levels, the order in which entries stand does not matter, what is held has different ids, and of twins the first is best.
-use Rattle.pref_sky.proofs.Common.{◌≡◌, List, arith, RowOrder, Entry, best, entry_order, Among, ℕ, zero, suc, ◌<◌, Bool, [], ◌∷◌, ◌++◌, map, append_assoc, refl, sym, ◌∙◌, ap, append-nil, ◌==◌}
-use Rattle.pref_sky.proofs.Common.{flat_map, IsStrictOrder, Row, Best, TopLevel, AtLeast, Question, Ranked, rest, without_best, order_of, order_of_is_row_order, HaveDifferentIds, entry_of, held_after, in_order_of_id}
-use Rattle.pref_sky.proofs.Common.{levels, count_upto, cut_of, in_same_group, selected, answer_of, at_least}
+use Rattle.pref_sky.proofs.Common.{◌≡◌, List, arith, Entry, entry_order, Among, ℕ, zero, suc, Bool, [], ◌∷◌, ◌++◌, map, append_assoc, refl, sym, ◌∙◌, ap, append-nil, ◌==◌}
+use Rattle.pref_sky.proofs.Common.{flat_map, IsStrictOrder, Question, Ranked, order_of, order_of_is_row_order, HaveDifferentIds, entry_of, held_after, in_order_of_id}
+use Rattle.pref_sky.proofs.Common.{levels, cut_of, in_same_group, answer_of}
 use Rattle.pref_sky.specs.Parts.{held_of_parts}
-use Rattle.pref_sky.specs.Twins.{IsFirstOfTwins}
-use Rattle.pref_term.specs.declared.ask.Mode.{Mode}
-use Rattle.pref_sky.proofs.ListLaws.{SameMembers, in_left, in_right, any_from, any_gives, count_within, from_filter, in_filter, count_append}
+use Rattle.pref_sky.proofs.ListLaws.{SameMembers, in_left, in_right, count_append}
 use Rattle.pref_sky.proofs.IdOrder.{in_order_moves, same_in_order}
 use Rattle.pref_sky.proofs.KeptLaws.{keeps_all, keeps_joined, keeps_moved, keeps_still, kept_differ}
-use Rattle.pref_sky.proofs.Merges.{comes_after_among_more, entry_order_is_strict, entry_order_stays_in_groups}
+use Rattle.pref_sky.proofs.Merges.{best_of_rest_is, comes_after_among_more, entry_order_is_strict, entry_order_stays_in_groups}
 use Rattle.pref_sky.proofs.SortedLevels.{KeepsUpper, levels_keep, levels_kept, merge}
-use Rattle.pref_sky.proofs.AtLeastLaws.{StaysInGroups, enough}
+use Rattle.pref_sky.proofs.AtLeastLaws.{enough}
 
-pub best_is_first : (order : RowOrder) (all : List Entry) (e : Entry) → Among e (best (entry_order order) all) → IsFirstOfTwins order all e
-best_is_first order all e m other there = grind (arith, from_filter, any_from)
-
-pub first_is_best : (order : RowOrder) (all : List Entry) (e : Entry) → Among e all → IsFirstOfTwins order all e → Among e (best (entry_order order) all)
-first_is_best order all e m first = grind (arith, in_filter, any_gives)
-
--- nothing is left of nothing
-rest_of_none : (over : Entry → Entry → Bool) (n : ℕ) → rest over [] n ≡ []
-rest_of_none over zero = refl
-rest_of_none over (suc n) = ap (without_best over) (rest_of_none over n)
-
+-- of nothing there are no levels
 pub levels_of_none : (over : Entry → Entry → Bool) (n : ℕ) → [] ≡ levels over [] n
 levels_of_none over zero = refl
-levels_of_none over (suc n) = grind (arith, levels_of_none over n, rest_of_none over n)
+levels_of_none over (suc n) = grind (arith, levels_of_none over n, best_of_rest_is over [] n)
 
 -- an answer is made of the levels up to the cut
-answer_by_cut : (over : Entry → Entry → Bool) → IsStrictOrder over → (same : Row → Row → Bool) → StaysInGroups over same → (mode : Mode) (xs ys : List Entry) → levels over xs (cut_of mode) ≡ levels over ys (cut_of mode) → selected over same mode xs ≡ selected over same mode ys
-answer_by_cut over strict same within Best xs ys levels_same = levels_same
-answer_by_cut over strict same within (TopLevel k) xs ys levels_same = levels_same
-answer_by_cut over strict same within (AtLeast k) xs ys levels_same = grind (arith, enough over strict same within xs k, enough over strict same within ys k)
+answer_by_cut : (ask : Question) (xs ys : List Entry) → levels (entry_order (order_of ask)) xs (cut_of ask.mode) ≡ levels (entry_order (order_of ask)) ys (cut_of ask.mode) → answer_of ask xs ≡ answer_of ask ys
+answer_by_cut ask xs ys same =
+    let enough = enough (entry_order (order_of ask)) (entry_order_is_strict (order_of ask) (order_of_is_row_order ask)) (in_same_group ask.group) (entry_order_stays_in_groups ask) in
+    grind (arith, enough xs, enough ys)
 
 levels_differ : (over : Entry → Entry → Bool) (all : List Entry) (n : ℕ) → HaveDifferentIds all → HaveDifferentIds (map entry_of (levels over all n))
 levels_differ over all n = kept_differ _ _ (levels_keep over all n)
@@ -45,9 +33,7 @@ levels_of_same over strict xs ys dx dy same n = grind (arith, levels_in_order ov
 
 pub answer_of_same : (ask : Question) (xs ys : List Entry) → HaveDifferentIds xs → HaveDifferentIds ys → SameMembers xs ys → answer_of ask xs ≡ answer_of ask ys
 answer_of_same ask xs ys dx dy same =
-    let over = entry_order (order_of ask) in
-    let strict = entry_order_is_strict (order_of ask) (order_of_is_row_order ask) in
-    answer_by_cut over strict (in_same_group ask.group) (entry_order_stays_in_groups ask) ask.mode xs ys (levels_of_same over strict xs ys dx dy same (cut_of ask.mode))
+    answer_by_cut ask xs ys (levels_of_same (entry_order (order_of ask)) (entry_order_is_strict (order_of ask) (order_of_is_row_order ask)) xs ys dx dy same (cut_of ask.mode))
 
 -- what is held of entries has different ids
 pub held_differ : (over : Entry → Entry → Bool) (before new : List Entry) (n : ℕ) → HaveDifferentIds (before ++ new) → HaveDifferentIds (map entry_of (levels over before n) ++ new)
@@ -99,13 +85,4 @@ levels_of_held over strict cut parts different = let all = flat_map (λ (l : Lis
 -- and so is the answer
 pub answer_of_held : (ask : Question) (parts : List (List Entry)) → HaveDifferentIds (flat_map (λ part. part) parts) → answer_of ask (held_of_parts (entry_order (order_of ask)) (cut_of ask.mode) parts) ≡ answer_of ask (flat_map (λ part. part) parts)
 answer_of_held ask parts different =
-    let over = entry_order (order_of ask) in
-    let strict = entry_order_is_strict (order_of ask) (order_of_is_row_order ask) in
-    answer_by_cut over strict (in_same_group ask.group) (entry_order_stays_in_groups ask) ask.mode (held_of_parts over (cut_of ask.mode) parts) (flat_map (λ part. part) parts) (levels_of_held over strict (cut_of ask.mode) parts different)
-
--- an entry is kept just where no number of levels below its own holds k of its group
-pub kept_before_k : (same : Row → Row → Bool) (k : ℕ) (all : List Ranked) (r : Ranked) → Among r (at_least same k all) → (m : ℕ) → m < r.level → count_upto same all r.row m < k
-kept_before_k same k all r kept m below = grind (arith, from_filter, count_within)
-
-pub kept_if_before_k : (same : Row → Row → Bool) (k : ℕ) (all : List Ranked) (r : Ranked) → Among r all → 0 < r.level → ((m : ℕ) → m < r.level → count_upto same all r.row m < k) → Among r (at_least same k all)
-kept_if_before_k same k all r m some before = grind (arith, count_within, in_filter)
+    answer_by_cut ask _ _ (levels_of_held (entry_order (order_of ask)) (entry_order_is_strict (order_of ask) (order_of_is_row_order ask)) (cut_of ask.mode) parts different)

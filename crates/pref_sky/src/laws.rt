@@ -58,7 +58,7 @@ pub fn held_ids_differ()
 
 /// The best of a list are, of its entries, those that no entry dominates and of which none with a smaller
 /// id is a twin.
-#[tactic(auto, using(crate::proofs::LevelLaws::best_is_first, crate::proofs::LevelLaws::first_is_best))]
+#[tactic(auto, using(crate::proofs::ListLaws::from_filter, crate::proofs::ListLaws::in_filter, crate::proofs::ListLaws::any_from, crate::proofs::ListLaws::any_gives))]
 pub fn best_keeps_the_first_of_twins()
     ensures first { (order : RowOrder) (all : List Entry) (e : Entry)
         → Among e (best (entry_order order) all) → IsFirstOfTwins order all e }
@@ -69,6 +69,7 @@ pub fn best_keeps_the_first_of_twins()
 /// "At least k" gives in each group the levels 1 to m, where m is the smallest number whose levels 1 to m
 /// hold at least k entries of the group, or all its entries where there are fewer. So an entry is kept
 /// exactly where no number below its level is one of these.
+#[tactic(auto, using(crate::proofs::ListLaws::from_filter, crate::proofs::ListLaws::in_filter, crate::proofs::ListLaws::count_within))]
 pub fn at_least_keeps_the_least_number_of_levels()
     ensures kept { (same : Row → Row → Bool) (k : ℕ) (all : List Ranked) (r : Ranked)
         → Among r (at_least same k all)
