@@ -40,9 +40,6 @@ among_in_order xs = (same_if_permuted xs (in_order_of_id xs) (in_order_moves xs)
 pub from_in_order : (xs : List Entry) (x : Entry) → Among x (in_order_of_id xs) → Among x xs
 from_in_order xs = (same_if_permuted xs (in_order_of_id xs) (in_order_moves xs)).back
 
-pub count_in_order : (p : Entry → Bool) (xs : List Entry) → count_by p (in_order_of_id xs) ≡ count_by p xs
-count_in_order p xs = sum_by-IsPermutation (λ e. cond (p e) 1 0) xs (in_order_of_id xs) (in_order_moves xs)
-
 rises_put : (e : Entry) (others : List Entry) → Rises others → ((x : Entry) → Among x others → x.id ≡ e.id → ⊥) → Rises (put_by_id e others)
 rises_put e [] rises other = (λ x m. absurd m, tt)
 rises_put e (f ∷ others) rises other = grind (arith, same_if_permuted (e ∷ others) (put_by_id e others) (put_moves e others), rises_put e others rises.1)

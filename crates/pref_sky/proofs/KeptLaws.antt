@@ -1,5 +1,5 @@
 -- What is kept of entries: all, those that a test leaves, the same in another order, and of two lists of which one stands behind the other.
-use Rattle.pref_sky.proofs.Common.{◌≡◌, ◌==◌, Bool, true, not, inl, inr, List, [], ◌∷◌, ◌++◌, arith, cond, filter, Entry, HaveDifferentIds, IsPermutation, KeepsAllBut, sum_by-IsPermutation}
+use Rattle.pref_sky.proofs.Common.{◌≡◌, ◌==◌, Bool, true, not, inl, List, [], ◌∷◌, ◌++◌, arith, filter, Entry, HaveDifferentIds, IsPermutation, KeepsAllBut, sum_by-IsPermutation}
 use Rattle.pref_sky.proofs.ListLaws.{in_either, in_left, in_right, count_append, count_filter, from_filter, in_filter, same_if_permuted}
 
 pub keeps_all : {below : Entry → Type 0} (entries : List Entry) → KeepsAllBut below entries entries
@@ -10,12 +10,7 @@ keeps_filtered below entries = grind (arith, from_filter, in_filter, count_filte
 
 -- two lists, one behind the other
 pub keeps_joined : {below : Entry → Type 0} (xs ys some kept : List Entry) → KeepsAllBut below xs some → KeepsAllBut below ys kept → KeepsAllBut below (xs ++ ys) (some ++ kept)
-keeps_joined xs ys some kept first second =
-    record {
-      within = λ x m. grind (arith, in_either some kept x m, in_left xs ys x, in_right xs ys x);
-      covers = λ x m. grind (arith, in_either xs ys x m, in_left some kept x, in_right some kept x);
-      counts = λ p. omega (arith, first.counts p, second.counts p, count_append p xs ys, count_append p some kept);
-    }
+keeps_joined xs ys some kept first second = grind (arith, in_either some kept, in_left xs ys, in_right xs ys, in_either xs ys, in_left some kept, in_right some kept, count_append)
 
 module _ {below : Entry → Type 0} (entries kept : List Entry) (keeps : KeepsAllBut below entries kept) where
   pub keeps_one : (e : Entry) → KeepsAllBut below (entries ++ e ∷ []) (kept ++ e ∷ [])
@@ -26,16 +21,10 @@ module _ {below : Entry → Type 0} (entries kept : List Entry) (keeps : KeepsAl
 
   -- more may be left out than is
   pub keeps_still : {more : Entry → Type 0} → ((e : Entry) → below e → more e) → KeepsAllBut more entries kept
-  keeps_still then = record { within = keeps.within; covers = λ x m. elim (keeps.covers x m) [ inl there ↦ inl there | inr low ↦ inr (then x low) ]; counts = keeps.counts }
+  keeps_still then = grind (arith, then)
 
   pub keeps_moved : (moved : List Entry) → IsPermutation kept moved → KeepsAllBut below entries moved
-  keeps_moved moved order =
-      let same = same_if_permuted kept moved order in
-      record {
-        within = λ x m. keeps.within x (same.back x m);
-        covers = λ x m. grind (arith, keeps.covers x m, same.there x);
-        counts = λ p. omega (arith, keeps.counts p, sum_by-IsPermutation (λ e. cond (p e) 1 0) kept moved order);
-      }
+  keeps_moved moved order = let same = same_if_permuted kept moved order in grind (arith, same.there, same.back, sum_by-IsPermutation)
 
   pub kept_differ : HaveDifferentIds entries → HaveDifferentIds kept
   kept_differ different = record { once = λ id. omega (arith, different.once id, keeps.counts (λ (e : Entry). e.id == id)) }

@@ -1,12 +1,17 @@
 -- The level of an entry, by how many entries stand over it. Entries that are held in some order: those that have a level have the same levels, and in order of level and id they are these.
 use Rattle.pref_sky.proofs.Common.{◌≡◌, ℕ, suc, zero, ◌<◌, ◌≤◌, Bool, true, false, inl, inr, List, sym, subst, ◌∙◌, arith, cases_lt, map}
+use Rattle.pref_sky.proofs.Common.{◌≤◌, cond, eqb, nat_tests, at_level, best, in_order_of_id, levels, rest, IsInOrder, IsStrictOrder, IsPermutation-sym, IsPermutation-trans, sum_by-IsPermutation, sorted_far}
 use Rattle.pref_sky.proofs.Common.{IsPermutation, Entry, OwnOrder, Ranked, HaveDifferentIds, comes_after, count_above, entry_of, level_of, own_levels, own_order}
+use Rattle.pref_sky.proofs.ChainLaws.{in_weaker_order, mapped_in_order}
+use Rattle.pref_sky.proofs.IdOrder.{Differ, in_order_if_sorted, rises_in_order, same_if_in_order}
 use Rattle.pref_sky.proofs.KeptLaws.{keeps_all, keeps_moved}
+use Rattle.pref_sky.proofs.ListLaws.{count_map, from_map, in_order_joined, same_if_permuted}
 use Rattle.pref_sky.proofs.Merges.{early_stays}
 use Rattle.pref_sky.proofs.OwnOrders.{own_is_strict}
-use Rattle.pref_sky.proofs.Ranks.{sorted_are_levels}
-use Rattle.pref_sky.proofs.SortedLevels.{KeepsUpper, levels_kept}
-use Rattle.pref_sky.specs.Ranking.{AreInRanks, leveled}
+use Rattle.pref_sky.proofs.Ranks.{leveled_are, levels_upto}
+use Rattle.pref_sky.proofs.SortedLevels.{KeepsUpper, level_differs, levels_kept}
+use Rattle.pref_sky.specs.Ranking.{AreInRanks, leveled, ranks_before}
+use Rattle.std.specs.Cmp.{IsStrictWeakOrder}
 
 -- a chain of n entries stands over it, and none of more, unless it is below the cut
 pub record HasChain {E : Type 0} (over : E → E → Bool) (cut : ℕ) (all : List E) (e : E) (n : ℕ) : Type 0 where
@@ -30,6 +35,39 @@ level_is over cut all e n chain early = grind (arith, early_stays over all (suc 
 pub level_of_lower : {E : Type 0} (over : E → E → Bool) (cut : ℕ) (all : List E) (e : E) (n : ℕ) → HasChain over cut all e n → cut ≤ n → level_of over all cut e ≡ 0
 level_of_lower over cut all e n chain past = let last : n ≡ cut = omega (arith, past, chain.within) in grind (arith, last, chain.after)
 
+-- ---- in which order the levels stand
+
+ranks_are_ordered : IsStrictWeakOrder ranks_before
+ranks_are_ordered = record {
+  one_way = λ r s h. grind (arith, nat_tests, h);
+  chain = λ r s t h k. grind (arith, nat_tests, h, k);
+}
+
+module _ (over : Entry → Entry → Bool) (strict : IsStrictOrder over) (all : List Entry) (cut : ℕ) (different : HaveDifferentIds (map entry_of (levels over all cut))) where
+  levels_rise : (n : ℕ) → n ≤ cut → IsInOrder ranks_before (levels over all n)
+  levels_rise zero le = tt
+  levels_rise (suc n) le =
+      let level = in_order_of_id (best over (rest over all n)) in
+      let rises = rises_in_order _ (level_differs over strict all all cut (keeps_all all) different n (omega (arith, le))) in
+      in_order_joined ranks_before (levels over all n) (map (at_level (suc n)) level) (levels_rise n (omega (arith, le)))
+      (mapped_in_order (at_level (suc n)) ranks_before level (in_weaker_order _ _ (λ a b h. grind (arith, nat_tests, h)) level rises))
+      (λ r s mr ms. grind (arith, nat_tests, levels_upto over all n r mr, from_map (at_level (suc n)) level s ms))
+
+  -- in order, the entries of the levels are the levels
+  sorted_are_levels : (sorted : List Ranked) → AreInRanks (leveled (level_of over all cut) all) sorted → sorted ≡ levels over all cut
+  sorted_are_levels sorted are =
+      let found = levels over all cut in
+      let moved : IsPermutation sorted found = IsPermutation-trans _ _ _ (IsPermutation-sym _ _ are.moved) (leveled_are over all cut) in
+      let differ : Differ (λ (r : Ranked). r.id) sorted = λ id. omega (
+        arith,
+        different.once id,
+        sum_by-IsPermutation (λ (r : Ranked). cond (eqb r.id id) 1 0) sorted found moved,
+        count_map entry_of (λ e. eqb e.id id) found,
+      ) in
+      same_if_in_order ranks_before ranks_are_ordered.one_way sorted found
+      (in_order_if_sorted (λ (r : Ranked). r.id) ranks_before (λ r s h differ. grind (arith, nat_tests, h, differ)) sorted differ (sorted_far ranks_before ranks_are_ordered sorted are.in_order))
+      (levels_rise cut (omega arith)) (same_if_permuted sorted found moved)
+
 -- ---- of entries that are held in some order
 
 module _ (order : OwnOrder) (held all : List Entry) (different : HaveDifferentIds (map entry_of (own_levels order held))) (moved : IsPermutation held all) where
@@ -43,4 +81,4 @@ module _ (order : OwnOrder) (held all : List Entry) (different : HaveDifferentId
   levels_of_kept kept keeps = levels_kept (own_order order) (own_is_strict order) kept all order.cut keeps all_differ ∙ all_levels
 
   pub ranked_levels : (after : List Ranked) → AreInRanks (leveled (level_of (own_order order) all order.cut) all) after → after ≡ own_levels order held
-  ranked_levels after are = sorted_are_levels (own_order order) all order.cut all_differ after are ∙ all_levels
+  ranked_levels after are = sorted_are_levels (own_order order) (own_is_strict order) all order.cut all_differ after are ∙ all_levels

@@ -1,5 +1,5 @@
 -- Entries that are below the levels of a list may be left out of it, and may be there twice: the levels are the same. So levels may be merged, and of new entries those alone be kept that are not below those before.
-use Rattle.pref_sky.proofs.Common.{◌≡◌, ◌==◌, ◌<◌, ◌≤◌, Bool, true, not, ◌&&◌, ℕ, zero, suc, List, ◌++◌, refl, sym, ◌∙◌, ap, subst, arith, append_assoc, count_by, map}
+use Rattle.pref_sky.proofs.Common.{◌≡◌, ◌==◌, ◌<◌, ◌≤◌, Bool, true, not, ◌&&◌, ℕ, zero, suc, List, ◌++◌, refl, sym, ◌∙◌, ap, subst, arith, append_assoc, map}
 use Rattle.pref_sky.proofs.Common.{IsStrictOrder, Entry, HaveDifferentIds, KeepsAllBut, HoldsUpper, OwnOrder, own_levels, own_order, best, comes_after, entry_of, in_order_of_id, levels, rest}
 use Rattle.pref_sky.proofs.IdOrder.{different_by_count, same_in_order}
 use Rattle.pref_sky.proofs.KeptLaws.{keeps_all, keeps_filtered, keeps_joined, keeps_moved, keeps_still}
@@ -20,25 +20,20 @@ module _ (over : Entry → Entry → Bool) (strict : IsStrictOrder over) (some a
   pub same_above : (n : ℕ) (e : Entry) → n ≤ cut → comes_after over some n e ≡ comes_after over all n e
   same_above = same_chains over strict some all cut keeps.within (λ x m early. grind (arith, keeps.covers x m))
 
-  level_differs : HaveDifferentIds (map entry_of (levels over all cut)) → (n : ℕ) → n < cut → HaveDifferentIds (best over (rest over some n))
-  level_differs different n early =
-      record {
-        once = λ id.
-            let p : Entry → Bool = λ e. e.id == id in
-            let upper : Entry → Bool = λ e. p e && not (comes_after over all cut e) in
-            let within = count_within (λ e. p e && is_at over some n e) upper some (λ e h. grind (arith, h, same_above (suc n) e, early_stays over all (suc n) cut e)) in
-            omega (arith, different.once id, within, keeps.counts upper, count_levels over p all cut, count_filtered p (is_at over some n) some, ap (count_by p) (best_of_rest_is over some n));
-      }
+  pub level_differs : HaveDifferentIds (map entry_of (levels over all cut)) → (n : ℕ) → n < cut → HaveDifferentIds (best over (rest over some n))
+  level_differs different n early = record {
+    once = λ id.
+        let upper : Entry → Bool = λ e. e.id == id && not (comes_after over all cut e) in
+        let within = count_within (λ e. e.id == id && is_at over some n e) upper some (λ e h. grind (arith, h, same_above (suc n) e, early_stays over all (suc n) cut e)) in
+        grind (arith, different.once id, within, keeps.counts upper, count_levels, count_filtered, best_of_rest_is over some n);
+  }
 
 -- a list that keeps of another what is of its levels has the same levels
 module _ (over : Entry → Entry → Bool) (strict : IsStrictOrder over) (some all : List Entry) (cut : ℕ) (keeps : KeepsUpper over cut all all some) (different : HaveDifferentIds (map entry_of (levels over all cut))) where
   same_level : (n : ℕ) → n < cut → in_order_of_id (best over (rest over some n)) ≡ in_order_of_id (best over (rest over all n))
   same_level n early =
       let same = same_above over strict some all cut keeps in
-      same_in_order _ _ (level_differs over strict some all cut keeps different n early) (level_differs over strict all all cut (keeps_all all) different n early) (record {
-        there = λ e m. grind (arith, best_of_rest_is over some n, best_of_rest_is over all n, from_filter, in_filter, keeps.within, same n e, same (suc n) e);
-        back = λ e m. grind (arith, best_of_rest_is over some n, best_of_rest_is over all n, from_filter, in_filter, keeps.covers e, same n e, same (suc n) e, early_stays over all (suc n) cut e);
-      })
+      same_in_order _ _ (level_differs over strict some all cut keeps different n early) (level_differs over strict all all cut (keeps_all all) different n early) (grind (arith, best_of_rest_is over some n, best_of_rest_is over all n, from_filter, in_filter, keeps.within, keeps.covers, same n, same (suc n), early_stays over all (suc n) cut))
 
   levels_upto : (n : ℕ) → n ≤ cut → levels over some n ≡ levels over all n
   levels_upto zero le = refl
