@@ -21,19 +21,14 @@ answer_by_cut ask xs ys same =
     let enough = enough (entry_order (order_of ask)) (entry_order_is_strict (order_of ask) (order_of_is_row_order ask)) (in_same_group ask.group) (entry_order_stays_in_groups ask) in
     grind (arith, enough xs, enough ys)
 
-levels_differ : (over : Entry → Entry → Bool) (all : List Entry) (n : ℕ) → HaveDifferentIds all → HaveDifferentIds (map entry_of (levels over all n))
-levels_differ over all n = kept_differ _ _ (levels_keep over all n)
-
 -- the order in which the entries stand does not matter: those of each list have the same levels in order of id
 levels_in_order : (over : Entry → Entry → Bool) → IsStrictOrder over → (all : List Entry) → HaveDifferentIds all → (n : ℕ) → levels over (in_order_of_id all) n ≡ levels over all n
-levels_in_order over strict all different n = levels_kept over strict _ all n (keeps_moved _ _ (keeps_all all) _ (in_order_moves all)) (levels_differ over all n different)
-
-levels_of_same : (over : Entry → Entry → Bool) → IsStrictOrder over → (xs ys : List Entry) → HaveDifferentIds xs → HaveDifferentIds ys → SameMembers xs ys → (n : ℕ) → levels over xs n ≡ levels over ys n
-levels_of_same over strict xs ys dx dy same n = grind (arith, levels_in_order over strict xs dx n, levels_in_order over strict ys dy n, same_in_order xs ys dx dy same)
+levels_in_order over strict all different n = levels_kept over strict _ all n (keeps_moved _ _ (keeps_all all) _ (in_order_moves all)) (kept_differ _ _ (levels_keep over all n) different)
 
 pub answer_of_same : (ask : Question) (xs ys : List Entry) → HaveDifferentIds xs → HaveDifferentIds ys → SameMembers xs ys → answer_of ask xs ≡ answer_of ask ys
 answer_of_same ask xs ys dx dy same =
-    answer_by_cut ask xs ys (levels_of_same (entry_order (order_of ask)) (entry_order_is_strict (order_of ask) (order_of_is_row_order ask)) xs ys dx dy same (cut_of ask.mode))
+    let in_order = levels_in_order (entry_order (order_of ask)) (entry_order_is_strict (order_of ask) (order_of_is_row_order ask)) in
+    answer_by_cut ask xs ys (grind (arith, in_order xs dx (cut_of ask.mode), in_order ys dy (cut_of ask.mode), same_in_order xs ys dx dy same))
 
 -- what is held of entries has different ids
 pub held_differ : (over : Entry → Entry → Bool) (before new : List Entry) (n : ℕ) → HaveDifferentIds (before ++ new) → HaveDifferentIds (map entry_of (levels over before n) ++ new)
@@ -80,7 +75,7 @@ held_of_parts_differ over cut parts = kept_differ _ _ (parts_keep over cut (flat
 -- the levels of what parts hold are those of all
 pub levels_of_held : (over : Entry → Entry → Bool) → IsStrictOrder over → (cut : ℕ) (parts : List (List Entry)) → HaveDifferentIds (flat_map (λ part. part) parts)
     → levels over (held_of_parts over cut parts) cut ≡ levels over (flat_map (λ part. part) parts) cut
-levels_of_held over strict cut parts different = let all = flat_map (λ (l : List Entry). l) parts in levels_kept over strict _ all cut (parts_keep over cut all parts (λ x m. m)) (levels_differ over all cut different)
+levels_of_held over strict cut parts different = let all = flat_map (λ (l : List Entry). l) parts in levels_kept over strict _ all cut (parts_keep over cut all parts (λ x m. m)) (kept_differ _ _ (levels_keep over all cut) different)
 
 -- and so is the answer
 pub answer_of_held : (ask : Question) (parts : List (List Entry)) → HaveDifferentIds (flat_map (λ part. part) parts) → answer_of ask (held_of_parts (entry_order (order_of ask)) (cut_of ask.mode) parts) ≡ answer_of ask (flat_map (λ part. part) parts)

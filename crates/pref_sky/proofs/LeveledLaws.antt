@@ -38,10 +38,7 @@ level_of_lower over cut all e n chain past = let last : n ≡ cut = omega (arith
 -- ---- in which order the levels stand
 
 ranks_are_ordered : IsStrictWeakOrder ranks_before
-ranks_are_ordered = record {
-  one_way = λ r s h. grind (arith, nat_tests, h);
-  chain = λ r s t h k. grind (arith, nat_tests, h, k);
-}
+ranks_are_ordered = grind (arith, nat_tests)
 
 module _ (over : Entry → Entry → Bool) (strict : IsStrictOrder over) (all : List Entry) (cut : ℕ) (different : HaveDifferentIds (map entry_of (levels over all cut))) where
   levels_rise : (n : ℕ) → n ≤ cut → IsInOrder ranks_before (levels over all n)

@@ -27,7 +27,7 @@ leveled_more over all n (x ∷ xs) =
     grind (arith, comes_after_less over all n x, count_at_cut over all n x, leveled_more over all n xs, IsPermutation-cons one others, IsPermutation-trans, IsPermutation-sym, IsPermutation-middle before one level)
 
 pub leveled_are : (over : Entry → Entry → Bool) (all : List Entry) (cut : ℕ) → IsPermutation (leveled (level_of over all cut) all) (levels over all cut)
-leveled_are over all zero = subst (λ l. IsPermutation (map (at_level 0) l) []) (sym (none_pass (λ e. nat_lt 0 0) all (λ e m. refl))) (IsPermutation-refl [])
+leveled_are over all zero = grind (arith, none_pass (λ (e : Entry). nat_lt 0 0) all, IsPermutation-refl)
 leveled_are over all (suc n) =
     let level = filter (is_at over all n) all in
     subst (λ l. IsPermutation (leveled (level_of over all (suc n)) all) (levels over all n ++ map (at_level (suc n)) (in_order_of_id l))) (sym (best_of_rest_is over all n))
@@ -44,8 +44,7 @@ kept_are over all cut = filter_agree (λ e. nat_lt 0 (level_of over all cut e)) 
 
 pub held_are : (over : Entry → Entry → Bool) (all : List Entry) (cut : ℕ) → IsPermutation (filter (λ e. not (comes_after over all cut e)) all) (map entry_of (levels over all cut))
 held_are over all cut =
-    let level = level_of over all cut in
-    subst (λ l. IsPermutation l (map entry_of (levels over all cut))) (entries_of_leveled level all ∙ kept_are over all cut) (IsPermutation-map entry_of (leveled level all) (levels over all cut) (leveled_are over all cut))
+    grind (arith, entries_of_leveled (level_of over all cut) all, kept_are over all cut, IsPermutation-map entry_of (leveled (level_of over all cut) all) (levels over all cut) (leveled_are over all cut))
 
 pub count_levels : (over : Entry → Entry → Bool) (p : Entry → Bool) (all : List Entry) (n : ℕ) → count_by p (map entry_of (levels over all n)) ≡ count_by (λ e. p e && not (comes_after over all n e)) all
 count_levels over p all n = sum_by-IsPermutation (λ e. cond (p e) 1 0) _ _ (held_are over all n) ∙ count_filtered p (λ e. not (comes_after over all n e)) all
