@@ -4,12 +4,11 @@ use Rattle.pref_sky.proofs.Common.{Entry, Among, comes_after, count_above, entry
 use Rattle.pref_sky.proofs.Common.{length-map}
 use Rattle.pref_sky.proofs.OwnOrders.{own_is_strict}
 use Rattle.pref_sky.proofs.KeptLaws.{keeps_filtered}
-use Rattle.pref_sky.proofs.LeveledLaws.{levels_of_kept}
+use Rattle.pref_sky.proofs.LeveledLaws.{count_above_is, levels_of_kept}
 use Rattle.pref_sky.proofs.ListLaws.{among_place, any_from, from_filter}
 use Rattle.pref_sky.proofs.Merges.{comes_after_among_more, comes_after_upto}
 use Rattle.pref_sky.proofs.Ranks.{kept_are}
 use Rattle.pref_sky.proofs.SortedLevels.{KeepsUpper, same_above}
-use Rattle.pref_sky.proofs.SweepLaws.{chain_of_count}
 use Rattle.pref_sky.specs.Held.{AreHeld, AreMarked, AreTakenOver, marked_entries, marked_levels}
 use Rattle.pref_sky.specs.declared.merging.Marked.{Marked}
 
@@ -53,7 +52,7 @@ module _ (order : OwnOrder) (held all : List Entry) (levels : List ℕ) (differe
       let e = entry_at kept p in
       let there = among_place kept p (record { id = 0; row = [] }) inside in
       let upper = from_filter (λ x. not (comes_after over all order.cut x)) all e (subst (Among e) same there) in
-      let chain = chain_of_count over order.cut all e in
+      let chain = count_above_is over order.cut all e in
       let level = ap (λ l. get_or l p 0) left_is ∙ get_or-map (level_of over all order.cut) kept p (record { id = 0; row = [] }) 0 inside in
       grind (arith, level, upper.1, chain.within, chain.after, chain.no_more, same_above over (own_is_strict order) kept all order.cut keeps (number p) e)
 

@@ -1,39 +1,33 @@
 -- The level of an entry, by how many entries stand over it. Entries that are held in some order: those that have a level have the same levels, and in order of level and id they are these.
-use Rattle.pref_sky.proofs.Common.{◌≡◌, ℕ, suc, zero, ◌<◌, ◌≤◌, Bool, true, false, inl, inr, List, sym, subst, ◌∙◌, arith, cases_lt, map}
+use Rattle.pref_sky.proofs.Common.{◌≡◌, ℕ, suc, zero, ◌<◌, ◌≤◌, Bool, true, false, List, sym, subst, ◌∙◌, arith, map, nat_lt, refl}
 use Rattle.pref_sky.proofs.Common.{◌≤◌, cond, eqb, nat_tests, at_level, best, in_order_of_id, levels, rest, IsInOrder, IsStrictOrder, IsPermutation-sym, IsPermutation-trans, sum_by-IsPermutation, sorted_far}
 use Rattle.pref_sky.proofs.Common.{IsPermutation, Entry, OwnOrder, Ranked, HaveDifferentIds, comes_after, count_above, entry_of, level_of, own_levels, own_order}
 use Rattle.pref_sky.proofs.ChainLaws.{in_weaker_order, mapped_in_order}
 use Rattle.pref_sky.proofs.IdOrder.{Differ, in_order_if_sorted, rises_in_order, same_if_in_order}
 use Rattle.pref_sky.proofs.KeptLaws.{keeps_all, keeps_moved}
 use Rattle.pref_sky.proofs.ListLaws.{count_map, from_map, in_order_joined, same_if_permuted}
-use Rattle.pref_sky.proofs.Merges.{early_stays}
+use Rattle.pref_sky.proofs.Merges.{comes_after_upto}
 use Rattle.pref_sky.proofs.OwnOrders.{own_is_strict}
 use Rattle.pref_sky.proofs.Ranks.{leveled_are, levels_upto}
 use Rattle.pref_sky.proofs.SortedLevels.{KeepsUpper, level_differs, levels_kept}
 use Rattle.pref_sky.specs.Ranking.{AreInRanks, leveled, ranks_before}
+use Rattle.pref_sky.specs.Sweep.{AreAbove}
 use Rattle.std.specs.Cmp.{IsStrictWeakOrder}
 
--- a chain of n entries stands over it, and none of more, unless it is below the cut
-pub record HasChain {E : Type 0} (over : E → E → Bool) (cut : ℕ) (all : List E) (e : E) (n : ℕ) : Type 0 where
-  pub within : n ≤ cut
-  pub after : comes_after over all n e ≡ true
-  pub no_more : n < cut → comes_after over all (suc n) e ≡ false
+-- how many levels are above an entry is the number of entries that stand over it, one over the other
+pub count_above_is : {E : Type 0} (over : E → E → Bool) (cut : ℕ) (all : List E) (e : E) → AreAbove over cut all e (count_above over all cut e)
+count_above_is over zero all e = record { within = omega arith; after = refl; no_more = λ less. absurd (omega (arith, less)) }
+count_above_is over (suc cut) all e = let above = count_above_is over cut all e in grind (arith, above.within, above.after, above.no_more)
 
--- so many levels are above it
-pub count_is : {E : Type 0} (over : E → E → Bool) (cut : ℕ) (all : List E) (e : E) (n : ℕ) → HasChain over cut all e n → count_above over all cut e ≡ n
-count_is over zero all e n chain = omega (arith, chain.within)
-count_is over (suc cut) all e n chain =
-    elim (cases_lt n (suc cut)) [
-      | inl less ↦ grind (arith, early_stays over all (suc n) (suc cut) e, chain.no_more, count_is over cut all e n)
-      | inr past ↦ let last : n ≡ suc cut = omega (arith, past, chain.within) in grind (arith, last, chain.after)
-    ]
+-- it is of that level alone, unless it is below the cut
+pub only_level : {E : Type 0} (over : E → E → Bool) (cut : ℕ) (all : List E) (e : E) (n k : ℕ) → AreAbove over cut all e n → k < cut → comes_after over all k e ≡ true → comes_after over all (suc k) e ≡ false → k ≡ n
+only_level over cut all e n k above early after last = grind (arith, above.within, above.after, above.no_more, comes_after_upto over all (suc k) n e, comes_after_upto over all (suc n) k e)
 
 -- the level of an entry, by how many are above it
-pub level_is : {E : Type 0} (over : E → E → Bool) (cut : ℕ) (all : List E) (e : E) (n : ℕ) → HasChain over cut all e n → n < cut → level_of over all cut e ≡ suc n
-level_is over cut all e n chain early = grind (arith, early_stays over all (suc n) cut e, chain.no_more, count_is over cut all e n)
-
-pub level_of_lower : {E : Type 0} (over : E → E → Bool) (cut : ℕ) (all : List E) (e : E) (n : ℕ) → HasChain over cut all e n → cut ≤ n → level_of over all cut e ≡ 0
-level_of_lower over cut all e n chain past = let last : n ≡ cut = omega (arith, past, chain.within) in grind (arith, last, chain.after)
+pub level_is : {E : Type 0} (over : E → E → Bool) (cut : ℕ) (all : List E) (e : E) (n : ℕ) → AreAbove over cut all e n → level_of over all cut e ≡ cond (nat_lt n cut) (suc n) 0
+level_is over cut all e n above =
+    let is = count_above_is over cut all e in
+    grind (arith, nat_tests, above.within, above.after, above.no_more, is.within, is.after, is.no_more, comes_after_upto over all (suc n) cut e, only_level over cut all e n (count_above over all cut e) above)
 
 -- ---- in which order the levels stand
 

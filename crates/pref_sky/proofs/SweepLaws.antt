@@ -1,63 +1,23 @@
 -- One pass over entries in order: the class of the next entry, how many levels are above it, and what is known behind it.
-use Rattle.pref_sky.proofs.Common.{◌≡◌, ℕ, suc, zero, ◌<◌, ◌≤◌, ◌+◌, ◌-◌, Bool, true, false, not, inl, inr, List, [], ◌∷◌, ◌++◌, refl, sym, ◌∙◌, ap, subst, arith, length, get_or, set}
-use Rattle.pref_sky.proofs.Common.{both_ways, and_from, cases_Bool, cases_eq, cases_lt, false_from_ne_true, get_or-set_same, get_or-set_other, length-set, length_push}
-use Rattle.pref_sky.proofs.Common.{get_or_push, get_or_append_left, comes_after, Entry, entry_at, count_above, Among, IsChain, StandAlike, are_level, comes_first, in_turn}
-use Rattle.pref_sky.proofs.ChainLaws.{chain_in_turn, level_above, level_below}
-use Rattle.pref_sky.proofs.LeveledLaws.{HasChain, count_is}
-use Rattle.pref_sky.proofs.ListLaws.{among_place, place_of}
-use Rattle.pref_sky.proofs.Merges.{comes_after_upto, unbeaten_over}
-use Rattle.pref_sky.proofs.StepLaws.{alike_stays, new_class, same_level, stays}
-use Rattle.pref_sky.specs.Sweep.{ArePlaces, AreSwept, HasSwept, IsClass, IsMember, IsSameLevel, StandsFor, are_level_in, is_at}
+use Rattle.pref_sky.proofs.Common.{◌≡◌, ℕ, suc, ◌<◌, ◌≤◌, ◌+◌, ◌-◌, Bool, true, false, not, inl, inr, List, [], ◌∷◌, ◌++◌, refl, sym, ◌∙◌, ap, subst, arith, length, get_or, set}
+use Rattle.pref_sky.proofs.Common.{and_from, cases_eq, cases_lt, false_from_ne_true, get_or-set_same, get_or-set_other, length-set, length_push}
+use Rattle.pref_sky.proofs.Common.{get_or_push, get_or_append_left, comes_after, Entry, entry_at, IsChain, StandAlike, are_level, comes_first, in_turn}
+use Rattle.pref_sky.proofs.ChainLaws.{chain_in_turn, level_above}
+use Rattle.pref_sky.proofs.LeveledLaws.{only_level}
+use Rattle.pref_sky.proofs.ListLaws.{among_place}
+use Rattle.pref_sky.proofs.Merges.{comes_after_upto}
+use Rattle.pref_sky.proofs.StepLaws.{alike_stays, member_over, new_class, same_level, stays}
+use Rattle.pref_sky.specs.Sweep.{AreAbove, ArePlaces, AreSwept, HasSwept, IsClass, IsMember, IsSameLevel, StandsFor, are_level_in, is_at}
 use Rattle.pref_sky.specs.declared.level.Level.{Level}
 
--- ---- lists of which each element has a property
+-- ---- alike entries
 
--- one is replaced by another that has it
-each_set : {L : Type 0} (P : ℕ → L → Type 0) (xs : List L) (n : ℕ) (y : L) → n < length xs → P n y → ((k : ℕ) (d : L) → k < length xs → (k ≡ n → ⊥) → P k (get_or xs k d))
-    → (k : ℕ) (d : L) → k < length (set xs n y) → P k (get_or (set xs n y) k d)
-each_set P xs n y there here others k d inside =
-    elim (cases_eq k n) [
-      | inl same ↦ subst (λ m. P m (get_or (set xs n y) m d)) (sym same) (subst (P n) (sym (get_or-set_same xs n y d there)) here)
-      | inr other ↦ subst (P k) (sym (get_or-set_other xs n k y d other)) (others k d (omega (arith, inside, length-set xs n y)) other)
-    ]
-
--- one comes behind them
-each_pushed : {L : Type 0} (P : ℕ → L → Type 0) (xs : List L) (y : L) → ((k : ℕ) (d : L) → k < length xs → P k (get_or xs k d)) → P (length xs) y
-    → (k : ℕ) (d : L) → k < length (xs ++ y ∷ []) → P k (get_or (xs ++ y ∷ []) k d)
-each_pushed P xs y before last k d inside =
-    elim (cases_lt k (length xs)) [
-      | inl old ↦ subst (P k) (sym (get_or_append_left xs (y ∷ []) d k old)) (before k d old)
-      | inr behind ↦
-          let same : k ≡ length xs = omega (arith, behind, inside, length_push xs y) in
-          subst (λ m. P m (get_or (xs ++ y ∷ []) m d)) (sym same) (subst (P (length xs)) (sym (get_or_push xs y d (length xs) refl)) last)
-    ]
-
--- ---- how many levels are above an entry
-
--- as many as a chain over it has entries
-pub chain_of_count : {E : Type 0} (over : E → E → Bool) (cut : ℕ) (all : List E) (e : E) → HasChain over cut all e (count_above over all cut e)
-chain_of_count over zero all e = record { within = omega arith; after = refl; no_more = λ less. absurd (omega (arith, less)) }
-chain_of_count over (suc cut) all e = let chain = chain_of_count over cut all e in grind (arith, chain.within, chain.after, chain.no_more)
-
--- alike entries have the same above them
+-- they have the same above them
 alike_after : {E : Type 0} (over : E → E → Bool) (all : List E) (a b : E) → StandAlike over a b → (n : ℕ) → comes_after over all n a ≡ comes_after over all n b
 alike_after over all a b alike n = grind (arith)
 
-pub count_alike : {E : Type 0} (over : E → E → Bool) (all : List E) (a b : E) → StandAlike over a b → (cut : ℕ) → count_above over all cut a ≡ count_above over all cut b
-count_alike over all a b alike zero = refl
-count_alike over all a b alike (suc cut) = grind (arith, alike_after over all a b alike (suc cut), count_alike over all a b alike cut)
-
-alike_at : {E : Type 0} (over : E → E → Bool) (all : List E) (a b : E) → StandAlike over a b → (n : ℕ) → is_at over all n a ≡ is_at over all n b
-alike_at over all a b alike n = grind (arith, alike_after over all a b alike n, alike_after over all a b alike (suc n))
-
--- the level that it is of
-level_is : {E : Type 0} (over : E → E → Bool) (cut : ℕ) (all : List E) (e : E) (n : ℕ) → n < cut → is_at over all n e ≡ true → count_above over all cut e ≡ n
-level_is over cut all e n early at = let chain : HasChain over cut all e n = grind (arith) in count_is over cut all e n chain
-
-pub at_level_of : {E : Type 0} (over : E → E → Bool) (cut : ℕ) (all : List E) (e : E) (n : ℕ) → n < cut → n ≡ count_above over all cut e → is_at over all n e ≡ true
-at_level_of over cut all e n early is =
-    let chain : HasChain over cut all e n = subst (HasChain over cut all e) (sym is) (chain_of_count over cut all e) in
-    and_from (comes_after over all n e) (not (comes_after over all (suc n) e)) chain.after (ap not (chain.no_more early))
+pub above_alike : {E : Type 0} (over : E → E → Bool) (cut : ℕ) (all : List E) (a b : E) (n : ℕ) → StandAlike over a b → AreAbove over cut all a n → AreAbove over cut all b n
+above_alike over cut all a b n alike above = grind (arith, alike_after over all a b alike n, alike_after over all a b alike (suc n), above.within, above.after, above.no_more)
 
 -- ---- classes: entries that are level in three chains
 
@@ -65,212 +25,134 @@ at_level_of over cut all e n early is =
 level_in_order : {E : Type 0} (first second third : E → E → Bool) (a b : E) → are_level_in first second third a b ≡ are_level (comes_first first second third) a b
 level_in_order first second third a b = grind arith
 
-module _ {E : Type 0} (before : E → E → Bool) (chain : IsChain before) where
-  -- two that are level are level with the same
-  level_alike : (a b c : E) → are_level before a b ≡ true → are_level before c a ≡ are_level before c b
-  level_alike a b c level = grind (arith, level_above before chain a b c level, level_below before chain a b c level)
-
-  -- of three in order the middle one is level with the last where the first is
-  between_level : (a b c : E) → before b a ≡ false → before c b ≡ false → are_level before a c ≡ true → are_level before b c ≡ true
-  between_level a b c ba cb ac = grind (arith, level_above before chain a c b ac)
-
--- ---- what stands for members is inside
-
-module _ {over second third : Entry → Entry → Bool} {rule : Entry → ℕ} {mark : ℕ → ℕ} {all : List Entry} {class i n : ℕ} {kept : Level} (inside : i < length all)
-    (stands : StandsFor over second third rule mark all class i n kept) where
-  pub are_places : ArePlaces all kept
-  are_places = record {
-    steps = λ k d there. omega (arith, inside, (stands.steps_within k d there).0);
-    run = λ k d there. omega (arith, inside, (stands.kept_within (get_or kept.run.items k d) (inl (among_place kept.run.items k d there))).0.0);
-    fresh = λ k d there. omega (arith, inside, (stands.kept_within (get_or kept.fresh.items k d) (inr (among_place kept.fresh.items k d there))).0.0);
-  }
-
--- ---- the next entry
-
 module _ {over first second third : Entry → Entry → Bool} {all : List Entry} (swept : AreSwept over first second third all) where
-  abbrev is_level : ℕ → ℕ → Bool
-  is_level i j = are_level_in first second third (entry_at all i) (entry_at all j)
-
-  abbrev Class : ℕ → ℕ → Type 0
-  Class class i = IsClass first second third all class i
-
   abbrev order : Entry → Entry → Bool
   order = comes_first first second third
 
   order_chain : IsChain order
   order_chain = let led = swept.led in chain_in_turn first (in_turn second third) led.first_is_chain (chain_in_turn second third led.second_is_chain led.third_is_chain)
 
-  level : (i j : ℕ) → is_level i j ≡ are_level order (entry_at all i) (entry_at all j)
-  level i j = level_in_order first second third (entry_at all i) (entry_at all j)
-
   -- an entry that is level with the one before it is of its class
-  pub class_goes_on : (class i : ℕ) → 0 < i → Class class (i - 1) → is_level (i - 1) i ≡ true → Class class i
+  pub class_goes_on : (class i : ℕ) → 0 < i → IsClass first second third all class (i - 1) → are_level_in first second third (entry_at all (i - 1)) (entry_at all i) ≡ true → IsClass first second third all class i
   class_goes_on class i some is same =
-      record {
-        begins = omega (arith, is.begins);
-        apart = λ j earlier.
-            let alike = level_alike order order_chain (entry_at all (i - 1)) (entry_at all i) (entry_at all j) (sym (level (i - 1) i) ∙ same) in
-            level j i ∙ (sym alike ∙ (sym (level j (i - 1)) ∙ is.apart j earlier));
-      }
+      grind (arith, is.begins, is.apart, level_in_order first second third (entry_at all (i - 1)) (entry_at all i), level_above order order_chain (entry_at all (i - 1)) (entry_at all i))
 
-  -- another begins a class: what is before the one before it is no nearer
-  pub class_begins : (i : ℕ) → i < length all → (0 < i → is_level (i - 1) i ≡ false) → Class i i
+  -- another begins a class: what does not come behind the one before it comes before it too
+  pub class_begins : (i : ℕ) → i < length all → (0 < i → are_level_in first second third (entry_at all (i - 1)) (entry_at all i) ≡ false) → IsClass first second third all i i
   class_begins i inside apart =
+      let a = entry_at all (i - 1) in
+      let b = entry_at all i in
       record {
         begins = omega arith;
         apart = λ j earlier.
-            let to_before = swept.in_lead j (i - 1) (omega (arith, earlier)) (omega (arith, earlier, inside)) in
-            let between = between_level order order_chain (entry_at all j) (entry_at all (i - 1)) (entry_at all i) to_before (swept.in_lead (i - 1) i (omega arith) inside) in
-            false_from_ne_true (is_level j i) (λ h. both_ways (is_level (i - 1) i) (apart (omega (arith, earlier))) (level (i - 1) i ∙ between (sym (level j i) ∙ h)));
+            let next : order a b ≡ true = grind (arith, level_in_order first second third a b, apart (omega (arith, earlier)), swept.in_lead (i - 1) i (omega arith) inside) in
+            order_chain.between a (entry_at all j) b next (swept.in_lead j (i - 1) (omega (arith, earlier)) (omega (arith, earlier, inside)));
       }
 
-  module _ (i : ℕ) (inside : i < length all) where
-    -- what is over an entry stands before it
-    over_stands : (x : Entry) → Among x all → over x (entry_at all i) ≡ true → (j : ℕ) × (j < i) × (entry_at all j ≡ x)
-    over_stands x m above =
-        let e = entry_at all i in
-        let w = place_of all x (record { id = 0; row = [] }) m in
-        elim (cases_lt w.0 i) [
-          | inl before ↦ (w.0, before, w.2)
-          | inr behind ↦ absurd (both_ways (over x e) (subst (λ y. over y e ≡ false) w.2 (swept.in_order i w.0 behind w.1)) above)
-        ]
-
-    -- where a chain of n + 1 stands over an entry, one of level n does, that stands before it
-    level_over : (n : ℕ) → comes_after over all (suc n) (entry_at all i) ≡ true → (j : ℕ) × IsMember over all i n j
-    level_over n h =
-        let w = unbeaten_over over swept.strict (comes_after over all n) all (entry_at all i) h in
-        let at = over_stands w.0 w.1 w.3 in
-        (at.0, (at.1, subst (λ x. is_at over all n x ≡ true) (sym at.2) (and_from (comes_after over all n w.0) (not (comes_after over all (suc n) w.0)) w.2 (ap not w.4))))
-
--- a level is known where those of the entries before are and that of the next entry is
-known_more : (over : Entry → Entry → Bool) (all : List Entry) (cut i count : ℕ) → ((j n : ℕ) → n < cut → IsMember over all i n j → n < count)
-    → ((n : ℕ) → n < cut → is_at over all n (entry_at all i) ≡ true → n < count) → (j n : ℕ) → n < cut → IsMember over all (i + 1) n j → n < count
-known_more over all cut i count known next j n early member = elim (cases_eq j i) [
-  | inl same ↦ next n early (subst (λ k. is_at over all n (entry_at all k) ≡ true) same member.1)
-  | inr other ↦ known j n early (omega (arith, member.0, other), member.1)
-]
-
--- no entry so far is of a level that is begun
-pub swept_longer : (over second third : Entry → Entry → Bool) (rule : Entry → ℕ) (mark : ℕ → ℕ) (cut : ℕ) (all : List Entry) (i class : ℕ) (levels : List Level) (empty : Level)
-    → HasSwept over second third rule mark cut all i class levels → length levels < cut
-    → (((j : ℕ) → IsMember over all i (length levels) j → ⊥) → StandsFor over second third rule mark all class i (length levels) empty)
-    → HasSwept over second third rule mark cut all i class (levels ++ empty ∷ [])
-swept_longer over second third rule mark cut all i class levels empty so_far early is_empty =
-    let long = length_push levels empty in
-    let stands = is_empty (λ j member. absurd (omega (arith, so_far.known j (length levels) early member))) in
+-- what stands for members is inside
+pub are_places : {over second third : Entry → Entry → Bool} {rule : Entry → ℕ} {mark : ℕ → ℕ} {all : List Entry} {class i n : ℕ} {kept : Level} → i < length all → StandsFor over second third rule mark all class i n kept → ArePlaces all kept
+are_places {kept = kept} inside stands =
     record {
-      within = omega (arith, long, early);
-      stand = each_pushed (StandsFor over second third rule mark all class i) levels empty so_far.stand stands;
-      known = λ j n early_n member. omega (arith, long, so_far.known j n early_n member);
+      steps = λ k d there. omega (arith, inside, (stands.steps_within k d there).0);
+      run = λ k d there. omega (arith, inside, (stands.kept_within (get_or kept.run.items k d) (inl (among_place kept.run.items k d there))).0.0);
+      fresh = λ k d there. omega (arith, inside, (stands.kept_within (get_or kept.fresh.items k d) (inr (among_place kept.fresh.items k d there))).0.0);
     }
 
-module _ {over first second third : Entry → Entry → Bool} {all : List Entry} (rule : Entry → ℕ) (mark : ℕ → ℕ) (cut : ℕ) (swept : AreSwept over first second third all) (i : ℕ) (inside : i < length all) where
-  abbrev e : Entry
-  e = entry_at all i
+-- ---- what is known so far
 
-  abbrev count : Entry → ℕ
-  count x = count_above over all cut x
-
-  abbrev Stands : ℕ → ℕ → ℕ → Level → Type 0
-  Stands class j n kept = StandsFor over second third rule mark all class j n kept
-
-  abbrev Swept : ℕ → ℕ → List Level → Type 0
-  Swept j class levels = HasSwept over second third rule mark cut all j class levels
+module _ {over second third : Entry → Entry → Bool} {rule : Entry → ℕ} {mark : ℕ → ℕ} {cut : ℕ} {all : List Entry} {i class : ℕ} {levels : List Level} (so_far : HasSwept over second third rule mark cut all i class levels) where
+  abbrev Stands : (j n : ℕ) → Level → Type 0
+  Stands = StandsFor over second third rule mark all class
 
   -- no entry so far is of a class that begins here
-  pub swept_anew : (class : ℕ) (levels : List Level) → Swept i class levels → Swept i i levels
-  swept_anew class levels so_far = record {
+  pub swept_anew : HasSwept over second third rule mark cut all i i levels
+  swept_anew = record {
     within = so_far.within;
-    stand = λ n d there. new_class over second third rule mark all class i n (get_or levels n d) (so_far.stand n d there) i (omega arith);
+    stand = λ n kept there is. new_class over second third rule mark all class i n kept (so_far.stand n kept there is) i (omega arith);
     known = so_far.known;
   }
 
-  -- ---- its level
+  -- nor of a level that is begun
+  pub swept_longer : (empty : Level) → length levels < cut → (((j : ℕ) → IsMember over all i (length levels) j → ⊥) → Stands i (length levels) empty) → HasSwept over second third rule mark cut all i class (levels ++ empty ∷ [])
+  swept_longer empty early is_empty =
+      let long = length_push levels empty in
+      record {
+        within = omega (arith, long, early);
+        stand = λ n kept there is. elim (cases_lt n (length levels)) [
+          | inl old ↦ so_far.stand n kept old (is ∙ get_or_append_left levels (empty ∷ []) kept n old)
+          | inr behind ↦
+              let last : n ≡ length levels = omega (arith, behind, there, long) in
+              let stands = is_empty (λ j member. absurd (omega (arith, so_far.known j (length levels) early member))) in
+              subst (λ m. Stands i m kept) (sym last) (subst (Stands i (length levels)) (sym (is ∙ get_or_push levels empty kept n (sym last))) stands)
+        ];
+        known = λ j n early_n member. omega (arith, long, so_far.known j n early_n member);
+      }
 
-  -- one of the levels so far stands for its members
-  pub stands_there : (class : ℕ) (levels : List Level) (n : ℕ) (kept : Level) → Swept i class levels → n < length levels → kept ≡ get_or levels n kept → Stands class i n kept
-  stands_there class levels n kept so_far there is = subst (Stands class i n) (sym is) (so_far.stand n kept there)
-
-  -- a level that was asked has another order of its run at most
-  pub swept_asked : (class : ℕ) (levels : List Level) (n : ℕ) (kept asked : Level) → Swept i class levels → n < length levels → kept ≡ get_or levels n kept → IsSameLevel kept asked → Swept i class (set levels n asked)
-  swept_asked class levels n kept asked so_far there here same =
+  -- a level that was asked has another order of its class at most
+  pub swept_asked : (n : ℕ) (kept asked : Level) → n < length levels → kept ≡ get_or levels n kept → IsSameLevel kept asked → HasSwept over second third rule mark cut all i class (set levels n asked)
+  swept_asked n kept asked there here same =
       let long = length-set levels n asked in
-      let stands = same_level over second third rule mark all class i n kept asked same (stands_there class levels n kept so_far there here) in
       record {
         within = omega (arith, so_far.within, long);
-        stand = each_set (Stands class i) levels n asked there stands (λ k d old other. so_far.stand k d old);
+        stand = λ k new old is. elim (cases_eq k n) [
+          | inl this ↦
+              let stands = same_level over second third rule mark all class i n kept asked same (so_far.stand n kept there here) in
+              subst (λ m. Stands i m new) (sym this) (subst (Stands i n) (sym (is ∙ ap (λ m. get_or (set levels n asked) m new) this ∙ get_or-set_same levels n asked new there)) stands)
+          | inr other ↦ so_far.stand k new (omega (arith, old, long)) (is ∙ get_or-set_other levels n k asked new other)
+        ];
         known = λ j k early member. omega (arith, so_far.known j k early member, long);
       }
 
-  -- where more levels were above it than are known, one would have an entry before it
-  pub all_known : (class : ℕ) (levels : List Level) → Swept i class levels → (n : ℕ) → n ≤ cut → comes_after over all n e ≡ true → n ≤ length levels
-  all_known class levels so_far n early chain =
-      let known = length levels in
-      elim (cases_lt known n) [
-        | inl past ↦
-            let w = level_over swept i inside known (comes_after_upto over all (suc known) n e (omega (arith, past)) chain) in
-            absurd (omega (arith, so_far.known w.0 known (omega (arith, past, early)) w.1))
-        | inr within ↦ within
-      ]
+  module _ {first : Entry → Entry → Bool} (swept : AreSwept over first second third all) (inside : i < length all) where
+    abbrev e : Entry
+    e = entry_at all i
 
-  -- as many levels are above it as a search among those so far finds
-  pub count_found : (class : ℕ) (levels : List Level) (low high : ℕ) → Swept i class levels → low ≤ high → high ≤ length levels → comes_after over all low e ≡ true
-      → (high < length levels → comes_after over all (suc high) e ≡ false) → high ≤ low → low ≡ count e
-  count_found class levels low high so_far ordered within above next met =
-      let same : low ≡ high = omega (arith, ordered, met) in
-      sym (count_is over cut all e low (record {
-        within = omega (arith, same, within, so_far.within);
-        after = above;
-        no_more = λ early. elim (cases_lt low (length levels)) [
-          | inl known ↦ subst (λ n. comes_after over all (suc n) e ≡ false) (sym same) (next (omega (arith, known, same)))
-          | inr all_known ↦ false_from_ne_true (comes_after over all (suc low) e) (λ h. let w = level_over swept i inside low h in absurd (omega (arith, all_known, so_far.known w.0 low early w.1)))
-        ];
-      }))
+    -- ---- the levels above the next entry
 
-  -- its level is known, or the next one
-  pub above_within : (class : ℕ) (levels : List Level) (n : ℕ) → Swept i class levels → n ≡ count e → n < cut → n ≤ length levels
-  above_within class levels n so_far above early =
-      all_known class levels so_far n (omega (arith, early)) (subst (λ k. comes_after over all k e ≡ true) (sym above) (chain_of_count over cut all e).after)
+    -- where more were above it than are known, one would have an entry before it
+    pub none_past : (n : ℕ) → n ≡ length levels → n < cut → comes_after over all (suc n) e ≡ false
+    none_past n long early = false_from_ne_true _ (λ h. let w = member_over over first second third all swept i n inside h in absurd (omega (arith, long, so_far.known w.0 n early w.1)))
 
-  -- ---- what is known behind it
+    pub all_known : (n : ℕ) → n ≤ cut → comes_after over all n e ≡ true → n ≤ length levels
+    all_known n within chain = grind (arith, none_past (length levels) refl, comes_after_upto over all (suc (length levels)) n e)
 
-  -- it is alike to the one before it
-  pub swept_alike : (class : ℕ) (levels : List Level) → Swept i class levels → 0 < i → class ≤ i - 1 → StandAlike over (entry_at all (i - 1)) e → are_level_in first second third (entry_at all (i - 1)) e ≡ true → Swept (i + 1) class levels
-  swept_alike class levels so_far some begins alike level =
-      let before = entry_at all (i - 1) in
-      let same = alike_at over all before e alike in
-      record {
-        within = so_far.within;
-        stand = λ n d there.
-            let kept = get_or levels n d in
-            let stands = so_far.stand n d there in
-            elim (cases_Bool (is_at over all n before)) [
-              | inl at ↦ alike_stays over second third rule mark all class i n kept stands first swept.led.second_is_chain swept.led.third_is_chain some begins at alike level
-              | inr apart ↦ stays over second third rule mark all class i n kept stands (sym (same n) ∙ apart)
+    -- ---- what is known behind it
+
+    module _ (n : ℕ) (above : AreAbove over cut all e n) where
+      -- its level is known and what is kept of it stands for it too, or it is below the cut
+      swept_next : (new : List Level) → length new ≡ length levels → (n < cut → n < length levels) → ((kept : Level) → n < length levels → kept ≡ get_or new n kept → Stands (i + 1) n kept)
+          → ((k : ℕ) (kept : Level) → (k ≡ n → ⊥) → kept ≡ get_or new k kept → kept ≡ get_or levels k kept) → HasSwept over second third rule mark cut all (i + 1) class new
+      swept_next new long known here others =
+          let only : (k : ℕ) → k < cut → is_at over all k e ≡ true → k ≡ n = λ k early at. grind (arith, at, only_level over cut all e n k above early) in
+          record {
+            within = omega (arith, long, so_far.within);
+            stand = λ k kept there is. elim (cases_eq k n) [
+              | inl same ↦ subst (λ m. Stands (i + 1) m kept) (sym same) (here kept (omega (arith, there, long, same)) (is ∙ ap (λ m. get_or new m kept) same))
+              | inr other ↦
+                  let apart = false_from_ne_true (is_at over all k e) (λ at. other (only k (omega (arith, there, long, so_far.within)) at)) in
+                  stays over second third rule mark all class i k kept (so_far.stand k kept (omega (arith, there, long)) (others k kept other is)) apart
             ];
-        known = known_more over all cut i (length levels) so_far.known (λ n early at. so_far.known (i - 1) n early (omega (arith, some), same n ∙ at));
-      }
+            known = λ j k early member. elim (cases_eq j i) [
+              | inl same ↦ omega (arith, long, known, only k early (subst (λ m. is_at over all k (entry_at all m) ≡ true) same member.1))
+              | inr other ↦ omega (arith, long, so_far.known j k early (omega (arith, member.0, other), member.1))
+            ];
+          }
 
-  -- it is below the cut
-  pub swept_below : (class : ℕ) (levels : List Level) (n : ℕ) → Swept i class levels → n ≡ count e → cut ≤ n → Swept (i + 1) class levels
-  swept_below class levels n so_far above past =
-      let none : (k : ℕ) → k < cut → is_at over all k e ≡ false =
-      λ k early. false_from_ne_true (is_at over all k e) (λ at. absurd (omega (arith, level_is over cut all e k early at, above, past, early))) in
-      record {
-        within = so_far.within;
-        stand = λ k d there. stays over second third rule mark all class i k (get_or levels k d) (so_far.stand k d there) (none k (omega (arith, there, so_far.within)));
-        known = known_more over all cut i (length levels) so_far.known (λ k early at. absurd (both_ways (is_at over all k e) (none k early) at));
-      }
+      -- it is alike to the one before it
+      pub swept_alike : 0 < i → class ≤ i - 1 → AreAbove over cut all (entry_at all (i - 1)) n → StandAlike over (entry_at all (i - 1)) e → are_level_in first second third (entry_at all (i - 1)) e ≡ true
+          → HasSwept over second third rule mark cut all (i + 1) class levels
+      swept_alike some begins before alike level =
+          let at : n < cut → is_at over all n (entry_at all (i - 1)) ≡ true = λ early. and_from _ _ before.after (ap not (before.no_more early)) in
+          swept_next levels refl (λ early. so_far.known (i - 1) n early (omega (arith, some), at early))
+          (λ kept there is. alike_stays over second third rule mark all class i n kept (so_far.stand n kept there is) first swept.led.second_is_chain swept.led.third_is_chain some begins (at (omega (arith, there, so_far.within))) alike level)
+          (λ k kept _ is. is)
 
-  -- it is kept in its level
-  pub swept_put : (class : ℕ) (levels : List Level) (n : ℕ) (put : Level) → Swept i class levels → n ≡ count e → n < length levels → Stands class (i + 1) n put → Swept (i + 1) class (set levels n put)
-  swept_put class levels n put so_far above there stands =
-      let long = length-set levels n put in
-      let apart : (k : ℕ) → k < length levels → (k ≡ n → ⊥) → is_at over all k e ≡ false =
-      λ k old other. false_from_ne_true (is_at over all k e) (λ at. absurd (other (sym (level_is over cut all e k (omega (arith, old, so_far.within)) at) ∙ sym above))) in
-      record {
-        within = omega (arith, long, so_far.within);
-        stand = each_set (Stands class (i + 1)) levels n put there stands (λ k d old other. stays over second third rule mark all class i k (get_or levels k d) (so_far.stand k d old) (apart k old other));
-        known = known_more over all cut i (length (set levels n put)) (λ j k early member. omega (arith, long, so_far.known j k early member))
-            (λ k early at. omega (arith, level_is over cut all e k early at, above, there, long));
-      }
+      -- it is below the cut
+      pub swept_below : cut ≤ n → HasSwept over second third rule mark cut all (i + 1) class levels
+      swept_below past = swept_next levels refl (λ early. absurd (omega (arith, past, early))) (λ kept there is. absurd (omega (arith, there, so_far.within, past))) (λ k kept _ is. is)
+
+      -- it is kept in its level
+      pub swept_put : (put : Level) → n < length levels → Stands (i + 1) n put → HasSwept over second third rule mark cut all (i + 1) class (set levels n put)
+      swept_put put there stands =
+          swept_next (set levels n put) (length-set levels n put) (λ _. there) (λ kept _ is. subst (Stands (i + 1) n) (sym (is ∙ get_or-set_same levels n put kept there)) stands)
+          (λ k kept other is. is ∙ get_or-set_other levels n k put kept other)

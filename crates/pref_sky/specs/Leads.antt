@@ -1,21 +1,22 @@
 -- No public contract cites this.
 -- The three chains that lead the order of entries in a sweep, each with the groups before its keys, and the rule by which they are signed.
-use Rattle.std.specs.Prelude.{◌≡◌, Bool, true, ℕ, List, [], get_or, map}
+use Rattle.std.specs.Prelude.{◌≡◌, ◌<◌, ◌-◌, Bool, true, ℕ, List, [], get_or, length, map}
 use Rattle.pref_term.specs.Chains.{by_chain}
 use Rattle.pref_term.specs.Extension.{ask_keys}
 use Rattle.pref_term.specs.Order.{is_same}
 use Rattle.pref_term.specs.Signatures.{is_within}
 use Rattle.pref_term.specs.declared.key.Key.{Key}
 use Rattle.pref_sky.specs.Chains.{better_in, by_row, earlier_in, in_turn}
-use Rattle.pref_sky.specs.Items.{signature_by}
+use Rattle.pref_sky.specs.Items.{entry_at, signature_by}
 use Rattle.pref_sky.specs.Members.{Among}
 use Rattle.pref_sky.specs.Held.{AreHeld}
 use Rattle.pref_sky.specs.OwnOrders.{own_order}
-use Rattle.pref_sky.specs.Sweep.{AreSwept, HasSwept, IsClass, StandsFor, are_level_in}
+use Rattle.pref_sky.specs.Sweep.{AreAbove, AreSwept, HasSwept, IsClass, StandsFor, are_level_in}
 use Rattle.pref_sky.specs.declared.entry.Entry.{Entry}
 use Rattle.pref_sky.specs.declared.lead.Lead.{Lead}
 use Rattle.pref_sky.specs.declared.level.Level.{Level}
 use Rattle.pref_sky.specs.declared.own_order.OwnOrder.{OwnOrder}
+use Rattle.pref_sky.specs.declared.sweep.Sweep.{Sweep}
 
 -- the chains
 abbrev pub chains_of : Lead → List (List Key)
@@ -68,3 +69,17 @@ StandsBy order lead = StandsFor (own_order order) (second_of order lead) (third_
 
 abbrev pub HasSweptBy : OwnOrder → Lead → List Entry → (i class : ℕ) → List Level → Type 0
 HasSweptBy order lead = HasSwept (own_order order) (second_of order lead) (third_of order lead) (rule_of lead) (mark_of lead) order.cut
+
+-- a sweep stands before an entry with this signature: it knows of all entries before it, and has begun its class
+pub record IsSweptTo (order : OwnOrder) (lead : Lead) (all : List Entry) (i signature : ℕ) (sweep : Sweep) : Type 0 where
+  pub inside : i < length all
+  pub leads : LeadsSweep order lead all
+  pub signed : signature ≡ rule_of lead (entry_at all i)
+  pub so_far : HasSweptBy order lead all i sweep.class sweep.levels.items
+  pub class : IsClassBy order lead all sweep.class i
+
+-- it stands behind the first entries: it knows of them, and of the last one its class, and how many levels are above it
+pub record HasPassed (order : OwnOrder) (lead : Lead) (all : List Entry) (i : ℕ) (sweep : Sweep) : Type 0 where
+  pub so_far : HasSweptBy order lead all i sweep.class sweep.levels.items
+  pub class : 0 < i → IsClassBy order lead all sweep.class (i - 1)
+  pub above : 0 < i → AreAbove (own_order order) order.cut all (entry_at all (i - 1)) sweep.above

@@ -34,10 +34,16 @@ pub record AreSwept (over first second third : Entry → Entry → Bool) (all : 
   pub in_order : (j p : ℕ) → j ≤ p → p < length all → over (entry_at all p) (entry_at all j) ≡ false
   pub in_lead : (j p : ℕ) → j ≤ p → p < length all → comes_first first second third (entry_at all p) (entry_at all j) ≡ false
 
--- no entry before a place is level in the leading chains with the one at another, which stands there or behind
+-- each entry before a place comes before the one at another by the leading chains; this stands there or behind
 pub record IsClass (first second third : Entry → Entry → Bool) (all : List Entry) (class i : ℕ) : Type 0 where
   pub begins : class ≤ i
-  pub apart : (j : ℕ) → j < class → are_level_in first second third (entry_at all j) (entry_at all i) ≡ false
+  pub apart : (j : ℕ) → j < class → comes_first first second third (entry_at all j) (entry_at all i) ≡ true
+
+-- so many levels are above an entry: as many entries, each over the next, stand over it, and no more, or it is below the cut
+pub record AreAbove {E : Type 0} (over : E → E → Bool) (cut : ℕ) (all : List E) (e : E) (n : ℕ) : Type 0 where
+  pub within : n ≤ cut
+  pub after : comes_after over all n e ≡ true
+  pub no_more : n < cut → comes_after over all (suc n) e ≡ false
 
 -- n levels are above an entry, and no more
 abbrev pub is_at : {E : Type 0} → (E → E → Bool) → List E → ℕ → E → Bool
@@ -100,5 +106,5 @@ pub record IsOneMore (mark : ℕ → ℕ) (n : ℕ) (before : Level) (x : Item) 
 -- what is known before the i-th entry, of this class, in a sweep that goes up to a cut: what is kept stands for each level so far, and none is left out
 pub record HasSwept (over second third : Entry → Entry → Bool) (rule : Entry → ℕ) (mark : ℕ → ℕ) (cut : ℕ) (all : List Entry) (i class : ℕ) (levels : List Level) : Type 0 where
   pub within : length levels ≤ cut
-  pub stand : (n : ℕ) (d : Level) → n < length levels → StandsFor over second third rule mark all class i n (get_or levels n d)
+  pub stand : (n : ℕ) (kept : Level) → n < length levels → kept ≡ get_or levels n kept → StandsFor over second third rule mark all class i n kept
   pub known : (j n : ℕ) → n < cut → IsMember over all i n j → n < length levels

@@ -1,12 +1,12 @@
 //! The levels of entries in order, by one pass: the level of an entry is the first of which no entry before it dominates it.
 
-ghost use Rattle.std.specs.Prelude.{◌≡◌, ◌<◌, ◌≤◌, ◌+◌, ◌-◌, ℕ, suc, Bool, List, true, false, IfOk, OnOk, length, map};
+ghost use Rattle.std.specs.Prelude.{◌≡◌, ◌<◌, ◌≤◌, ◌+◌, ◌-◌, ℕ, suc, cond, nat_lt, Bool, List, true, false, IfOk, OnOk, length, map};
 ghost use Rattle.pref_term.specs.Order.{StandAlike};
-ghost use Rattle.pref_sky.specs.OwnOrders.{count_above, level_of, own_order};
+ghost use Rattle.pref_sky.specs.OwnOrders.{level_of, own_order};
 ghost use Rattle.pref_sky.specs.Items.{entry_at};
-ghost use Rattle.pref_sky.specs.Leads.{HasSweptBy, IsClassBy, LeadsSweep, first_of, rule_of, second_of, third_of};
+ghost use Rattle.pref_sky.specs.Leads.{HasPassed, HasSweptBy, IsSweptTo, LeadsSweep, first_of, second_of, third_of};
 ghost use Rattle.pref_sky.specs.declared.entry.Entry.{Entry};
-ghost use Rattle.pref_sky.specs.Sweep.{HasSwept, are_level_in};
+ghost use Rattle.pref_sky.specs.Sweep.{AreAbove, HasSwept, are_level_in};
 
 use crate::entry::Entry;
 use crate::lead::Lead;
@@ -46,14 +46,10 @@ impl Sweep {
         place: usize,
         signature: u64,
     ) -> usize
-        requires inside { place < length entries.now }
-        requires swept { LeadsSweep order.now lead.now entries.now }
-        requires signature { signature ≡ rule_of lead.now (entry_at entries.now place) }
-        requires so_far { HasSweptBy order.now lead.now entries.now place self.old.class self.old.levels.items }
-        requires class { IsClassBy order.now lead.now entries.now self.old.class place }
-        ensures above { result ≡ count_above (own_order order.now) entries.now order.now.cut (entry_at entries.now place) }
-        ensures so_far { HasSweptBy order.now lead.now entries.now place self.new.class self.new.levels.items }
-        ensures class { IsClassBy order.now lead.now entries.now self.new.class place }
+        requires { IsSweptTo order.now lead.now entries.now place signature self.old }
+        ensures above { AreAbove (own_order order.now) order.now.cut entries.now (entry_at entries.now place) result }
+        ensures known { result ≤ length self.new.levels.items }
+        ensures still { IsSweptTo order.now lead.now entries.now place signature self.new }
     {
         let held = lead.held_level(place);
         let mut low = held.saturating_sub(1) as usize;
@@ -94,12 +90,9 @@ impl Sweep {
         place: usize,
         signature: u64,
     ) -> Result<(), AllocError>
-        requires inside { place < length entries.now }
-        requires swept { LeadsSweep order.now lead.now entries.now }
-        requires signature { signature ≡ rule_of lead.now (entry_at entries.now place) }
-        requires so_far { HasSweptBy order.now lead.now entries.now place self.old.class self.old.levels.items }
-        requires class { IsClassBy order.now lead.now entries.now self.old.class place }
-        requires above { self.old.above ≡ count_above (own_order order.now) entries.now order.now.cut (entry_at entries.now place) }
+        requires swept { IsSweptTo order.now lead.now entries.now place signature self.old }
+        requires above { AreAbove (own_order order.now) order.now.cut entries.now (entry_at entries.now place) self.old.above }
+        requires known { self.old.above ≤ length self.old.levels.items }
         ensures so_far { OnOk result (HasSweptBy order.now lead.now entries.now (place + 1) self.new.class self.new.levels.items) }
         ensures same { (self.new.class ≡ self.old.class) × (self.new.above ≡ self.old.above) }
     {
@@ -123,12 +116,8 @@ impl Sweep {
     ) -> Result<(), AllocError>
         requires inside { place < length entries.now }
         requires swept { LeadsSweep order.now lead.now entries.now }
-        requires so_far { HasSweptBy order.now lead.now entries.now place self.old.class self.old.levels.items }
-        requires class { 0 < place → IsClassBy order.now lead.now entries.now self.old.class (place - 1) }
-        requires above { 0 < place → self.old.above ≡ count_above (own_order order.now) entries.now order.now.cut (entry_at entries.now (place - 1)) }
-        ensures so_far { OnOk result (HasSweptBy order.now lead.now entries.now (place + 1) self.new.class self.new.levels.items) }
-        ensures class { OnOk result (IsClassBy order.now lead.now entries.now self.new.class place) }
-        ensures above { OnOk result (self.new.above ≡ count_above (own_order order.now) entries.now order.now.cut (entry_at entries.now place)) }
+        requires passed { HasPassed order.now lead.now entries.now place self.old }
+        ensures { OnOk result (HasPassed order.now lead.now entries.now (place + 1) self.new) }
     {
         match standing_at(order, lead, entries, place) {
             Standing::Alike => return Ok(()),
@@ -142,8 +131,7 @@ impl Sweep {
 
     /// The level of the last entry, from 1 on; 0 where it is below the cut.
     fn level(&self, cut: u32) -> u32
-        ensures upper { self.now.above < cut → result ≡ suc self.now.above }
-        ensures below { cut ≤ self.now.above → result ≡ 0 }
+        ensures { result ≡ cond (nat_lt self.now.above cut) (suc self.now.above) 0 }
     {
         if self.above < cut as usize {
             self.above as u32 + 1

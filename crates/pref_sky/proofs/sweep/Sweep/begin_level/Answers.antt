@@ -10,6 +10,6 @@ returns-in_ok-push-clause-so_far c over second third rule mark cut all i so_far 
     let last : c.args.self.now.above ≡ length levels = omega arith in
     let pushed = (c.in_ok-push.ensures {u = tt}).items in (
       subst (HasSwept over second third rule mark cut all i class) (sym pushed)
-          (swept_longer over second third rule mark cut all i class levels c.new.result so_far (omega (arith, last, early)) (c.new.ensures over second third rule mark all class i (length levels))),
+          (swept_longer so_far c.new.result (omega (arith, last, early)) (c.new.ensures over second third rule mark all class i (length levels))),
       omega (arith, last, ap length pushed, length_push levels c.new.result),
     )

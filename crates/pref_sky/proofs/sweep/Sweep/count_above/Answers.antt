@@ -1,81 +1,65 @@
-use Rattle.pref_sky.proofs.Common.{◌-◌, ◌<◌, sym, ◌∙◌, add-one, arith, length, length-set}
-use Rattle.pref_sky.proofs.SweepLaws.{all_known, are_places, count_found, stands_there, swept_asked}
-use Rattle.pref_sky.specs.Leads.{mark_of}
+use Rattle.pref_sky.proofs.Common.{◌≡◌, ◌-◌, ◌<◌, ◌∙◌, ℕ, add-one, arith, comes_after, entry_at, length, length-set, own_order, set, suc, sym}
+use Rattle.pref_sky.proofs.SweepLaws.{all_known, are_places, none_past, swept_asked}
+use Rattle.pref_sky.specs.Leads.{HasSweptBy, mark_of}
+use Rattle.pref_sky.proofs.sweep.Sweep.count_above.Goals.{After-dominates}
 use Rattle.pref_sky.proofs.sweep.Sweep.count_above.Goals as goal
 
 pub halves-init : goal.halves-init
 halves-init c =
-    let old = c.args.self.now in
-    let held = c.requires.swept.held in
-    let after = held.after c.args.place c.requires.inside in
-    let known = all_known _ _ _ c.requires.swept.swept c.args.place c.requires.inside old.class old.levels.items c.requires.so_far (mark_of c.args.lead.now c.args.place - 1)
-    (omega (arith, held.within c.args.place c.requires.inside)) after in
-    record {
-      ordered = omega (arith, known);
-      within = omega arith;
-      above = grind (arith, after);
-      next = λ less. absurd (omega (arith, less));
-      so_far = c.requires.so_far;
-      class = c.requires.class;
-      from = omega arith;
-    }
-
-pub returns-clause-above : goal.returns-clause-above
-returns-clause-above c =
-    let inv = c.halves.invariant in
-    let sweep = c.halves.self in
-    count_found _ _ _ c.requires.swept.swept c.args.place c.requires.inside sweep.class sweep.levels.items c.halves.low c.halves.high inv.so_far inv.ordered inv.within inv.above inv.next c.halves-test.false
+    let swept = c.requires in
+    let held = swept.leads.held in
+    let after = held.after c.args.place swept.inside in
+    let known = all_known swept.so_far swept.leads.swept swept.inside (mark_of c.args.lead.now c.args.place - 1) (omega (arith, held.within c.args.place swept.inside)) after in
+    record { swept = swept; ordered = omega (arith, known); within = omega arith; above = grind (arith, after); no_more = none_past swept.so_far swept.leads.swept swept.inside c.len-high.result (omega arith); from = omega arith }
 
 pub dominates-requires-clause-places : goal.dominates-requires-clause-places
 dominates-requires-clause-places c =
     let inv = c.halves.invariant in
-    let sweep = c.halves.self in
-    let middle = c.next_between-middle.result in
-    let there : middle < length sweep.levels.items = omega (arith, c.next_between-middle.ensures.to, inv.within) in
-    are_places c.requires.inside (stands_there _ _ _ c.requires.swept.swept c.args.place c.requires.inside sweep.class sweep.levels.items middle c.index_mut.result.now inv.so_far there c.index_mut.ensures.value)
+    let there : c.next_between-middle.result < length c.halves.self.levels.items = omega (arith, c.next_between-middle.ensures.to, inv.within) in
+    are_places inv.swept.inside (inv.swept.so_far.stand c.next_between-middle.result c.index_mut.result.now there c.index_mut.ensures.value)
+
+-- what is known once a level was asked
+module _ (c : After-dominates) where
+  abbrev middle : ℕ
+  middle = c.next_between-middle.result
+
+  there : middle < length c.halves.self.levels.items
+  there = omega (arith, c.next_between-middle.ensures.to, c.halves.invariant.within)
+
+  so_far : HasSweptBy c.args.order.now c.args.lead.now c.args.entries.now c.args.place c.halves.self.class (set c.halves.self.levels.items middle c.dominates.new.self)
+  so_far = swept_asked c.halves.invariant.swept.so_far middle c.index_mut.result.now c.dominates.new.self there c.index_mut.ensures.value c.dominates.ensures.same
+
+  is : c.dominates.result ≡ comes_after (own_order c.args.order.now) c.args.entries.now (suc middle) (entry_at c.args.entries.now c.args.place)
+  is =
+      let swept = c.halves.invariant.swept in
+      c.dominates.ensures.dominated swept.leads swept.class middle (swept.so_far.stand middle c.index_mut.result.now there c.index_mut.ensures.value) (omega (arith, c.halves.invariant.from, c.next_between-middle.ensures.from))
 
 pub halves-preserved-then-dominates : goal.halves-preserved-then-dominates
 halves-preserved-then-dominates c =
-    let swept = c.requires.swept.swept in
-    let inside = c.requires.inside in
+    let d = (goal.at.halves-preserved-then-dominates c).After-dominates in
     let inv = c.halves.invariant in
-    let sweep = c.halves.self in
-    let levels = sweep.levels.items in
-    let middle = c.next_between-middle.result in
-    let there : middle < length levels = omega (arith, c.next_between-middle.ensures.to, inv.within) in
-    let kept = c.index_mut.result.now in
-    let long = length-set levels middle c.dominates.new.self in
-    let stands = stands_there _ _ _ swept c.args.place inside sweep.class levels middle kept inv.so_far there c.index_mut.ensures.value in
-    let is = c.dominates.ensures.dominated c.requires.swept inv.class middle stands (omega (arith, inv.from, c.next_between-middle.ensures.from)) in
+    let swept = inv.swept in
+    let long = length-set c.halves.self.levels.items (middle d) c.dominates.new.self in
     record {
+      swept = record { inside = swept.inside; leads = swept.leads; signed = swept.signed; so_far = so_far d; class = swept.class };
       ordered = omega (arith, c.next_between-middle.ensures.to);
       within = omega (arith, inv.within, long);
-      above = rw (add-one middle) (sym is ∙ c.if-dominates.true);
-      next = λ less. inv.next (omega (arith, less, long));
-      so_far = swept_asked _ _ _ swept c.args.place inside sweep.class levels middle kept c.dominates.new.self inv.so_far there c.index_mut.ensures.value c.dominates.ensures.same;
-      class = inv.class;
+      above = rw (add-one (middle d)) (sym (is d) ∙ c.if-dominates.true);
+      no_more = inv.no_more;
       from = omega (arith, inv.from, c.next_between-middle.ensures.from);
     }
 
 pub halves-preserved : goal.halves-preserved
 halves-preserved c =
-    let swept = c.requires.swept.swept in
-    let inside = c.requires.inside in
+    let d = (goal.at.halves-preserved c).After-dominates in
     let inv = c.halves.invariant in
-    let sweep = c.halves.self in
-    let levels = sweep.levels.items in
-    let middle = c.next_between-middle.result in
-    let there : middle < length levels = omega (arith, c.next_between-middle.ensures.to, inv.within) in
-    let kept = c.index_mut.result.now in
-    let long = length-set levels middle c.dominates.new.self in
-    let stands = stands_there _ _ _ swept c.args.place inside sweep.class levels middle kept inv.so_far there c.index_mut.ensures.value in
-    let is = c.dominates.ensures.dominated c.requires.swept inv.class middle stands (omega (arith, inv.from, c.next_between-middle.ensures.from)) in
+    let swept = inv.swept in
+    let long = length-set c.halves.self.levels.items (middle d) c.dominates.new.self in
     record {
+      swept = record { inside = swept.inside; leads = swept.leads; signed = swept.signed; so_far = so_far d; class = swept.class };
       ordered = c.next_between-middle.ensures.from;
       within = omega (arith, c.next_between-middle.ensures.to, inv.within, long);
       above = inv.above;
-      next = λ _. sym is ∙ c.if-dominates.false;
-      so_far = swept_asked _ _ _ swept c.args.place inside sweep.class levels middle kept c.dominates.new.self inv.so_far there c.index_mut.ensures.value c.dominates.ensures.same;
-      class = inv.class;
+      no_more = λ _. sym (is d) ∙ c.if-dominates.false;
       from = inv.from;
     }

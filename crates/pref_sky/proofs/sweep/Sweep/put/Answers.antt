@@ -1,41 +1,31 @@
-use Rattle.pref_sky.proofs.Common.{◌∙◌, arith, subst, sym}
-use Rattle.pref_sky.proofs.SweepLaws.{above_within, are_places, at_level_of, stands_there, swept_below, swept_put}
+use Rattle.pref_sky.proofs.Common.{ap, and_from, arith, not, subst, sym}
+use Rattle.pref_sky.proofs.SweepLaws.{are_places, swept_below, swept_put}
 use Rattle.pref_sky.specs.Leads.{IsClassBy}
+use Rattle.pref_sky.specs.Sweep.{AreAbove}
 use Rattle.std.proofs.lemmas.Result.{on_ok_weaker}
 use Rattle.pref_sky.proofs.sweep.Sweep.put.Goals as goal
 
 pub returns-then-self-order-clause-so_far : goal.returns-then-self-order-clause-so_far
 returns-then-self-order-clause-so_far c =
-    let old = c.args.self.now in
-    swept_below _ _ _ c.requires.swept.swept c.args.place c.requires.inside old.class old.levels.items old.above c.requires.so_far c.requires.above c.if-self-order.true
+    let swept = c.requires.swept in
+    swept_below swept.so_far swept.leads.swept swept.inside c.args.self.now.above c.requires.above c.if-self-order.true
 
 pub index_mut-requires : goal.index_mut-requires
-index_mut-requires c =
-    let old = c.args.self.now in
-    let within = above_within _ _ _ c.requires.swept.swept c.args.place c.requires.inside old.class old.levels.items old.above c.requires.so_far c.requires.above c.if-self-order.false in
-    let begun = c.in_ok-begin_level.ensures.so_far _ _ _ _ _ _ _ _ c.requires.so_far c.if-self-order.false within in
-    omega (arith, begun.1)
+index_mut-requires c = omega (arith, (c.in_ok-begin_level.ensures.so_far _ _ _ _ _ _ _ _ c.requires.swept.so_far c.if-self-order.false c.requires.known).1)
 
 pub put-requires-clause-places : goal.put-requires-clause-places
 put-requires-clause-places c =
-    let swept = c.requires.swept.swept in
-    let inside = c.requires.inside in
-    let old = c.args.self.now in
-    let next = c.begin_level.new.self in
-    let within = above_within _ _ _ swept c.args.place inside old.class old.levels.items old.above c.requires.so_far c.requires.above c.if-self-order.false in
-    let begun = c.in_ok-begin_level.ensures.so_far _ _ _ _ _ _ _ _ c.requires.so_far c.if-self-order.false within in
-    are_places inside (stands_there _ _ _ swept c.args.place inside next.class next.levels.items next.above c.index_mut.result.now begun.0 begun.1 c.index_mut.ensures.value)
+    let begun = c.in_ok-begin_level.ensures.so_far _ _ _ _ _ _ _ _ c.requires.swept.so_far c.if-self-order.false c.requires.known in
+    are_places c.requires.swept.inside (begun.0.stand c.begin_level.new.self.above c.index_mut.result.now begun.1 c.index_mut.ensures.value)
 
 pub returns-clause-so_far : goal.returns-clause-so_far
 returns-clause-so_far c =
-    let swept = c.requires.swept.swept in
-    let inside = c.requires.inside in
-    let old = c.args.self.now in
+    let swept = c.requires.swept in
     let next = c.begin_level.new.self in
-    let within = above_within _ _ _ swept c.args.place inside old.class old.levels.items old.above c.requires.so_far c.requires.above c.if-self-order.false in
-    let begun = c.in_ok-begin_level.ensures.so_far _ _ _ _ _ _ _ _ c.requires.so_far c.if-self-order.false within in
-    let above = c.begin_level.ensures.same.1 ∙ c.requires.above in
-    let stands = stands_there _ _ _ swept c.args.place inside next.class next.levels.items next.above c.index_mut.result.now begun.0 begun.1 c.index_mut.ensures.value in
-    let at = at_level_of _ c.args.order.now.cut _ _ next.above (omega (arith, begun.1, begun.0.within)) above in
-    on_ok_weaker c.put.result (λ put. swept_put _ _ _ swept c.args.place inside next.class next.levels.items next.above _ begun.0 above begun.1 put)
-    (c.put.ensures c.requires.swept (subst (λ class. IsClassBy c.args.order.now c.args.lead.now c.args.entries.now class c.args.place) (sym c.begin_level.ensures.same.0) c.requires.class) stands at)
+    let begun = c.in_ok-begin_level.ensures.so_far _ _ _ _ _ _ _ _ swept.so_far c.if-self-order.false c.requires.known in
+    let same = c.begin_level.ensures.same in
+    let class = subst (λ class. IsClassBy c.args.order.now c.args.lead.now c.args.entries.now class c.args.place) (sym same.0) swept.class in
+    let above = subst (AreAbove _ _ _ _) (sym same.1) c.requires.above in
+    let stands = begun.0.stand next.above c.index_mut.result.now begun.1 c.index_mut.ensures.value in
+    let at = and_from _ _ above.after (ap not (above.no_more (omega (arith, begun.1, begun.0.within)))) in
+    on_ok_weaker c.put.result (λ put. swept_put begun.0 swept.leads.swept swept.inside next.above above _ begun.1 put) (c.put.ensures swept.leads class stands at)

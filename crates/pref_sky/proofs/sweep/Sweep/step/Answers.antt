@@ -1,49 +1,55 @@
-use Rattle.pref_sky.proofs.Common.{◌∙◌, subst, sym}
-use Rattle.pref_sky.proofs.SweepLaws.{class_begins, class_goes_on, count_alike, swept_alike, swept_anew}
-use Rattle.pref_sky.specs.Leads.{IsClassBy}
+use Rattle.pref_sky.proofs.Common.{[], ◌≡◌, ◌∙◌, ◌+◌, ◌-◌, ℕ, List, Entry, OwnOrder, ap, arith, entry_at, get_or_read, own_order, subst, sym}
+use Rattle.pref_sky.proofs.SweepLaws.{above_alike, class_begins, class_goes_on, swept_alike, swept_anew}
+use Rattle.pref_sky.specs.Leads.{HasPassed, HasSweptBy, IsClassBy, rule_of}
+use Rattle.pref_sky.specs.Sweep.{AreAbove}
+use Rattle.pref_sky.specs.declared.lead.Lead.{Lead}
+use Rattle.pref_sky.specs.declared.sweep.Sweep.{Sweep}
 use Rattle.std.proofs.lemmas.Result.{on_ok_weaker}
 use Rattle.pref_sky.proofs.sweep.Sweep.step.Goals.{in-Apart, in-InClass}
 use Rattle.pref_sky.proofs.sweep.Sweep.step.Goals as goal
 
-pub returns-in-Alike-clause-so_far : goal.returns-in-Alike-clause-so_far
-returns-in-Alike-clause-so_far c =
-    let stands = c.standing_at.ensures in
-    let same = stands.same (λ apart. cc (apart, c.in-Alike.is)) in
-    let sweep = c.args.self.now in
-    swept_alike _ _ _ c.requires.swept.swept c.args.place c.requires.inside sweep.class sweep.levels.items c.requires.so_far same.0 (c.requires.class same.0).begins (stands.alike c.in-Alike.is) same.1
+-- the entry is the last one before the next place
+behind : (order : OwnOrder) (lead : Lead) (all : List Entry) (i : ℕ) (sweep : Sweep) → HasSweptBy order lead all (i + 1) sweep.class sweep.levels.items → IsClassBy order lead all sweep.class i
+    → AreAbove (own_order order) order.cut all (entry_at all i) sweep.above → HasPassed order lead all (i + 1) sweep
+behind order lead all i sweep so_far class above =
+    let last : i ≡ i + 1 - 1 = omega arith in
+    record {
+      so_far = so_far;
+      class = λ _. subst (IsClassBy order lead all sweep.class) last class;
+      above = λ _. subst (λ j. AreAbove (own_order order) order.cut all (entry_at all j) sweep.above) last above;
+    }
 
-pub returns-in-Alike-clause-class : goal.returns-in-Alike-clause-class
-returns-in-Alike-clause-class c =
+pub returns-in-Alike : goal.returns-in-Alike
+returns-in-Alike c =
     let same = c.standing_at.ensures.same (λ apart. cc (apart, c.in-Alike.is)) in
-    class_goes_on c.requires.swept.swept c.args.self.now.class c.args.place same.0 (c.requires.class same.0) same.1
-
-pub returns-in-Alike-clause-above : goal.returns-in-Alike-clause-above
-returns-in-Alike-clause-above c =
-    let stands = c.standing_at.ensures in
-    let same = stands.same (λ apart. cc (apart, c.in-Alike.is)) in
-    c.requires.above same.0 ∙ count_alike _ _ _ _ (stands.alike c.in-Alike.is) c.args.order.now.cut
-
-pub count_above-self-requires-clause-so_far : goal.count_above-self-requires-clause-so_far
-count_above-self-requires-clause-so_far c =
-    elim c.match-standing_at.branch [
-      | in-InClass w ↦ rw (w.self-is) c.requires.so_far
-      | in-Apart w ↦ rw (w.self-is) (swept_anew _ _ _ c.requires.swept.swept c.args.place c.requires.inside c.args.self.now.class c.args.self.now.levels.items c.requires.so_far)
-    ]
-
-pub count_above-self-requires-clause-class : goal.count_above-self-requires-clause-class
-count_above-self-requires-clause-class c =
+    let alike = c.standing_at.ensures.alike c.in-Alike.is in
     let swept = c.requires.swept.swept in
+    let passed = c.requires.passed in
+    let class = passed.class same.0 in
+    let above = above_alike _ _ _ _ _ _ alike (passed.above same.0) in
+    behind c.args.order.now c.args.lead.now c.args.entries.now c.args.place c.args.self.now
+    (swept_alike passed.so_far swept c.requires.inside c.args.self.now.above above same.0 class.begins (passed.above same.0) alike same.1)
+    (class_goes_on swept c.args.self.now.class c.args.place same.0 class same.1) above
+
+pub count_above-self-requires : goal.count_above-self-requires
+count_above-self-requires c =
+    let leads = c.requires.swept in
+    let so_far = c.requires.passed.so_far in
     let stands = c.standing_at.ensures in
+    let signed = c.sign-signature.ensures ∙ ap (rule_of c.args.lead.now) (get_or_read c.args.entries.now c.args.place c.index-entries-place.result c.requires.inside c.index-entries-place.is (record { id = 0; row = [] })) in
     elim c.match-standing_at.branch [
       | in-InClass w ↦
           let same = stands.same (λ apart. cc (apart, w.in-InClass.is)) in
-          rw (w.self-is) (class_goes_on swept c.args.self.now.class c.args.place same.0 (c.requires.class same.0) same.1)
-      | in-Apart w ↦ rw (w.self-is) (class_begins swept c.args.place c.requires.inside (stands.apart w.in-Apart.is))
+          let class = class_goes_on leads.swept c.args.self.now.class c.args.place same.0 (c.requires.passed.class same.0) same.1 in
+          rw (w.self-is) (record { inside = c.requires.inside; leads = leads; signed = signed; so_far = so_far; class = class })
+      | in-Apart w ↦
+          let class = class_begins leads.swept c.args.place c.requires.inside (stands.apart w.in-Apart.is) in
+          rw (w.self-is) (record { inside = c.requires.inside; leads = leads; signed = signed; so_far = swept_anew so_far; class = class })
     ]
 
-pub returns-clause-class : goal.returns-clause-class
-returns-clause-class c =
-    on_ok_weaker c.put.result (λ _. subst (λ class. IsClassBy c.args.order.now c.args.lead.now c.args.entries.now class c.args.place) (sym c.put.ensures.same.0) c.count_above-self.ensures.class) c.put.ensures.so_far
-
-pub returns-clause-above : goal.returns-clause-above
-returns-clause-above c = on_ok_weaker c.put.result (λ _. c.put.ensures.same.1 ∙ c.count_above-self.ensures.above) c.put.ensures.so_far
+pub returns : goal.returns
+returns c =
+    let found = c.count_above-self.ensures in
+    let same = c.put.ensures.same in
+    let class = subst (λ class. IsClassBy c.args.order.now c.args.lead.now c.args.entries.now class c.args.place) (sym same.0) found.still.class in
+    on_ok_weaker c.put.result (λ so_far. behind c.args.order.now c.args.lead.now c.args.entries.now c.args.place c.put.new.self so_far class (subst (AreAbove _ _ _ _) (sym same.1) found.above)) c.put.ensures.so_far
