@@ -40,14 +40,7 @@ module _ {over first second third : Entry → Entry → Bool} {all : List Entry}
   -- another begins a class: what does not come behind the one before it comes before it too
   pub class_begins : (i : ℕ) → i < length all → (0 < i → are_level_in first second third (entry_at all (i - 1)) (entry_at all i) ≡ false) → IsClass first second third all i i
   class_begins i inside apart =
-      let a = entry_at all (i - 1) in
-      let b = entry_at all i in
-      record {
-        begins = omega arith;
-        apart = λ j earlier.
-            let next : order a b ≡ true = grind (arith, level_in_order first second third a b, apart (omega (arith, earlier)), swept.in_lead (i - 1) i (omega arith) inside) in
-            order_chain.between a (entry_at all j) b next (swept.in_lead j (i - 1) (omega (arith, earlier)) (omega (arith, earlier, inside)));
-      }
+      grind (arith, level_in_order first second third (entry_at all (i - 1)) (entry_at all i), swept.in_lead, order_chain.between (entry_at all (i - 1)))
 
 -- what stands for members is inside
 pub are_places : {over second third : Entry → Entry → Bool} {rule : Entry → ℕ} {mark : ℕ → ℕ} {all : List Entry} {class i n : ℕ} {kept : Level} → i < length all → StandsFor over second third rule mark all class i n kept → ArePlaces all kept
@@ -66,11 +59,7 @@ module _ {over second third : Entry → Entry → Bool} {rule : Entry → ℕ} {
 
   -- no entry so far is of a class that begins here
   pub swept_anew : HasSwept over second third rule mark cut all i i levels
-  swept_anew = record {
-    within = so_far.within;
-    stand = λ n kept there is. new_class over second third rule mark all class i n kept (so_far.stand n kept there is) i (omega arith);
-    known = so_far.known;
-  }
+  swept_anew = record { within = so_far.within; stand = λ n kept there is. new_class over second third rule mark all class i n kept (so_far.stand n kept there is) i (omega arith); known = so_far.known }
 
   -- nor of a level that is begun
   pub swept_longer : (empty : Level) → length levels < cut → (((j : ℕ) → IsMember over all i (length levels) j → ⊥) → Stands i (length levels) empty) → HasSwept over second third rule mark cut all i class (levels ++ empty ∷ [])

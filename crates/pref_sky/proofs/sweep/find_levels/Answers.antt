@@ -1,4 +1,4 @@
-use Rattle.pref_sky.proofs.Common.{◌≡◌, ◌+◌, ◌-◌, ◌∙◌, ◌++◌, ◌∷◌, [], ap, arith, entry_at, get_or-map, length-map, level_of, map, own_order, subst, sym}
+use Rattle.pref_sky.proofs.Common.{◌≡◌, ◌+◌, ◌-◌, [], arith, entry_at, get_or-map, length-map, level_of, own_order, subst}
 use Rattle.pref_sky.proofs.LeveledLaws.{level_is}
 use Rattle.pref_sky.proofs.ListLaws.{front_more}
 use Rattle.pref_sky.specs.Sweep.{AreAbove}
@@ -15,9 +15,5 @@ loop-place-preserved c =
     let n = c.step.new.self.above in
     let last : i + 1 - 1 ≡ i = omega arith in
     let above = subst (λ j. AreAbove over cut all (entry_at all j) n) last (passed.above (omega arith)) in
-    let level = c.level.ensures ∙ sym (level_is over cut all (entry_at all i) n above) ∙ sym (get_or-map (level_of over all cut) all i (record { id = 0; row = [] }) c.level.result inside) in
-    record {
-      passed = passed;
-      found = (c.in_ok-push.ensures {u = tt}).items ∙ ap (λ l. l ++ c.level.result ∷ []) c.loop-place.invariant.found
-          ∙ sym (front_more (map (level_of over all cut) all) i c.level.result (omega (arith, inside, length-map all (level_of over all cut))) level);
-    }
+    let level = level_is over cut all (entry_at all i) n above in
+    record { passed = passed; found = grind (arith, level, get_or-map (level_of over all cut) all i (record { id = 0; row = [] }) c.level.result, front_more, length-map) }
