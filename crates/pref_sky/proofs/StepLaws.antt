@@ -1,24 +1,26 @@
 -- What is kept of a level in a sweep: its steps and its run tell whether an entry of the level dominates the next entry, and how they stand for one entry more.
-use Rattle.pref_sky.proofs.Common.{◌≡◌, ℕ, suc, ◌<◌, ◌≤◌, ◌+◌, ◌-◌, Bool, true, false, not, ◌&&◌, ◌⊎◌, inl, inr, List, [], ◌∷◌, ◌++◌, refl, sym, ◌∙◌, ap, arith, length, get_or, take, drop}
-use Rattle.pref_sky.proofs.Common.{length-append, length-take, length-drop, get_or-append_right, get_or-take, get_or-drop, get_or_append_left, get_or_default}
-use Rattle.pref_sky.proofs.Common.{both_ways, and_from, and_right, cases_Bool, or_cases, cases_eq, cases_lt, false_from_ne_true, Entry, entry_at, Item, Among, StandAlike, IsChain}
+use Rattle.pref_sky.proofs.Common.{◌≡◌, ℕ, suc, zero, ◌<◌, ◌≤◌, ◌+◌, ◌-◌, Bool, true, false, not, ◌&&◌, ◌⊎◌, inl, inr, List, [], ◌∷◌, ◌++◌, refl, sym, ◌∙◌, ap, arith, filter, length, get_or, take, drop}
+use Rattle.pref_sky.proofs.Common.{both_ways, and_from, and_right, cases_Bool, or_cases, cases_eq, false_from_ne_true, Entry, entry_at, Item, Among, StandAlike, IsChain, IsInOrder}
 use Rattle.pref_sky.proofs.ChainLaws.{level_above, level_below}
-use Rattle.pref_sky.proofs.ListLaws.{among_place, any_from, place_of, in_either, in_left, in_right}
+use Rattle.pref_sky.proofs.ListLaws.{among_place, any_from, from_filter, in_filter, in_order_at, in_order_joined, place_of, in_either, in_left, in_right}
 use Rattle.pref_sky.proofs.Merges.{comes_after, unbeaten_over}
 use Rattle.pref_sky.specs.Sweep.{AreSwept, IsAskedOf, IsClass, IsKept, IsMember, IsOfClass, HasAlike, IsOneMore, IsSameLevel, StandsFor, are_level_in, is_ahead, is_at}
 use Rattle.pref_sky.specs.Held.{AreHeld}
-use Rattle.pref_sky.specs.Steps.{AreNoWorse, IsAsked, IsCovered, IsStepPut, stands_before, step_at}
+use Rattle.pref_sky.specs.Steps.{AreNoWorse, IsAsked, IsCovered, IsStepPut, covers, stands_before, step_at}
 use Rattle.pref_sky.specs.declared.level.Level.{Level}
 use Rattle.pref_term.specs.Signatures.{is_within}
 
--- in a chain, no worse and again no worse
-pub no_worse_then : {E : Type 0} (f : E → E → Bool) → IsChain f → (a b c : E) → f b a ≡ false → f c b ≡ false → f c a ≡ false
+-- in a chain, no worse and again no worse; in two chains
+no_worse_then : {E : Type 0} (f : E → E → Bool) → IsChain f → (a b c : E) → f b a ≡ false → f c b ≡ false → f c a ≡ false
 no_worse_then f chain a b c first then = grind (arith, chain.between c b a)
 
+covers_then : (second third : Entry → Entry → Bool) → IsChain second → IsChain third → (a b c : Entry) → covers second third a b ≡ true → covers second third b c ≡ true → covers second third a c ≡ true
+covers_then second third second_is_chain third_is_chain a b c first then = grind (arith, no_worse_then second second_is_chain a b c, no_worse_then third third_is_chain a b c)
+
 -- what is ahead of an entry that a third one is no worse than: that one is ahead as well, or is behind it
-one_ahead : {E : Type 0} (f s t : E → E → Bool) → IsChain f → IsChain s → IsChain t → (m c e : E) → is_ahead f s t m e ≡ true
-    → f e c ≡ false → s e c ≡ false → t e c ≡ false → (is_ahead f s t c e ≡ true) ⊎ (is_ahead f s t m c ≡ true)
-one_ahead f s t first second third m c e ahead in_first in_second in_third =
+one_ahead : (f s t : Entry → Entry → Bool) → IsChain f → IsChain s → IsChain t → (m c e : Entry) → is_ahead f s t m e ≡ true
+    → f e c ≡ false → covers s t c e ≡ true → (is_ahead f s t c e ≡ true) ⊎ (is_ahead f s t m c ≡ true)
+one_ahead f s t first second third m c e ahead in_first covered =
     grind (arith, first.between m c e, first.between c e m, second.between m c e, second.between c e m, third.between m c e, third.between c e m)
 
 -- what is no worse in the first chain and better in the two others is ahead
@@ -38,8 +40,8 @@ one_asked over second all steps e answer one is =
     record {
       found = λ h. (0, omega (arith, one), sym is ∙ h);
       none = λ h. elim (cases_Bool (second e (entry_at all (get_or steps 0 0)))) [
-        | inl worse ↦ (0, record { within = omega arith; last = λ some. absurd (omega (arith, some)); next = λ more. worse }, λ some. absurd (omega (arith, some)))
-        | inr no_worse ↦ (1, record { within = omega (arith, one); last = λ some. no_worse; next = λ more. absurd (omega (arith, more, one)) }, λ some. sym is ∙ h)
+        | inl worse ↦ (0, record { within = omega arith; last = λ some. absurd (omega (arith, some)); next = λ more. ap not worse }, λ some. absurd (omega (arith, some)))
+        | inr no_worse ↦ (1, record { within = omega (arith, one); last = λ some. ap not no_worse; next = λ more. absurd (omega (arith, more, one)) }, λ some. sym is ∙ h)
       ];
     }
 
@@ -76,7 +78,7 @@ module _ (over second third : Entry → Entry → Bool) (rule : Entry → ℕ) (
         → StandsFor over second third rule mark all class (i + 1) n kept
     covered step alike =
         record {
-          steps_within = λ k d there. grind (arith, stands.steps_within k d there);
+          steps_within = λ p m. grind (arith, stands.steps_within p m);
           steps_cover = λ j member. elim (cases_eq j i) [ inl same ↦ rw same (step (rw same at member)) | inr before ↦ stands.steps_cover j (omega (arith, member.0, before), member.1) ];
           in_order = stands.in_order;
           kept_within = λ x m. grind (arith, stands.kept_within x m);
@@ -100,8 +102,7 @@ module _ (over second third : Entry → Entry → Bool) (rule : Entry → ℕ) (
         let last : IsMember over all i n (i - 1) = (omega (arith, some), at) in
         let w = stands.steps_cover (i - 1) last in
         let x = stands.kept_cover (i - 1) from last in
-        let c = step_at all kept.steps.items w.0 in
-        covered (λ _. (w.0, w.1, no_worse_then second second_is_chain c m e w.2 (grind (arith, level)), no_worse_then third third_is_chain c m e w.3 (grind (arith, level))))
+        covered (λ _. (w.0, w.1, covers_then second third second_is_chain third_is_chain (entry_at all w.0) m e w.2 (grind (arith, level))))
         (λ _ _. (x.0, (x.1.0, x.1.1, record { above = λ c. x.1.2.above c ∙ alike.above c; below = λ c. x.1.2.below c ∙ alike.below c })))
 
 -- ---- one more is kept in the class
@@ -131,48 +132,91 @@ module _ (mark : ℕ → ℕ) (n : ℕ) (before : Level) (x : Item) (new : Level
         | inr fresh ↦ rw (fresh.0, fresh.1) (grind (arith, in_left before.fresh.items (x ∷ []) y))
       ]
 
--- ---- places of which one is put in the place of those from one on up to another
+-- ---- steps in order
 
-module _ (xs : List ℕ) (from to x : ℕ) (ordered : from ≤ to) (within : to ≤ length xs) where
-  abbrev pub replaced : List ℕ
-  replaced = take from xs ++ x ∷ drop to xs
+-- what a filter keeps where the first n pass and no other, or all others and none of these
+kept_in_front : (p : ℕ → Bool) (xs : List ℕ) (n : ℕ) → ((k : ℕ) → k < n → k < length xs → p (get_or xs k 0) ≡ true) → ((k : ℕ) → n ≤ k → k < length xs → p (get_or xs k 0) ≡ false) → filter p xs ≡ take n xs
+kept_in_front p [] zero pass fail = refl
+kept_in_front p [] (suc n) pass fail = refl
+kept_in_front p (x ∷ xs) zero pass fail = grind (arith, fail 0, kept_in_front p xs zero (λ k near _. absurd (omega (arith, near))) (λ k _ there. fail (suc k) (omega arith) (omega (arith, there))))
+kept_in_front p (x ∷ xs) (suc n) pass fail =
+    grind (arith, pass 0, kept_in_front p xs n (λ k near there. pass (suc k) (omega (arith, near)) (omega (arith, there))) (λ k past there. fail (suc k) (omega (arith, past)) (omega (arith, there))))
 
-  replaced_length : length replaced + to ≡ length xs + from + 1
-  replaced_length = omega (arith, length-append (take from xs) (x ∷ drop to xs), length-take from xs, length-drop to xs)
+kept_behind : (p : ℕ → Bool) (xs : List ℕ) (n : ℕ) → ((k : ℕ) → k < n → k < length xs → p (get_or xs k 0) ≡ false) → ((k : ℕ) → n ≤ k → k < length xs → p (get_or xs k 0) ≡ true) → filter p xs ≡ drop n xs
+kept_behind p [] zero fail pass = refl
+kept_behind p [] (suc n) fail pass = refl
+kept_behind p (x ∷ xs) zero fail pass = grind (arith, pass 0, kept_behind p xs zero (λ k near _. absurd (omega (arith, near))) (λ k _ there. pass (suc k) (omega arith) (omega (arith, there))))
+kept_behind p (x ∷ xs) (suc n) fail pass =
+    grind (arith, fail 0, kept_behind p xs n (λ k near there. fail (suc k) (omega (arith, near)) (omega (arith, there))) (λ k past there. pass (suc k) (omega (arith, past)) (omega (arith, there))))
 
-  in_front : (k : ℕ) → k < from → get_or replaced k 0 ≡ get_or xs k 0
-  in_front k near = get_or_append_left (take from xs) (x ∷ drop to xs) 0 k (omega (arith, near, length-take from xs)) ∙ get_or-take from xs k 0 near
+in_order_filtered : {E : Type 0} (le : E → E → Bool) (p : E → Bool) (xs : List E) → IsInOrder le xs → IsInOrder le (filter p xs)
+in_order_filtered le p [] ordered = ordered
+in_order_filtered le p (x ∷ xs) ordered =
+    elim (cases_Bool (p x)) [
+      | inl kept ↦ rw kept ((λ y m. ordered.0 y (from_filter p xs y m).0), in_order_filtered le p xs ordered.1)
+      | inr left ↦ rw left (in_order_filtered le p xs ordered.1)
+    ]
 
-  behind : (k l : ℕ) → l + to ≡ k + from + 1 → to ≤ k → get_or replaced l 0 ≡ get_or xs k 0
-  behind k l at past =
-      let far : l - from ≡ suc (k - to) = omega (arith, at, past) in
-      let there : to + (k - to) ≡ k = omega (arith, past) in
-      get_or-append_right (take from xs) (x ∷ drop to xs) from l 0 (omega (arith, length-take from xs)) (omega (arith, at, past))
-      ∙ (ap (λ m. get_or (x ∷ drop to xs) m 0) far ∙ (get_or-drop to xs (k - to) 0 ∙ ap (λ m. get_or xs m 0) there))
+module _ (second third : Entry → Entry → Bool) (second_is_chain : IsChain second) (third_is_chain : IsChain third) (all : List Entry) (steps : List ℕ) (ordered : IsInOrder (stands_before second third all) steps) (e : Entry) where
+  abbrev step : ℕ → Entry
+  step k = step_at all steps k
 
-  in_place : get_or replaced from 0 ≡ x
-  in_place =
-      let first : from - from ≡ 0 = omega arith in
-      get_or-append_right (take from xs) (x ∷ drop to xs) from from 0 (omega (arith, length-take from xs)) (omega arith) ∙ ap (λ m. get_or (x ∷ drop to xs) m 0) first
-
-  -- where each stood before
-  origin : (l : ℕ) → l < length replaced
-      → ((l < from) × (get_or replaced l 0 ≡ get_or xs l 0)) ⊎ (((l ≡ from) × (get_or replaced l 0 ≡ x)) ⊎ ((k : ℕ) × (to ≤ k) × (k < length xs) × (l + to ≡ k + from + 1) × (get_or replaced l 0 ≡ get_or xs k 0)))
-  origin l inside =
-      elim (cases_lt l from) [
-        | inl near ↦ inl (near, in_front l near)
-        | inr past ↦ elim (cases_eq l from) [
-          | inl same ↦ inr (inl (same, ap (λ m. get_or replaced m 0) same ∙ in_place))
-          | inr far ↦
-              let k = l + to - from - 1 in
-              inr (inr (k, omega (arith, past, far), omega (arith, past, far, inside, replaced_length), omega (arith, past, far), behind k l (omega (arith, past, far)) (omega (arith, past, far))))
-        ]
+  -- later ones are no better in the second chain, and earlier ones no better in the third
+  in_order_upto : (k l : ℕ) → k ≤ l → l < length steps → stands_before second third all (get_or steps k 0) (get_or steps l 0) ≡ true
+  in_order_upto k l le there =
+      elim (cases_eq k l) [
+        | inl same ↦ rw same (grind (arith, second_is_chain.strict.irreflexive (step l), third_is_chain.strict.irreflexive (step l)))
+        | inr other ↦ in_order_at (stands_before second third all) steps k l 0 ordered (omega (arith, le, other)) there
       ]
 
-  -- they are in order where the one is in its place
-  in_order_anew : (le : ℕ → ℕ → Bool) → ((k l : ℕ) → k ≤ l → l < length xs → le (get_or xs k 0) (get_or xs l 0) ≡ true) → ((k : ℕ) → k < from → le (get_or xs k 0) x ≡ true) → le x x ≡ true
-      → ((k : ℕ) → to ≤ k → k < length xs → le x (get_or xs k 0) ≡ true) → (k l : ℕ) → k ≤ l → l < length replaced → le (get_or replaced k 0) (get_or replaced l 0) ≡ true
-  in_order_anew le before front itself back k l order inside = let near : k < length replaced = omega (arith, order, inside) in grind (arith, origin k near, origin l inside)
+  -- the last one that is no worse in the second chain stands for all that are so in both
+  last_covers : (count : ℕ) → AreNoWorse second all steps e count → IsCovered second third all steps e → (0 < count) × (covers second third (step (count - 1)) e ≡ true)
+  last_covers count cut covered =
+      let w = place_of steps covered.0 0 covered.1 in
+      let at : covers second third (step w.0) e ≡ true = rw w.2 covered.2 in
+      let near : w.0 < count = grind (arith, at, w.1, cut.next, in_order_upto count w.0, no_worse_then second second_is_chain (step count) (step w.0) e) in
+      (omega (arith, near), grind (arith, at, near, cut.last, cut.within, in_order_upto w.0 (count - 1), no_worse_then third third_is_chain (step (count - 1)) (step w.0) e))
+
+  -- those that are better in the second chain, and those of the others that are better in the third
+  abbrev is_better : ℕ → Bool
+  is_better p = second (entry_at all p) e
+
+  abbrev is_behind : ℕ → Bool
+  is_behind p = not (second (entry_at all p) e) && third (entry_at all p) e
+
+  -- between these a new one is put
+  put_is : (place : ℕ) (new : List ℕ) → e ≡ entry_at all place → IsStepPut second third all steps place new → new ≡ filter is_better steps ++ place ∷ filter is_behind steps
+  put_is place new is put =
+      let better : (k : ℕ) → k < put.from → k < length steps → is_better (get_or steps k 0) ≡ true =
+      λ k near there. grind (arith, is, near, put.better.last, put.better.within, in_order_upto k (put.from - 1), second_is_chain.between (step (put.from - 1)) (step k) e) in
+      let no_better : (k : ℕ) → put.from ≤ k → k < length steps → is_better (get_or steps k 0) ≡ false =
+      λ k past there. grind (arith, is, past, there, put.better.next, in_order_upto put.from k, second_is_chain.between (step k) (step put.from) e) in
+      let front = kept_in_front is_better steps put.from better no_better in
+      let rest : filter is_behind steps ≡ drop put.to steps =
+      kept_behind is_behind steps put.to (λ k near there. grind (arith, is, near, there, better k, put.taken_out.skipped k))
+      (λ k past there. grind (arith, is, past, there, put.taken_out.from_to, no_better k, put.taken_out.next, in_order_upto put.to k, third_is_chain.between (step put.to) (step k) e)) in
+      grind (arith, put.is, front, rest)
+
+  -- and they are in order again where none is better in both chains
+  in_order_put : (place : ℕ) → e ≡ entry_at all place → ((p : ℕ) → Among p steps → is_better p ≡ true → third (entry_at all p) e ≡ false)
+      → IsInOrder (stands_before second third all) (filter is_better steps ++ place ∷ filter is_behind steps)
+  in_order_put place is apart =
+      let le = stands_before second third all in
+      let in_second = second_is_chain.strict in
+      let in_third = third_is_chain.strict in
+      in_order_joined le (filter is_better steps) (place ∷ filter is_behind steps) (in_order_filtered le is_better steps ordered)
+      ((λ b m. grind (arith, is, from_filter is_behind steps b m, in_third.transitive e (entry_at all b) e, in_third.irreflexive e)), in_order_filtered le is_behind steps ordered)
+      (λ a b m n. grind (
+        arith,
+        is,
+        from_filter is_better steps a m,
+        apart a,
+        from_filter is_behind steps b,
+        in_second.transitive e (entry_at all a) e,
+        in_second.irreflexive e,
+        in_second.transitive (entry_at all b) (entry_at all a) e,
+        in_third.transitive (entry_at all a) (entry_at all b) e,
+      ))
 
 -- ---- does an entry of the level dominate the next one?
 
@@ -210,54 +254,35 @@ module _ (over first second third : Entry → Entry → Bool) (all : List Entry)
     abbrev steps : List ℕ
     steps = kept.steps.items
 
-    abbrev step : ℕ → Entry
-    step k = step_at all steps k
+    -- a step is no worse than the next entry in the first chain
+    in_first : (p : ℕ) → Among p steps → first next_one (entry_at all p) ≡ false
+    in_first p m = no_worse_in_first p i (omega (arith, (stands.steps_within p m).0)) inside
 
-    is_step : (k : ℕ) → k < length steps → IsMember over all i n (get_or steps k 0)
-    is_step k there = stands.steps_within k 0 there
-
-    step_inside : (k : ℕ) → k < length steps → get_or steps k 0 < length all
-    step_inside k there = omega (arith, (is_step k there).0, inside)
-
-    -- a step is no worse than the next entry in the first chain, and no worse than later steps in the second, nor than earlier ones in the third
-    in_first : (k : ℕ) → k < length steps → first next_one (step k) ≡ false
-    in_first k there = no_worse_in_first (get_or steps k 0) i (omega (arith, (is_step k there).0)) inside
-
-    in_second : (k l : ℕ) → k ≤ l → l < length steps → second (step l) (step k) ≡ false
-    in_second k l le there = grind (arith, stands.in_order k l le there)
-
-    in_third : (k l : ℕ) → k ≤ l → l < length steps → third (step k) (step l) ≡ false
-    in_third k l le there = grind (arith, stands.in_order k l le there)
+    step_inside : (p : ℕ) → Among p steps → p < length all
+    step_inside p m = omega (arith, (stands.steps_within p m).0, inside)
 
     -- where a member is ahead of the next entry, the last step that is no worse in the second chain is over it
     step_over : (j count : ℕ) → AreNoWorse second all steps next_one count → IsMember over all i n j → is_ahead first second third (entry_at all j) next_one ≡ true
-        → (0 < count) × (over (step (count - 1)) next_one ≡ true)
+        → (0 < count) × (over (step_at all steps (count - 1)) next_one ≡ true)
     step_over j count cut member ahead =
         let m = entry_at all j in
         let led = swept.led in
-        let no_worse_in_second = no_worse_then second led.second_is_chain in
-        let no_worse_in_third = no_worse_then third led.third_is_chain in
         let w = stands.steps_cover j member in
-        let k = w.0 in
-        let step_in_second : second next_one (step k) ≡ false = no_worse_in_second (step k) m next_one w.2 (grind (arith, ahead)) in
-        let step_in_third : third next_one (step k) ≡ false = no_worse_in_third (step k) m next_one w.3 (grind (arith, ahead)) in
-        let near : k < count = grind (arith, no_worse_in_second (step count) (step k) next_one, in_second count k, step_in_second, w.1, cut.next) in
-        let some : 0 < count = omega (arith, near) in
-        let there : count - 1 < length steps = omega (arith, cut.within, some) in
-        let c = step (count - 1) in
+        let covered : IsCovered second third all steps next_one = (w.0, w.1, covers_then second third led.second_is_chain led.third_is_chain (entry_at all w.0) m next_one w.2 (grind (arith, ahead))) in
+        let last = last_covers second third led.second_is_chain led.third_is_chain all steps stands.in_order next_one count cut covered in
         let place = get_or steps (count - 1) 0 in
-        let last_in_third : third next_one c ≡ false = no_worse_in_third c (step k) next_one (in_third k (count - 1) (omega (arith, near)) there) step_in_third in (
-          some,
-          elim (one_ahead first second third led.first_is_chain led.second_is_chain led.third_is_chain m c next_one ahead (in_first (count - 1) there) (cut.last some) last_in_third) [
-            | inl over_it ↦ ahead_is_over place i (step_inside (count - 1) there) inside over_it
-            | inr behind ↦ absurd (both_ways (over m c) (members_are_apart i n j place member (omega (arith, inside)) (is_step (count - 1) there).1)
-                (ahead_is_over j place (omega (arith, member.0, inside)) (step_inside (count - 1) there) behind))
+        let there = among_place steps (count - 1) 0 (omega (arith, cut.within, last.0)) in (
+          last.0,
+          elim (one_ahead first second third led.first_is_chain led.second_is_chain led.third_is_chain m (entry_at all place) next_one ahead (in_first place there) last.1) [
+            | inl over_it ↦ ahead_is_over place i (step_inside place there) inside over_it
+            | inr behind ↦ absurd (both_ways (over m (entry_at all place)) (members_are_apart i n j place member (omega (arith, inside)) (stands.steps_within place there).1)
+                (ahead_is_over j place (omega (arith, member.0, inside)) (step_inside place there) behind))
           ],
         )
 
     -- what is found is over the next entry
     pub found_step : (answer : Bool) → IsAsked over second all steps next_one answer → answer ≡ true → comes_after over all (suc n) next_one ≡ true
-    found_step answer asked found = let w = asked.found found in over_by_member i n (get_or steps w.0 0) i (is_step w.0 w.1) (omega (arith, inside)) w.2
+    found_step answer asked found = let w = asked.found found in over_by_member i n (get_or steps w.0 0) i (stands.steps_within (get_or steps w.0 0) (among_place steps w.0 0 w.1)) (omega (arith, inside)) w.2
 
     pub found_one : (x : Item) → IsKept x kept → over (entry_at all x.place) next_one ≡ true → comes_after over all (suc n) next_one ≡ true
     found_one x m above = over_by_member i n x.place i (stands.kept_within x m).0 (omega (arith, inside)) above
@@ -321,86 +346,46 @@ module _ (over first second third : Entry → Entry → Bool) (all : List Entry)
             | inl ahead ↦
                 let last = asked.none no_step in
                 let found = step_over w.0 last.0 last.1 w.1 ahead in
-                both_ways (over (step (last.0 - 1)) next_one) (last.2 found.0) found.1
+                both_ways (over (step_at all steps (last.0 - 1)) next_one) (last.2 found.0) found.1
             | inr level ↦ let found = one_over w.0 w.1 w.2 level in both_ways (is_over found.1.0) (no_one found.0 found.1.0 found.1.1) found.1.2
           ])
 
     -- ---- how they stand once it is put there
 
     module _ (at : is_at over all n next_one ≡ true) (put_steps : List ℕ) (put : IsStepPut second third all steps i put_steps) where
-      abbrev from : ℕ
-      from = put.from
-
-      abbrev to : ℕ
-      to = put.to
-
-      better_in_second : (k : ℕ) → k < from → second (step k) next_one ≡ true
-      better_in_second k near = grind (arith, swept.led.second_is_chain.between (step (from - 1)) (step k) next_one, in_second k (from - 1))
-
-      no_better_in_second : (k : ℕ) → from ≤ k → k < length steps → second (step k) next_one ≡ false
-      no_better_in_second k past there = grind (arith, no_worse_then second swept.led.second_is_chain next_one (step from) (step k), in_second from k)
-
-      no_worse_in_second : (k : ℕ) → k < from → second next_one (step k) ≡ false
-      no_worse_in_second k near = grind (arith, better_in_second k near, swept.led.second_is_chain.strict.transitive next_one (step k) next_one, swept.led.second_is_chain.strict.irreflexive next_one)
-
       -- one that is better in the second chain is no better in the third: it would dominate an entry of its level
-      no_better_in_third : (k : ℕ) → k < from → third (step k) next_one ≡ false
-      no_better_in_third k near =
-          let place = get_or steps k 0 in
-          let there : k < length steps = omega (arith, near, put.better.within) in
-          let ahead = better_is_ahead first second third swept.led.second_is_chain swept.led.third_is_chain (step k) next_one (in_first k there) (better_in_second k near) in
-          false_from_ne_true (third (step k) next_one) (λ in_both. both_ways (over (step k) next_one) (members_are_apart i n place i (is_step k there) (omega (arith, inside)) at)
-          (ahead_is_over place i (step_inside k there) inside (ahead in_both)))
+      apart : (p : ℕ) → Among p steps → second (entry_at all p) next_one ≡ true → third (entry_at all p) next_one ≡ false
+      apart p m in_second =
+          let ahead = better_is_ahead first second third swept.led.second_is_chain swept.led.third_is_chain (entry_at all p) next_one (in_first p m) in_second in
+          false_from_ne_true (third (entry_at all p) next_one) (λ in_both. both_ways (over (entry_at all p) next_one) (members_are_apart i n p i (stands.steps_within p m) (omega (arith, inside)) at)
+          (ahead_is_over p i (step_inside p m) inside (ahead in_both)))
 
-      no_worse_in_third : (k : ℕ) → to ≤ k → k < length steps → third next_one (step k) ≡ false
-      no_worse_in_third k past there = grind (arith, put.taken_out.next (omega (arith, past, there)), in_third to k past there, swept.led.third_is_chain.strict.transitive (step to) next_one (step k))
+      abbrev front : List ℕ
+      front = filter (λ p. second (entry_at all p) next_one) steps
 
-      -- the steps with the new one
-      abbrev new_steps : List ℕ
-      new_steps = replaced steps from to i put.taken_out.from_to put.taken_out.within
+      abbrev rest : List ℕ
+      rest = filter (λ p. not (second (entry_at all p) next_one) && third (entry_at all p) next_one) steps
 
-      within_more : (l : ℕ) (d : ℕ) → l < length new_steps → IsMember over all (i + 1) n (get_or new_steps l d)
-      within_more l d there = grind (arith, origin steps from to i put.taken_out.from_to put.taken_out.within l there, get_or_default new_steps l d 0 there, is_step)
+      within_more : (p : ℕ) → Among p (front ++ i ∷ rest) → IsMember over all (i + 1) n p
+      within_more p m = grind (arith, at, in_either front (i ∷ rest) p m, from_filter, stands.steps_within p)
 
       -- the new step stands for those that are taken out
-      covers_more : (j : ℕ) → IsMember over all (i + 1) n j → IsCovered second third all new_steps (entry_at all j)
+      covers_more : (j : ℕ) → IsMember over all (i + 1) n j → IsCovered second third all (front ++ i ∷ rest) (entry_at all j)
       covers_more j member =
           let led = swept.led in
-          let m = entry_at all j in
-          let long = replaced_length steps from to i put.taken_out.from_to put.taken_out.within in
-          let new_at = in_place steps from to i put.taken_out.from_to put.taken_out.within in
-          let there : from < length new_steps = omega (arith, long, put.taken_out.within) in
+          let here : Among i (front ++ i ∷ rest) = in_right front (i ∷ rest) i (inl refl) in
           elim (cases_eq j i) [
-            | inl same ↦ (from, there, grind (arith, led.second_is_chain.strict.irreflexive next_one), grind (arith, led.third_is_chain.strict.irreflexive next_one))
+            | inl same ↦ (i, here, grind (arith, led.second_is_chain.strict.irreflexive next_one, led.third_is_chain.strict.irreflexive next_one))
             | inr other ↦
                 let w = stands.steps_cover j (omega (arith, member.0, other), member.1) in
-                let k = w.0 in
-                elim (cases_lt k from) [
-                  | inl near ↦
-                      let same = in_front steps from to i put.taken_out.from_to put.taken_out.within k near in
-                      (k, omega (arith, long, near, put.taken_out.within, put.taken_out.from_to), grind (arith, w.2), grind (arith, w.3))
-                  | inr past ↦ elim (cases_lt k to) [
-                    | inl taken ↦ (
-                      from,
-                      there,
-                      grind (arith, no_worse_then second led.second_is_chain next_one (step k) m (no_better_in_second k past w.1) w.2),
-                      grind (arith, no_worse_then third led.third_is_chain next_one (step k) m (put.taken_out.skipped k past taken) w.3),
-                    )
-                    | inr far ↦
-                        let l = k + from + 1 - to in
-                        let same = behind steps from to i put.taken_out.from_to put.taken_out.within k l (omega (arith, far)) far in
-                        (l, omega (arith, long, far, w.1), grind (arith, w.2), grind (arith, w.3))
+                elim (cases_Bool (second (entry_at all w.0) next_one)) [
+                  | inl better ↦ (w.0, in_left front (i ∷ rest) w.0 (in_filter (λ p. second (entry_at all p) next_one) steps w.0 w.1 better), w.2)
+                  | inr no_better ↦ elim (cases_Bool (third (entry_at all w.0) next_one)) [
+                    | inl stays ↦ (w.0, in_right front (i ∷ rest) w.0 (inr (in_filter (λ p. not (second (entry_at all p) next_one) && third (entry_at all p) next_one) steps w.0 w.1 (grind arith))), w.2)
+                    | inr taken ↦ (i, here, covers_then second third led.second_is_chain led.third_is_chain next_one (entry_at all w.0) (entry_at all j) (grind arith) w.2)
                   ]
                 ]
           ]
-
-      in_order_more : (k l : ℕ) → k ≤ l → l < length new_steps → stands_before second third all (get_or new_steps k 0) (get_or new_steps l 0) ≡ true
-      in_order_more =
-          let led = swept.led in
-          in_order_anew steps from to i put.taken_out.from_to put.taken_out.within (stands_before second third all) stands.in_order
-          (λ k near. and_from _ _ (ap not (no_worse_in_second k near)) (ap not (no_better_in_third k near)))
-          (and_from _ _ (ap not (led.second_is_chain.strict.irreflexive next_one)) (ap not (led.third_is_chain.strict.irreflexive next_one)))
-          (λ k past there. and_from _ _ (ap not (no_better_in_second k (omega (arith, past, put.taken_out.from_to)) there)) (ap not (no_worse_in_third k past there)))
 
       -- what is kept then: the class goes on or begins anew, with one more
       module _ (stepped begun new : Level) (x : Item) (class_stays : (stepped.run ≡ kept.run) × (stepped.fresh ≡ kept.fresh) × (stepped.class ≡ kept.class)) (of_class : IsOfClass stepped class begun)
@@ -413,11 +398,13 @@ module _ (over first second third : Entry → Entry → Bool) (all : List Entry)
 
         pub put_stands : StandsFor over second third rule mark all class (i + 1) n new
         put_stands =
-            let is : new.steps.items ≡ new_steps = more.steps ∙ (of_class.steps ∙ (steps_are ∙ put.is)) in
+            let led = swept.led in
+            let is : new.steps.items ≡ front ++ i ∷ rest =
+            more.steps ∙ (of_class.steps ∙ (steps_are ∙ put_is second third led.second_is_chain led.third_is_chain all steps stands.in_order next_one i put_steps refl put)) in
             record {
               steps_within = rw is within_more;
               steps_cover = rw is covers_more;
-              in_order = rw is in_order_more;
+              in_order = rw is (in_order_put second third led.second_is_chain led.third_is_chain all steps stands.in_order next_one i refl apart);
               kept_within = λ y m. elim (was_there mark n begun x new more y m) [ inl old ↦ grind (arith, stands.kept_within y (was_kept y old)) | inr last ↦ grind (arith) ];
               run_held = λ y m. elim (was_held mark n begun x new more y m) [ inl old ↦ stands.run_held y (rw (sym class_stays.0) (of_class.run y old)) | inr last ↦ last ];
               kept_cover = λ j behind member. (

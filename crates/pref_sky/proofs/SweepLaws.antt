@@ -46,7 +46,7 @@ module _ {over first second third : Entry → Entry → Bool} {all : List Entry}
 pub are_places : {over second third : Entry → Entry → Bool} {rule : Entry → ℕ} {mark : ℕ → ℕ} {all : List Entry} {class i n : ℕ} {kept : Level} → i < length all → StandsFor over second third rule mark all class i n kept → ArePlaces all kept
 are_places {kept = kept} inside stands =
     record {
-      steps = λ k d there. omega (arith, inside, (stands.steps_within k d there).0);
+      steps = λ k d there. omega (arith, inside, (stands.steps_within (get_or kept.steps.items k d) (among_place kept.steps.items k d there)).0);
       run = λ k d there. omega (arith, inside, (stands.kept_within (get_or kept.run.items k d) (inl (among_place kept.run.items k d there))).0.0);
       fresh = λ k d there. omega (arith, inside, (stands.kept_within (get_or kept.fresh.items k d) (inr (among_place kept.fresh.items k d there))).0.0);
     }

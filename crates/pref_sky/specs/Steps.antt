@@ -2,11 +2,16 @@
 -- How the steps of a level in a sweep stand to an entry, as far as searches by halves tell, and where one more is put.
 use Rattle.std.specs.Prelude.{◌≡◌, ◌<◌, ◌≤◌, ◌-◌, ◌++◌, ◌∷◌, get_or, Bool, not, ◌&&◌, true, false, ℕ, List, drop, length, take}
 use Rattle.pref_sky.specs.Items.{entry_at}
+use Rattle.pref_sky.specs.Members.{Among}
 use Rattle.pref_sky.specs.declared.entry.Entry.{Entry}
 
 -- the entry of a step
 abbrev pub step_at : List Entry → List ℕ → ℕ → Entry
 step_at all steps k = entry_at all (get_or steps k 0)
+
+-- an entry is no worse than another in the second and in the third chain
+abbrev pub covers : (Entry → Entry → Bool) → (Entry → Entry → Bool) → Entry → Entry → Bool
+covers second third a b = not (second b a) && not (third b a)
 
 -- a place of an entry that is no worse than another in the second chain, and no better in the third
 abbrev pub stands_before : (Entry → Entry → Bool) → (Entry → Entry → Bool) → List Entry → ℕ → ℕ → Bool
@@ -14,24 +19,25 @@ stands_before second third all p q = not (second (entry_at all q) (entry_at all 
 
 -- a step is no worse than an entry in both chains
 abbrev pub IsCovered : (Entry → Entry → Bool) → (Entry → Entry → Bool) → List Entry → List ℕ → Entry → Type 0
-IsCovered second third all steps e = (k : ℕ) × (k < length steps) × (second e (step_at all steps k) ≡ false) × (third e (step_at all steps k) ≡ false)
+IsCovered second third all steps e = (p : ℕ) × Among p steps × (covers second third (entry_at all p) e ≡ true)
 
--- so many steps are no worse than an entry in the second chain, as far as the last of them and the next one tell
-pub record AreNoWorse (second : Entry → Entry → Bool) (all : List Entry) (steps : List ℕ) (e : Entry) (count : ℕ) : Type 0 where
+-- so many steps pass a test, as far as the last of them and the next one tell
+pub record IsCut (passes : ℕ → Bool) (steps : List ℕ) (count : ℕ) : Type 0 where
   pub within : count ≤ length steps
-  pub last : 0 < count → second e (step_at all steps (count - 1)) ≡ false
-  pub next : count < length steps → second e (step_at all steps count) ≡ true
+  pub last : 0 < count → passes (get_or steps (count - 1) 0) ≡ true
+  pub next : count < length steps → passes (get_or steps count 0) ≡ false
+
+-- those that are better than an entry in the second chain, and those that are no worse
+abbrev pub AreBetter : (Entry → Entry → Bool) → List Entry → List ℕ → Entry → ℕ → Type 0
+AreBetter second all steps e = IsCut (λ p. second (entry_at all p) e) steps
+
+abbrev pub AreNoWorse : (Entry → Entry → Bool) → List Entry → List ℕ → Entry → ℕ → Type 0
+AreNoWorse second all steps e = IsCut (λ p. not (second e (entry_at all p))) steps
 
 -- the answer whether a step is over the entry: where it is true one is, and where it is false the last one that is no worse is not
 pub record IsAsked (over second : Entry → Entry → Bool) (all : List Entry) (steps : List ℕ) (e : Entry) (answer : Bool) : Type 0 where
   pub found : answer ≡ true → (k : ℕ) × (k < length steps) × (over (step_at all steps k) e ≡ true)
   pub none : answer ≡ false → (count : ℕ) × AreNoWorse second all steps e count × (0 < count → over (step_at all steps (count - 1)) e ≡ false)
-
--- so many are better than it in the second chain, as far as these two tell
-pub record AreBetter (second : Entry → Entry → Bool) (all : List Entry) (steps : List ℕ) (e : Entry) (count : ℕ) : Type 0 where
-  pub within : count ≤ length steps
-  pub last : 0 < count → second (step_at all steps (count - 1)) e ≡ true
-  pub next : count < length steps → second (step_at all steps count) e ≡ false
 
 -- from a place up to another none is better than it in the third chain, and the next one is
 pub record AreNoBetter (third : Entry → Entry → Bool) (all : List Entry) (steps : List ℕ) (e : Entry) (from to : ℕ) : Type 0 where

@@ -5,7 +5,7 @@ use Rattle.pref_term.specs.Order.{IsStrictOrder, StandAlike}
 use Rattle.pref_sky.specs.OwnOrders.{comes_after}
 use Rattle.pref_sky.specs.Items.{entry_at}
 use Rattle.pref_sky.specs.Members.{Among, SameMembers}
-use Rattle.pref_sky.specs.Chains.{IsChain, are_level, comes_first}
+use Rattle.pref_sky.specs.Chains.{IsChain, IsInOrder, are_level, comes_first}
 use Rattle.pref_sky.specs.Steps.{IsCovered, stands_before}
 use Rattle.pref_sky.specs.declared.entry.Entry.{Entry}
 use Rattle.pref_sky.specs.declared.item.Item.{Item}
@@ -69,9 +69,9 @@ HasAlike over all kept e = (x : Item) × IsKept x kept × StandAlike over (entry
 -- Steps: each of these is no better than one of the steps in the second and third chain; they stand from the best in the second to the best in the third.
 -- The class: of the entries from it on, each is alike to one that is kept in it. In the run are those alone that were held already, and of this level.
 pub record StandsFor (over second third : Entry → Entry → Bool) (rule : Entry → ℕ) (mark : ℕ → ℕ) (all : List Entry) (class i n : ℕ) (kept : Level) : Type 0 where
-  pub steps_within : All (IsMember over all i n) kept.steps.items
+  pub steps_within : (p : ℕ) → Among p kept.steps.items → IsMember over all i n p
   pub steps_cover : (j : ℕ) → IsMember over all i n j → IsCovered second third all kept.steps.items (entry_at all j)
-  pub in_order : (k l : ℕ) → k ≤ l → l < length kept.steps.items → stands_before second third all (get_or kept.steps.items k 0) (get_or kept.steps.items l 0) ≡ true
+  pub in_order : IsInOrder (stands_before second third all) kept.steps.items
   pub kept_within : (x : Item) → IsKept x kept → IsMember over all i n x.place × (x.signature ≡ rule (entry_at all x.place))
   pub run_held : (x : Item) → Among x kept.run.items → mark x.place ≡ suc n
   pub kept_cover : (j : ℕ) → class ≤ j → IsMember over all i n j → (kept.class ≡ class) × HasAlike over all kept (entry_at all j)
