@@ -1,25 +1,21 @@
 -- Entries with their levels: those that have none are dropped, and where marks are in order, their entries are.
-use Rattle.pref_sky.proofs.Common.{◌≡◌, ℕ, ◌<◌, ◌+◌, Bool, List, [], ◌∷◌, refl, ◌∙◌, ap, arith, nat_lt, length, length-map, get_or, get_or-map, get_or_default, map, filter, Entry, IsSortedBy}
-use Rattle.pref_sky.specs.Held.{marked_entries, marked_levels}
-use Rattle.pref_sky.specs.Ranking.{leveled, ranked_as}
-use Rattle.pref_sky.specs.declared.merging.Marked.{Marked}
+use Rattle.pref_sky.proofs.Common.{◌≡◌, ℕ, ◌<◌, ◌+◌, Bool, List, [], ◌∷◌, refl, ◌∙◌, ap, arith, length, length-map, get_or, get_or-map, get_or_default, map, filter, Entry, IsSortedBy, entry_of}
+use Rattle.pref_sky.specs.Ranking.{with_level}
 
 -- those of a mapped list that pass a test
 pub filter_of_map : {E F : Type 0} (f : E → F) (p : F → Bool) (xs : List E) → filter p (map f xs) ≡ map f (filter (λ x. p (f x)) xs)
 filter_of_map f p [] = refl
 filter_of_map f p (x ∷ xs) = grind (arith, filter_of_map f p xs)
 
+-- entries that were given levels
+pub entries_with_level : (level : Entry → ℕ) (xs : List Entry) → map entry_of (map (with_level level) xs) ≡ xs
+entries_with_level level [] = refl
+entries_with_level level (x ∷ xs) = ap (λ l. x ∷ l) (entries_with_level level xs)
+
 -- what stands at a place
 pub stands_there : {E : Type 0} (xs : List E) (i : ℕ) → i < length xs → (x : E) × (x ≡ get_or xs i x)
 stands_there [] i inside = absurd (omega (arith, inside))
 stands_there (y ∷ ys) i inside = let x = get_or (y ∷ ys) i y in (x, get_or_default (y ∷ ys) i y x inside)
-
--- ---- entries that are marked with their levels
-
-pub ranked_marked : (level : Entry → ℕ) (marked : List Marked) → marked_levels marked ≡ map level (marked_entries marked)
-    → map ranked_as (filter (λ (m : Marked). nat_lt 0 m.level) marked) ≡ leveled level (marked_entries marked)
-ranked_marked level [] is = refl
-ranked_marked level (m ∷ ms) is = grind (arith, ranked_marked level ms)
 
 -- a list is sorted by what it is mapped to
 pub sorted_map : {E F : Type 0} (f : E → F) (before : F → F → Bool) (xs : List E) → IsSortedBy (λ a b. before (f a) (f b)) xs → IsSortedBy before (map f xs)

@@ -8,9 +8,13 @@ use Rattle.pref_sky.specs.declared.entry.Entry.{Entry}
 use Rattle.pref_sky.specs.declared.entry.Ranked.{Ranked}
 use Rattle.pref_sky.specs.declared.merging.Marked.{Marked}
 
+-- an entry with its level
+abbrev pub with_level : (Entry → ℕ) → Entry → Ranked
+with_level level e = at_level (level e) e
+
 -- those of some entries that have a level, from 1 on, each with it
 abbrev pub leveled : (Entry → ℕ) → List Entry → List Ranked
-leveled level entries = map (λ e. at_level (level e) e) (filter (λ e. nat_lt 0 (level e)) entries)
+leveled level entries = map (with_level level) (filter (λ e. nat_lt 0 (level e)) entries)
 
 -- by level, then id
 abbrev pub ranks_before : Ranked → Ranked → Bool
@@ -21,6 +25,6 @@ pub record AreInRanks (some sorted : List Ranked) : Type 0 where
   pub moved : IsPermutation some sorted
   pub in_order : IsSortedBy ranks_before sorted
 
--- an entry with the level that it is marked with
-abbrev pub ranked_as : Marked → Ranked
-ranked_as m = at_level m.level m.entry.now
+-- entries with the levels that they are marked with
+abbrev pub marks : List Marked → List Ranked
+marks = map (λ m. at_level m.level m.entry.now)

@@ -1,9 +1,11 @@
 //! Entries in the order of a question's keys: new ones come to those that are in order.
 
-ghost use Rattle.std.specs.Prelude.{◌≡◌, ◌<◌, ◌++◌, length, ℕ, List, All, IfOk, OnOk, get_or};
-ghost use Rattle.pref_sky.specs.Held.{AreMarked, AreTakenOver, IsTakenOver, marked_entries, marked_levels};
+ghost use Rattle.std.specs.Prelude.{◌≡◌, ◌<◌, ◌++◌, length, map, ℕ, IfOk, OnOk, get_or};
+ghost use Rattle.pref_sky.specs.Held.{AreTakenOver};
 ghost use Rattle.pref_sky.specs.Items.{entry_at};
+ghost use Rattle.pref_sky.specs.Levels.{entry_of};
 ghost use Rattle.pref_sky.specs.OwnOrders.{AreSorted};
+ghost use Rattle.pref_sky.specs.Ranking.{marks, with_level};
 ghost use Rattle.pref_sky.specs.declared.entry.Entry.{Entry};
 
 use crate::entry::{Entry, copy_of};
@@ -23,10 +25,8 @@ pub(crate) fn mark<'a>(
     entries: &'a [Entry],
     levels: &[u32],
 ) -> Result<(), AllocError>
-    ensures entries { OnOk result (marked_entries marked.new.items ≡ marked_entries marked.old.items ++ entries.now) }
-    ensures levels { length levels.now ≡ length entries.now → OnOk result (marked_levels marked.new.items ≡ marked_levels marked.old.items ++ levels.now) }
-    ensures held { (held : List Entry) (of : List ℕ) → AreMarked held of marked.old.items
-        → ((k : ℕ) → k < length entries.now → IsTakenOver held of (entry_at entries.now k) (get_or levels.now k 0)) → OnOk result (AreMarked held of marked.new.items) }
+    ensures { (level : Entry → ℕ) → ((k : ℕ) → k < length entries.now → get_or levels.now k 0 ≡ level (entry_at entries.now k))
+        → OnOk result (marks marked.new.items ≡ marks marked.old.items ++ map (with_level level) entries.now) }
 {
     for (place, entry) in entries.iter().enumerate() {
         let level = if place < levels.len() {
@@ -48,7 +48,7 @@ pub(crate) struct Merged {
 
 /// Copies of these entries, and their levels.
 fn copied(alloc: Global, marked: &[Marked]) -> Result<Merged, AllocError>
-    ensures { IfOk result (λ merged. (merged.entries.items ≡ marked_entries marked.now) × (merged.held.items ≡ marked_levels marked.now)) }
+    ensures { IfOk result (λ merged. (merged.entries.items ≡ map entry_of (marks marked.now)) × (merged.held.items ≡ map (λ one. one.level) (marks marked.now))) }
 {
     let mut entries = Vec::with_capacity(alloc, marked.len())?;
     let mut held = Vec::with_capacity(alloc, marked.len())?;
@@ -70,8 +70,8 @@ pub(crate) fn merge_all(
     levels: &[u32],
     recent: &[Entry],
 ) -> Result<Merged, AllocError>
-    ensures sorted { IfOk result (λ merged. AreSorted order.now (sorted.now ++ recent.now) merged.entries.items) }
-    ensures held { IfOk result (λ merged. AreTakenOver sorted.now levels.now merged.entries.items merged.held.items) }
+    ensures { (level : Entry → ℕ) → levels.now ≡ map level sorted.now
+        → IfOk result (λ merged. AreSorted order.now (sorted.now ++ recent.now) merged.entries.items × AreTakenOver level sorted.now merged.entries.items merged.held.items) }
 {
     let mut marked = Vec::with_capacity(alloc, sorted.len().saturating_add(recent.len()))?;
     mark(&mut marked, sorted, levels)?;

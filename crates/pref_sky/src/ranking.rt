@@ -1,7 +1,7 @@
 //! Entries of a list with their levels, 0 of one that is below the cut: those below are dropped, and those of an answer put in its order.
 
 ghost use Rattle.std.specs.Prelude.{◌≡◌, ℕ, filter, map, nat_lt, IfOk};
-ghost use Rattle.pref_sky.specs.Ranking.{AreInRanks, leveled, ranked_as};
+ghost use Rattle.pref_sky.specs.Ranking.{AreInRanks, leveled, marks};
 ghost use Rattle.pref_sky.specs.declared.entry.Entry.{Entry};
 
 use crate::entry::{Entry, Ranked};
@@ -27,7 +27,7 @@ pub(crate) fn drop_below<T: Copy>(elements: &mut Vec<T>, levels: &[u32])
 
 /// The entries that are marked, with their levels.
 fn ranked_of(alloc: Global, marked: &[Marked]) -> Result<Vec<Ranked>, AllocError>
-    ensures { IfOk result (λ ranked. ranked.items ≡ map ranked_as marked.now) }
+    ensures { IfOk result (λ ranked. ranked.items ≡ marks marked.now) }
 {
     let mut ranked = Vec::with_capacity(alloc, marked.len())?;
     for one in marked {

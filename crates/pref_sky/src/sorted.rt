@@ -2,8 +2,7 @@
 //! to drop those below the cut.
 
 ghost use Rattle.std.specs.Prelude.{◌≡◌, ◌<◌, ◌++◌, true, List, All, get_or, length, map, vec_len, IfOk, IfSome, OnErr, OnOk};
-ghost use Rattle.pref_sky.specs.Held.{AreHeld};
-ghost use Rattle.pref_sky.specs.OwnOrders.{AreLeveled, AreLowest, HoldsUpper, is_below, own_levels, own_order};
+ghost use Rattle.pref_sky.specs.OwnOrders.{AreLeveled, AreLowest, HoldsUpper, is_below, level_of, own_levels, own_order};
 ghost use Rattle.pref_sky.specs.Levels.{HaveDifferentIds, entry_of};
 ghost use Rattle.pref_sky.specs.declared.entry.Entry.{Entry};
 ghost use Rattle.pref_sky.specs.declared.item.Item.{Item};
@@ -80,7 +79,7 @@ pub(crate) struct Pruned {
     /// How new entries were compared with them.
     lately: Lately,
     ghost low: { AreLowest order entries.items lowest.items },
-    ghost held: { AreHeld (own_order order) order.cut (λ place. get_or levels.items place 0) entries.items },
+    ghost leveled: { levels.items ≡ map (level_of (own_order order) entries.items order.cut) entries.items },
 }
 
 impl Pruned {

@@ -1,7 +1,7 @@
 use Rattle.pref_sky.proofs.Common.{rules, sym, ◌≡◌, ◌<◌, ◌++◌, ℕ, List, Entry, ◌∙◌, ap, subst, append-nil, length, get_or, map, filter, nat_lt, All, AreLeveled, Item, level_of, own_levels, own_order}
 use Rattle.std.proofs.lemmas.Fn.{filter_same}
 use Rattle.pref_sky.proofs.RankingLaws.{filter_of_map}
-use Rattle.pref_sky.proofs.HeldLaws.{kept_held, kept_levels, kept_lowest}
+use Rattle.pref_sky.proofs.HeldLaws.{kept_leveled, kept_levels, kept_lowest}
 use Rattle.pref_sky.proofs.sorted.Pruned.prune.Goals.{After-retain}
 use Rattle.pref_sky.proofs.sorted.Pruned.prune.Goals as goal
 
@@ -38,7 +38,7 @@ invariant_of-self c =
     (subst (λ l. All (λ (item : Item). (item.place < length l) × (get_or c.deref-4.result.now item.place 0 ≡ order.cut)) items) c.deref-3.ensures.value (c.in_ok-lowest.ensures {u = tt})) in
     record {
       low = kept_lowest order (held d) (all d) (levels d) c.requires (leveled d) kept left are.0 are.1 items lowest;
-      held = kept_held order (held d) (all d) (levels d) c.requires (leveled d) kept left are.0 are.1;
+      leveled = kept_leveled order (held d) (all d) (levels d) c.requires (leveled d) kept left are.0 are.1;
     }
 
 pub returns-clause-levels : goal.returns-clause-levels

@@ -27,4 +27,5 @@ invariant_of-self-in_default c =
 
 pub returns-clause-ok : goal.returns-clause-ok
 returns-clause-ok c =
-    grind (arith, upper_levels)
+    let new = c.prune.new.self in
+    grind (arith, upper_levels new.order new.entries.items c.prune.new.recent.items c.args.entries.now (coming_differ ((goal.at.returns-clause-ok c).After-prune)))
