@@ -230,12 +230,12 @@ pub(crate) fn any_but(places: &[u32], chosen: &SlotList) -> Option<u32>
 }
 
 /// A place goes to a position, and the place there to its own.
-fn move_to(order: &mut [u32], positions: &mut [u32], place: u32, to: u32)
-    requires inverse { IsInverse order.old positions.old }
-    requires place { place < length order.old }
-    requires to { to < length order.old }
-    ensures order { order.new ≡ moved_order order.old positions.old place to }
-    ensures positions { positions.new ≡ moved_positions order.old positions.old place to }
+fn move_to(order: &mut Vec<u32>, positions: &mut Vec<u32>, place: u32, to: u32)
+    requires inverse { IsInverse order.old.items positions.old.items }
+    requires place { place < length order.old.items }
+    requires to { to < length order.old.items }
+    ensures order { order.new.items ≡ moved_order order.old.items positions.old.items place to }
+    ensures positions { positions.new.items ≡ moved_positions order.old.items positions.old.items place to }
 {
     let from = positions[place as usize];
     let other = order[to as usize];

@@ -5,24 +5,14 @@ use Rattle.pref_core.proofs.store.slot_sets.SlotSets.lower.Goals as goal
 pub move_to-requires : goal.move_to-requires
 move_to-requires c =
     let step = lowers c.self.inside.order.items c.self.inside.positions.items c.self.inside.bounds c.args.place c.self.invariant c.args.to c.requires.few (ap (λ z. slice_get z c.args.place) c.self.view_is ∙ c.requires.there) in
-    record {
-      inverse = subst (λ l. IsInverse l c.deref_mut-2.result.now) (sym c.deref_mut.ensures.value) (subst (λ l. IsInverse c.self.inside.order.items l) (sym c.deref_mut-2.ensures.value) c.self.invariant.inverse);
-      place = subst (λ l. c.args.place < length l) (sym c.deref_mut.ensures.value) step.here;
-      to = subst (λ l. get_or c.self.inside.bounds c.args.to 0 < length l) (sym c.deref_mut.ensures.value) step.there;
-    }
+    record { inverse = c.self.invariant.inverse; place = step.here; to = step.there }
 
 pub invariant_of-self : goal.invariant_of-self
 invariant_of-self c =
     let step = lowers c.self.inside.order.items c.self.inside.positions.items c.self.inside.bounds c.args.place c.self.invariant c.args.to c.requires.few (ap (λ z. slice_get z c.args.place) c.self.view_is ∙ c.requires.there) in
-    let long : length c.move_to.new.order ≡ c.self.inside.order.len = omega arith in
-    let long_too : length c.move_to.new.positions ≡ c.self.inside.positions.len = omega arith in
-    let order = with_items_is c.self.inside.order c.move_to.new.order long ∙ c.move_to.ensures.order ∙ (λ i. moved_order (c.deref_mut.ensures.value i) (c.deref_mut-2.ensures.value i) c.args.place (get_or c.self.inside.bounds c.args.to 0)) in
-    let positions = with_items_is c.self.inside.positions c.move_to.new.positions long_too ∙ c.move_to.ensures.positions ∙ (λ i. moved_positions (c.deref_mut.ensures.value i) (c.deref_mut-2.ensures.value i) c.args.place (get_or c.self.inside.bounds c.args.to 0)) in
-    arranged_same _ _ _ _ _ _ order positions refl step.arranged
+    arranged_same _ _ _ _ _ _ c.move_to.ensures.order c.move_to.ensures.positions refl step.arranged
 
 pub returns : goal.returns
 returns c =
     let step = lowers c.self.inside.order.items c.self.inside.positions.items c.self.inside.bounds c.args.place c.self.invariant c.args.to c.requires.few (ap (λ z. slice_get z c.args.place) c.self.view_is ∙ c.requires.there) in
-    let long : length c.move_to.new.positions ≡ c.self.inside.positions.len = omega arith in
-    let positions = with_items_is c.self.inside.positions c.move_to.new.positions long ∙ c.move_to.ensures.positions ∙ (λ i. moved_positions (c.deref_mut.ensures.value i) (c.deref_mut-2.ensures.value i) c.args.place (get_or c.self.inside.bounds c.args.to 0)) in
-    ap (map (use_at (set c.self.inside.bounds c.args.to (get_or c.self.inside.bounds c.args.to 0 + 1)))) positions ∙ step.same ∙ ap (λ z. set z c.args.place (numbered c.args.to)) c.self.view_is
+    ap (map (use_at (set c.self.inside.bounds c.args.to (get_or c.self.inside.bounds c.args.to 0 + 1)))) c.move_to.ensures.positions ∙ step.same ∙ ap (λ z. set z c.args.place (numbered c.args.to)) c.self.view_is
